@@ -1,0 +1,32 @@
+-- Which form the words of a line have.
+use Rattle.std.specs.Prelude.{ℕ, ◌&&◌, Bool, List, [], ◌∷◌, Option, Some, None, codes, bytes_eq, if◌then◌else◌}
+use Rattle.iot_text.specs.Names.{is_name}
+use Rattle.iot_app.specs.declared.form.Form.{Form}
+use Rattle.iot_app.specs.declared.form.Form.TheVariants.{Client, Script, Run, ShowServer}
+
+-- `client N`, or `show server`
+abbrev pub two_words : List ℕ → List ℕ → Option Form
+two_words first second =
+    if bytes_eq first (codes "client") && is_name second then Some (Client second)
+    else if bytes_eq first (codes "show") && bytes_eq second (codes "server") then Some ShowServer
+    else None
+
+-- `script N {`
+abbrev pub three_words : List ℕ → List ℕ → List ℕ → Option Form
+three_words first second third =
+    if bytes_eq first (codes "script") && is_name second && bytes_eq third (codes "{") then Some (Script second) else None
+
+-- `run C S abort`
+abbrev pub four_words : List ℕ → List ℕ → List ℕ → List ℕ → Option Form
+four_words first second third fourth =
+    if bytes_eq first (codes "run") && is_name second && is_name third && bytes_eq fourth (codes "abort")
+    then Some (Run second third) else None
+
+-- the form of these words, if they have one
+abbrev pub form_of : List (List ℕ) → Option Form
+form_of [] = None
+form_of (a ∷ []) = None
+form_of (a ∷ b ∷ []) = two_words a b
+form_of (a ∷ b ∷ c ∷ []) = three_words a b c
+form_of (a ∷ b ∷ c ∷ d ∷ []) = four_words a b c d
+form_of (a ∷ b ∷ c ∷ d ∷ e ∷ more) = None

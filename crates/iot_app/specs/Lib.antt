@@ -1,0 +1,4 @@
+pub mod Bytes
+pub mod Forms
+pub mod Statements
+pub mod Events

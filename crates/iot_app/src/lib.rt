@@ -1,0 +1,5 @@
+//! The program as a function: an event script is read, its events are done one by one, and what they say is written.
+#![tactic(auto)]
+
+mod form;
+mod script;
