@@ -1,0 +1,138 @@
+//! Names: the short labels that paths are made of.
+ghost use Rattle.std.specs.Prelude.{ℕ, List, ◌≡◌, ◌↔◌, IsTrue, IfOk, IfErr, Some, refl, nat_eq};
+ghost use Rattle.std.specs.List.{list_all};
+ghost use Rattle.std.specs.Result.{OkIff};
+ghost use Rattle.std.specs.Ordering.{nat_cmp};
+ghost use Rattle.std.specs.Cmp.{partial_equiv_from_equiv};
+ghost use Rattle.std.specs.Cmp.Lexicographic.{pointwise, slice_cmp, nat_list_eq_equiv, nat_list_cmp_total, texts_po, texts_ties};
+ghost use Rattle.iot_text.specs.Names.{is_name_byte, is_dots, is_name, IsName};
+
+use std::cmp::Ordering;
+use std::marker::Model;
+
+use crate::TextFault;
+
+/// How many bytes a name has at most.
+const LIMIT: usize = 32;
+
+/// A name: 1 to 32 letters, digits, `_`, `-` and `.`, but neither `.` nor `..`.
+/// Contracts see it as the list of its bytes.
+#[derive(Clone, Copy)]
+pub struct Name {
+    len: u8,
+    bytes: [u8; LIMIT],
+}
+
+impl Model for Name {
+    ghost use Rattle.std.specs.Prelude.{ℕ, List, ◌-◌, ◌++◌, length, take, replicate};
+    ghost use Rattle.iot_text.specs.Names.{IsStored, unpadded};
+
+    ghost Value = { List ℕ };
+
+    ghost view = { λ n. take n.len n.bytes };
+
+    ghost invariant = { λ n. IsStored n.len n.bytes };
+
+    ghost inverse = { λ name. record { len = length name; bytes = name ++ replicate (32 - length name) 0 } };
+
+    ghost inverse_ok = { λ n stored i. record { len = stored.len_is i; bytes = unpadded n.len n.bytes stored i } };
+}
+
+/// Whether a name may have this byte.
+#[inline]
+fn is_name_byte(byte: u8) -> bool
+    ensures { result ≡ is_name_byte byte }
+{
+    byte.is_ascii_alphanumeric() || byte == b'_' || byte == b'-' || byte == b'.'
+}
+
+/// Whether a name may have each of these bytes.
+fn are_name_bytes(text: &[u8]) -> bool
+    ensures { result ≡ list_all is_name_byte text.now }
+{
+    text.iter().all(|byte| is_name_byte(*byte))
+}
+
+/// Whether the text is `.` or `..`, which other systems give a meaning of their own.
+fn is_dots(text: &[u8]) -> bool
+    ensures { result ≡ is_dots text.now }
+{
+    text == b".".as_slice() || text == b"..".as_slice()
+}
+
+/// Whether the text is a name.
+#[tactic(auto, unfolding(crate::specs::Names::is_name))]
+fn is_name(text: &[u8]) -> bool
+    ensures { result ≡ is_name text.now }
+{
+    !text.is_empty() && text.len() <= LIMIT && !is_dots(text) && are_name_bytes(text)
+}
+
+impl Name {
+    /// Reads a name. Takes no memory.
+    ///
+    /// # Errors
+    ///
+    /// `BadName`, exactly where the text is no name.
+    pub fn parse(text: &[u8]) -> Result<Name, TextFault>
+        ensures ok { OkIff result (IsName text.now) text.now }
+        ensures bad { IfErr result (λ fault. fault ≡ TextFault.BadName) }
+    {
+        if !is_name(text) {
+            return Err(TextFault::BadName);
+        }
+        let mut bytes = [0; LIMIT];
+        bytes[..text.len()].copy_from_slice(text);
+        Ok(Name {
+            len: text.len() as u8,
+            bytes,
+        })
+    }
+
+    /// The bytes of the name.
+    #[inline]
+    pub fn as_bytes(&self) -> &[u8]
+        ensures value { result.now ≡ self.now }
+        ensures valid { IsName result.now }
+    {
+        &self.bytes[..usize::from(self.len)]
+    }
+}
+
+impl PartialEq for Name {
+    ghost eq = { pointwise nat_eq };
+
+    ghost laws = { partial_equiv_from_equiv nat_list_eq_equiv };
+
+    fn eq(&self, other: &Name) -> bool {
+        self.as_bytes() == other.as_bytes()
+    }
+}
+
+impl Eq for Name {
+    ghost laws = { nat_list_eq_equiv };
+}
+
+impl PartialOrd for Name {
+    ghost partial_cmp = { λ a b. Some (slice_cmp nat_cmp a b) };
+
+    ghost laws = { texts_po };
+
+    fn partial_cmp(&self, other: &Name) -> Option<Ordering> {
+        Some(self.cmp(other))
+    }
+}
+
+impl Ord for Name {
+    ghost cmp = { slice_cmp nat_cmp };
+
+    ghost total = { nat_list_cmp_total };
+
+    ghost matches_partial_cmp = { λ a b. refl };
+
+    ghost matches_eq = { texts_ties };
+
+    fn cmp(&self, other: &Name) -> Ordering {
+        self.as_bytes().cmp(other.as_bytes())
+    }
+}
