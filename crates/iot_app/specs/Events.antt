@@ -38,16 +38,17 @@ abbrev pub opens_block : List (List ℕ) → Bool
 opens_block [] = false
 opens_block (word ∷ more) = bytes_eq word (codes "if") || bytes_eq word (codes "for")
 
+-- with so many blocks open, the line closes the script, or the lines behind it do with as many as are open then
+abbrev pub closes_or : Bool → Bool → ℕ → (ℕ → Bool) → Bool
+closes_or true opens zero later = true
+closes_or true opens (suc blocks) later = later blocks
+closes_or false true blocks later = later (suc blocks)
+closes_or false false blocks later = later blocks
+
 -- with so many blocks open, one of the lines closes the script
-abbrev pub closes : ℕ → List (List ℕ) → Bool
-closes open [] = false
-closes open (line ∷ later) = by (is_closing (words line)) (opens_block (words line)) open
-  where
-    by : Bool → Bool → ℕ → Bool
-    by true opens zero = true
-    by true opens (suc open) = closes open later
-    by false true open = closes (suc open) later
-    by false false open = closes open later
+abbrev pub closes : List (List ℕ) → ℕ → Bool
+closes [] blocks = false
+closes (line ∷ later) blocks = closes_or (is_closing (words line)) (opens_block (words line)) blocks (λ n. closes later n)
 
 -- where a line stands: outside of scripts, or in one, behind these statements
 pub data Place : Type 0 where
@@ -68,7 +69,7 @@ client_line scope name =
 -- a script that is not declared yet, is one of 256, and is closed
 abbrev pub script_line : Scope → List ℕ → List (List ℕ) → Reading
 script_line scope name later =
-    if not (is_declared name scope.scripts) && nat_lt (length scope.scripts) 256 && closes 0 later
+    if not (is_declared name scope.scripts) && nat_lt (length scope.scripts) 256 && closes later 0
     then Fine [] (Inside name []) scope else Bad
 
 -- a run of a script that is declared on a client that is
@@ -115,15 +116,17 @@ abbrev pub in_front : List Event → Parsed → Parsed
 in_front events (Events later) = Events (events ++ later)
 in_front events (BadLine line) = BadLine line
 
+-- the line of this number was read, and then the later ones
+abbrev pub followed : Reading → ℕ → (Place → Scope → Parsed) → Parsed
+followed Bad number later = BadLine number
+followed (Fine events place scope) number later = in_front events (later place scope)
+
 -- the lines from the one of this number on
-abbrev pub read_lines : Place → Scope → ℕ → List (List ℕ) → Parsed
-read_lines place scope number [] = Events []
-read_lines place scope number (line ∷ later) = of (read_line place scope line later)
-  where
-    of : Reading → Parsed
-    of Bad = BadLine number
-    of (Fine events next after) = in_front events (read_lines next after (number + 1) later)
+abbrev pub read_lines : List (List ℕ) → Place → Scope → ℕ → Parsed
+read_lines [] place scope number = Events []
+read_lines (line ∷ later) place scope number =
+    followed (read_line place scope line later) number (λ next after. read_lines later next after (number + 1))
 
 -- an event script, or its first bad line
 abbrev pub parsed : List ℕ → Parsed
-parsed input = read_lines Outside nothing_declared 1 (lines input)
+parsed input = read_lines (lines input) Outside nothing_declared 1

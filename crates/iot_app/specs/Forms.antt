@@ -7,20 +7,20 @@ use Rattle.iot_app.specs.declared.form.Form.TheVariants.{Client, Script, Run, Sh
 -- `client N`, or `show server`
 abbrev pub two_words : List ℕ → List ℕ → Option Form
 two_words first second =
-    if bytes_eq first (codes "client") && is_name second then Some (Client second)
+    if bytes_eq first (codes "client") then (if is_name second then Some (Client second) else None)
     else if bytes_eq first (codes "show") && bytes_eq second (codes "server") then Some ShowServer
     else None
 
 -- `script N {`
 abbrev pub three_words : List ℕ → List ℕ → List ℕ → Option Form
 three_words first second third =
-    if bytes_eq first (codes "script") && is_name second && bytes_eq third (codes "{") then Some (Script second) else None
+    if bytes_eq first (codes "script") && bytes_eq third (codes "{") then (if is_name second then Some (Script second) else None) else None
 
 -- `run C S abort`
 abbrev pub four_words : List ℕ → List ℕ → List ℕ → List ℕ → Option Form
 four_words first second third fourth =
-    if bytes_eq first (codes "run") && is_name second && is_name third && bytes_eq fourth (codes "abort")
-    then Some (Run second third) else None
+    if bytes_eq first (codes "run") && bytes_eq fourth (codes "abort")
+    then (if is_name second && is_name third then Some (Run second third) else None) else None
 
 -- the form of these words, if they have one
 abbrev pub form_of : List (List ℕ) → Option Form

@@ -1,5 +1,7 @@
 //! The forms of event lines.
-ghost use Rattle.std.specs.Prelude.{◌≡◌, map};
+ghost use Rattle.std.specs.Prelude.{◌≡◌, map, if◌then◌else◌, Some, None};
+ghost use Rattle.iot_text.specs.Names.{is_name};
+ghost use Rattle.iot_app.specs.Forms.{form_of, two_words, three_words, four_words};
 
 use iot_text::Name;
 
@@ -19,18 +21,54 @@ pub(crate) enum Form {
     ShowServer,
 }
 
+/// A word as a name, where it is one.
+fn name_of(word: &[u8]) -> Option<Name>
+    ensures { result ≡ (if is_name word.now then Some word.now else None) }
+{
+    Name::parse(word).ok()
+}
+
+fn two_words(first: &[u8], second: &[u8]) -> Option<Form>
+    ensures { result ≡ two_words first.now second.now }
+{
+    if first == b"client".as_slice() {
+        return Some(Form::Client(name_of(second)?));
+    }
+    if first == b"show".as_slice() && second == b"server".as_slice() {
+        return Some(Form::ShowServer);
+    }
+    None
+}
+
+fn three_words(first: &[u8], second: &[u8], third: &[u8]) -> Option<Form>
+    ensures { result ≡ three_words first.now second.now third.now }
+{
+    if first == b"script".as_slice() && third == b"{".as_slice() {
+        return Some(Form::Script(name_of(second)?));
+    }
+    None
+}
+
+fn four_words(first: &[u8], second: &[u8], third: &[u8], fourth: &[u8]) -> Option<Form>
+    ensures { result ≡ four_words first.now second.now third.now fourth.now }
+{
+    if first == b"run".as_slice() && fourth == b"abort".as_slice() {
+        return Some(Form::Run {
+            client: name_of(second)?,
+            script: name_of(third)?,
+        });
+    }
+    None
+}
+
 /// The form of these words, if they have one.
-pub(crate) fn form(words: &[&[u8]]) -> Option<Form>
+pub(crate) fn form_of(words: &[&[u8]]) -> Option<Form>
     ensures { result ≡ form_of (map (λ word. word.now) words.now) }
 {
     match words {
-        [b"client", name] => Some(Form::Client(Name::parse(name).ok()?)),
-        [b"show", b"server"] => Some(Form::ShowServer),
-        [b"script", name, b"{"] => Some(Form::Script(Name::parse(name).ok()?)),
-        [b"run", client, script, b"abort"] => Some(Form::Run {
-            client: Name::parse(client).ok()?,
-            script: Name::parse(script).ok()?,
-        }),
+        [first, second] => two_words(first, second),
+        [first, second, third] => three_words(first, second, third),
+        [first, second, third, fourth] => four_words(first, second, third, fourth),
         _ => None,
     }
 }

@@ -1,5 +1,7 @@
 //! The program as a function: an event script is read, its events are done one by one, and what they say is written.
 #![tactic(auto)]
 
+mod event;
 mod form;
 mod script;
+mod stub;

@@ -1,5 +1,5 @@
 //! Scripts, as they are run.
-use iot_text::Text;
+use crate::stub::Text;
 use std::marker::Model;
 use std::rc::Rc;
 
