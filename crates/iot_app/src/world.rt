@@ -1,0 +1,138 @@
+//! The world: the server and its client, as they stand between two events.
+ghost use Rattle.std.specs.Prelude.{◌≡◌, ◌+◌, ◌-◌, ◌^◌, ◌<◌, ◌≤◌, [], OnOk, IfOk, length};
+
+use crate::act::perform;
+use crate::event::Event;
+use crate::script::Script;
+use crate::texts::{Transaction, say_client, say_commit, say_end, say_output, say_settled, say_tree};
+use iot_text::{Name, NoMemory, Text};
+use iot_tree::Tree;
+use std::alloc::Global;
+
+/// A client that was declared.
+#[derive(Clone, Copy)]
+pub(crate) struct Client {
+    pub(crate) name: Name,
+
+    /// The number of its last transaction, 0 before the first.
+    pub(crate) last: u64,
+}
+
+/// A script that was declared.
+#[derive(Drop)]
+pub(crate) struct Declared {
+    pub(crate) name: Name,
+    pub(crate) script: Script,
+}
+
+/// What an event works on. A world is given up after a refusal.
+#[derive(Drop)]
+pub(crate) struct World {
+    /// The server's tree.
+    pub(crate) tree: Tree,
+
+    /// How many transactions the server has committed.
+    pub(crate) commits: u64,
+
+    /// In order of declaration, as the scripts are.
+    pub(crate) clients: Vec<Client>,
+    pub(crate) scripts: Vec<Declared>,
+}
+
+impl World {
+    ghost use Rattle.iot_app.specs.Machine.{opening};
+    ghost use Rattle.iot_app.specs.Steps.{event_part, Runs};
+    ghost use Rattle.iot_app.specs.Declared.{IsDeclared};
+    ghost use Rattle.iot_app.specs.World.{StandsFor, Refines, CountsAtMost};
+
+    /// The world before any event: the server's tree has only its root.
+    pub(crate) fn new(alloc: Global) -> Result<World, NoMemory>
+        ensures stands { IfOk result (λ world. StandsFor world opening) }
+        ensures counts { IfOk result (CountsAtMost 0) }
+        ensures clients { IfOk result (λ world. world.clients.items ≡ []) }
+        ensures scripts { IfOk result (λ world. world.scripts.items ≡ []) }
+    {
+        Ok(World {
+            tree: Tree::whole_root(alloc)?,
+            commits: 0,
+            clients: Vec::new(alloc),
+            scripts: Vec::new(alloc),
+        })
+    }
+
+    /// Does one event, and appends what it says.
+    pub(crate) fn apply(
+        &mut self,
+        alloc: Global,
+        event: &Event,
+        out: &mut Text,
+    ) -> Result<(), NoMemory>
+        requires declared { IsDeclared (length self.old.clients.items) (length self.old.scripts.items) event.now }
+        requires counts { CountsAtMost (2 ^ 64 - 2) self.old }
+        ensures step { OnOk result (Refines (event_part event.now) self.old self.new out.old out.new) }
+    {
+        match event {
+            Event::Client(name) => self.declare_client(name, out),
+            Event::Script(name, script) => self.declare_script(alloc, name, script),
+            Event::Run { client, script } => self.run(alloc, *client, *script, out),
+            Event::ShowServer => say_tree(&self.tree, out),
+        }
+    }
+
+    fn declare_client(&mut self, name: &Name, out: &mut Text) -> Result<(), NoMemory> {
+        self.clients.push(Client {
+            name: *name,
+            last: 0,
+        })?;
+        say_client(name, out)
+    }
+
+    fn declare_script(
+        &mut self,
+        alloc: Global,
+        name: &Name,
+        script: &Script,
+    ) -> Result<(), NoMemory> {
+        self.scripts.push(Declared {
+            name: *name,
+            script: script.share()?,
+        })?;
+        Ok(())
+    }
+
+    /// Runs a script as the client's next transaction, which commits.
+    fn run(
+        &mut self,
+        alloc: Global,
+        client: u64,
+        script: u64,
+        out: &mut Text,
+    ) -> Result<(), NoMemory>
+        requires client { client < length self.old.clients.items }
+        requires script { script < length self.old.scripts.items }
+        requires counts { CountsAtMost (2 ^ 64 - 2) self.old }
+        ensures step { OnOk result (Refines (Runs client script) self.old self.new out.old out.new) }
+    {
+        let transaction = self.begin(client as usize);
+        say_end(&transaction, out)?;
+        let statements = self.scripts[script as usize].script.statements();
+        let acts = perform(alloc, statements, &mut self.tree)?;
+        self.commits += 1;
+        say_commit(self.commits, &transaction, out)?;
+        say_output(acts.as_slice(), out)?;
+        say_settled(&transaction, self.commits, out)
+    }
+
+    /// The client's next transaction.
+    fn begin(&mut self, client: usize) -> Transaction
+        requires client { client < length self.old.clients.items }
+        requires counts { CountsAtMost (2 ^ 64 - 2) self.old }
+    {
+        let client = &mut self.clients[client];
+        client.last += 1;
+        Transaction {
+            client: client.name,
+            number: client.last,
+        }
+    }
+}
