@@ -1,14 +1,16 @@
 //! Paths: lists of names.
-ghost use Rattle.std.specs.Prelude.{ℕ, List, [], ◌≡◌, IfOk, Some, refl, nat_eq};
+ghost use Rattle.std.specs.Prelude.{ℕ, List, [], ◌≡◌, IfOk, IfErr, Some, refl, nat_eq};
 ghost use Rattle.std.specs.Ordering.{nat_cmp};
 ghost use Rattle.std.specs.Cmp.{partial_equiv_from_equiv, po};
 ghost use Rattle.std.specs.Cmp.Lexicographic.{pointwise, slice_cmp, nat_list_eq_equiv, nat_list_cmp_total, texts_ties, lists_equiv, lists_total, lists_ties};
-ghost use Rattle.iot_text.specs.Paths.{IsPath, path_cmp};
+ghost use Rattle.iot_text.specs.Paths.{IsPath, IsPathText, RefusesPath, is_slash, path_cmp};
+ghost use Rattle.std.specs.List.{position_or_len};
 
 use std::alloc::Global;
 use std::cmp::Ordering;
 use std::marker::Model;
 
+use crate::names::beginning_len;
 use crate::{Name, TextFault};
 
 /// A path: the names on the way down from the root, whose own path has none.
@@ -29,7 +31,53 @@ impl Model for Path {
     ghost invariant = { λ path. IsPath path.names.items };
 }
 
+/// How many bytes stand before the first `/`, or in all where there is none.
+fn part_len(text: &[u8]) -> usize
+    ensures { result ≡ position_or_len is_slash text.now }
+{
+    'bytes: for (len, byte) in text.iter().enumerate() {
+        if *byte == b'/' {
+            return len;
+        }
+    }
+    text.len()
+}
+
 impl Path {
+    /// Reads the text of a path.
+    ///
+    /// # Errors
+    ///
+    /// `BadPath`, exactly where the text is that of no path: its first `at` bytes begin the text of
+    /// some path, and no more of them do. `NoMemory` where there is none for the names.
+    pub fn parse(alloc: Global, text: &[u8]) -> Result<Path, TextFault>
+        ensures ok { IfOk result (IsPathText text.now) }
+        ensures refused { IfErr result (RefusesPath text.now) }
+    {
+        let mut names = Vec::new(alloc);
+        if text.is_empty() || text[0] != b'/' {
+            return Err(TextFault::BadPath { at: 0 });
+        }
+        if text.len() == 1 {
+            return Ok(Path { names });
+        }
+        let mut start = 1;
+        'parts: loop {
+            let rest = &text[start..];
+            let len = part_len(rest);
+            let Ok(name) = Name::parse(&rest[..len]) else {
+                let at = start + beginning_len(rest);
+                return Err(TextFault::BadPath { at: at as u64 });
+            };
+            names.push(name)?;
+            start += len;
+            if start == text.len() {
+                return Ok(Path { names });
+            }
+            start += 1;
+        }
+    }
+
     /// The path of the root. Takes no memory.
     pub fn root(alloc: Global) -> Path
         ensures { result ≡ [] }
