@@ -1,2 +1,7 @@
-pub mod Spelled
+pub mod Appended
+pub mod Below
+pub mod Numbers
 pub mod Parsing
+pub mod PathLaws
+pub mod QuoteSteps
+pub mod Spelled

@@ -14,16 +14,12 @@ use borrow.Author.Tests.{eqb-true}
 use mathlib.Core.Bool.{true≢false}
 use Rattle.iot_text.specs.Names.{is_name_byte, is_dots, is_name, IsName, NameParts, name_parts, name_from_parts, beginning_len}
 use Rattle.iot_text.specs.Paths.{is_slash, IsPath, names_text, path_text, IsPathText, IsNoPathText, BeginsPath, LongestBeginning}
-use Rattle.iot_text.proofs.Spelled.{at_end, names_text-at_end, at_end-after_names, same_name, before_first-name, covered}
+use Rattle.iot_text.proofs.Spelled.{path_text-names, at_end, names_text-at_end, at_end-after_names, same_name, before_first-name, covered}
 
 -- where it is longer than that of the root, the text of a path is its names' texts
 pub names_text-long : (path : List (List ℕ)) → 1 < length (path_text path) → path_text path ≡ names_text path
 names_text-long [] long = absurd (omega arith)
 names_text-long (name ∷ names) long = refl
-
-pub path_text-names : (path : List (List ℕ)) → 0 < length (names_text path) → path_text path ≡ names_text path
-path_text-names [] some = absurd (omega arith)
-path_text-names (name ∷ names) some = refl
 
 -- a path with a name more
 pub IsPath-push : (path : List (List ℕ)) (name : List ℕ) → IsPath path → IsName name → IsPath (path ++ name ∷ [])

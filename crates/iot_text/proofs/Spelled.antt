@@ -1,5 +1,6 @@
 -- Lemmas on the texts of paths: where a name ends in one.
-use Rattle.std.proofs.Common.{◌≡◌, ℕ, zero, suc, ◌+◌, ◌<◌, ◌≤◌, ◌==◌, Bool, true, false, cond, not, ◌&&◌, ◌⊎◌, inl, inr, List, [], ◌∷◌, ◌++◌, length, take, drop, refl, sym, ◌∙◌, ap, subst, arith, append_assoc, length-append}
+use Rattle.std.proofs.Common.{◌≡◌, ℕ, zero, suc, ◌+◌, ◌<◌, ◌≤◌, ◌==◌, Bool, true, false, cond, not, ◌&&◌, ◌⊎◌, inl, inr, List, [], ◌∷◌, ◌++◌, length, take, drop, refl, sym, ◌∙◌, ap, subst, arith, append_assoc, length-append, get_or, take-append-drop}
+use Rattle.std.proofs.lemmas.List.{drop_more}
 use Rattle.std.specs.List.{list_all, flat_map, before_first, position_or_len, prefix_len}
 use Rattle.std.specs.Cmp.{first_so, second_so}
 use Rattle.std.proofs.lemmas.Grind.{flat_map-append}
@@ -11,12 +12,17 @@ use Rattle.iot_text.specs.Names.{is_name_byte, is_name, IsName, NameParts, name_
 use Rattle.iot_text.specs.Paths.{is_slash, IsPath, names_text, path_text}
 
 -- a byte of a name is no slash
-not_slash : (b : ℕ) → is_name_byte b ≡ true → is_slash b ≡ false
+pub not_slash : (b : ℕ) → is_name_byte b ≡ true → is_slash b ≡ false
 not_slash b named = by (is_slash b) refl
   where
     by : (s : Bool) → is_slash b ≡ s → s ≡ false
     by false e = refl
     by true e = absurd (true≢false (sym named ∙ ap is_name_byte (eqb-true b 47 e)))
+
+-- but for the root's, the text of a path is its names' texts
+pub path_text-names : (path : List (List ℕ)) → 0 < length (names_text path) → path_text path ≡ names_text path
+path_text-names [] some = absurd (omega arith)
+path_text-names (name ∷ names) some = refl
 
 -- nothing is left, or a slash comes next
 abbrev pub at_end : List ℕ → Bool
@@ -72,3 +78,21 @@ covered (c ∷ cs) more (x ∷ rest) r (suc k) named ended e fits =
     elim (covered cs more rest r k (second_so (is_name_byte c) _ named) ended tails (omega arith)) [
       inl both ↦ inl (omega (arith, both.0), subst (λ b. suc k ≤ cond b (1 + prefix_len is_name_byte rest) 0) (sym byte) (omega (arith, both.1)))
     | inr same ↦ inr (before_first-no_slash x rest (not_slash x byte) ∙ (λ i. (sym head) i ∷ same i)) ]
+
+-- the front of a path is a path
+pub IsPath-take : (path : List (List ℕ)) (n : ℕ) → IsPath path → IsPath (take n path)
+IsPath-take path zero valid = refl
+IsPath-take [] (suc n) valid = refl
+IsPath-take (name ∷ names) (suc n) valid =
+    λ i. first_so (is_name name) _ valid i && IsPath-take names n (second_so (is_name name) _ valid) i
+
+-- the names up to one, it, and those behind it
+pub written_on : (path : List (List ℕ)) (i : ℕ) (name : List ℕ) → i < length path → name ≡ get_or path i name
+    → names_text (take i path) ++ ((47 ∷ name) ++ names_text (drop (i + 1) path)) ≡ path_text path
+written_on [] i name within is = absurd (omega arith)
+written_on (first ∷ names) i name within is =
+    let path : List (List ℕ) = first ∷ names in
+    let rest : drop i path ≡ name ∷ drop (i + 1) path = drop_more path i name within ∙ ap (λ n. n ∷ drop (i + 1) path) (sym is) in
+    ap (λ t. names_text (take i path) ++ names_text t) (sym rest)
+    ∙ sym (flat_map-append (λ n. 47 ∷ n) (take i path) (drop i path))
+    ∙ ap names_text (take-append-drop i path)

@@ -17,7 +17,7 @@ const LIMIT: usize = 32;
 
 /// A name: 1 to 32 letters, digits, `_`, `-` and `.`, but neither `.` nor `..`.
 /// Contracts see it as the list of its bytes.
-#[derive(Clone, Copy)]
+#[derive(Clone, Copy, Debug)]
 pub struct Name {
     len: u8,
     bytes: [u8; LIMIT],

@@ -1,10 +1,13 @@
-use Rattle.std.proofs.Common.{◌≡◌, ◌<◌, ◌≤◌, ◌+◌, ◌-◌, length, drop, take, sym, ◌∙◌, ap, subst, arith, length-append, length-drop, length-take-le}
+use Rattle.std.proofs.Common.{◌≡◌, ◌<◌, ◌≤◌, ◌+◌, ◌-◌, length, drop, take, sym, ◌∙◌, ap, subst, arith, length-append, length-drop, length-take-le, Some}
+use borrow.Author.Tests.{eqb-true}
 use Rattle.std.specs.List.{position_or_len, before_first}
 use Rattle.std.proofs.lemmas.List.{take_rest}
 use Rattle.iot_text.specs.Names.{IsName, beginning_len}
 use Rattle.iot_text.specs.Paths.{is_slash, names_text, IsPathText}
 use Rattle.iot_text.proofs.Parsing.{refused, completed, stepped, Stepped, next_part, IsPath-push, path_text-push, names_text-push}
+use Rattle.iot_text.proofs.PathLaws.{path_of-spelled, path_of-none, path_of-no_slash, path_of-root}
 use Rattle.iot_text.proofs.paths.Path.parse.Goals as goal
+use Rattle.iot_text.proofs.paths.Path.parse.Goals.{then-is_empty-via-then-is_empty, then-is_empty-via-else-is_empty+then-text-ne47}
 
 pub returns-in_default-clause-refused : goal.returns-in_default-clause-refused
 returns-in_default-clause-refused c =
@@ -28,3 +31,17 @@ parts-preserved c = rw (c.in_ok-push.ensures.items) (record {
       c.part_len-len.ensures c.in-Ok.ensures.ok.1 c.if-start-text.false;
   not_root = c.parts.invariant.not_root;
 })
+
+pub returns-then-is_empty-clause-none : goal.returns-then-is_empty-clause-none
+returns-then-is_empty-clause-none c = λ fault. elim c.then-is_empty.branch [
+    then-is_empty-via-then-is_empty w ↦ path_of-no_slash c.args.text.now (λ some. absurd (omega (arith, eqb-true (length c.args.text.now) 0 (sym c.is_empty.ensures ∙ w.if-is_empty.true))))
+  | then-is_empty-via-else-is_empty+then-text-ne47 w ↦ path_of-no_slash c.args.text.now (λ some. w.if-text-ne47.true) ]
+
+pub returns-then-text-eq1-clause-found : goal.returns-then-text-eq1-clause-found
+returns-then-text-eq1-clause-found c = path_of-root c.args.text.now c.if-text-eq1.true c.if-text-ne47.false ∙ ap Some (sym c.new-names.ensures.items)
+
+pub returns-in_default-clause-none : goal.returns-in_default-clause-none
+returns-in_default-clause-none c = λ fault. path_of-none c.args.text.now (returns-in_default-clause-refused c).0
+
+pub returns-then-start-text-clause-found : goal.returns-then-start-text-clause-found
+returns-then-start-text-clause-found c = path_of-spelled c.args.text.now c.push.new.self.items (returns-then-start-text-clause-ok c)
