@@ -4,7 +4,7 @@ use Rattle.iot_io.specs.Count.{one_more}
 
 -- What was written, for how many bytes more there is room, which calls fail and which take nothing, and
 -- how many calls, faults and empty writes came.
-pub record Store : Type 0 where
+pub record MemOutput : Type 0 where
   pub written : List ℕ
   pub room : ℕ
   pub fails : List ℕ
@@ -18,7 +18,7 @@ abbrev pub is_empty_write : ℕ → List ℕ → Bool
 is_empty_write n piece = (n == 0) && nat_lt 0 (length piece)
 
 -- after a call that took n bytes of the piece
-abbrev pub after_write : ℕ → List ℕ → Store → Store
+abbrev pub after_write : ℕ → List ℕ → MemOutput → MemOutput
 after_write n piece s = record s {
   written = s.written ++ take n piece;
   room = s.room - n;
@@ -27,5 +27,5 @@ after_write n piece s = record s {
 }
 
 -- after a call that failed
-abbrev pub after_failed_write : Store → Store
+abbrev pub after_failed_write : MemOutput → MemOutput
 after_failed_write s = record s { calls = one_more s.calls; faults = one_more s.faults }

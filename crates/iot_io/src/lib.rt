@@ -12,11 +12,10 @@ mod mem_source;
 mod numbers;
 mod reading;
 mod standard;
-mod traits;
-mod writing;
-
 #[cfg(test)]
 mod tests;
+mod traits;
+mod writing;
 
 pub use faults::{Failed, ReadFault, SinkFault};
 pub use mem_sink::MemSink;

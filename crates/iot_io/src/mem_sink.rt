@@ -20,18 +20,18 @@ pub struct MemSink {
 
 impl Model for MemSink {
     ghost use Rattle.std.specs.Prelude.{◌+◌, ◌≤◌, vec_len, vec_capacity};
-    ghost use Rattle.iot_io.specs.MemSink.{Store};
+    ghost use Rattle.iot_io.specs.MemSink.{MemOutput};
 
-    ghost Value = { Store };
+    ghost Value = { MemOutput };
 
     ghost view = { λ s. record {
-        written = s.bytes.items;
-        room = s.room;
-        fails = s.fails.items;
-        nothing = s.nothing.items;
-        calls = s.calls;
-        faults = s.faults;
-        empties = s.empties
+      written = s.bytes.items;
+      room = s.room;
+      fails = s.fails.items;
+      nothing = s.nothing.items;
+      calls = s.calls;
+      faults = s.faults;
+      empties = s.empties;
     } };
 
     ghost invariant = { λ s. vec_len s.bytes + s.room ≤ vec_capacity s.bytes };
@@ -49,8 +49,13 @@ impl MemSink {
         nothing: Vec<u64>,
     ) -> Result<MemSink, AllocError>
         ensures { IfOk result (λ sink. sink ≡ record {
-            written = []; room = room; fails = fails.items; nothing = nothing.items;
-            calls = 0; faults = 0; empties = 0
+          written = [];
+          room = room;
+          fails = fails.items;
+          nothing = nothing.items;
+          calls = 0;
+          faults = 0;
+          empties = 0;
         }) }
     {
         Ok(MemSink {

@@ -17,16 +17,16 @@ pub struct MemSource {
 
 impl Model for MemSource {
     ghost use Rattle.std.specs.Prelude.{◌≤◌, drop, length};
-    ghost use Rattle.iot_io.specs.MemSource.{Feed};
+    ghost use Rattle.iot_io.specs.MemSource.{MemInput};
 
-    ghost Value = { Feed };
+    ghost Value = { MemInput };
 
     ghost view = { λ s. record {
-        left = drop s.taken s.bytes.items;
-        taken = s.taken;
-        fails = s.fails.items;
-        calls = s.calls;
-        faults = s.faults
+      left = drop s.taken s.bytes.items;
+      taken = s.taken;
+      fails = s.fails.items;
+      calls = s.calls;
+      faults = s.faults;
     } };
 
     ghost invariant = { λ s. s.taken ≤ length s.bytes.items };
@@ -38,7 +38,11 @@ impl MemSource {
     /// A source of these bytes, whose calls with these numbers fail.
     pub fn new(bytes: Vec<u8>, fails: Vec<u64>) -> MemSource
         ensures { result ≡ record {
-            left = bytes.items; taken = 0; fails = fails.items; calls = 0; faults = 0
+          left = bytes.items;
+          taken = 0;
+          fails = fails.items;
+          calls = 0;
+          faults = 0;
         } }
     {
         MemSource {

@@ -1,5 +1,5 @@
 //! Reading a source to its end.
-ghost use Rattle.std.specs.Prelude.{◌≡◌, ℕ, ◌≤◌, ◌<◌, List, [], length, take, vec_len, IfOk, IfErr, OnOk, OnErr, MatchResult};
+ghost use Rattle.std.specs.Prelude.{◌≡◌, ℕ, ◌≤◌, ◌<◌, List, [], length, take, vec_len, IfSome, IfOk, IfErr, OnOk, OnErr, IsErrOf, MatchResult};
 ghost use Rattle.std.specs.Io.KnownBytes.{IsAtEnd};
 ghost use Rattle.iot_io.specs.Count.{Rose};
 ghost use Rattle.iot_io.specs.ReadAll.{Took, IsTakenBefore, CountsReadFault};
@@ -20,13 +20,16 @@ pub fn read_all<S: Source>(
     source: &mut S,
     limit: usize,
 ) -> Result<Vec<u8>, ReadFault>
-    ensures bytes { IfOk result (λ bytes. Took S.left S.taken source.old source.new bytes.items) }
+    ensures all { IfOk result (λ bytes. IfSome (S.left source.old) (λ left. bytes.items ≡ left)) }
+    ensures took { IfOk result (λ bytes. Took S.left S.taken source.old source.new bytes.items) }
     ensures end { OnOk result (IsAtEnd (S.left source.new)) }
     ensures within { IfOk result (λ bytes. vec_len bytes ≤ limit) }
     ensures steady { OnOk result (S.faults source.new ≡ S.faults source.old) }
 
     // A fault comes behind a prefix, which is longer than the limit exactly at `TooLong`, and the
     // count of faults rose exactly at `Failed`.
+    ensures too_long { IsErrOf result ReadFault.TooLong
+        → IfSome (S.left source.old) (λ left. limit < length left) }
     ensures prefix { IfErr result (λ fault. (bytes : List ℕ)
         × Took S.left S.taken source.old source.new bytes
         × IsTakenBefore fault limit (length bytes)) }
@@ -57,11 +60,7 @@ fn zeros(alloc: Global, count: usize) -> Result<Vec<u8>, AllocError>
 }
 
 /// One read of at most so many bytes into the front of the chunk.
-fn read_front<S: Source>(
-    source: &mut S,
-    chunk: &mut [u8],
-    most: usize,
-) -> Result<usize, Failed>
+fn read_front<S: Source>(source: &mut S, chunk: &mut [u8], most: usize) -> Result<usize, Failed>
     requires { most ≤ length chunk.old }
     ensures bound { IfOk result (λ n. n ≤ most) }
     ensures took { MatchResult result

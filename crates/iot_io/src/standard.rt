@@ -43,12 +43,10 @@ impl Source for StdSource {
     ghost faults = { λ s. s.faults };
 
     fn read(&mut self, buf: &mut [u8]) -> Result<usize, Failed> {
-        let can_count = self.taken.checked_add(buf.len() as u64).is_some();
-        if can_count {
-            if let Ok(count) = self.input.read(buf) {
-                self.taken += count as u64;
-                return Ok(count);
-            }
+        let is_countable = self.taken.checked_add(buf.len() as u64).is_some();
+        if is_countable && let Ok(count) = self.input.read(buf) {
+            self.taken += count as u64;
+            return Ok(count);
         }
         self.faults = self.faults.saturating_add(1);
         Err(Failed)
