@@ -91,7 +91,7 @@ impl MemSink {
 }
 
 impl Sink for MemSink {
-    ghost use Rattle.std.specs.Prelude.{◌≡◌, ◌+◌, ◌<◌, ◌≤◌, ◌↔◌, Some, length, take, min, Contains, IsErr, IfOk, OnOk, OnErr, MatchResult};
+    ghost use Rattle.std.specs.Prelude.{◌≡◌, ◌+◌, ◌≤◌, ◌↔◌, Some, length, min, Contains, IsErr, IfOk, MatchResult};
     ghost use Rattle.iot_io.specs.MemSink.{after_write, after_failed_write};
 
     ghost written = { λ s. Some s.written };

@@ -56,9 +56,7 @@ impl MemSource {
 }
 
 impl Source for MemSource {
-    ghost use Rattle.std.specs.Prelude.{◌≡◌, ◌+◌, ◌≤◌, ◌↔◌, Some, length, take, min, Contains, IsErr, IfOk, OnOk, OnErr, MatchResult};
-    ghost use Rattle.std.specs.Io.KnownBytes.{ReadConsumes};
-    ghost use Rattle.iot_io.specs.Count.{Rose};
+    ghost use Rattle.std.specs.Prelude.{◌≡◌, ◌+◌, ◌≤◌, ◌↔◌, Some, length, take, min, Contains, IsErr, IfOk, MatchResult};
     ghost use Rattle.iot_io.specs.MemSource.{after_read, after_failed_read};
 
     ghost left = { λ s. Some s.left };
