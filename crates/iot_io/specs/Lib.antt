@@ -1,0 +1,6 @@
+pub mod Count
+pub mod ReadAll
+pub mod WriteAll
+pub mod MemSource
+pub mod MemSink
+pub mod Standard
