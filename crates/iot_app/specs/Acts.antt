@@ -14,7 +14,7 @@ use Rattle.iot_tree.specs.declared.updates.Update.{Update}
 use Rattle.iot_tree.specs.declared.updates.Update.TheVariants.{Put, MakeDir}
 use Rattle.iot_tree.specs.declared.acts.Act.{Act}
 use Rattle.iot_tree.specs.declared.acts.Read.{Read}
-use Rattle.iot_app.specs.Paths.{path_of}
+use Rattle.iot_text.specs.Paths.{path_of}
 use Rattle.iot_app.specs.declared.script.Statement.{Statement}
 use Rattle.iot_app.specs.declared.script.Statement.TheVariants as statements
 

@@ -1,5 +1,5 @@
 //! Scripts, as they are run.
-use crate::stub::Text;
+use iot_text::Text;
 use std::marker::Model;
 use std::rc::Rc;
 
