@@ -25,7 +25,8 @@ take_front front name = take-append_seam front (name ∷ [])
 pub parent_push : (front : List (List ℕ)) (name : List ℕ) → parent_of (front ++ name ∷ []) ≡ Some front
 parent_push [] name = refl
 parent_push (a ∷ front) name =
-    ap (λ (path : List (List ℕ)). Some path) (ap (λ n. take n (a ∷ (front ++ name ∷ []))) (length-append front (name ∷ []) ∙ omega (arith)) ∙ take_front (a ∷ front) name)
+    let longer : length (front ++ name ∷ []) ≡ suc (length front) = omega (arith, length-append front (name ∷ [])) in
+    rw (longer, take_front front name) refl
 
 -- a path with a name more is not the root
 pub below_not_root : (q : List (List ℕ)) (name : List ℕ) (rest : List (List ℕ)) → q ++ name ∷ rest ≢ []

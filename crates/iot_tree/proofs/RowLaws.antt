@@ -1,14 +1,14 @@
 -- Trees and their rows.
 use Rattle.std.proofs.Common.{◌≡◌, ◌≢◌, ◌⊎◌, ℕ, zero, suc, ◌+◌, ◌-◌, ◌<◌, ◌≤◌, ◌&&◌, Bool, true, false, cond, IsTrue, IsSome, List, [], ◌∷◌, ◌++◌, Option, Some, None, Ordering, length, take, drop, get_or, set, nat_eq, refl, sym, ap, subst, ◌∙◌, inl, inr, arith, append_assoc}
 use lib.Dec.{T}
-use Rattle.std.proofs.lemmas.List.{append-nil, take_more, drop_more, take-append-drop}
+use Rattle.std.proofs.lemmas.List.{append-nil, take_more, drop_more, take-append-drop, take-set, drop-set}
 use Rattle.std.proofs.lemmas.Slice.Eq.{starts_is}
 use Rattle.std.specs.List.{starts_with}
 use Rattle.std.specs.Cmp.Lexicographic.{pointwise, bytes_decides}
 use Rattle.std.specs.Cmp.{tied_itself}
 use Rattle.std.specs.declared.cmp.Ordering.TheVariants.{Less, Equal, Greater}
 use Rattle.std.specs.Ordering.{eq_by_cmp, is_eq, is_lt, ordering_reverse}
-use Rattle.std.specs.FinMap.{FinMap, get, entries, insert, from_sorted, find, is_sorted, get-from_sorted, entries-from_sorted, entries-insert, same_entries_map, entries_sorted}
+use Rattle.std.specs.FinMap.{FinMap, get, entries, insert, from_sorted, find, is_sorted, get-from_sorted, entries-from_sorted, entries-insert, same_entries_map, empty, empty_of_len, len-entries}
 use Rattle.std.specs.FinMap.Entries.{put, below_all, is_sorted-put}
 use Rattle.iot_text.specs.Paths.{path_cmp}
 use Rattle.iot_tree.specs.Tree.{Nodes, IsTree, root_alone, parent_node}
@@ -262,7 +262,8 @@ module _ (rows : List (List (List ℕ) × Node)) (all : AreTreeRows rows) (p : L
   -- a row that is there gets the node
   pub put_here : (at : ℕ) → StandsAt rows p at → (d : List (List ℕ) × Node) → set rows at ((get_or rows at d).0, node) ≡ put path_cmp p node rows
   put_here at stands d =
-      let written : set rows at ((get_or rows at d).0, node) ≡ take at rows ++ ((get_or rows at d).0, node) ∷ drop (at + 1) rows = ? in
+      let written : set rows at ((get_or rows at d).0, node) ≡ take at rows ++ ((get_or rows at d).0, node) ∷ drop (at + 1) rows =
+          sym (take-append-drop at (set rows at ((get_or rows at d).0, node))) ∙ rw (take-set rows at ((get_or rows at d).0, node), drop-set rows at ((get_or rows at d).0, node) stands.in_range) refl in
       let whole : rows ≡ take at rows ++ get_or rows at d ∷ drop (at + 1) rows =
           sym (take-append-drop at rows) ∙ ap (λ (back : List (List (List ℕ) × Node)). take at rows ++ back) (drop_more rows at d stands.in_range) in
       written ∙ sym (ap (put path_cmp p node) whole ∙ put_at p node (take at rows) (get_or rows at d) (drop (at + 1) rows) stands.before (stands.here d))
@@ -271,10 +272,28 @@ module _ (rows : List (List (List ℕ) × Node)) (all : AreTreeRows rows) (p : L
   pub put_in_gap : (gap : ℕ) → IsGap rows p gap → take gap rows ++ (p, node) ∷ drop gap rows ≡ put path_cmp p node rows
   put_in_gap gap is_gap = sym (ap (put path_cmp p node) (sym (take-append-drop gap rows)) ∙ put_gap p node (take gap rows) (drop gap rows) is_gap.before is_gap.after)
 
+root_is_dir : (node : Node) → IsTrue (is_dir node) → (Some node ≡ Some Dir) ⊎ (Some node ≡ Some FarDir)
+root_is_dir Dir is = inl refl
+root_is_dir (File bytes) is = absurd cc
+root_is_dir FarDir is = inr refl
+root_is_dir FarFile is = absurd cc
+
+root_parents : (node : Node) (p : List (List ℕ)) → p ≢ [] → IsSome (find path_cmp p (([], node) ∷ [])) → parent_node (from_sorted (([], node) ∷ [])) p ≡ Some Dir
+root_parents node [] below mapped = absurd (below refl)
+root_parents node (name ∷ rest) below mapped = absurd cc
+
 -- a root alone is a tree
 pub root_rows : (node : Node) → IsTrue (is_dir node) → AreTreeRows (([], node) ∷ [])
-root_rows node is = record { rising = refl; tree = record { root = ?; parents = λ p below mapped. ? } }
+root_rows node is = record {
+  rising = refl;
+  tree = record {
+    root = rw (get_rows (([], node) ∷ []) refl []) (root_is_dir node is);
+    parents = λ p below mapped. root_parents node p below (subst IsSome (get_rows (([], node) ∷ []) refl p) mapped);
+  };
+}
 
 -- and it is the map that has only a root
 pub root_map : (node : Node) → from_sorted {R = path_cmp} (([], node) ∷ []) ≡ root_alone node
-root_map node = ?
+root_map node =
+    let none : from_sorted {X = Node} {R = path_cmp} [] ≡ empty = empty_of_len _ (len-entries _ ∙ ap length (entries_rows [] refl)) in
+    put_inserts [] refl [] node ∙ ap (λ (t : Nodes). insert t [] node) none

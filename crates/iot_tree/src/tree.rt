@@ -100,7 +100,7 @@ impl Tree {
         ensures content { option_copied result ≡ content_of self.now path.now }
         ensures tree { IsTree self.now }
     {
-        match self.node(path.names()) {
+        match node_at(self.rows.as_slice(), path.names()) {
             Some(node) => node.content(),
             None => None,
         }
