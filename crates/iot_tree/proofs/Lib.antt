@@ -1,0 +1,5 @@
+pub mod Order
+pub mod Entries
+pub mod Ancestry
+pub mod TreeLaws
+pub mod RowLaws

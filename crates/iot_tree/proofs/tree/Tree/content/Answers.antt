@@ -1,0 +1,18 @@
+use Rattle.std.proofs.Common.{sym, ap, ◌≡◌, ◌∙◌, Option, Some, None, List, ℕ}
+use Rattle.std.specs.FinMap.{get}
+use Rattle.std.specs.Option.{option_copied}
+use Rattle.iot_text.specs.Paths.{path_cmp}
+use Rattle.iot_tree.specs.Questions.{content_at}
+use Rattle.iot_tree.specs.declared.nodes.Node.{Node}
+use Rattle.iot_tree.proofs.RowLaws.{get_rows}
+use Rattle.iot_tree.proofs.tree.Tree.content.Goals as goal
+
+pub returns-in-Some-clause-content : goal.returns-in-Some-clause-content
+returns-in-Some-clause-content c =
+    let found = rw (c.in-Some.is, c.as_slice.ensures, c.names.ensures.value) at c.node_at.ensures in
+    rw (← c.self.view_is) (c.content.ensures ∙ ap content_at (found ∙ sym (get_rows c.self.inside.rows c.self.invariant.rising c.args.path.now)))
+
+pub returns-in-None-clause-content : goal.returns-in-None-clause-content
+returns-in-None-clause-content c =
+    let found = rw (c.in-None.is, c.as_slice.ensures, c.names.ensures.value) at c.node_at.ensures in
+    rw (← c.self.view_is) (ap content_at (found ∙ sym (get_rows c.self.inside.rows c.self.invariant.rising c.args.path.now)))

@@ -1,0 +1,6 @@
+pub mod Ancestors
+pub mod Tree
+pub mod Questions
+pub mod Updates
+pub mod Rows
+pub mod Place

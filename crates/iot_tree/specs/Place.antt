@@ -1,0 +1,28 @@
+-- Where a path stands among rows, or would stand.
+use Rattle.std.specs.Prelude.{◌≡◌, ℕ, ◌<◌, ◌≤◌, IsTrue, List, [], ◌∷◌, length, take, drop, slice_index_or, Result, Ok, Err}
+use Rattle.std.specs.FinMap.Entries.{below_all}
+use Rattle.std.specs.declared.cmp.Ordering.TheVariants.{Less}
+use Rattle.iot_text.specs.Paths.{path_cmp}
+use Rattle.iot_tree.specs.declared.nodes.Node.{Node}
+
+-- each row's path comes before p
+abbrev pub AllBefore : List (List ℕ) → List (List (List ℕ) × Node) → Type 0
+AllBefore p [] = Unit {0}
+AllBefore p (row ∷ rows) = (path_cmp row.0 p ≡ Less) × AllBefore p rows
+
+-- the row at this place is that of p
+pub record StandsAt (rows : List (List (List ℕ) × Node)) (p : List (List ℕ)) (at : ℕ) : Type 0 where
+  pub in_range : at < length rows
+  pub before : AllBefore p (take at rows)
+  pub here : (d : List (List ℕ) × Node) → (slice_index_or rows at d).0 ≡ p
+
+-- p has no row, and its row would go to this place
+pub record IsGap (rows : List (List (List ℕ) × Node)) (p : List (List ℕ)) (at : ℕ) : Type 0 where
+  pub in_range : at ≤ length rows
+  pub before : AllBefore p (take at rows)
+  pub after : IsTrue (below_all path_cmp p (drop at rows))
+
+-- where a search for p ends: at its row, or at its gap
+abbrev pub IsPlace : List (List (List ℕ) × Node) → List (List ℕ) → Result ℕ ℕ → Type 0
+IsPlace rows p (Ok at) = StandsAt rows p at
+IsPlace rows p (Err at) = IsGap rows p at

@@ -1,0 +1,94 @@
+-- What a tree answers.
+use Rattle.std.specs.Prelude.{ℕ, Bool, true, false, List, Option, Some, None}
+use Rattle.std.specs.FinMap.{get}
+use Rattle.std.specs.List.{list_any}
+use Rattle.iot_tree.specs.Ancestors.{proper_prefixes}
+use Rattle.iot_tree.specs.Tree.{Nodes}
+use Rattle.iot_tree.specs.declared.nodes.Node.{Node}
+use Rattle.iot_tree.specs.declared.nodes.Node.TheVariants.{Dir, File, FarDir, FarFile}
+use Rattle.iot_tree.specs.declared.kinds.Kind.{Kind}
+use Rattle.iot_tree.specs.declared.kinds.Kind.TheVariants as kinds
+use Rattle.iot_tree.specs.declared.questions.Question.{Question}
+use Rattle.iot_tree.specs.declared.questions.Question.TheVariants as asks
+use Rattle.iot_tree.specs.declared.questions.Answer.{Answer}
+use Rattle.iot_tree.specs.declared.questions.Answer.TheVariants.{Away, Absent, IsDir, IsFile, Bytes}
+
+-- whether the node is a directory, whose names may be known or not
+abbrev pub is_dir : Node → Bool
+is_dir Dir = true
+is_dir FarDir = true
+is_dir (File bytes) = false
+is_dir FarFile = false
+
+-- whether the node is a directory whose names are known
+abbrev pub is_known_dir : Node → Bool
+is_known_dir Dir = true
+is_known_dir FarDir = false
+is_known_dir (File bytes) = false
+is_known_dir FarFile = false
+
+-- whether a path's row says that its names are not known
+abbrev pub is_far_dir : Option Node → Bool
+is_far_dir (Some FarDir) = true
+is_far_dir (Some Dir) = false
+is_far_dir (Some (File bytes)) = false
+is_far_dir (Some FarFile) = false
+is_far_dir None = false
+
+-- whether a path above p is a far directory
+abbrev pub is_far_above : Nodes → List (List ℕ) → Bool
+is_far_above t p = list_any (λ above. is_far_dir (get t above)) (proper_prefixes p)
+
+-- the kind of an object, whether its inside is known or not
+abbrev pub node_kind : Node → Kind
+node_kind Dir = kinds.IsDir
+node_kind FarDir = kinds.IsDir
+node_kind (File bytes) = kinds.IsFile
+node_kind FarFile = kinds.IsFile
+
+-- the kind that a path's row shows; without a row it is away below a far directory, else absent
+abbrev pub kind_at : Option Node → Bool → Kind
+kind_at (Some node) far = node_kind node
+kind_at None true = kinds.Away
+kind_at None false = kinds.Absent
+
+-- what is at the path
+abbrev pub kind_of : Nodes → List (List ℕ) → Kind
+kind_of t p = kind_at (get t p) (is_far_above t p)
+
+-- the contents that a path's row shows
+abbrev pub content_at : Option Node → Option (List ℕ)
+content_at (Some (File bytes)) = Some bytes
+content_at (Some Dir) = None
+content_at (Some FarDir) = None
+content_at (Some FarFile) = None
+content_at None = None
+
+-- the contents of the file at the path, where they are known
+abbrev pub content_of : Nodes → List (List ℕ) → Option (List ℕ)
+content_of t p = content_at (get t p)
+
+-- a kind as an answer
+abbrev pub kind_answer : Kind → Answer
+kind_answer kinds.Away = Away
+kind_answer kinds.Absent = Absent
+kind_answer kinds.IsDir = IsDir
+kind_answer kinds.IsFile = IsFile
+
+-- what is answered where there are no contents: away below a far directory, else absent
+abbrev pub no_content : Bool → Answer
+no_content true = Away
+no_content false = Absent
+
+-- the contents that a path's row shows, as an answer
+abbrev pub content_answer : Option Node → Bool → Answer
+content_answer (Some (File bytes)) far = Bytes bytes
+content_answer (Some FarFile) far = Away
+content_answer (Some Dir) far = no_content far
+content_answer (Some FarDir) far = no_content far
+content_answer None far = no_content far
+
+-- what the tree answers to the question
+abbrev pub answer_of : Nodes → Question → Answer
+answer_of t (asks.Kind p) = kind_answer (kind_of t p)
+answer_of t (asks.Content p) = content_answer (get t p) (is_far_above t p)

@@ -1,0 +1,16 @@
+-- Rows that make a tree.
+use Rattle.std.specs.Prelude.{◌≡◌, ℕ, ◌+◌, ◌<◌, IsTrue, List, take}
+use Rattle.std.specs.FinMap.{from_sorted, is_sorted}
+use Rattle.iot_text.specs.Paths.{path_cmp}
+use Rattle.iot_tree.specs.Tree.{Nodes, IsTree}
+use Rattle.iot_tree.specs.declared.nodes.Node.{Node}
+
+-- the rows are in strictly rising order, and what they map is a tree
+pub record AreTreeRows (rows : List (List (List ℕ) × Node)) : Type 0 where
+  pub rising : IsTrue (is_sorted path_cmp rows)
+  pub tree : IsTree (from_sorted rows)
+
+-- the rows before this place make a tree, where there are any, and with the row at this place they make none
+pub record IsFirstBadRow (rows : List (List (List ℕ) × Node)) (at : ℕ) : Type 0 where
+  pub before : 0 < at → AreTreeRows (take at rows)
+  pub bad : ¬ AreTreeRows (take (at + 1) rows)

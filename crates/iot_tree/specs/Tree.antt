@@ -1,0 +1,23 @@
+-- What a tree is.
+use Rattle.std.specs.Prelude.{◌≡◌, ◌≢◌, ◌⊎◌, ℕ, List, [], Option, Some, None, IsSome, option_and_then}
+use Rattle.std.specs.FinMap.{FinMap, get, insert, empty}
+use Rattle.iot_text.specs.Paths.{path_cmp, parent_of}
+use Rattle.iot_tree.specs.declared.nodes.Node.{Node}
+use Rattle.iot_tree.specs.declared.nodes.Node.TheVariants.{Dir, FarDir}
+
+-- nodes by their paths, which are in order
+abbrev pub Nodes : Type 0
+Nodes = FinMap path_cmp Node
+
+-- the tree that has only a root
+abbrev pub root_alone : Node → Nodes
+root_alone node = insert empty [] node
+
+-- the node of the path's parent; the root has no parent
+abbrev pub parent_node : Nodes → List (List ℕ) → Option Node
+parent_node t p = option_and_then (get t) (parent_of p)
+
+-- the root is a directory, and the parent of every other path is a directory whose names are known
+pub record IsTree (t : Nodes) : Type 0 where
+  pub root : (get t [] ≡ Some Dir) ⊎ (get t [] ≡ Some FarDir)
+  pub parents : (p : List (List ℕ)) → p ≢ [] → IsSome (get t p) → parent_node t p ≡ Some Dir

@@ -1,0 +1,25 @@
+//! The tree of files and directories: questions, answers and updates.
+#![tactic(auto)]
+
+mod acts;
+mod blob;
+mod duplicate;
+mod faults;
+mod kinds;
+mod nodes;
+mod places;
+mod questions;
+mod sequence;
+mod tree;
+mod updates;
+
+pub use acts::{Act, Acts, Lines, Read, Reads};
+pub use blob::Blob;
+pub use duplicate::Duplicate;
+pub use faults::RowFault;
+pub use kinds::Kind;
+pub use nodes::{Node, Paths, Rows};
+pub use questions::{Answer, Question};
+pub use sequence::Sequence;
+pub use tree::Tree;
+pub use updates::{Update, Updates};

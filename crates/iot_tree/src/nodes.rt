@@ -1,0 +1,84 @@
+//! Nodes: what a tree has at its paths.
+ghost use Rattle.std.specs.Prelude.{◌≡◌, Some, IfOk, false};
+ghost use Rattle.std.specs.Option.{option_copied};
+
+use std::alloc::Global;
+
+use iot_text::{NoMemory, Path};
+
+use crate::{Answer, Blob, Duplicate, Kind, Sequence};
+
+/// An object at a path. A far one is there, and its inside is not known.
+#[derive(Drop)]
+pub enum Node {
+    /// A directory whose names are all known.
+    Dir,
+    /// A file with its contents.
+    File(Blob),
+    /// A directory whose names are not known.
+    FarDir,
+    /// A file whose contents are not known.
+    FarFile,
+}
+
+impl Node {
+    ghost use Rattle.iot_tree.specs.Questions.{is_dir, is_known_dir, node_kind, is_far_dir, content_at, content_answer};
+
+    /// The kind of the object.
+    pub fn kind(&self) -> Kind
+        ensures { result ≡ node_kind self.now }
+    {
+        match self {
+            Node::Dir | Node::FarDir => Kind::IsDir,
+            Node::File(_) | Node::FarFile => Kind::IsFile,
+        }
+    }
+
+    /// Whether this is a directory, whose names may be known or not.
+    pub fn is_dir(&self) -> bool
+        ensures { result ≡ is_dir self.now }
+    {
+        matches!(self, Node::Dir | Node::FarDir)
+    }
+
+    /// Whether this is a directory whose names are known.
+    pub fn is_known_dir(&self) -> bool
+        ensures { result ≡ is_known_dir self.now }
+    {
+        matches!(self, Node::Dir)
+    }
+
+    /// The contents, where this is a file with its contents.
+    pub fn content(&self) -> Option<&[u8]>
+        ensures { option_copied result ≡ content_at (Some self.now) }
+    {
+        match self {
+            Node::File(bytes) => Some(bytes.as_slice()),
+            _ => None,
+        }
+    }
+
+    /// The answer of the object at a path to the question for a file's contents.
+    pub(crate) fn content_answer(&self, alloc: Global) -> Result<Answer, NoMemory>
+        ensures { IfOk result (λ answer. answer ≡ content_answer (Some self.now) false) }
+    {
+        Ok(match self {
+            Node::File(bytes) => Answer::Bytes(bytes.copy(alloc)?),
+            Node::FarFile => Answer::Away,
+            Node::Dir | Node::FarDir => Answer::Absent,
+        })
+    }
+
+    /// Whether this is a directory whose names are not known.
+    pub(crate) fn is_far_dir(&self) -> bool
+        ensures { result ≡ is_far_dir (Some self.now) }
+    {
+        matches!(self, Node::FarDir)
+    }
+}
+
+/// A list of paths.
+pub type Paths = Sequence<Path>;
+
+/// Rows of a tree: each a path with its node.
+pub type Rows = Sequence<(Path, Node)>;

@@ -1,0 +1,215 @@
+//! Trees.
+ghost use Rattle.std.specs.Prelude.{◌≡◌, ◌≢◌, ◌↔◌, Some, IsTrue, IfOk, OnOk, OnErr};
+ghost use Rattle.std.specs.Option.{option_copied};
+ghost use Rattle.std.specs.FinMap as map;
+ghost use Rattle.iot_tree.specs.Tree.{IsTree, root_alone, parent_node};
+ghost use Rattle.iot_tree.specs.Updates.{FitsPut, FitsMakeDir, Fits, updated};
+ghost use Rattle.iot_tree.specs.Questions.{is_dir, kind_of, content_of, answer_of, content_answer, is_far_above};
+
+use std::alloc::Global;
+use std::marker::Model;
+
+use iot_text::{Name, NoMemory, Path};
+
+use crate::places::{kind_in_gap, node_at, place_of};
+use crate::{Answer, Duplicate, Kind, Node, Question, Rows, Update};
+
+/// A tree of files and directories: a node at each path that has one. Contracts see it as this map.
+/// The root is a directory, and each other path stands in a directory whose names are known.
+///
+/// Look-ups are binary searches.
+#[derive(Drop)]
+pub struct Tree {
+    rows: Rows,
+}
+
+impl Model for Tree {
+    ghost use Rattle.std.specs.Coded.{coded_ℕ, coded_list};
+    ghost use Rattle.std.specs.FinMap.{code};
+    ghost use Rattle.iot_tree.specs.Tree.{Nodes};
+    ghost use Rattle.iot_tree.specs.contracts.nodes.Node as node;
+
+    ghost Value = { Nodes };
+
+    ghost coded = { code (coded_list (coded_list coded_ℕ)) (node.the_row).coded };
+
+    ghost use Rattle.std.specs.FinMap.{from_sorted};
+    ghost use Rattle.iot_tree.specs.Rows.{AreTreeRows};
+
+    ghost view = { λ tree. from_sorted tree.rows };
+
+    ghost invariant = { λ tree. AreTreeRows tree.rows };
+}
+
+impl Tree {
+    /// The tree that has only a root, whose names are known to be none.
+    pub fn whole_root(alloc: Global) -> Result<Tree, NoMemory>
+        ensures { IfOk result (λ tree. tree ≡ root_alone Node.Dir) }
+    {
+        Tree::with_root(alloc, Node::Dir)
+    }
+
+    /// The tree that has only a root, whose names are not known.
+    pub fn far_root(alloc: Global) -> Result<Tree, NoMemory>
+        ensures { IfOk result (λ tree. tree ≡ root_alone Node.FarDir) }
+    {
+        Tree::with_root(alloc, Node::FarDir)
+    }
+
+    /// The tree that has only this root.
+    fn with_root(alloc: Global, root: Node) -> Result<Tree, NoMemory>
+        requires { IsTrue (is_dir root) }
+        ensures { IfOk result (λ tree. tree ≡ root_alone root) }
+    {
+        let mut rows = Rows::new(alloc);
+        rows.push((Path::root(alloc), root))?;
+        Ok(Tree { rows })
+    }
+
+    /// The rows in the order of their paths.
+    #[inline]
+    pub fn rows(&self) -> &Rows
+        ensures rows { result.now ≡ map.entries self.now }
+        ensures tree { IsTree self.now }
+    {
+        &self.rows
+    }
+
+    /// An equal tree in memory of its own.
+    pub fn copy(&self, alloc: Global) -> Result<Tree, NoMemory>
+        ensures { IfOk result (λ copy. copy ≡ self.now) }
+    {
+        let rows = self.rows.copy(alloc)?;
+        Ok(Tree { rows })
+    }
+
+    /// What is at the path. Takes no memory.
+    pub fn kind(&self, path: &Path) -> Kind
+        ensures kind { result ≡ kind_of self.now path.now }
+        ensures tree { IsTree self.now }
+    {
+        let rows = self.rows.as_slice();
+        match place_of(rows, path.names()) {
+            Ok(at) => rows[at].1.kind(),
+            Err(gap) => kind_in_gap(rows, gap, path.names()),
+        }
+    }
+
+    /// The contents of the file at the path, lent: Some exactly where a file with its contents is there.
+    pub fn content(&self, path: &Path) -> Option<&[u8]>
+        ensures content { option_copied result ≡ content_of self.now path.now }
+        ensures tree { IsTree self.now }
+    {
+        match node_at(self.rows.as_slice(), path.names()) {
+            Some(node) => node.content(),
+            None => None,
+        }
+    }
+
+    /// The answer to the question. Takes memory for contents alone.
+    pub fn answer(&self, alloc: Global, question: &Question) -> Result<Answer, NoMemory>
+        ensures answer { IfOk result (λ answer. answer ≡ answer_of self.now question.now) }
+        ensures tree { IsTree self.now }
+    {
+        match question {
+            Question::Kind(path) => Ok(self.kind(path).into_answer()),
+            Question::Content(path) => self.content_answer(alloc, path),
+        }
+    }
+
+    /// Whether the update fits the tree. Takes no memory.
+    pub fn fits(&self, update: &Update) -> bool
+        ensures { IsTrue result ↔ Fits self.now update.now }
+    {
+        match update {
+            Update::Put(path, _) => self.fits_put(path),
+            Update::MakeDir(path) => self.fits_make_dir(path),
+        }
+    }
+
+    /// Makes the update. After an error the tree is as it was.
+    pub fn apply(&mut self, alloc: Global, update: &Update) -> Result<(), NoMemory>
+        requires { Fits self.old update.now }
+        ensures ok { OnOk result (self.new ≡ updated self.old update.now) }
+        ensures err { OnErr result (self.new ≡ self.old) }
+    {
+        match update {
+            Update::Put(path, bytes) => self.put(alloc, path, Node::File(bytes.copy(alloc)?)),
+            Update::MakeDir(path) => self.put(alloc, path, Node::Dir),
+        }
+    }
+
+    /// Whether a file can be put at the path.
+    fn fits_put(&self, path: &Path) -> bool
+        ensures { IsTrue result ↔ FitsPut self.now path.now }
+    {
+        if !self.is_in_known_dir(path) {
+            return false;
+        }
+        match self.node(path.names()) {
+            Some(node) => !node.is_dir(),
+            None => true,
+        }
+    }
+
+    /// Whether a directory can be made at the path.
+    fn fits_make_dir(&self, path: &Path) -> bool
+        ensures { IsTrue result ↔ FitsMakeDir self.now path.now }
+    {
+        if !self.is_in_known_dir(path) {
+            return false;
+        }
+        self.node(path.names()).is_none()
+    }
+
+    /// Whether the path is below the root, in a directory whose names are known.
+    fn is_in_known_dir(&self, path: &Path) -> bool
+        ensures { IsTrue result ↔ (parent_node self.now path.now ≡ Some Node.Dir) }
+    {
+        let Some(parent) = path.parent_names() else {
+            return false;
+        };
+        match self.node(parent) {
+            Some(node) => node.is_known_dir(),
+            None => false,
+        }
+    }
+
+    /// The node at the path of these names.
+    fn node(&self, names: &[Name]) -> Option<&Node>
+        ensures { option_copied result ≡ map.get self.now names.now }
+    {
+        node_at(self.rows.as_slice(), names)
+    }
+
+    /// Puts the node at the path, in place of one that is there.
+    fn put(&mut self, alloc: Global, path: &Path, node: Node) -> Result<(), NoMemory>
+        requires parent { parent_node self.old path.now ≡ Some Node.Dir }
+        requires no_dir { map.get self.old path.now ≢ Some Node.Dir }
+        ensures ok { OnOk result (self.new ≡ map.insert self.old path.now node) }
+        ensures err { OnErr result (self.new ≡ self.old) }
+    {
+        match place_of(self.rows.as_slice(), path.names()) {
+            Ok(at) => {
+                self.rows.set_value(at, node);
+                Ok(())
+            }
+            Err(gap) => {
+                let copy = path.copy(alloc)?;
+                self.rows.insert(gap, (copy, node))
+            }
+        }
+    }
+
+    /// The answer to the question for a file's contents.
+    fn content_answer(&self, alloc: Global, path: &Path) -> Result<Answer, NoMemory>
+        ensures answer { IfOk result (λ answer. answer ≡ content_answer (map.get self.now path.now) (is_far_above self.now path.now)) }
+        ensures tree { IsTree self.now }
+    {
+        let rows = self.rows.as_slice();
+        match place_of(rows, path.names()) {
+            Ok(at) => rows[at].1.content_answer(alloc),
+            Err(gap) => Ok(kind_in_gap(rows, gap, path.names()).into_answer()),
+        }
+    }
+}
