@@ -1,2 +1,4 @@
 pub mod Serial
 pub mod ByPlace
+pub mod Fits
+pub mod Running

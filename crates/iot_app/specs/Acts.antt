@@ -1,8 +1,7 @@
 -- What each statement does, whatever the tree.
 use Rattle.std.specs.Prelude.{◌≡◌, ℕ, ◌<◌, nat_lt, Bool, List, [], ◌∷◌, ◌++◌, length, Option, Some, None, codes, if◌then◌else◌}
 use Rattle.iot_lines.specs.Lines.{lines}
-use Rattle.iot_text.specs.Paths.{path_text}
-use Rattle.iot_tree.specs.Ancestors.{parent_of}
+use Rattle.iot_text.specs.Paths.{path_text, path_of, parent_of}
 use Rattle.iot_tree.specs.Tree.{Nodes}
 use Rattle.iot_tree.specs.Questions.{answer_of}
 use Rattle.iot_tree.specs.Updates.{updated}
@@ -14,7 +13,6 @@ use Rattle.iot_tree.specs.declared.updates.Update.{Update}
 use Rattle.iot_tree.specs.declared.updates.Update.TheVariants.{Put, MakeDir}
 use Rattle.iot_tree.specs.declared.acts.Act.{Act}
 use Rattle.iot_tree.specs.declared.acts.Read.{Read}
-use Rattle.iot_text.specs.Paths.{path_of}
 use Rattle.iot_app.specs.declared.script.Statement.{Statement}
 use Rattle.iot_app.specs.declared.script.Statement.TheVariants as statements
 
@@ -84,8 +82,13 @@ in_parent command path good Absent = fails command path (codes "no directory")
 in_parent command path good IsFile = fails command path (codes "no directory")
 in_parent command path good (Bytes bytes) = fails command path (codes "no directory")
 
+-- only the root has no parent, and the root is never absent
+abbrev pub ask_kind_of : List ℕ → List (List ℕ) → Plan → Option (List (List ℕ)) → Plan
+ask_kind_of command path good None = fails command path (codes "no directory")
+ask_kind_of command path good (Some parent) = Ask (Kind parent) (in_parent command path good)
+
 abbrev pub ask_parent : List ℕ → List (List ℕ) → Plan → Plan
-ask_parent command path good = Ask (Kind (parent_of path)) (in_parent command path good)
+ask_parent command path good = ask_kind_of command path good (parent_of path)
 
 -- a path that a file can be put at
 abbrev pub at_target : List ℕ → List (List ℕ) → Plan → Answer → Plan

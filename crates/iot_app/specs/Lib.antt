@@ -2,3 +2,11 @@ pub mod Bytes
 pub mod Forms
 pub mod Statements
 pub mod Events
+pub mod Acts
+pub mod Operands
+pub mod Runs
+pub mod Parts
+pub mod Machine
+pub mod Texts
+pub mod Steps
+pub mod Endings

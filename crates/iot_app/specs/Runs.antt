@@ -1,5 +1,6 @@
 -- What a script does on a tree, with at most so many acts.
 use Rattle.std.specs.Prelude.{ℕ, zero, suc, List, [], ◌∷◌, ◌++◌}
+use Rattle.std.specs.List.{flat_map}
 use Rattle.iot_tree.specs.Tree.{Nodes}
 use Rattle.iot_tree.specs.declared.acts.Act.{Act}
 use Rattle.iot_app.specs.Acts.{plan_of, act_of, after_update}
@@ -33,5 +34,4 @@ tree_after (Cut acts tree) = tree
 
 -- the lines that these acts print
 abbrev pub lines_of : List Act → List (List ℕ)
-lines_of [] = []
-lines_of (act ∷ acts) = act.lines ++ lines_of acts
+lines_of acts = flat_map (λ act. act.lines) acts

@@ -35,9 +35,12 @@ row_text path FarFile = codes "file " ++ path_text path ++ codes " far"
 abbrev pub row_line : List (List ℕ) → Node → List ℕ
 row_line path node = line (row_text path node)
 
+abbrev pub rows_text : List (List (List ℕ) × Node) → List ℕ
+rows_text rows = flat_map (λ row. row_line row.0 row.1) rows
+
 -- all rows in order of their paths
 abbrev pub tree_text : Nodes → List ℕ
-tree_text tree = flat_map (λ row. row_line row.0 row.1) (entries tree)
+tree_text tree = rows_text (entries tree)
 
 abbrev pub way_text : Way → List ℕ
 way_text Certified = codes "certified"
