@@ -1,3 +1,5 @@
+ghost use Rattle.std.specs.Prelude.{◌≡◌};
+
 use std::marker::Model;
 
 #[derive(Drop)]
@@ -11,4 +13,12 @@ impl Model for Text {
     ghost Value = { List ℕ };
 
     ghost view = { λ text. text.bytes.items };
+}
+
+impl Text {
+    pub(crate) fn from_vec(bytes: Vec<u8>) -> Text
+        ensures { result ≡ bytes.items }
+    {
+        Text { bytes }
+    }
 }
