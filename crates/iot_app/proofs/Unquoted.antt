@@ -5,7 +5,7 @@ use Rattle.std.proofs.lemmas.List.{take_all}
 use Rattle.std.proofs.lemmas.Bool.Decides.{nat_tests}
 use Rattle.iot_app.specs.Bytes.{is_printable}
 use Rattle.iot_app.specs.Statements.{Taken, escaped, with_escape, with_byte, unquoted}
-use Rattle.iot_app.specs.Reading.{quoted_byte, with_bytes}
+use Rattle.iot_app.specs.Quoted.{quoted_byte, with_bytes}
 
 -- what the bytes behind one that was read give, with that byte in front
 abbrev pub after : Option Taken → Option Taken

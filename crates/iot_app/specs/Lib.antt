@@ -1,5 +1,6 @@
 pub mod Bytes
 pub mod Forms
 pub mod Statements
-pub mod Reading
+pub mod Quoted
 pub mod Events
+pub mod Steps

@@ -2,8 +2,12 @@
 #![tactic(auto)]
 
 mod bytes;
+mod closing;
+mod declared;
 mod event;
+mod fault;
 mod form;
+mod parse;
 mod script;
 mod statement;
 mod stub;

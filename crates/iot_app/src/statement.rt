@@ -2,7 +2,7 @@
 ghost use Rattle.std.specs.Prelude.{◌≡◌, ◌≤◌, length, IfOk, IfSome, option_map};
 ghost use Rattle.iot_lines.specs.Words.{begins_word};
 ghost use Rattle.iot_app.specs.Statements.{escaped, unquoted, plain, ends_there, next_value, is_nothing_more, last_value, two_values, statement_of};
-ghost use Rattle.iot_app.specs.Reading.{quoted_byte, byte_taken, taken};
+ghost use Rattle.iot_app.specs.Quoted.{quoted_byte, byte_taken, taken};
 
 use crate::bytes::{are_plain, is_printable};
 use crate::script::Statement;

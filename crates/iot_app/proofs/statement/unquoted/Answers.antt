@@ -1,6 +1,6 @@
 use Rattle.std.proofs.Common.{[], ◌∷◌, ℕ, List, ap, sym, ◌∙◌}
 use Rattle.iot_app.specs.Statements.{unquoted}
-use Rattle.iot_app.specs.Reading.{with_bytes}
+use Rattle.iot_app.specs.Quoted.{with_bytes}
 use Rattle.iot_app.proofs.Unquoted.{more, regrouped}
 use Rattle.iot_app.proofs.statement.unquoted.Goals as goal
 

@@ -1,6 +1,6 @@
 use Rattle.std.proofs.Common.{◌≡◌, length}
 use Rattle.iot_app.specs.Statements.{unquoted}
-use Rattle.iot_app.specs.Reading.{with_bytes}
+use Rattle.iot_app.specs.Quoted.{with_bytes}
 use Rattle.iot_app.proofs.statement.unquoted.Given as goal
 
 -- what was read so far, in front of what the rest gives

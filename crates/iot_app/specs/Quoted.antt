@@ -1,4 +1,4 @@
--- What the parser's own steps give.
+-- How a quoted text is read, one byte after the other.
 use Rattle.std.specs.Prelude.{ℕ, ◌==◌, List, [], ◌∷◌, ◌++◌, Option, Some, None, option_map, if◌then◌else◌}
 use Rattle.std.specs.Borrow.{Bor}
 use Rattle.iot_app.specs.Bytes.{is_printable}
