@@ -1,2 +1,4 @@
 pub mod Names
 pub mod Paths
+pub mod Quotes
+pub mod Texts

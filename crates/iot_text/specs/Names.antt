@@ -1,10 +1,10 @@
 -- What a name is.
-use Rattle.std.specs.Prelude.{ℕ, ◌≡◌, ◌-◌, ◌<◌, ◌≤◌, Bool, true, false, ◌&&◌, ◌||◌, not, ◌==◌, nat_lt, nat_le, List, ◌++◌, length, take, replicate, codes, bytes_eq, IsTrue}
+use Rattle.std.specs.Prelude.{ℕ, ◌≡◌, ◌-◌, ◌<◌, ◌≤◌, Bool, true, false, ◌&&◌, ◌||◌, not, ◌==◌, nat_lt, nat_le, min, List, ◌++◌, length, take, replicate, codes, bytes_eq, IsTrue}
 use Rattle.std.proofs.Common.{refl, sym, arith, drop}
 use Rattle.std.proofs.lemmas.List.{take_at, drop-replicate}
 use Rattle.std.proofs.lemmas.Bool.Decides.{nat_tests}
 use Rattle.std.specs.Char.{is_ascii_alphanumeric}
-use Rattle.std.specs.List.{list_all}
+use Rattle.std.specs.List.{list_all, prefix_len}
 
 -- a byte that a name may have: a letter, a digit, `_`, `-` or `.`
 abbrev pub is_name_byte : ℕ → Bool
@@ -21,6 +21,10 @@ is_name bytes = nat_lt 0 (length bytes) && nat_le (length bytes) 32 && not (is_d
 -- the bytes are a name
 abbrev pub IsName : List ℕ → Type 0
 IsName bytes = IsTrue (is_name bytes)
+
+-- how many bytes of the text, from its first on, begin some name
+abbrev pub beginning_len : List ℕ → ℕ
+beginning_len text = min (prefix_len is_name_byte text) 32
 
 -- a name of `len` bytes at the front of an array of 32, and zeros behind it
 pub record IsStored (len : ℕ) (bytes : List ℕ) : Type 0 where
@@ -49,6 +53,10 @@ name_parts bytes name = record {
   not_dots = grind (arith, nat_tests);
   name_bytes = grind (arith, nat_tests);
 }
+
+pub name_from_parts : (bytes : List ℕ) → NameParts bytes → IsName bytes
+unfolding is_name
+name_from_parts bytes parts = grind (arith, nat_tests, parts.not_empty, parts.within_limit, parts.not_dots, parts.name_bytes)
 
 -- the array that a name is put into at its front
 pub stored : (name : List ℕ) → IsName name → IsStored (length name) (name ++ drop (length name) (replicate 32 0))

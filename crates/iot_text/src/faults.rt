@@ -1,9 +1,8 @@
-use std::alloc::AllocFailed;
-use thiserror::Error;
-
-use crate::NoMemory;
-
+//! Why a text is refused.
 ghost use Rattle.std.specs.Prelude.{◌≡◌};
+
+use std::alloc::{AllocError, AllocFailed};
+use thiserror::Error;
 
 /// Why a text was not read.
 #[derive(Debug, Drop, Error)]
@@ -16,7 +15,27 @@ pub enum TextFault {
     #[error("not a name")]
     BadName,
 
-    /// The text is no path. Its first `at` bytes are its longest prefix that begins some path's text.
+    /// The text is no path. Its first `at` bytes are its longest beginning that begins some path's text.
     #[error("not a path, from byte {at} on")]
     BadPath { at: u64 },
+}
+
+impl From<AllocError> for TextFault {
+    ghost use Rattle.iot_text.specs.declared.faults.TextFault.TheVariants.{NoMemory};
+
+    ghost from_gives = { λ _ fault. fault ≡ NoMemory };
+
+    fn from(_error: AllocError) -> TextFault {
+        TextFault::NoMemory
+    }
+}
+
+impl<T: Drop> From<AllocFailed<T>> for TextFault {
+    ghost use Rattle.iot_text.specs.declared.faults.TextFault.TheVariants.{NoMemory};
+
+    ghost from_gives = { λ _ fault. fault ≡ NoMemory };
+
+    fn from(_failed: AllocFailed<T>) -> TextFault {
+        TextFault::NoMemory
+    }
 }

@@ -4,8 +4,15 @@
 mod faults;
 mod names;
 mod paths;
+mod quoting;
+mod texts;
 
 pub use faults::TextFault;
 pub use names::Name;
 pub use paths::Path;
+pub use quoting::quote;
 pub use std::alloc::AllocError as NoMemory;
+pub use texts::Text;
+
+#[cfg(test)]
+mod tests;

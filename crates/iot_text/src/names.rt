@@ -1,6 +1,6 @@
 //! Names: the short labels that paths are made of.
 ghost use Rattle.std.specs.Prelude.{ℕ, List, ◌≡◌, ◌↔◌, IsTrue, IfOk, IfErr, Some, refl, nat_eq};
-ghost use Rattle.std.specs.List.{list_all};
+ghost use Rattle.std.specs.List.{list_all, prefix_len};
 ghost use Rattle.std.specs.Result.{OkIff};
 ghost use Rattle.std.specs.Ordering.{nat_cmp};
 ghost use Rattle.std.specs.Cmp.{partial_equiv_from_equiv};
@@ -8,7 +8,7 @@ ghost use Rattle.std.specs.Cmp.Rules.{hashing};
 ghost use Rattle.std.specs.Hash as fed;
 ghost use Rattle.std.proofs.Common.{rules};
 ghost use Rattle.std.specs.Cmp.Lexicographic.{pointwise, slice_cmp, nat_list_eq_equiv, nat_list_cmp_total, texts_po, texts_ties};
-ghost use Rattle.iot_text.specs.Names.{is_name_byte, is_dots, is_name, IsName};
+ghost use Rattle.iot_text.specs.Names.{is_name_byte, beginning_len, is_dots, is_name, IsName};
 
 use crate::TextFault;
 use std::cmp::Ordering;
@@ -20,7 +20,7 @@ const LIMIT: usize = 32;
 
 /// A name: 1 to 32 letters, digits, `_`, `-` and `.`, but neither `.` nor `..`.
 /// Contracts see it as the list of its bytes.
-#[derive(Clone, Copy)]
+#[derive(Clone, Copy, Debug)]
 pub struct Name {
     len: u8,
     bytes: [u8; LIMIT],
@@ -54,6 +54,25 @@ fn are_name_bytes(text: &[u8]) -> bool
     ensures { result ≡ list_all is_name_byte text.now }
 {
     text.iter().all(|byte| is_name_byte(*byte))
+}
+
+/// How many bytes of the text, from its first on, are such as a name may have.
+fn name_bytes_len(text: &[u8]) -> usize
+    ensures { result ≡ prefix_len is_name_byte text.now }
+{
+    'bytes: for (len, byte) in text.iter().enumerate() {
+        if !is_name_byte(*byte) {
+            return len;
+        }
+    }
+    text.len()
+}
+
+/// How many bytes of the text, from its first on, begin some name.
+pub(crate) fn beginning_len(text: &[u8]) -> usize
+    ensures { result ≡ beginning_len text.now }
+{
+    name_bytes_len(text).min(LIMIT)
 }
 
 /// Whether the text is `.` or `..`, which other systems give a meaning of their own.
@@ -107,7 +126,10 @@ impl PartialEq for Name {
 
     ghost laws = { partial_equiv_from_equiv nat_list_eq_equiv };
 
-    fn eq(&self, other: &Name) -> bool {
+    fn eq(&self, other: &Name) -> bool
+        ensures value { result ≡ pointwise nat_eq self.now other.now }
+        ensures same { IsTrue result ↔ (self.now ≡ other.now) }
+    {
         self.as_bytes() == other.as_bytes()
     }
 }

@@ -1,19 +1,21 @@
 //! Paths: lists of names.
-ghost use Rattle.std.specs.Prelude.{ℕ, List, [], ◌≡◌, IfOk, Some, refl, nat_eq};
+ghost use Rattle.std.specs.Prelude.{ℕ, List, [], ◌∷◌, ◌++◌, ◌≡◌, ◌≢◌, ◌↔◌, IsTrue, IfOk, IfErr, OnOk, OnErr, IfSome, option_copied, Some, None, refl, nat_eq};
 ghost use Rattle.std.specs.Ordering.{nat_cmp};
 ghost use Rattle.std.specs.Cmp.{partial_equiv_from_equiv, po};
 ghost use Rattle.std.specs.Cmp.Lexicographic.{pointwise, slice_cmp, nat_list_eq_equiv, nat_list_cmp_total, texts_ties, lists_equiv, lists_total, lists_ties};
-ghost use Rattle.iot_text.specs.Paths.{IsPath, path_cmp};
+ghost use Rattle.iot_text.specs.Paths.{IsPath, IsPathText, RefusesPath, is_slash, path_of, path_text, last_of, parent_of, IsBelow, is_below, path_cmp};
+ghost use Rattle.iot_text.specs.Texts.{AppendsPart};
+ghost use Rattle.std.specs.List.{position_or_len};
 
+use crate::names::beginning_len;
+use crate::{Name, NoMemory, Text, TextFault};
 use std::alloc::Global;
 use std::cmp::Ordering;
 use std::marker::Model;
 
-use crate::{Name, TextFault};
-
 /// A path: the names on the way down from the root, whose own path has none.
 /// Contracts see it as the list of its names.
-#[derive(Drop)]
+#[derive(Clone, Debug, Drop)]
 pub struct Path {
     names: Vec<Name>,
 }
@@ -29,7 +31,66 @@ impl Model for Path {
     ghost invariant = { λ path. IsPath path.names.items };
 }
 
+/// How many bytes stand before the first `/`, or in all where there is none.
+fn part_len(text: &[u8]) -> usize
+    ensures { result ≡ position_or_len is_slash text.now }
+{
+    'bytes: for (len, byte) in text.iter().enumerate() {
+        if *byte == b'/' {
+            return len;
+        }
+    }
+    text.len()
+}
+
+/// Appends a `/` and the name.
+fn append_name(name: &Name, out: &mut Text) -> Result<(), NoMemory>
+    ensures ok { OnOk result (out.new ≡ out.old ++ 47 ∷ name.now) }
+    ensures err { OnErr result (AppendsPart out.old out.new (47 ∷ name.now)) }
+{
+    out.push(b'/')?;
+    out.append(name.as_bytes())
+}
+
 impl Path {
+    /// Reads the text of a path.
+    ///
+    /// # Errors
+    ///
+    /// `BadPath`, exactly where the text is that of no path: its first `at` bytes begin the text of
+    /// some path, and no more of them do. `NoMemory` where there is none for the names.
+    pub fn parse(alloc: Global, text: &[u8]) -> Result<Path, TextFault>
+        ensures ok { IfOk result (IsPathText text.now) }
+        ensures refused { IfErr result (RefusesPath text.now) }
+
+        // The same by the function that reads a path.
+        ensures found { IfOk result (λ path. path_of text.now ≡ Some path) }
+        ensures none { IfErr result (λ fault. fault ≢ TextFault.NoMemory → path_of text.now ≡ None) }
+    {
+        let mut names = Vec::new(alloc);
+        if text.is_empty() || text[0] != b'/' {
+            return Err(TextFault::BadPath { at: 0 });
+        }
+        if text.len() == 1 {
+            return Ok(Path { names });
+        }
+        let mut start = 1;
+        'parts: loop {
+            let rest = &text[start..];
+            let len = part_len(rest);
+            let Ok(name) = Name::parse(&rest[..len]) else {
+                let at = start + beginning_len(rest);
+                return Err(TextFault::BadPath { at: at as u64 });
+            };
+            names.push(name)?;
+            start += len;
+            if start == text.len() {
+                return Ok(Path { names });
+            }
+            start += 1;
+        }
+    }
+
     /// The path of the root. Takes no memory.
     pub fn root(alloc: Global) -> Path
         ensures { result ≡ [] }
@@ -55,6 +116,79 @@ impl Path {
     {
         self.names.as_slice()
     }
+
+    /// The last name, which only the root's path has not.
+    pub fn last(&self) -> Option<&Name>
+        ensures { option_copied result ≡ last_of self.now }
+    {
+        self.names().last()
+    }
+
+    /// Whether the path lies below the other: has all its names in front, and more.
+    pub fn is_below(&self, other: &Path) -> bool
+        ensures value { result ≡ is_below self.now other.now }
+        ensures means { IsTrue result ↔ IsBelow self.now other.now }
+    {
+        other.names().len() < self.names().len() && self.names().starts_with(other.names())
+    }
+
+    /// The names of the parent's path, or `None` exactly at the root. Takes no memory.
+    pub fn parent_names(&self) -> Option<&[Name]>
+        ensures value { option_copied result ≡ parent_of self.now }
+        ensures valid { IfSome result (λ names. IsPath names.now) }
+    {
+        match self.names().split_last() {
+            Some((_, parent)) => Some(parent),
+            None => None,
+        }
+    }
+
+    /// The path without its last name, or `None` exactly at the root.
+    pub fn parent(&self, alloc: Global) -> Result<Option<Path>, NoMemory>
+        ensures { IfOk result (λ parent. parent ≡ parent_of self.now) }
+    {
+        match self.parent_names() {
+            Some(names) => Ok(Some(Path {
+                names: Vec::from_slice(alloc, names)?,
+            })),
+            None => Ok(None),
+        }
+    }
+
+    /// The path with one more name at its end.
+    pub fn joined(&self, alloc: Global, name: &Name) -> Result<Path, NoMemory>
+        ensures { IfOk result (λ path. path ≡ self.now ++ name.now ∷ []) }
+    {
+        let _valid = name.as_bytes();
+        let mut names = Vec::with_capacity(alloc, self.names.len() + 1)?;
+        names.extend_from_slice(self.names())?;
+        names.push(*name)?;
+        Ok(Path { names })
+    }
+
+    /// A path of the same names.
+    pub fn copy(&self, alloc: Global) -> Result<Path, NoMemory>
+        ensures { IfOk result (λ path. path ≡ self.now) }
+    {
+        Ok(Path {
+            names: Vec::from_slice(alloc, self.names())?,
+        })
+    }
+
+    /// Appends the text of the path: `/` for the root, else each name after a `/`.
+    pub fn write_to(&self, out: &mut Text) -> Result<(), NoMemory>
+        ensures ok { OnOk result (out.new ≡ out.old ++ path_text self.now) }
+        ensures err { OnErr result (AppendsPart out.old out.new (path_text self.now)) }
+        ensures reads_back { path_of (path_text self.now) ≡ Some self.now }
+    {
+        if self.names().is_empty() {
+            return out.push(b'/');
+        }
+        'names: for name in self.names() {
+            append_name(name, out)?;
+        }
+        Ok(())
+    }
 }
 
 impl PartialEq for Path {
@@ -62,7 +196,10 @@ impl PartialEq for Path {
 
     ghost laws = { partial_equiv_from_equiv (lists_equiv nat_list_eq_equiv) };
 
-    fn eq(&self, other: &Path) -> bool {
+    fn eq(&self, other: &Path) -> bool
+        ensures value { result ≡ pointwise (pointwise nat_eq) self.now other.now }
+        ensures same { IsTrue result ↔ (self.now ≡ other.now) }
+    {
         self.names() == other.names()
     }
 }

@@ -1,0 +1,7 @@
+pub mod Appended
+pub mod Below
+pub mod Numbers
+pub mod Parsing
+pub mod PathLaws
+pub mod QuoteSteps
+pub mod Spelled
