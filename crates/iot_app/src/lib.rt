@@ -10,4 +10,3 @@ mod form;
 mod parse;
 mod script;
 mod statement;
-mod stub;

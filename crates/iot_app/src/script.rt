@@ -1,8 +1,7 @@
 //! Scripts, as they are run.
 ghost use Rattle.std.specs.Prelude.{◌≡◌, IfOk};
 
-use crate::stub::Text;
-use iot_text::NoMemory;
+use iot_text::{NoMemory, Text};
 use std::alloc::Global;
 use std::marker::Model;
 use std::rc::Rc;

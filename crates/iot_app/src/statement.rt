@@ -6,9 +6,8 @@ ghost use Rattle.iot_app.specs.Quoted.{quoted_byte, byte_taken, taken};
 
 use crate::bytes::{are_plain, is_printable};
 use crate::script::Statement;
-use crate::stub::Text;
 use iot_lines::{front_word, is_blank, without_blanks};
-use iot_text::NoMemory;
+use iot_text::{NoMemory, Text};
 use std::alloc::Global;
 
 /// Whether these bytes begin with a word.
@@ -52,11 +51,11 @@ fn quoted_byte(byte: u8, later: &[u8]) -> Option<(u8, &[u8])>
 fn unquoted(alloc: Global, text: &[u8]) -> Result<Option<(Text, &[u8])>, NoMemory>
     ensures { IfOk result (λ read. option_map taken read ≡ unquoted text.now) }
 {
-    let mut value = Vec::new(alloc);
+    let mut value = Text::new(alloc);
     let mut rest = text;
     while let [byte, later @ ..] = rest {
         if *byte == b'"' {
-            return Ok(Some((Text::from_vec(value), later)));
+            return Ok(Some((value, later)));
         }
         let Some((meant, behind)) = quoted_byte(*byte, later) else {
             return Ok(None);
@@ -85,7 +84,9 @@ fn plain_word(alloc: Global, bytes: &[u8]) -> Result<Option<(Text, &[u8])>, NoMe
     if !are_plain(word) {
         return Ok(None);
     }
-    Ok(Some((Text::from_vec(Vec::from_slice(alloc, word)?), rest)))
+    let mut value = Text::new(alloc);
+    value.append(word)?;
+    Ok(Some((value, rest)))
 }
 
 /// The next word, and what is behind it.
