@@ -1,7 +1,8 @@
 -- How an input is read line by line.
-use Rattle.std.proofs.Common.{◌≡◌, ℕ, ◌+◌, List, ◌∷◌, ◌++◌, refl, sym, ap, ◌∙◌, append_assoc, Result, Ok, Err, MatchResult}
+use Rattle.std.proofs.Common.{◌≡◌, ℕ, ◌+◌, List, [], ◌∷◌, ◌++◌, refl, sym, ap, ◌∙◌, append_assoc, append-nil, Result, Ok, Err, MatchResult}
 use Rattle.std.specs.Option.{option_to_list}
 use Rattle.std.specs.Prelude.{Option}
+use Rattle.iot_lines.specs.Lines.{lines}
 use Rattle.iot_app.specs.declared.declared.Step.{Step}
 use Rattle.iot_app.specs.declared.fault.ParseFault.{ParseFault}
 use Rattle.iot_app.specs.declared.fault.Refusal.{Refusal}
@@ -43,3 +44,10 @@ more whole events all rest line later place scope number event behind after is f
     ∙ ap (in_front events) (next line later place scope number event behind after read)
     ∙ regrouped events (option_to_list event) _
     ∙ ap (λ (es : List Event). in_front es (read_lines later behind after (number + 1))) (sym joined)
+
+-- no line more
+pub all_read : (whole : Parsed) (events : List Event) (rest : List ℕ) (place : Place) (scope : Scope) (number : ℕ) → whole ≡ in_front events (read_lines (lines rest) place scope number) → rest ≡ [] → whole ≡ Events events
+all_read whole events rest place scope number is none =
+    is
+    ∙ ap (λ (bytes : List ℕ). in_front events (read_lines (lines bytes) place scope number)) none
+    ∙ ap (λ (all : List Event). Events all) (append-nil events)

@@ -73,14 +73,15 @@ script_line scope name later =
     then Fine None (Inside name []) (record scope { scripts = scope.scripts ++ name ∷ [] })
     else Bad
 
+-- a run at these places, where both are declared
+abbrev pub run_at : Option ℕ → Option ℕ → Scope → Reading
+run_at None script scope = Bad
+run_at (Some client) None scope = Bad
+run_at (Some client) (Some script) scope = Fine (Some (Run client script)) Outside scope
+
 -- a run of a script that is declared on a client that is
 abbrev pub run_line : Scope → List ℕ → List ℕ → Reading
-run_line scope client script = at (place_of client scope.clients) (place_of script scope.scripts)
-  where
-    at : Option ℕ → Option ℕ → Reading
-    at None other = Bad
-    at (Some c) None = Bad
-    at (Some c) (Some s) = Fine (Some (Run c s)) Outside scope
+run_line scope client script = run_at (place_of client scope.clients) (place_of script scope.scripts) scope
 
 abbrev pub by_form : Option Form → Scope → List (List ℕ) → Reading
 by_form None scope later = Bad
@@ -89,16 +90,17 @@ by_form (Some (forms.Script name)) scope later = script_line scope name later
 by_form (Some (forms.Run client script)) scope later = run_line scope client script
 by_form (Some forms.ShowServer) scope later = Fine (Some ShowServer) Outside scope
 
+-- one more statement of a script, where there is one
+abbrev pub with_statement : List ℕ → List Statement → Option Statement → Scope → Reading
+with_statement name statements None scope = Bad
+with_statement name statements (Some statement) scope = Fine None (Inside name (statements ++ statement ∷ [])) scope
+
 -- a line of a script
 abbrev pub inside : List ℕ → List Statement → Scope → List ℕ → Reading
 inside name statements scope line =
     if is_closing (words line)
     then Fine (Some (Script name statements)) Outside scope
-    else of (statement_of line)
-  where
-    of : Option Statement → Reading
-    of None = Bad
-    of (Some statement) = Fine None (Inside name (statements ++ statement ∷ [])) scope
+    else with_statement name statements (statement_of line) scope
 
 -- a line, with the lines behind it
 abbrev pub read_at : Place → Scope → List ℕ → List (List ℕ) → Reading

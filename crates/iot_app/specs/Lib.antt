@@ -4,3 +4,4 @@ pub mod Statements
 pub mod Quoted
 pub mod Events
 pub mod Steps
+pub mod Declarations

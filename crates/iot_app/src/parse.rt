@@ -1,6 +1,7 @@
 //! Event scripts: the events that an input asks for.
 ghost use Rattle.std.specs.Prelude.{◌≡◌, IfOk, IfErr};
 ghost use Rattle.iot_app.specs.Events.{Events, parsed};
+ghost use Rattle.iot_app.specs.Declarations.{AreDeclared};
 ghost use Rattle.iot_app.specs.Steps.{IsBadLine};
 
 use crate::declared::{Declared, Step};
@@ -16,6 +17,7 @@ use std::alloc::Global;
 /// `BadLine` with the first line that is none of the known forms, exactly where there is one.
 pub(crate) fn parse(alloc: Global, input: &[u8]) -> Result<Vec<Event>, ParseFault>
     ensures events { IfOk result (λ events. parsed input.now ≡ Events events.items) }
+    ensures declared { IfOk result (λ events. AreDeclared events.items 0 0) }
     ensures bad { IfErr result (IsBadLine input.now) }
 {
     let mut declared = Declared::new(alloc);

@@ -1,9 +1,10 @@
-use Rattle.std.proofs.Common.{◌≡◌, ◌++◌, [], ◌∷◌, List, Some, None, sym, ap, ◌∙◌, arith, append-nil, Option, Vec, Global}
+use Rattle.std.proofs.Common.{◌≡◌, ◌++◌, [], ◌∷◌, List, Some, None, sym, ap, ◌∙◌, arith, rules, append-nil, Option, Vec, Global}
 use Rattle.std.specs.Option.{option_to_list}
 use Rattle.iot_lines.specs.Lines.{lines}
 use Rattle.iot_app.specs.Steps.{place_of_draft, scope_of}
 use Rattle.iot_app.specs.declared.event.Event.{Event}
-use Rattle.iot_app.proofs.Lines.{more, from_ok}
+use Rattle.iot_app.proofs.Declarations.{are_declared}
+use Rattle.iot_app.proofs.Lines.{more, all_read, from_ok}
 use Rattle.iot_app.proofs.parse.parse.Goals as goal
 use Rattle.iot_app.proofs.parse.parse.Goals.{in-Some-event+in_ok-push, in_default-event}
 
@@ -31,3 +32,8 @@ loop-line-preserved c =
       same = more _ _ _ (lines c.loop-line.rest.now) _ (lines c.in-Some.later.now) (place_of_draft c.loop-line.draft) (scope_of c.loop-line.declared) c.loop-line.number _ _ _ c.loop-line.invariant.same first fine (joined c);
       few = omega (arith, c.in-Some.ensures.shorter);
     }
+
+pub returns-clause-declared : goal.returns-clause-declared
+returns-clause-declared c =
+    are_declared c.args.input.now c.loop-line.events.items
+    (all_read _ _ c.loop-line.rest.now (place_of_draft c.loop-line.draft) (scope_of c.loop-line.declared) c.loop-line.number c.loop-line.invariant.same (c.in_default.ensures.none.0 (search rules)))
