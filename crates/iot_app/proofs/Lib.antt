@@ -2,3 +2,6 @@ pub mod Serial
 pub mod ByPlace
 pub mod Fits
 pub mod Running
+pub mod Declarations
+pub mod Lines
+pub mod Unquoted

@@ -1,5 +1,6 @@
 -- Which events an input is, or which of its lines is the first bad one.
-use Rattle.std.specs.Prelude.{ℕ, zero, suc, ◌+◌, ◌&&◌, ◌||◌, not, nat_lt, Bool, true, false, List, [], ◌∷◌, ◌++◌, length, position, Option, Some, None, codes, bytes_eq, if◌then◌else◌}
+use Rattle.std.specs.Prelude.{ℕ, zero, suc, ◌+◌, ◌&&◌, ◌||◌, not, nat_lt, Bool, true, false, List, [], ◌∷◌, ◌++◌, length, position, option_to_list, Option, Some, None, codes, bytes_eq, if◌then◌else◌}
+use Rattle.std.specs.List.{list_any}
 use Rattle.iot_lines.specs.Lines.{lines}
 use Rattle.iot_lines.specs.Words.{words}
 use Rattle.iot_app.specs.Bytes.{fits_line}
@@ -20,12 +21,11 @@ abbrev pub nothing_declared : Scope
 nothing_declared = record { clients = []; scripts = [] }
 
 abbrev pub is_declared : List ℕ → List (List ℕ) → Bool
-is_declared name [] = false
-is_declared name (other ∷ names) = bytes_eq name other || is_declared name names
+is_declared name names = list_any (bytes_eq name) names
 
 -- the place of a name, from 0
 abbrev pub place_of : List ℕ → List (List ℕ) → Option ℕ
-place_of name names = position (λ other. bytes_eq name other) names
+place_of name names = position (bytes_eq name) names
 
 -- a line whose only word is `}`
 abbrev pub is_closing : List (List ℕ) → Bool
@@ -58,46 +58,49 @@ pub data Place : Type 0 where
 -- what a line is: a bad one, or one that gives an event or none and leaves the next line there
 pub data Reading : Type 0 where
   Bad : Reading
-  Fine : (events : List Event) (place : Place) (scope : Scope) → Reading
+  Fine : (event : Option Event) (place : Place) (scope : Scope) → Reading
 
 -- the only client, declared once; `server` is a node already
 abbrev pub client_line : Scope → List ℕ → Reading
 client_line scope name =
     if nat_lt 0 (length scope.clients) || bytes_eq name (codes "server") then Bad
-    else Fine (Client name ∷ []) Outside (record scope { clients = name ∷ [] })
+    else Fine (Some (Client name)) Outside (record scope { clients = scope.clients ++ name ∷ [] })
 
 -- a script that is not declared yet, is one of 256, and is closed
 abbrev pub script_line : Scope → List ℕ → List (List ℕ) → Reading
 script_line scope name later =
     if not (is_declared name scope.scripts) && nat_lt (length scope.scripts) 256 && closes later 0
-    then Fine [] (Inside name []) scope else Bad
+    then Fine None (Inside name []) (record scope { scripts = scope.scripts ++ name ∷ [] })
+    else Bad
+
+-- a run at these places, where both are declared
+abbrev pub run_at : Option ℕ → Option ℕ → Scope → Reading
+run_at None script scope = Bad
+run_at (Some client) None scope = Bad
+run_at (Some client) (Some script) scope = Fine (Some (Run client script)) Outside scope
 
 -- a run of a script that is declared on a client that is
 abbrev pub run_line : Scope → List ℕ → List ℕ → Reading
-run_line scope client script = at (place_of client scope.clients) (place_of script scope.scripts)
-  where
-    at : Option ℕ → Option ℕ → Reading
-    at None other = Bad
-    at (Some c) None = Bad
-    at (Some c) (Some s) = Fine (Run c s ∷ []) Outside scope
+run_line scope client script = run_at (place_of client scope.clients) (place_of script scope.scripts) scope
 
 abbrev pub by_form : Option Form → Scope → List (List ℕ) → Reading
 by_form None scope later = Bad
 by_form (Some (forms.Client name)) scope later = client_line scope name
 by_form (Some (forms.Script name)) scope later = script_line scope name later
 by_form (Some (forms.Run client script)) scope later = run_line scope client script
-by_form (Some forms.ShowServer) scope later = Fine (ShowServer ∷ []) Outside scope
+by_form (Some forms.ShowServer) scope later = Fine (Some ShowServer) Outside scope
+
+-- one more statement of a script, where there is one
+abbrev pub with_statement : List ℕ → List Statement → Option Statement → Scope → Reading
+with_statement name statements None scope = Bad
+with_statement name statements (Some statement) scope = Fine None (Inside name (statements ++ statement ∷ [])) scope
 
 -- a line of a script
 abbrev pub inside : List ℕ → List Statement → Scope → List ℕ → Reading
 inside name statements scope line =
     if is_closing (words line)
-    then Fine (Script name statements ∷ []) Outside (record scope { scripts = scope.scripts ++ name ∷ [] })
-    else of (statement_of line)
-  where
-    of : Option Statement → Reading
-    of None = Bad
-    of (Some statement) = Fine [] (Inside name (statements ++ statement ∷ [])) scope
+    then Fine (Some (Script name statements)) Outside scope
+    else with_statement name statements (statement_of line) scope
 
 -- a line, with the lines behind it
 abbrev pub read_at : Place → Scope → List ℕ → List (List ℕ) → Reading
@@ -119,7 +122,7 @@ in_front events (BadLine line) = BadLine line
 -- the line of this number was read, and then the later ones
 abbrev pub followed : Reading → ℕ → (Place → Scope → Parsed) → Parsed
 followed Bad number later = BadLine number
-followed (Fine events place scope) number later = in_front events (later place scope)
+followed (Fine event place scope) number later = in_front (option_to_list event) (later place scope)
 
 -- the lines from the one of this number on
 abbrev pub read_lines : List (List ℕ) → Place → Scope → ℕ → Parsed

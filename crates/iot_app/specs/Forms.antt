@@ -1,5 +1,5 @@
 -- Which form the words of a line have.
-use Rattle.std.specs.Prelude.{ℕ, ◌&&◌, Bool, List, [], ◌∷◌, Option, Some, None, codes, bytes_eq, if◌then◌else◌}
+use Rattle.std.specs.Prelude.{ℕ, ◌&&◌, List, [], ◌∷◌, Option, Some, None, codes, bytes_eq, if◌then◌else◌}
 use Rattle.iot_text.specs.Names.{is_name}
 use Rattle.iot_app.specs.declared.form.Form.{Form}
 use Rattle.iot_app.specs.declared.form.Form.TheVariants.{Client, Script, Run, ShowServer}

@@ -1,7 +1,10 @@
 pub mod Bytes
 pub mod Forms
 pub mod Statements
+pub mod Quoted
 pub mod Events
+pub mod Readings
+pub mod Declarations
 pub mod Acts
 pub mod Operands
 pub mod Runs
@@ -9,4 +12,5 @@ pub mod Parts
 pub mod Machine
 pub mod Texts
 pub mod Steps
+pub mod World
 pub mod Endings

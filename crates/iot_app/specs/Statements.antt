@@ -1,7 +1,7 @@
 -- Which statement a line is.
-use Rattle.std.specs.Prelude.{ℕ, ◌==◌, ◌&&◌, Bool, true, false, not, List, [], ◌∷◌, Option, Some, None, codes, bytes_eq, if◌then◌else◌}
+use Rattle.std.specs.Prelude.{ℕ, ◌==◌, Bool, not, List, [], ◌∷◌, Option, Some, None, option_map, codes, bytes_eq, if◌then◌else◌}
 use Rattle.std.specs.List.{list_all}
-use Rattle.iot_lines.specs.Words.{is_blank, begins_word, without_blanks, front_word, behind_word}
+use Rattle.iot_lines.specs.Words.{begins_word, without_blanks, front_word, behind_word}
 use Rattle.iot_app.specs.Bytes.{is_printable, is_plain}
 use Rattle.iot_app.specs.declared.script.Statement.{Statement}
 use Rattle.iot_app.specs.declared.script.Statement.TheVariants.{MakeDir, Write, Cat}
@@ -61,20 +61,20 @@ abbrev pub is_nothing_more : List ℕ → Bool
 is_nothing_more bytes = not (begins_word (without_blanks bytes))
 
 -- the one word that these bytes are
-abbrev pub last_value : List ℕ → (List ℕ → Statement) → Option Statement
-last_value bytes make = of (next_value bytes)
+abbrev pub last_value : List ℕ → Option (List ℕ)
+last_value bytes = of (next_value bytes)
   where
-    of : Option Taken → Option Statement
+    of : Option Taken → Option (List ℕ)
     of None = None
-    of (Some taken) = if is_nothing_more taken.rest then Some (make taken.value) else None
+    of (Some taken) = if is_nothing_more taken.rest then Some taken.value else None
 
 -- the two words that these bytes are
-abbrev pub two_values : List ℕ → (List ℕ → List ℕ → Statement) → Option Statement
-two_values bytes make = of (next_value bytes)
+abbrev pub two_values : List ℕ → Option (List ℕ × List ℕ)
+two_values bytes = of (next_value bytes)
   where
-    of : Option Taken → Option Statement
+    of : Option Taken → Option (List ℕ × List ℕ)
     of None = None
-    of (Some taken) = last_value taken.rest (λ second. make taken.value second)
+    of (Some taken) = option_map (λ second. (taken.value, second)) (last_value taken.rest)
 
 -- the statement of a line: `mkdir P`, `write P W` or `cat P`
 abbrev pub statement_of : List ℕ → Option Statement
@@ -82,7 +82,7 @@ statement_of line =
     let text = without_blanks line in
     let command = front_word text in
     let operands = behind_word text in
-    if bytes_eq command (codes "mkdir") then last_value operands (λ path. MakeDir path)
-    else if bytes_eq command (codes "write") then two_values operands (λ path contents. Write path contents)
-    else if bytes_eq command (codes "cat") then last_value operands (λ path. Cat path)
+    if bytes_eq command (codes "mkdir") then option_map (λ path. MakeDir path) (last_value operands)
+    else if bytes_eq command (codes "write") then option_map (λ (both : List ℕ × List ℕ). Write both.0 both.1) (two_values operands)
+    else if bytes_eq command (codes "cat") then option_map (λ path. Cat path) (last_value operands)
     else None

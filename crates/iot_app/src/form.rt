@@ -1,9 +1,14 @@
 //! The forms of event lines.
 ghost use Rattle.std.specs.Prelude.{◌≡◌, map, if◌then◌else◌, Some, None};
+ghost use Rattle.iot_lines.specs.Words.{words};
 ghost use Rattle.iot_text.specs.Names.{is_name};
 ghost use Rattle.iot_app.specs.Forms.{form_of, two_words, three_words, four_words};
 
+use iot_lines::next_word;
 use iot_text::Name;
+
+/// How many words the longest form has.
+const MOST_WORDS: usize = 4;
 
 /// What the words of a line are, before it is known which names are declared.
 #[derive(Clone, Copy)]
@@ -62,13 +67,31 @@ fn four_words(first: &[u8], second: &[u8], third: &[u8], fourth: &[u8]) -> Optio
 }
 
 /// The form of these words, if they have one.
-pub(crate) fn form_of(words: &[&[u8]]) -> Option<Form>
-    ensures { result ≡ form_of (map (λ word. word.now) words.now) }
+fn form_of(found: &[&[u8]]) -> Option<Form>
+    ensures { result ≡ form_of (map (λ word. word.now) found.now) }
 {
-    match words {
+    match found {
         [first, second] => two_words(first, second),
         [first, second, third] => three_words(first, second, third),
         [first, second, third, fourth] => four_words(first, second, third, fourth),
         _ => None,
     }
+}
+
+/// The form of a line, if it has one.
+pub(crate) fn form_of_line(line: &[u8]) -> Option<Form>
+    ensures { result ≡ form_of (words line.now) }
+{
+    let mut found: [&[u8]; MOST_WORDS] = [b""; MOST_WORDS];
+    let mut count = 0;
+    let mut rest = line;
+    while let Some((word, later)) = next_word(rest) {
+        if count == MOST_WORDS {
+            return None;
+        }
+        found[count] = word;
+        count += 1;
+        rest = later;
+    }
+    form_of(&found[..count])
 }

@@ -2,8 +2,15 @@
 #![tactic(auto)]
 
 mod act;
+mod bytes;
+mod closing;
+mod declared;
 mod event;
+mod fault;
 mod form;
+mod parse;
 mod perform;
 mod script;
+mod statement;
 mod texts;
+mod world;

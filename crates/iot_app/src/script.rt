@@ -1,5 +1,8 @@
 //! Scripts, as they are run.
-use iot_text::Text;
+ghost use Rattle.std.specs.Prelude.{◌≡◌, IfOk};
+
+use iot_text::{NoMemory, Text};
+use std::alloc::Global;
 use std::marker::Model;
 use std::rc::Rc;
 
@@ -30,4 +33,33 @@ impl Model for Script {
     ghost Value = { List Statement };
 
     ghost view = { λ script. script.statements.value.items };
+}
+
+impl Script {
+    /// A script of these statements.
+    pub(crate) fn new(alloc: Global, statements: Vec<Statement>) -> Result<Script, NoMemory>
+        ensures { IfOk result (λ script. script ≡ statements.items) }
+    {
+        Ok(Script {
+            statements: Rc::new(alloc, statements)?,
+        })
+    }
+
+    /// The statements in order.
+    #[inline]
+    pub(crate) fn statements(&self) -> &[Statement]
+        ensures { result.now ≡ self.now }
+    {
+        self.statements.as_slice()
+    }
+
+    /// The same statements, without a copy of them. Fails only where they are shared more often than can be counted.
+    #[inline]
+    pub(crate) fn share(&self) -> Result<Script, NoMemory>
+        ensures { IfOk result (λ script. script ≡ self.now) }
+    {
+        Ok(Script {
+            statements: Rc::clone(&self.statements)?,
+        })
+    }
 }

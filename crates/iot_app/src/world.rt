@@ -1,7 +1,8 @@
 //! The world: the server and its client, as they stand between two events.
-ghost use Rattle.std.specs.Prelude.{◌≡◌, ◌+◌, ◌-◌, ◌^◌, ◌<◌, ◌≤◌, [], OnOk, IfOk, length};
+ghost use Rattle.std.specs.Prelude.{◌≡◌, ℕ, ◌+◌, ◌-◌, ◌^◌, ◌<◌, ◌≤◌, List, [], ◌∷◌, ◌++◌, OnOk, IfOk, length};
+ghost use Rattle.iot_app.specs.Texts.{client_line};
 
-use crate::act::perform;
+use crate::perform::perform;
 use crate::event::Event;
 use crate::script::Script;
 use crate::texts::{Transaction, say_client, say_commit, say_end, say_output, say_settled, say_tree};
@@ -20,7 +21,7 @@ pub(crate) struct Client {
 
 /// A script that was declared.
 #[derive(Drop)]
-pub(crate) struct Declared {
+pub(crate) struct DeclaredScript {
     pub(crate) name: Name,
     pub(crate) script: Script,
 }
@@ -36,14 +37,15 @@ pub(crate) struct World {
 
     /// In order of declaration, as the scripts are.
     pub(crate) clients: Vec<Client>,
-    pub(crate) scripts: Vec<Declared>,
+    pub(crate) scripts: Vec<DeclaredScript>,
 }
 
 impl World {
     ghost use Rattle.iot_app.specs.Machine.{opening};
     ghost use Rattle.iot_app.specs.Steps.{event_part, Runs};
-    ghost use Rattle.iot_app.specs.Declared.{IsDeclared};
-    ghost use Rattle.iot_app.specs.World.{StandsFor, Refines, CountsAtMost};
+    ghost use Rattle.iot_app.specs.Declarations.{AreDeclared};
+    ghost use Rattle.iot_app.specs.World.{StandsFor, Refines, CountsAtMost, AddsClient, AddsScript, RanScript, Begins, run_text, client_in, transaction_of};
+    ghost use Rattle.iot_app.specs.declared.event.Event.{Event};
 
     /// The world before any event: the server's tree has only its root.
     pub(crate) fn new(alloc: Global) -> Result<World, NoMemory>
@@ -67,19 +69,29 @@ impl World {
         event: &Event,
         out: &mut Text,
     ) -> Result<(), NoMemory>
-        requires declared { IsDeclared (length self.old.clients.items) (length self.old.scripts.items) event.now }
+        requires declared { AreDeclared (event.now ∷ []) (length self.old.clients.items) (length self.old.scripts.items) }
         requires counts { CountsAtMost (2 ^ 64 - 2) self.old }
+
         ensures step { OnOk result (Refines (event_part event.now) self.old self.new out.old out.new) }
+
+        // For the events behind it.
+        ensures declared { OnOk result ((later : List Event)
+            → AreDeclared (event.now ∷ later) (length self.old.clients.items) (length self.old.scripts.items)
+            → AreDeclared later (length self.new.clients.items) (length self.new.scripts.items)) }
+        ensures counts { OnOk result ((limit : ℕ) → CountsAtMost limit self.old → CountsAtMost (limit + 1) self.new) }
     {
         match event {
             Event::Client(name) => self.declare_client(name, out),
-            Event::Script(name, script) => self.declare_script(alloc, name, script),
+            Event::Script(name, script) => self.declare_script(name, script),
             Event::Run { client, script } => self.run(alloc, *client, *script, out),
             Event::ShowServer => say_tree(&self.tree, out),
         }
     }
 
-    fn declare_client(&mut self, name: &Name, out: &mut Text) -> Result<(), NoMemory> {
+    fn declare_client(&mut self, name: &Name, out: &mut Text) -> Result<(), NoMemory>
+        ensures world { OnOk result (AddsClient name.now self.old self.new) }
+        ensures text { OnOk result (out.new ≡ out.old ++ client_line name.now) }
+    {
         self.clients.push(Client {
             name: *name,
             last: 0,
@@ -87,13 +99,10 @@ impl World {
         say_client(name, out)
     }
 
-    fn declare_script(
-        &mut self,
-        alloc: Global,
-        name: &Name,
-        script: &Script,
-    ) -> Result<(), NoMemory> {
-        self.scripts.push(Declared {
+    fn declare_script(&mut self, name: &Name, script: &Script) -> Result<(), NoMemory>
+        ensures { OnOk result (AddsScript name.now script.now self.old self.new) }
+    {
+        self.scripts.push(DeclaredScript {
             name: *name,
             script: script.share()?,
         })?;
@@ -111,7 +120,8 @@ impl World {
         requires client { client < length self.old.clients.items }
         requires script { script < length self.old.scripts.items }
         requires counts { CountsAtMost (2 ^ 64 - 2) self.old }
-        ensures step { OnOk result (Refines (Runs client script) self.old self.new out.old out.new) }
+        ensures world { OnOk result (RanScript client script self.old self.new) }
+        ensures text { OnOk result (out.new ≡ out.old ++ run_text client script self.old) }
     {
         let transaction = self.begin(client as usize);
         say_end(&transaction, out)?;
@@ -127,6 +137,8 @@ impl World {
     fn begin(&mut self, client: usize) -> Transaction
         requires client { client < length self.old.clients.items }
         requires counts { CountsAtMost (2 ^ 64 - 2) self.old }
+        ensures world { Begins client self.old self.new }
+        ensures transaction { result ≡ transaction_of (client_in self.new client) }
     {
         let client = &mut self.clients[client];
         client.last += 1;

@@ -7,12 +7,11 @@ ghost use Rattle.iot_text.specs.Paths.{IsPath, IsPathText, RefusesPath, is_slash
 ghost use Rattle.iot_text.specs.Texts.{AppendsPart};
 ghost use Rattle.std.specs.List.{position_or_len};
 
+use crate::names::beginning_len;
+use crate::{Name, NoMemory, Text, TextFault};
 use std::alloc::Global;
 use std::cmp::Ordering;
 use std::marker::Model;
-
-use crate::names::beginning_len;
-use crate::{Name, NoMemory, Text, TextFault};
 
 /// A path: the names on the way down from the root, whose own path has none.
 /// Contracts see it as the list of its names.
@@ -180,6 +179,7 @@ impl Path {
     pub fn write_to(&self, out: &mut Text) -> Result<(), NoMemory>
         ensures ok { OnOk result (out.new ≡ out.old ++ path_text self.now) }
         ensures err { OnErr result (AppendsPart out.old out.new (path_text self.now)) }
+        ensures reads_back { path_of (path_text self.now) ≡ Some self.now }
     {
         if self.names().is_empty() {
             return out.push(b'/');
@@ -196,7 +196,10 @@ impl PartialEq for Path {
 
     ghost laws = { partial_equiv_from_equiv (lists_equiv nat_list_eq_equiv) };
 
-    fn eq(&self, other: &Path) -> bool {
+    fn eq(&self, other: &Path) -> bool
+        ensures value { result ≡ pointwise (pointwise nat_eq) self.now other.now }
+        ensures same { IsTrue result ↔ (self.now ≡ other.now) }
+    {
         self.names() == other.names()
     }
 }
