@@ -55,10 +55,10 @@ pub record AddsScript (name : List ℕ) (statements : List Statement) (old new :
   pub clients : new.clients.items ≡ old.clients.items
   pub scripts : new.scripts.items ≡ old.scripts.items ++ record { name = name; script = statements } ∷ []
 
-abbrev no_client : Client
+abbrev pub no_client : Client
 no_client = record { name = []; last = 0 }
 
-abbrev no_script : DeclaredScript
+abbrev pub no_script : DeclaredScript
 no_script = record { name = []; script = [] }
 
 abbrev pub client_in : World → ℕ → Client
