@@ -10,7 +10,8 @@ use Rattle.std.proofs.lemmas.List.Sums.{passes_at_first, prefix_len-le-length}
 use Rattle.std.proofs.lemmas.List.Folds.{list_all-append}
 use Rattle.std.specs.Cmp.Lexicographic.{bytes_decides}
 use borrow.Author.Tests.{eqb-true}
-use Rattle.iot_text.specs.Names.{is_name_byte, is_dots, is_name, IsName, NameParts, name_parts, name_from_parts, beginning_len}
+use Rattle.iot_text.specs.Names.{is_name_byte, is_dots, is_name, IsName, beginning_len}
+use Rattle.iot_text.proofs.NameLaws.{NameParts, name_parts, name_from_parts}
 use Rattle.iot_text.specs.Paths.{is_slash, IsPath, names_text, path_text, IsPathText, IsNoPathText, BeginsPath, LongestBeginning}
 use Rattle.iot_text.proofs.Spelled.{path_text-names, at_end, names_text-at_end, at_end-after_names, same_name, before_first-name, covered}
 

@@ -8,7 +8,8 @@ use Rattle.std.specs.Cmp.Lexicographic.{slice_cmp, pointwise_decides, bytes_deci
 use Rattle.std.specs.Ordering.{nat_cmp, is_eq}
 use Rattle.std.specs.declared.cmp.Ordering.TheVariants.{Equal}
 use borrow.Author.Tests.{eqb-true}
-use Rattle.iot_text.specs.Names.{is_name_byte, is_name, NameParts, name_parts}
+use Rattle.iot_text.specs.Names.{is_name_byte, is_name}
+use Rattle.iot_text.proofs.NameLaws.{NameParts, name_parts}
 use Rattle.iot_text.specs.Paths.{is_slash, IsPath, names_text, path_text, IsPathText, IsNoPathText, extended, slash_parts, names_of, path_of, parent_of, last_of, path_cmp}
 use Rattle.iot_text.proofs.Spelled.{not_slash, path_text-names}
 

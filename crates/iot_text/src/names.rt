@@ -28,7 +28,7 @@ pub struct Name {
 
 impl Model for Name {
     ghost use Rattle.std.specs.Prelude.{ℕ, List, ◌-◌, ◌++◌, length, take, replicate};
-    ghost use Rattle.iot_text.specs.Names.{IsStored, unpadded};
+    ghost use Rattle.iot_text.specs.NameArrays.{IsStored, unpadded};
 
     ghost Value = { List ℕ };
 

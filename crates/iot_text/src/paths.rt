@@ -65,7 +65,8 @@ impl Path {
 
         // The same by the function that reads a path.
         ensures found { IfOk result (λ path. path_of text.now ≡ Some path) }
-        ensures none { IfErr result (λ fault. fault ≢ TextFault.NoMemory → path_of text.now ≡ None) }
+        ensures none { IfErr result (λ fault.
+            fault ≢ TextFault.NoMemory → path_of text.now ≡ None) }
     {
         let mut names = Vec::new(alloc);
         if text.is_empty() || text[0] != b'/' {
@@ -159,6 +160,7 @@ impl Path {
     pub fn joined(&self, alloc: Global, name: &Name) -> Result<Path, NoMemory>
         ensures { IfOk result (λ path. path ≡ self.now ++ name.now ∷ []) }
     {
+        // That it is a name is known of its bytes.
         let _valid = name.as_bytes();
         let mut names = Vec::with_capacity(alloc, self.names.len() + 1)?;
         names.extend_from_slice(self.names())?;
