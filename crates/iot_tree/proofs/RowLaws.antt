@@ -112,13 +112,13 @@ get_middle front row back rising = get_rows (front ++ row ∷ back) rising row.0
 same_node : (a b : Node) → Some a ≡ Some b → a ≡ b
 same_node a b is = cc
 
-one_of_two : (o : Option Node) (a b : Node) → o ≡ Some a → o ≡ Some b → a ≡ b
+pub one_of_two : (o : Option Node) (a b : Node) → o ≡ Some a → o ≡ Some b → a ≡ b
 one_of_two o a b first second = same_node a b (sym first ∙ second)
 
 dir_not_far : Dir ≡ FarDir → ⊥
 dir_not_far is = cc
 
-none_not_some : (o : Option Node) (a : Node) → o ≡ None → o ≡ Some a → ⊥
+pub none_not_some : (o : Option Node) (a : Node) → o ≡ None → o ≡ Some a → ⊥
 none_not_some o a none some = let never : None ≡ Some a = sym none ∙ some in cc
 
 not_far : (o : Option Node) → (o ≡ Some FarDir → ⊥) → is_far_dir o ≡ false

@@ -9,6 +9,7 @@ mod kinds;
 mod nodes;
 mod places;
 mod questions;
+mod rows;
 mod sequence;
 mod tree;
 mod updates;
