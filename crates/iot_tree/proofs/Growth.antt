@@ -40,7 +40,7 @@ module _ (front : List (List (List ℕ) × Node)) (last row : List (List ℕ) ×
       subst (λ (p : List (List ℕ)). get (from_sorted {R = path_cmp} (front ++ last ∷ [])) p ≡ Some Dir) here.0 (get_middle front last [] all.rising ∙ ap (λ (node : Node). Some node) here.1)
   known_dir path (inr below) =
       ancestors (from_sorted (front ++ last ∷ [])) all.tree path below.0 below.1
-        (subst (λ (p : List (List ℕ)). IsSome (get (from_sorted {R = path_cmp} (front ++ last ∷ [])) p)) below.2 (is_mapped (from_sorted (front ++ last ∷ [])) last.0 last.1 (get_middle front last [] all.rising)))
+      (subst (λ (p : List (List ℕ)). IsSome (get (from_sorted {R = path_cmp} (front ++ last ∷ [])) p)) below.2 (is_mapped (from_sorted (front ++ last ∷ [])) last.0 last.1 (get_middle front last [] all.rising)))
 
   parent_by : (above : Option (List (List ℕ))) → MatchOption above ⊥ (HasDir last) → option_and_then (get (from_sorted {R = path_cmp} (front ++ last ∷ []))) above ≡ Some Dir
   parent_by None has = absurd has
@@ -51,9 +51,9 @@ module _ (front : List (List (List ℕ) × Node)) (last row : List (List ℕ) ×
   grown follows =
       let before = rows_before row.0 follows.rises in
       let absent : get (from_sorted {R = path_cmp} (front ++ last ∷ [])) row.0 ≢ Some Dir = λ is.
-          none_not_some _ Dir (get_rows (front ++ last ∷ []) all.rising row.0 ∙ ap (find path_cmp row.0) (sym (append-nil (front ++ last ∷ []))) ∙ find_gap row.0 (front ++ last ∷ []) [] before refl) is in
+      none_not_some _ Dir (get_rows (front ++ last ∷ []) all.rising row.0 ∙ ap (find path_cmp row.0) (sym (append-nil (front ++ last ∷ []))) ∙ find_gap row.0 (front ++ last ∷ []) [] before refl) is in
       let new : put path_cmp row.0 row.1 (front ++ last ∷ []) ≡ (front ++ last ∷ []) ++ row ∷ [] =
-          ap (put path_cmp row.0 row.1) (sym (append-nil (front ++ last ∷ []))) ∙ put_gap row.0 row.1 (front ++ last ∷ []) [] before refl in
+      ap (put path_cmp row.0 row.1) (sym (append-nil (front ++ last ∷ []))) ∙ put_gap row.0 row.1 (front ++ last ∷ []) [] before refl in
       subst AreTreeRows new (put_tree (front ++ last ∷ []) all row.0 row.1 (parent_by (parent_of row.0) follows.parent) absent)
 
   module _ (more : AreTreeRows ((front ++ last ∷ []) ++ row ∷ [])) where
@@ -63,7 +63,7 @@ module _ (front : List (List (List ℕ) × Node)) (last row : List (List ℕ) ×
     last_get : get (from_sorted {R = path_cmp} ((front ++ last ∷ []) ++ row ∷ [])) last.0 ≡ Some last.1
     last_get =
         subst (λ (rows : List (List (List ℕ) × Node)). get (from_sorted {R = path_cmp} rows) last.0 ≡ Some last.1) (sym (append_assoc front (last ∷ []) (row ∷ [])))
-          (get_middle front last (row ∷ []) (subst (λ (rows : List (List (List ℕ) × Node)). IsTrue (is_sorted path_cmp rows)) (append_assoc front (last ∷ []) (row ∷ [])) more.rising))
+        (get_middle front last (row ∷ []) (subst (λ (rows : List (List (List ℕ) × Node)). IsTrue (is_sorted path_cmp rows)) (append_assoc front (last ∷ []) (row ∷ [])) more.rising))
 
     dir_found : (q : List (List ℕ)) (name : List ℕ) → row.0 ≡ q ++ name ∷ [] → get (from_sorted {R = path_cmp} ((front ++ last ∷ []) ++ row ∷ [])) q ≡ Some Dir → HasDir last q
     dir_found q name is known = elim (order q last.0) [
@@ -77,16 +77,19 @@ module _ (front : List (List (List ℕ) × Node)) (last row : List (List ℕ) ×
 
     -- and a row that makes a tree with the rows before it may follow
     pub may_follow : Follows last row
-    may_follow = record { rises = rises; parent = elim (ends row.0) [
-      | at_root is ↦ absurd (not_below_root last.0 (subst (λ (p : List (List ℕ)). path_cmp last.0 p ≡ Less) is rises))
-      | in_name q name is ↦
-          let above : parent_of row.0 ≡ Some q = ap parent_of is ∙ parent_push q name in
-          let root : row.0 ≢ [] = λ empty. below_not_root q name [] (sym is ∙ empty) in
-          let here = get_middle (front ++ last ∷ []) row [] more.rising in
-          let known : parent_node (from_sorted ((front ++ last ∷ []) ++ row ∷ [])) row.0 ≡ Some Dir = more.tree.parents row.0 root (is_mapped _ row.0 row.1 here) in
-          let found : get (from_sorted {R = path_cmp} ((front ++ last ∷ []) ++ row ∷ [])) q ≡ Some Dir = sym (ap (option_and_then (get (from_sorted {R = path_cmp} ((front ++ last ∷ []) ++ row ∷ [])))) above) ∙ known in
-          rw above (dir_found q name is found)
-    ] }
+    may_follow = record {
+      rises = rises;
+      parent = elim (ends row.0) [
+        | at_root is ↦ absurd (not_below_root last.0 (subst (λ (p : List (List ℕ)). path_cmp last.0 p ≡ Less) is rises))
+        | in_name q name is ↦
+            let above : parent_of row.0 ≡ Some q = ap parent_of is ∙ parent_push q name in
+            let root : row.0 ≢ [] = λ empty. below_not_root q name [] (sym is ∙ empty) in
+            let here = get_middle (front ++ last ∷ []) row [] more.rising in
+            let known : parent_node (from_sorted ((front ++ last ∷ []) ++ row ∷ [])) row.0 ≡ Some Dir = more.tree.parents row.0 root (is_mapped _ row.0 row.1 here) in
+            let found : get (from_sorted {R = path_cmp} ((front ++ last ∷ []) ++ row ∷ [])) q ≡ Some Dir = sym (ap (option_and_then (get (from_sorted {R = path_cmp} ((front ++ last ∷ []) ++ row ∷ [])))) above) ∙ known in
+            rw above (dir_found q name is found)
+      ];
+    }
 
 -- ---- the tests of the code
 

@@ -11,6 +11,8 @@ mod places;
 mod questions;
 mod rows;
 mod sequence;
+#[cfg(test)]
+mod tests;
 mod tree;
 mod updates;
 

@@ -3,9 +3,8 @@ ghost use Rattle.std.specs.Prelude.{◌≡◌, ◌↔◌, IsTrue, MatchOption, [
 ghost use Rattle.iot_tree.specs.Rows.{AreTreeRows, IsFirstBadRow};
 ghost use Rattle.iot_tree.specs.Follows.{HasDir, Follows};
 
-use iot_text::{Name, Path};
-
 use crate::Node;
+use iot_text::{Name, Path};
 
 /// The place of the first row that does not go with the rows before it, or 0 where there is no row.
 /// One pass: a row's parent can only be the row before it, or above that row.

@@ -7,14 +7,12 @@ ghost use Rattle.iot_tree.specs.Updates.{FitsPut, FitsMakeDir, Fits, updated};
 ghost use Rattle.iot_tree.specs.Rows.{AreTreeRows, RefusesRows};
 ghost use Rattle.iot_tree.specs.Questions.{is_dir, kind_of, content_of, answer_of, content_answer, is_far_above};
 
-use std::alloc::Global;
-use std::marker::Model;
-
-use iot_text::{Name, NoMemory, Path};
-
 use crate::places::{kind_in_gap, node_at, place_of};
 use crate::rows::first_bad_row;
 use crate::{Answer, Duplicate, Kind, Node, Question, RowFault, Rows, Update};
+use iot_text::{Name, NoMemory, Path};
+use std::alloc::Global;
+use std::marker::Model;
 
 /// A tree of files and directories: a node at each path that has one. Contracts see it as this map.
 /// The root is a directory, and each other path stands in a directory whose names are known.

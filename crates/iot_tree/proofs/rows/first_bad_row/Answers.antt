@@ -8,7 +8,7 @@ returns-in_default c = let none = rw c.in_default.is at c.first.ensures.value in
 pub rows-preserved : goal.rows-preserved
 rows-preserved c =
     grow_at c.args.rows.now c.rows.at (omega arith) (omega arith) c.index-rows-at.result c.index-rows-at-in-rows.result c.index-rows-at.is c.index-rows-at-in-rows.is c.rows.invariant
-      (c.follows.ensures.0 c.if-not-follows.false)
+    (c.follows.ensures.0 c.if-not-follows.false)
 
 pub returns-then-not-follows : goal.returns-then-not-follows
 returns-then-not-follows c = record {
