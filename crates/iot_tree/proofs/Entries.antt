@@ -97,7 +97,7 @@ rows_rise (row ∷ rows) rising (suc i) (suc j) d lt in_range = rows_rise rows (
 searchable : (rows : List (List (List ℕ) × Node)) → IsTrue (is_sorted path_cmp rows) → (p : List (List ℕ)) → IsNonDecreasingBy (λ (row : List (List ℕ) × Node). ordering_index (path_cmp row.0 p)) rows
 searchable rows rising p =
     searchable_from_sorted path_total (λ (row : List (List ℕ) × Node). row.0) rows p (λ k d from to.
-        ap is_lt (path_total.antisymm (get_or rows (k + 1) d).0 (get_or rows k d).0 ∙ ap ordering_reverse (rows_rise rows rising k (k + 1) d (omega arith) (omega arith))))
+    ap is_lt (path_total.antisymm (get_or rows (k + 1) d).0 (get_or rows k d).0 ∙ ap ordering_reverse (rows_rise rows rising k (k + 1) d (omega arith) (omega arith))))
 
 -- a binary search ends at the row of the path, or at its gap
 pub searched : (rows : List (List (List ℕ) × Node)) → IsTrue (is_sorted path_cmp rows) → (p : List (List ℕ)) (r : Result ℕ ℕ) → IsSearchInRange r (length rows) → IsBinarySearchResult (λ (row : List (List ℕ) × Node). path_cmp row.0 p) rows r → IsPlace rows p r

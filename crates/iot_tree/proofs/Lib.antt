@@ -3,3 +3,4 @@ pub mod Entries
 pub mod Ancestry
 pub mod TreeLaws
 pub mod RowLaws
+pub mod Growth

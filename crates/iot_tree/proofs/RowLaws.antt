@@ -112,13 +112,13 @@ get_middle front row back rising = get_rows (front ++ row ∷ back) rising row.0
 same_node : (a b : Node) → Some a ≡ Some b → a ≡ b
 same_node a b is = cc
 
-one_of_two : (o : Option Node) (a b : Node) → o ≡ Some a → o ≡ Some b → a ≡ b
+pub one_of_two : (o : Option Node) (a b : Node) → o ≡ Some a → o ≡ Some b → a ≡ b
 one_of_two o a b first second = same_node a b (sym first ∙ second)
 
 dir_not_far : Dir ≡ FarDir → ⊥
 dir_not_far is = cc
 
-none_not_some : (o : Option Node) (a : Node) → o ≡ None → o ≡ Some a → ⊥
+pub none_not_some : (o : Option Node) (a : Node) → o ≡ None → o ≡ Some a → ⊥
 none_not_some o a none some = let never : None ≡ Some a = sym none ∙ some in cc
 
 not_far : (o : Option Node) → (o ≡ Some FarDir → ⊥) → is_far_dir o ≡ false
@@ -147,7 +147,7 @@ module _ (front : List (List (List ℕ) × Node)) (row : List (List ℕ) × Node
         let found = between q row.0 (name ∷ rest) lt (subst (λ (path : List (List ℕ)). path_cmp row.0 path ≡ Less) is before) in
         let here = get_middle front row back rows.rising in
         let mapped : IsSome (get (from_sorted {R = path_cmp} (front ++ row ∷ back)) (q ++ found.0 ∷ found.1)) =
-            subst (λ (path : List (List ℕ)). IsSome (get (from_sorted {R = path_cmp} (front ++ row ∷ back)) path)) found.2 (rw here refl) in
+        subst (λ (path : List (List ℕ)). IsSome (get (from_sorted {R = path_cmp} (front ++ row ∷ back)) path)) found.2 (rw here refl) in
         absurd (dir_not_far (one_of_two _ Dir FarDir (ancestors (from_sorted (front ++ row ∷ back)) rows.tree q found.0 found.1 mapped) far))
     | same here ↦ (sym here, one_of_two _ row.1 FarDir (get_middle front row back rows.rising) (subst (λ (path : List (List ℕ)). get (from_sorted {R = path_cmp} (front ++ row ∷ back)) path ≡ Some FarDir) here far))
     | higher lt ↦
@@ -166,7 +166,7 @@ module _ (front : List (List (List ℕ) × Node)) (row : List (List ℕ) × Node
       let never : Less ≡ Equal = sym before ∙ ap (path_cmp row.0) (is ∙ append-nil row.0) ∙ tied_itself path_total row.0 in cc
   far_begins here (name ∷ rest) is =
       subst (λ (path : List (List ℕ)). is_far_above (from_sorted (front ++ row ∷ back)) path ≡ true) (sym is)
-        (any_above (λ above. is_far_dir (get (from_sorted {R = path_cmp} (front ++ row ∷ back)) above)) row.0 name rest (ap is_far_dir here))
+      (any_above (λ above. is_far_dir (get (from_sorted {R = path_cmp} (front ++ row ∷ back)) above)) row.0 name rest (ap is_far_dir here))
 
   -- with one, the answer is whether it is above
   pub far_last : is_far_dir (Some row.1) ≡ true → (b : Bool) → (b ≡ true → p ≡ row.0 ++ drop (length row.0) p) → ((rest : List (List ℕ)) → p ≡ row.0 ++ rest → b ≡ true) → is_far_above (from_sorted (front ++ row ∷ back)) p ≡ b
@@ -209,7 +209,7 @@ module _ (rows : List (List (List ℕ) × Node)) (all : AreTreeRows rows) (p : L
     far_before far b tests =
         let both = starts_is bytes_decides p row.0 b tests in
         subst (λ (rows : List (List (List ℕ) × Node)). is_far_above (from_sorted rows) p ≡ b) rows_are
-          (far_last (take (gap - 1) rows) row (drop gap rows) parts p row_before is_gap.after far b both.0 both.1)
+        (far_last (take (gap - 1) rows) row (drop gap rows) parts p row_before is_gap.after far b both.0 both.1)
 
 -- What the map of rows has at a path that has a row, and at one that has none.
 module _ (rows : List (List (List ℕ) × Node)) (rising : IsTrue (is_sorted path_cmp rows)) (p : List (List ℕ)) (at : ℕ) where
@@ -219,7 +219,7 @@ module _ (rows : List (List (List ℕ) × Node)) (rising : IsTrue (is_sorted pat
   pub find_here : StandsAt rows p at → (d : List (List ℕ) × Node) → find path_cmp p rows ≡ Some (get_or rows at d).1
   find_here stands d =
       let whole : rows ≡ take at rows ++ get_or rows at d ∷ drop (at + 1) rows =
-          sym (take-append-drop at rows) ∙ ap (λ (back : List (List (List ℕ) × Node)). take at rows ++ back) (drop_more rows at d stands.in_range) in
+      sym (take-append-drop at rows) ∙ ap (λ (back : List (List (List ℕ) × Node)). take at rows ++ back) (drop_more rows at d stands.in_range) in
       ap (find path_cmp p) whole ∙ find_at p (take at rows) (get_or rows at d) (drop (at + 1) rows) stands.before (stands.here d)
 
   pub get_in_gap : IsGap rows p at → get (from_sorted {R = path_cmp} rows) p ≡ None
@@ -263,9 +263,9 @@ module _ (rows : List (List (List ℕ) × Node)) (all : AreTreeRows rows) (p : L
   pub put_here : (at : ℕ) → StandsAt rows p at → (d : List (List ℕ) × Node) → set rows at ((get_or rows at d).0, node) ≡ put path_cmp p node rows
   put_here at stands d =
       let written : set rows at ((get_or rows at d).0, node) ≡ take at rows ++ ((get_or rows at d).0, node) ∷ drop (at + 1) rows =
-          sym (take-append-drop at (set rows at ((get_or rows at d).0, node))) ∙ rw (take-set rows at ((get_or rows at d).0, node), drop-set rows at ((get_or rows at d).0, node) stands.in_range) refl in
+      sym (take-append-drop at (set rows at ((get_or rows at d).0, node))) ∙ rw (take-set rows at ((get_or rows at d).0, node), drop-set rows at ((get_or rows at d).0, node) stands.in_range) refl in
       let whole : rows ≡ take at rows ++ get_or rows at d ∷ drop (at + 1) rows =
-          sym (take-append-drop at rows) ∙ ap (λ (back : List (List (List ℕ) × Node)). take at rows ++ back) (drop_more rows at d stands.in_range) in
+      sym (take-append-drop at rows) ∙ ap (λ (back : List (List (List ℕ) × Node)). take at rows ++ back) (drop_more rows at d stands.in_range) in
       written ∙ sym (ap (put path_cmp p node) whole ∙ put_at p node (take at rows) (get_or rows at d) (drop (at + 1) rows) stands.before (stands.here d))
 
   -- a new row goes into the gap

@@ -4,3 +4,4 @@ pub mod Questions
 pub mod Updates
 pub mod Rows
 pub mod Place
+pub mod Follows

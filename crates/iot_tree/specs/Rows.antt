@@ -4,6 +4,8 @@ use Rattle.std.specs.FinMap.{from_sorted, is_sorted}
 use Rattle.iot_text.specs.Paths.{path_cmp}
 use Rattle.iot_tree.specs.Tree.{Nodes, IsTree}
 use Rattle.iot_tree.specs.declared.nodes.Node.{Node}
+use Rattle.iot_tree.specs.declared.faults.RowFault.{RowFault}
+use Rattle.iot_tree.specs.declared.faults.RowFault.TheVariants.{NoMemory, NoTree}
 
 -- the rows are in strictly rising order, and what they map is a tree
 pub record AreTreeRows (rows : List (List (List ℕ) × Node)) : Type 0 where
@@ -14,3 +16,8 @@ pub record AreTreeRows (rows : List (List (List ℕ) × Node)) : Type 0 where
 pub record IsFirstBadRow (rows : List (List (List ℕ) × Node)) (at : ℕ) : Type 0 where
   pub before : 0 < at → AreTreeRows (take at rows)
   pub bad : ¬ AreTreeRows (take (at + 1) rows)
+
+-- why rows are refused; want of memory is no reason, since none is taken
+abbrev pub RefusesRows : List (List (List ℕ) × Node) → RowFault → Type 0
+RefusesRows rows NoMemory = ⊥
+RefusesRows rows (NoTree at) = IsFirstBadRow rows at

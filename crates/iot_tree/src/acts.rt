@@ -1,7 +1,6 @@
 //! What a transaction did, act by act.
-use iot_text::Text;
-
 use crate::{Answer, Question, Sequence, Update};
+use iot_text::Text;
 
 /// A question with the answer that it got.
 #[derive(Drop)]

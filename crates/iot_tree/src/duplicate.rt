@@ -1,11 +1,9 @@
 //! Copies in memory of their own.
 ghost use Rattle.std.specs.Prelude.{◌≡◌, ◌∷◌, [], ◌++◌, IfOk};
 
-use std::alloc::Global;
-
+use crate::{Act, Answer, Blob, Node, Question, Read, Sequence, Update};
 use iot_text::{NoMemory, Path, Text};
-
-use crate::{Answer, Blob, Node, Question, Sequence, Update};
+use std::alloc::Global;
 
 /// Values of which an equal one can be made in memory of its own.
 pub trait Duplicate: Drop {
@@ -70,6 +68,34 @@ impl Duplicate for Update {
         Ok(match self {
             Update::Put(path, bytes) => Update::Put(path.copy(alloc)?, bytes.copy(alloc)?),
             Update::MakeDir(path) => Update::MakeDir(path.copy(alloc)?),
+        })
+    }
+}
+
+impl Duplicate for Read {
+    fn copy(&self, alloc: Global) -> Result<Read, NoMemory> {
+        Ok(Read {
+            question: self.question.copy(alloc)?,
+            answer: self.answer.copy(alloc)?,
+        })
+    }
+}
+
+impl Duplicate for Act {
+    fn copy(&self, alloc: Global) -> Result<Act, NoMemory> {
+        Ok(Act {
+            reads: self.reads.copy(alloc)?,
+            update: self.update.copy(alloc)?,
+            lines: self.lines.copy(alloc)?,
+        })
+    }
+}
+
+impl<T: Duplicate> Duplicate for Option<T> {
+    fn copy(&self, alloc: Global) -> Result<Option<T>, NoMemory> {
+        Ok(match self {
+            Some(value) => Some(value.copy(alloc)?),
+            None => None,
         })
     }
 }

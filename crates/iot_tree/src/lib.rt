@@ -9,7 +9,10 @@ mod kinds;
 mod nodes;
 mod places;
 mod questions;
+mod rows;
 mod sequence;
+#[cfg(test)]
+mod tests;
 mod tree;
 mod updates;
 

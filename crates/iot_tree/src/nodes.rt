@@ -2,11 +2,9 @@
 ghost use Rattle.std.specs.Prelude.{◌≡◌, Some, IfOk, false};
 ghost use Rattle.std.specs.Option.{option_copied};
 
-use std::alloc::Global;
-
-use iot_text::{NoMemory, Path};
-
 use crate::{Answer, Blob, Duplicate, Kind, Sequence};
+use iot_text::{NoMemory, Path};
+use std::alloc::Global;
 
 /// An object at a path. A far one is there, and its inside is not known.
 #[derive(Drop)]

@@ -7,11 +7,9 @@ ghost use Rattle.iot_tree.specs.Place.{IsPlace, IsGap};
 ghost use Rattle.iot_tree.specs.Rows.{AreTreeRows};
 ghost use Rattle.iot_tree.specs.Questions.{is_far_above, kind_at};
 
-use std::cmp::Ordering;
-
-use iot_text::{Name, Path};
-
 use crate::{Kind, Node};
+use iot_text::{Name, Path};
+use std::cmp::Ordering;
 
 /// The place of the path's row, or the place where it would go.
 pub(crate) fn place_of(rows: &[(Path, Node)], names: &[Name]) -> Result<usize, usize>

@@ -1,7 +1,6 @@
 //! Questions to a tree, and its answers.
-use iot_text::Path;
-
 use crate::Blob;
+use iot_text::Path;
 
 /// What can be asked of a tree.
 #[derive(Drop)]

@@ -1,10 +1,9 @@
 //! Lists of one kind of value.
 ghost use Rattle.std.specs.Prelude.{◌≡◌, ◌==◌, ◌<◌, ◌≤◌, ◌++◌, ◌∷◌, [], length, insert, slice_set, slice_index_or, OnOk, OnErr};
 
+use iot_text::NoMemory;
 use std::alloc::Global;
 use std::marker::Model;
-
-use iot_text::NoMemory;
 
 /// A list of values of one type. Contracts see it as that list.
 #[derive(Drop)]

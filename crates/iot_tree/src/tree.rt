@@ -1,18 +1,18 @@
 //! Trees.
-ghost use Rattle.std.specs.Prelude.{◌≡◌, ◌≢◌, ◌↔◌, Some, IsTrue, IfOk, OnOk, OnErr};
+ghost use Rattle.std.specs.Prelude.{◌≡◌, ◌≢◌, ◌↔◌, Some, IsTrue, IfOk, IfErr, OnOk, OnErr};
 ghost use Rattle.std.specs.Option.{option_copied};
 ghost use Rattle.std.specs.FinMap as map;
 ghost use Rattle.iot_tree.specs.Tree.{IsTree, root_alone, parent_node};
 ghost use Rattle.iot_tree.specs.Updates.{FitsPut, FitsMakeDir, Fits, updated};
+ghost use Rattle.iot_tree.specs.Rows.{AreTreeRows, RefusesRows};
 ghost use Rattle.iot_tree.specs.Questions.{is_dir, kind_of, content_of, answer_of, content_answer, is_far_above};
 
+use crate::places::{kind_in_gap, node_at, place_of};
+use crate::rows::first_bad_row;
+use crate::{Answer, Duplicate, Kind, Node, Question, RowFault, Rows, Update};
+use iot_text::{Name, NoMemory, Path};
 use std::alloc::Global;
 use std::marker::Model;
-
-use iot_text::{Name, NoMemory, Path};
-
-use crate::places::{kind_in_gap, node_at, place_of};
-use crate::{Answer, Duplicate, Kind, Node, Question, Rows, Update};
 
 /// A tree of files and directories: a node at each path that has one. Contracts see it as this map.
 /// The root is a directory, and each other path stands in a directory whose names are known.
@@ -64,6 +64,22 @@ impl Tree {
         let mut rows = Rows::new(alloc);
         rows.push((Path::root(alloc), root))?;
         Ok(Tree { rows })
+    }
+
+    /// The tree of these rows. Takes no memory.
+    ///
+    /// # Errors
+    ///
+    /// `NoTree`, exactly where the rows are no tree or not in the order of their paths: the rows
+    /// before the place `at` make a tree, where there are any, and with the row there they make none.
+    pub fn from_rows(rows: Rows) -> Result<Tree, RowFault>
+        ensures ok { IfOk result (λ tree. (map.entries tree ≡ rows) × AreTreeRows rows) }
+        ensures refused { IfErr result (RefusesRows rows) }
+    {
+        match first_bad_row(rows.as_slice()) {
+            Some(at) => Err(RowFault::NoTree { at: at as u64 }),
+            None => Ok(Tree { rows }),
+        }
     }
 
     /// The rows in the order of their paths.

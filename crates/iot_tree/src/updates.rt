@@ -1,7 +1,6 @@
 //! Updates of a tree.
-use iot_text::Path;
-
 use crate::{Blob, Sequence};
+use iot_text::Path;
 
 /// A change of a tree.
 #[derive(Drop)]

@@ -10,4 +10,4 @@ pub returns : goal.returns
 returns c =
     let facts = c.binary_search_by.ensures in
     searched c.args.rows.now c.requires c.args.names.now _ facts.bound
-      (facts.position (λ (row : List (List ℕ) × Node). path_cmp row.0 c.args.names.now) (always_returns_same _ _ _ (λ a r f' called. (search rules, search rules))))
+    (facts.position (λ (row : List (List ℕ) × Node). path_cmp row.0 c.args.names.now) (always_returns_same _ _ _ (λ a r f' called. (search rules, search rules))))

@@ -47,9 +47,9 @@ returns-in-Ok-clause-ok c = rw (rows_here c, ← c.self.view_is) (put_inserts c.
 pub invariant_of-self-in-Err : goal.invariant_of-self-in-Err
 invariant_of-self-in-Err c =
     either c.insert.result _ _ _ c.insert.ensures.ok c.insert.ensures.err c.self.invariant
-      (rw (rows_in_gap c) (new_tree _ c.self.invariant _ c.self.view_is c.args.path.now c.args.node c.requires.parent c.requires.no_dir))
+    (rw (rows_in_gap c) (new_tree _ c.self.invariant _ c.self.view_is c.args.path.now c.args.node c.requires.parent c.requires.no_dir))
 
 pub returns-in_ok-copy-in-Err-clause-ok : goal.returns-in_ok-copy-in-Err-clause-ok
 returns-in_ok-copy-in-Err-clause-ok c =
     on_ok c.insert.result _ _ _ c.insert.ensures.ok
-      (rw (rows_in_gap c, ← c.self.view_is) (put_inserts c.self.inside.rows c.self.invariant.rising c.args.path.now c.args.node))
+    (rw (rows_in_gap c, ← c.self.view_is) (put_inserts c.self.inside.rows c.self.invariant.rising c.args.path.now c.args.node))
