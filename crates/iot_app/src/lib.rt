@@ -10,3 +10,5 @@ mod form;
 mod parse;
 mod script;
 mod statement;
+#[cfg(test)]
+mod tests;
