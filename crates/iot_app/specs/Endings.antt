@@ -1,11 +1,16 @@
 -- What a run of the program has read and written, by the status that it ends with. `reads bytes` says that these bytes were
--- taken from the source, and `writes bytes` that these were written to the sink.
-use Rattle.std.specs.Prelude.{◌≡◌, ◌≢◌, ◌⊎◌, ℕ, ◌+◌, ◌<◌, ◌≤◌, List, [], ◌∷◌, ◌++◌, length, take, codes, decimal}
+-- taken from the source, `at_end` that nothing is left there, and `writes bytes` that these were written to the sink.
+use Rattle.std.specs.Prelude.{◌≡◌, ◌⊎◌, ℕ, zero, suc, ◌+◌, ◌<◌, ◌≤◌, List, [], ◌∷◌, ◌++◌, length, take, codes, decimal}
+use Rattle.iot_io.specs.Count.{Rose}
 use Rattle.iot_app.specs.Events.{parsed, Events, BadLine}
 use Rattle.iot_app.specs.Machine.{Machine, opening}
 use Rattle.iot_app.specs.Steps.{Transcript}
 use Rattle.iot_app.specs.Texts.{line}
 use Rattle.iot_app.specs.declared.event.Event.{Event}
+use Rattle.iot_app.specs.declared.status.Status.{Status}
+use Rattle.iot_app.specs.declared.status.Status.TheVariants as statuses
+
+-- ---- the lines
 
 -- an input has at most so many bytes
 abbrev pub input_limit : ℕ
@@ -19,6 +24,8 @@ bad_line number = line (codes "line " ++ decimal number ++ codes ": bad line")
 
 abbrev pub usage_line : List ℕ
 usage_line = line (codes "usage: iot [--json | --gen N | --save | --image]")
+
+-- ---- what there is to say of an input
 
 -- the input is an event script of these events
 pub record IsScript (input : List ℕ) (events : List Event) : Type 0 where
@@ -37,63 +44,128 @@ pub record IsNoScript (input text : List ℕ) : Type 0 where
   pub spelled : parsed input ≡ BadLine number
   pub says : text ≡ bad_line number
 
+-- a transcript of these events, from the opening on
+pub record HasTranscript (events : List Event) (text : List ℕ) : Type 0 where
+  pub machine : Machine
+  pub transcript : Transcript events opening text machine
+
 -- a whole transcript of the events that the input is
 pub record IsTranscript (input text : List ℕ) : Type 0 where
   pub events : List Event
   pub script : IsScript input events
-  pub machine : Machine
-  pub transcript : Transcript events opening text machine
+  pub whole : HasTranscript events text
 
 -- a transcript of the first so many events that the input is
 pub record IsTranscriptOfFirst (input text : List ℕ) : Type 0 where
   pub events : List Event
   pub script : IsScript input events
   pub done : ℕ
-  pub machine : Machine
-  pub transcript : Transcript (take done events) opening text machine
+  pub first : HasTranscript (take done events) text
 
--- what the program has to say of an input: why it is refused, or a transcript
-abbrev pub IsSaid : List ℕ → List ℕ → Type 0
-IsSaid input text = IsTooLong input text ⊎ IsNoScript input text ⊎ IsTranscriptOfFirst input text
+-- what the program has to say: with words the usage line, else why the input is refused, or a transcript
+pub data IsSaid (words : ℕ) (input text : List ℕ) : Type 0 where
+  usage : 0 < words → text ≡ usage_line → IsSaid words input text
+  too_long : IsTooLong input text → IsSaid words input text
+  no_script : IsNoScript input text → IsSaid words input text
+  transcript : IsTranscriptOfFirst input text → IsSaid words input text
 
--- status 0: the input was read to its end, is an event script, and a whole transcript of it was written
-pub record Done (reads writes : List ℕ → Type 0) (at_end : Type 0) : Type 0 where
-  pub input : List ℕ
-  pub text : List ℕ
-  pub read : reads input
-  pub whole : at_end
-  pub transcript : IsTranscript input text
-  pub written : writes text
+-- ---- the endings
 
--- status 1: the input is over its limit, or was read to its end and is no event script, and the line that says so was written
-pub record Refused (reads writes : List ℕ → Type 0) (at_end : Type 0) : Type 0 where
-  pub input : List ℕ
-  pub text : List ℕ
-  pub read : reads input
-  pub refused : IsTooLong input text ⊎ (IsNoScript input text × at_end)
-  pub written : writes text
+module _ (words : ℕ) (reads writes : List ℕ → Type 0) (at_end : Type 0) where
+  -- the input was read to its end, is an event script, and a whole transcript of it was written
+  pub record WroteAll : Type 0 where
+    pub no_words : words ≡ 0
+    pub input : List ℕ
+    pub text : List ℕ
+    pub read : reads input
+    pub whole : at_end
+    pub transcript : IsTranscript input text
+    pub written : writes text
 
--- status 3: nothing was written
-pub record ReadFailed (reads writes : List ℕ → Type 0) : Type 0 where
-  pub input : List ℕ
-  pub read : reads input
-  pub within : length input ≤ input_limit
-  pub written : writes []
+  -- the input is over its limit, or was read to its end and is no event script, and the line that says so was written
+  pub record WroteRefusal : Type 0 where
+    pub no_words : words ≡ 0
+    pub input : List ℕ
+    pub text : List ℕ
+    pub read : reads input
+    pub refused : IsTooLong input text ⊎ (IsNoScript input text × at_end)
+    pub written : writes text
 
--- status 4: only a part of what the program had to say of the input was written
-pub record WroteFront (reads writes : List ℕ → Type 0) : Type 0 where
-  pub input : List ℕ
-  pub text : List ℕ
-  pub count : ℕ
-  pub read : reads input
-  pub said : IsSaid input text
-  pub cut : count < length text
-  pub written : writes (take count text)
+  -- there were words, nothing was read, and the usage line was written
+  pub record WroteUsage : Type 0 where
+    pub some_words : 0 < words
+    pub read : reads []
+    pub written : writes usage_line
 
--- status 5: nothing was written, or a transcript of the first events of the input
-pub record WroteSome (reads writes : List ℕ → Type 0) : Type 0 where
-  pub input : List ℕ
-  pub text : List ℕ
-  pub read : reads input
-  pub said : (text ≡ []) ⊎ IsTranscriptOfFirst input text
-  pub written : writes text
+  -- nothing was written
+  pub record ReadNotAll : Type 0 where
+    pub no_words : words ≡ 0
+    pub input : List ℕ
+    pub read : reads input
+    pub within : length input ≤ input_limit
+    pub written : writes []
+
+  -- only a part of what there was to say was written
+  pub record WroteFront : Type 0 where
+    pub input : List ℕ
+    pub text : List ℕ
+    pub count : ℕ
+    pub read : reads input
+    pub said : IsSaid words input text
+    pub cut : count < length text
+    pub written : writes (take count text)
+
+  -- nothing was written, or a transcript of the first events
+  pub record WroteSome : Type 0 where
+    pub no_words : words ≡ 0
+    pub input : List ℕ
+    pub text : List ℕ
+    pub read : reads input
+    pub said : (text ≡ []) ⊎ IsTranscriptOfFirst input text
+    pub written : writes text
+
+  abbrev pub EndsWith : Status → Type 0
+  EndsWith statuses.Done = WroteAll
+  EndsWith statuses.Refused = WroteRefusal
+  EndsWith statuses.Usage = WroteUsage
+  EndsWith statuses.ReadFailed = ReadNotAll
+  EndsWith statuses.WriteFailed = WroteFront
+  EndsWith statuses.NoMemory = WroteSome
+
+  -- by the number of the status; there is no other
+  abbrev pub Ends : ℕ → Type 0
+  Ends zero = WroteAll
+  Ends (suc zero) = WroteRefusal
+  Ends (suc (suc zero)) = WroteUsage
+  Ends (suc (suc (suc zero))) = ReadNotAll
+  Ends (suc (suc (suc (suc zero)))) = WroteFront
+  Ends (suc (suc (suc (suc (suc zero))))) = WroteSome
+  Ends (suc (suc (suc (suc (suc (suc n)))))) = ⊥
+
+-- ---- the causes
+
+-- a count of faults, before and after
+pub record Counted : Type 0 where
+  pub before : ℕ
+  pub after : ℕ
+
+abbrev pub HasRisen : Counted → Type 0
+HasRisen counted = Rose counted.before counted.after
+
+abbrev pub IsSteady : Counted → Type 0
+IsSteady counted = counted.after ≡ counted.before
+
+-- a status of faults comes only where that count rose: of reads, of writes, or of writes that took nothing
+abbrev pub CausesOf : Status → (reads writes empties : Counted) → Type 0
+CausesOf statuses.Done reads writes empties = IsSteady reads × IsSteady writes × IsSteady empties
+CausesOf statuses.Refused reads writes empties = IsSteady reads × IsSteady writes × IsSteady empties
+CausesOf statuses.Usage reads writes empties = IsSteady reads × IsSteady writes × IsSteady empties
+CausesOf statuses.ReadFailed reads writes empties = HasRisen reads × IsSteady writes × IsSteady empties
+CausesOf statuses.WriteFailed reads writes empties = IsSteady reads × (HasRisen writes ⊎ HasRisen empties)
+CausesOf statuses.NoMemory reads writes empties = IsSteady reads × IsSteady writes × IsSteady empties
+
+-- the same by the number of the status: status 3 exactly where a read failed, status 4 exactly where a write failed or took nothing
+abbrev pub Causes : ℕ → (reads writes empties : Counted) → Type 0
+Causes (suc (suc (suc zero))) reads writes empties = HasRisen reads × IsSteady writes × IsSteady empties
+Causes (suc (suc (suc (suc zero)))) reads writes empties = IsSteady reads × (HasRisen writes ⊎ HasRisen empties)
+Causes status reads writes empties = IsSteady reads × IsSteady writes × IsSteady empties

@@ -13,4 +13,8 @@ pub mod Machine
 pub mod Texts
 pub mod Steps
 pub mod World
+pub mod Status
 pub mod Endings
+pub mod Played
+pub mod InputFaults
+pub mod Input

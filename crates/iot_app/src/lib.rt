@@ -8,9 +8,18 @@ mod declared;
 mod event;
 mod fault;
 mod form;
+mod input;
+
 mod parse;
 mod perform;
+mod play;
 mod script;
 mod statement;
+mod status;
 mod texts;
 mod world;
+
+#[cfg(test)]
+mod tests;
+
+

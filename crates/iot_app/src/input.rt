@@ -1,0 +1,75 @@
+//! The input: the events that are left in the source.
+ghost use Rattle.std.specs.Prelude.{◌≡◌, IfOk, IfErr, OnOk};
+ghost use Rattle.std.specs.Io.KnownBytes.{IsAtEnd};
+ghost use Rattle.iot_io.specs.ReadAll.{Took};
+ghost use Rattle.iot_app.specs.Declarations.{AreDeclared};
+ghost use Rattle.iot_app.specs.Input.{GivesEvents, GivesNone, CountsInputFault};
+
+use crate::event::Event;
+use crate::fault::ParseFault;
+use crate::parse::parse;
+use iot_io::{ReadFault, Source, read_all};
+use std::alloc::Global;
+
+/// How many bytes an input has at most.
+const INPUT_LIMIT: usize = 4_194_304;
+
+/// Why there are no events.
+#[derive(Clone, Copy, Debug)]
+pub(crate) enum InputFault {
+    /// There was no memory for the input or for what it says.
+    NoMemory,
+
+    /// A read failed.
+    Failed,
+
+    /// The input is over its limit.
+    TooLong,
+
+    /// This line, from 1, is the first bad one.
+    BadLine { line: u64 },
+}
+
+impl From<ReadFault> for InputFault {
+    ghost use Rattle.std.specs.Prelude.{◌≡◌};
+    ghost use Rattle.iot_app.specs.InputFaults.{of_reading};
+
+    ghost from_gives = { λ read fault. fault ≡ of_reading read };
+
+    fn from(fault: ReadFault) -> InputFault {
+        match fault {
+            ReadFault::NoMemory => InputFault::NoMemory,
+            ReadFault::Failed => InputFault::Failed,
+            ReadFault::TooLong => InputFault::TooLong,
+        }
+    }
+}
+
+impl From<ParseFault> for InputFault {
+    ghost use Rattle.std.specs.Prelude.{◌≡◌};
+    ghost use Rattle.iot_app.specs.InputFaults.{of_parsing};
+
+    ghost from_gives = { λ parsed fault. fault ≡ of_parsing parsed };
+
+    fn from(fault: ParseFault) -> InputFault {
+        match fault {
+            ParseFault::NoMemory => InputFault::NoMemory,
+            ParseFault::BadLine { line } => InputFault::BadLine { line },
+        }
+    }
+}
+
+/// Reads the source to its end, and its events.
+pub(crate) fn read_events<S: Source>(
+    alloc: Global,
+    source: &mut S,
+) -> Result<Vec<Event>, InputFault>
+    ensures events { IfOk result (λ events. GivesEvents events.items (Took S.left S.taken source.old source.new) (IsAtEnd (S.left source.new))) }
+    ensures declared { IfOk result (λ events. AreDeclared events.items 0 0) }
+    ensures none { IfErr result (λ fault. GivesNone fault (Took S.left S.taken source.old source.new) (IsAtEnd (S.left source.new))) }
+    ensures steady { OnOk result (S.faults source.new ≡ S.faults source.old) }
+    ensures cause { IfErr result (λ fault. CountsInputFault fault (S.faults source.old) (S.faults source.new)) }
+{
+    let input = read_all(alloc, source, INPUT_LIMIT)?;
+    Ok(parse(alloc, &input)?)
+}
