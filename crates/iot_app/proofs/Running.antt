@@ -33,9 +33,9 @@ goes_on script before acts tree done statement act runs within below here is =
     let rest : drop done script ≡ statement ∷ drop (done + 1) script = drop-cons script done statement within ∙ ap (λ (s : Statement). s ∷ drop (suc done) script) (here statement) ∙ ap (λ (k : ℕ). statement ∷ drop k script) (sym (add-one done)) in
     let later = run (drop (done + 1) script) (after_update tree act.update) (4096 - (done + 1)) in
     let next : run (drop done script) tree (4096 - done) ≡ with_act act later =
-        ap (λ (ss : List Statement). run ss tree (4096 - done)) rest
-        ∙ ap (λ (k : ℕ). run (statement ∷ drop (done + 1) script) tree k) left
-        ∙ next_run statement (drop (done + 1) script) tree (4096 - (done + 1)) act is in
+    ap (λ (ss : List Statement). run ss tree (4096 - done)) rest
+    ∙ ap (λ (k : ℕ). run (statement ∷ drop (done + 1) script) tree k) left
+    ∙ next_run statement (drop (done + 1) script) tree (4096 - (done + 1)) act is in
     record {
       acts_are = runs.acts_are ∙ ap (λ (more : List Act). acts ++ more) (ap acts_of next ∙ acts_with act later) ∙ sym (append_assoc acts (act ∷ []) (acts_of later));
       tree_is = runs.tree_is ∙ ap tree_after next ∙ tree_with act later;

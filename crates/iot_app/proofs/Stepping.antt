@@ -55,8 +55,8 @@ client_is world m place stands within = ap (λ (cs : List machine.Client). slice
 script_is : (world : World) (m : Machine) (place : ℕ) → StandsFor world m → place < length world.scripts.items → (script_at m place).statements ≡ script_in world place
 script_is world m place stands within =
     ap (λ (s : machine.Declared). s.statements)
-      (ap (λ (ss : List machine.Declared). slice_index_or ss place (record { name = []; statements = [] })) (sym stands.scripts)
-      ∙ index-map script_of world.scripts.items place no_script (record { name = []; statements = [] }) within)
+    (ap (λ (ss : List machine.Declared). slice_index_or ss place (record { name = []; statements = [] })) (sym stands.scripts)
+    ∙ index-map script_of world.scripts.items place no_script (record { name = []; statements = [] }) within)
 
 -- a client that was changed at its place
 changed_at : {A : Type 0} (xs : List A) (place : ℕ) (change : A → A) (d : A) → place < length xs → slice_index_or (change_at xs place change) place d ≡ change (slice_index_or xs place d)
@@ -111,12 +111,22 @@ module _ (client script : ℕ) (old new : World) (in_clients : client < length o
 
   runs : Runs client script m said (committed client script m)
   runs = record {
-    mid = begun client m; front = []; rest = said; first = (refl, refl); whole = refl;
+    mid = begun client m;
+    front = [];
+    rest = said;
+    first = (refl, refl);
+    whole = refl;
     second = record {
-      mid = begun client m; front = end_line (last_name (begun client m) client); first = (refl, refl); whole = refl;
+      mid = begun client m;
+      front = end_line (last_name (begun client m) client);
+      first = (refl, refl);
+      whole = refl;
       rest = commit_text client script (begun client m) ++ settled_line (last_name (committed client script m) client) (length (committed client script m).commits);
       second = record {
-        mid = committed client script m; front = commit_text client script (begun client m); first = exchanged; whole = refl;
+        mid = committed client script m;
+        front = commit_text client script (begun client m);
+        first = exchanged;
+        whole = refl;
         rest = settled_line (last_name (committed client script m) client) (length (committed client script m).commits);
         second = (refl, refl);
       };
@@ -144,11 +154,13 @@ module _ (client script : ℕ) (old new : World) (in_clients : client < length o
 -- a run is done
 pub run_step : (client script : ℕ) (old new : World) (before after : List ℕ) → client < length old.clients.items → script < length old.scripts.items → RanScript client script old new → after ≡ before ++ run_text client script old → Refines (event_part (events.Run client script)) old new before after
 run_step client script old new before after in_clients in_scripts ran says = record {
-  step = λ m stands.
-      (said client script old new in_clients in_scripts ran m stands, committed client script m,
-       says ∙ ap (λ (text : List ℕ). before ++ text) (sym (said_is client script old new in_clients in_scripts ran m stands)),
-       runs client script old new in_clients in_scripts ran m stands,
-       stands_after client script old new in_clients in_scripts ran m stands);
+  step = λ m stands. (
+    said client script old new in_clients in_scripts ran m stands,
+    committed client script m,
+    says ∙ ap (λ (text : List ℕ). before ++ text) (sym (said_is client script old new in_clients in_scripts ran m stands)),
+    runs client script old new in_clients in_scripts ran m stands,
+    stands_after client script old new in_clients in_scripts ran m stands,
+  );
 }
 
 -- what follows from two facts of a call that succeeded

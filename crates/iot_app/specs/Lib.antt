@@ -18,3 +18,4 @@ pub mod Endings
 pub mod Played
 pub mod InputFaults
 pub mod Input
+pub mod Job

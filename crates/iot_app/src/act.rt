@@ -63,12 +63,7 @@ fn printing(alloc: Global, tree: &Tree, lines: Lines) -> Act
 }
 
 /// An act that is refused before any question.
-fn refusing(
-    alloc: Global,
-    tree: &Tree,
-    command: &[u8],
-    reason: &[u8],
-) -> Result<Act, NoMemory>
+fn refusing(alloc: Global, tree: &Tree, command: &[u8], reason: &[u8]) -> Result<Act, NoMemory>
     ensures { IfOk result (λ act. act ≡ act_of tree.now (refuses command.now reason.now)) }
 {
     let mut line = Text::new(alloc);
@@ -217,12 +212,7 @@ fn lines_of(alloc: Global, contents: &[u8]) -> Result<Lines, NoMemory>
 }
 
 /// The lines of contents, by what the tree answers for them.
-fn at_contents(
-    alloc: Global,
-    tree: &Tree,
-    path: &Path,
-    answer: &Answer,
-) -> Result<Act, NoMemory>
+fn at_contents(alloc: Global, tree: &Tree, path: &Path, answer: &Answer) -> Result<Act, NoMemory>
     ensures { IfOk result (λ act. act ≡ act_of tree.now (at_contents path.now answer.now)) }
 {
     match answer {

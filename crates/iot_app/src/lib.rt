@@ -9,17 +9,16 @@ mod event;
 mod fault;
 mod form;
 mod input;
-
+mod job;
 mod parse;
 mod perform;
 mod play;
 mod script;
 mod statement;
 mod status;
+#[cfg(test)]
+mod tests;
 mod texts;
 mod world;
 
-#[cfg(test)]
-mod tests;
-
-
+pub use job::run;

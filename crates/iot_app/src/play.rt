@@ -43,11 +43,7 @@ impl From<SinkFault> for PlayFault {
 }
 
 /// Does the events in turn, and writes each one's text by one `write_all` before the next is done.
-pub(crate) fn play<K: Sink>(
-    alloc: Global,
-    events: &[Event],
-    sink: &mut K,
-) -> Result<(), PlayFault>
+pub(crate) fn play<K: Sink>(alloc: Global, events: &[Event], sink: &mut K) -> Result<(), PlayFault>
     requires { AreDeclared events.now 0 0 }
     ensures all { OnOk result (PlayedAll events.now (Appends (K.written sink.old) (K.written sink.new))) }
     ensures some { IfErr result (λ fault. PlayedSome fault events.now (Appends (K.written sink.old) (K.written sink.new))) }

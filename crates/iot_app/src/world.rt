@@ -2,10 +2,12 @@
 ghost use Rattle.std.specs.Prelude.{◌≡◌, ℕ, ◌+◌, ◌-◌, ◌^◌, ◌<◌, ◌≤◌, List, [], ◌∷◌, ◌++◌, OnOk, IfOk, length};
 ghost use Rattle.iot_app.specs.Texts.{client_line};
 
-use crate::perform::perform;
 use crate::event::Event;
+use crate::perform::perform;
 use crate::script::Script;
-use crate::texts::{Transaction, say_client, say_commit, say_end, say_output, say_settled, say_tree};
+use crate::texts::{
+    Transaction, say_client, say_commit, say_end, say_output, say_settled, say_tree,
+};
 use iot_text::{Name, NoMemory, Text};
 use iot_tree::Tree;
 use std::alloc::Global;

@@ -1,0 +1,129 @@
+//! The program as one call.
+ghost use Rattle.std.specs.Prelude.{◌≡◌, [], length, IfOk};
+ghost use Rattle.std.specs.Io.KnownBytes.{Appends, IsAtEnd};
+ghost use Rattle.iot_io.specs.ReadAll.{Took};
+ghost use Rattle.iot_app.specs.Declarations.{AreDeclared};
+ghost use Rattle.iot_app.specs.Endings.{usage_line, too_long_line, bad_line, Ends, EndsWith, Causes, CausesOf};
+ghost use Rattle.iot_app.specs.Job.{PlayEnds, LineEnds, RefusalEnds};
+
+use crate::event::Event;
+use crate::input::{InputFault, read_events};
+use crate::play::{PlayFault, play};
+use crate::status::Status;
+use iot_io::{Sink, Source, write_all};
+use iot_text::{NoMemory, Text};
+use std::alloc::Global;
+
+/// What a faulty command line is answered with.
+const USAGE: &[u8] = b"usage: iot [--json | --gen N | --save | --image]\n";
+
+/// Runs the program: reads the source to its end as an event script, does its events, and writes what they say, each
+/// event's text by one `write_all`. `words` are the words of the command line behind the program's name; none is known
+/// yet. Answers the status that the process ends with.
+///
+/// # Statuses
+///
+/// - 0: the input was read to its end and is an event script, and all was written.
+/// - 1: the input has more than 4,194,304 bytes or is no event script. One line that says so was written, and no event
+///   was done.
+/// - 2: there are words. The usage line was written.
+/// - 3: a read failed. Nothing was written.
+/// - 4: a write failed, or took nothing. A front of what there was to say was written.
+/// - 5: there was no memory. Nothing was written, or what the first events say.
+pub fn run<S: Source, K: Sink>(alloc: Global, words: &[&str], source: &mut S, sink: &mut K) -> u8
+    // What was read and written, by the status.
+    ensures ends { Ends (length words.now)
+        (Took S.left S.taken source.old source.new)
+        (Appends (K.written sink.old) (K.written sink.new))
+        (IsAtEnd (S.left source.new)) result }
+
+    // A fault's status comes exactly where its count rose.
+    ensures causes { Causes result
+        (record { before = S.faults source.old; after = S.faults source.new })
+        (record { before = K.faults sink.old; after = K.faults sink.new })
+        (record { before = K.empties sink.old; after = K.empties sink.new }) }
+{
+    status_of(alloc, words, source, sink).code()
+}
+
+/// The same, as a status.
+fn status_of<S: Source, K: Sink>(
+    alloc: Global,
+    words: &[&str],
+    source: &mut S,
+    sink: &mut K,
+) -> Status
+    ensures ends { EndsWith (length words.now)
+        (Took S.left S.taken source.old source.new)
+        (Appends (K.written sink.old) (K.written sink.new))
+        (IsAtEnd (S.left source.new)) result }
+    ensures causes { CausesOf result
+        (record { before = S.faults source.old; after = S.faults source.new })
+        (record { before = K.faults sink.old; after = K.faults sink.new })
+        (record { before = K.empties sink.old; after = K.empties sink.new }) }
+{
+    if !words.is_empty() {
+        return write_line(sink, USAGE, Status::Usage);
+    }
+    match read_events(alloc, source) {
+        Ok(events) => do_events(alloc, &events, sink),
+        Err(fault) => refuse(alloc, fault, sink),
+    }
+}
+
+/// Writes one line, and ends so, or with the sink's fault.
+fn write_line<K: Sink>(sink: &mut K, line: &[u8], status: Status) -> Status
+    ensures { LineEnds status line.now result
+        (Appends (K.written sink.old) (K.written sink.new))
+        (record { before = K.faults sink.old; after = K.faults sink.new })
+        (record { before = K.empties sink.old; after = K.empties sink.new }) }
+{
+    match write_all(sink, line) {
+        Ok(()) => status,
+        Err(_) => Status::WriteFailed,
+    }
+}
+
+/// Does the events of an input.
+fn do_events<K: Sink>(alloc: Global, events: &[Event], sink: &mut K) -> Status
+    requires { AreDeclared events.now 0 0 }
+    ensures { PlayEnds events.now result
+        (Appends (K.written sink.old) (K.written sink.new))
+        (record { before = K.faults sink.old; after = K.faults sink.new })
+        (record { before = K.empties sink.old; after = K.empties sink.new }) }
+{
+    match play(alloc, events, sink) {
+        Ok(()) => Status::Done,
+        Err(PlayFault::NoMemory) => Status::NoMemory,
+        Err(PlayFault::Sink) => Status::WriteFailed,
+    }
+}
+
+/// Says why there are no events.
+fn refuse<K: Sink>(alloc: Global, fault: InputFault, sink: &mut K) -> Status
+    ensures { RefusalEnds fault result
+        (Appends (K.written sink.old) (K.written sink.new))
+        (record { before = K.faults sink.old; after = K.faults sink.new })
+        (record { before = K.empties sink.old; after = K.empties sink.new }) }
+{
+    match fault {
+        InputFault::NoMemory => Status::NoMemory,
+        InputFault::Failed => Status::ReadFailed,
+        InputFault::TooLong => write_line(sink, b"input too long\n", Status::Refused),
+        InputFault::BadLine { line } => match bad_line(alloc, line) {
+            Ok(text) => write_line(sink, text.as_bytes(), Status::Refused),
+            Err(_) => Status::NoMemory,
+        },
+    }
+}
+
+/// `line N: bad line`
+fn bad_line(alloc: Global, number: u64) -> Result<Text, NoMemory>
+    ensures { IfOk result (λ text. text ≡ bad_line number) }
+{
+    let mut text = Text::new(alloc);
+    text.append(b"line ")?;
+    text.append_number(number)?;
+    text.append(b": bad line\n")?;
+    Ok(text)
+}
