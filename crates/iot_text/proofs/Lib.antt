@@ -1,5 +1,6 @@
 pub mod Appended
 pub mod Below
+pub mod NameLaws
 pub mod Numbers
 pub mod Parsing
 pub mod PathLaws

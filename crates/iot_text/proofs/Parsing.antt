@@ -1,18 +1,17 @@
 -- Lemmas for the reading of a path.
-use Rattle.std.proofs.Common.{◌≡◌, ℕ, zero, suc, ◌+◌, ◌-◌, ◌<◌, ◌≤◌, Bool, true, false, cond, not, ◌&&◌, ◌⊎◌, inl, inr, List, [], ◌∷◌, ◌++◌, length, take, drop, refl, sym, ◌∙◌, ap, subst, arith, append_assoc, length-append, append-nil, take-append-drop, length-drop, min, get_or, ◌||◌, ◌≢◌}
+use Rattle.std.proofs.Common.{◌≡◌, ℕ, zero, suc, ◌+◌, ◌-◌, ◌<◌, ◌≤◌, Bool, true, false, cond, not, ◌&&◌, inl, inr, List, [], ◌∷◌, ◌++◌, length, take, drop, refl, sym, ◌∙◌, ap, subst, arith, append_assoc, length-append, append-nil, take-append-drop, length-drop, get_or, ◌||◌, ◌≢◌}
 use Rattle.std.specs.Prelude.{codes, bytes_eq}
-use Rattle.std.specs.List.{list_all, flat_map, before_first, position_or_len, prefix_len}
+use Rattle.std.specs.List.{list_all, before_first, position_or_len, prefix_len}
 use Rattle.std.specs.Cmp.{first_so, second_so}
-use Rattle.std.proofs.Math.Seq.{take-append-add, drop-append-add}
-use Rattle.std.proofs.lemmas.Bool.Decides.{nat_tests}
+use Rattle.std.proofs.Math.Seq.{take-append-add}
 use Rattle.std.proofs.lemmas.Grind.{flat_map-append}
 use Rattle.std.proofs.lemmas.List.{drop_more, take_rest, drop-drop, length-take-le, take_all}
 use Rattle.std.proofs.lemmas.List.Sums.{passes_at_first, prefix_len-le-length}
 use Rattle.std.proofs.lemmas.List.Folds.{list_all-append}
 use Rattle.std.specs.Cmp.Lexicographic.{bytes_decides}
 use borrow.Author.Tests.{eqb-true}
-use mathlib.Core.Bool.{true≢false}
-use Rattle.iot_text.specs.Names.{is_name_byte, is_dots, is_name, IsName, NameParts, name_parts, name_from_parts, beginning_len}
+use Rattle.iot_text.specs.Names.{is_name_byte, is_dots, is_name, IsName, beginning_len}
+use Rattle.iot_text.proofs.NameLaws.{NameParts, name_parts, name_from_parts}
 use Rattle.iot_text.specs.Paths.{is_slash, IsPath, names_text, path_text, IsPathText, IsNoPathText, BeginsPath, LongestBeginning}
 use Rattle.iot_text.proofs.Spelled.{path_text-names, at_end, names_text-at_end, at_end-after_names, same_name, before_first-name, covered}
 
@@ -73,8 +72,9 @@ no_cover : (rest r : List ℕ) (k : ℕ) → NextName (take k rest ++ r) → k �
 no_cover rest r k next fits over bad =
     let parts : NameParts next.name = name_parts next.name next.named in
     elim (covered next.name next.more rest r k parts.name_bytes next.ended next.spelled fits) [
-      inl both ↦ omega (arith, both.0, both.1, parts.within_limit)
-    | inr same ↦ bad (subst IsName (sym same) next.named) ]
+      | inl both ↦ omega (arith, both.0, both.1, parts.within_limit)
+      | inr same ↦ bad (subst IsName (sym same) next.named)
+    ]
 
 no_name : (rest : List ℕ) → NextName rest → ¬ IsName (before_first is_slash rest) → ⊥
 no_name rest next bad =
@@ -142,19 +142,22 @@ begins ns rest valid =
     let within : k ≤ length rest = omega (arith, prefix_len-le-length is_name_byte rest) in
     let most : length name ≤ 32 = omega (arith, length-take-le k rest within) in
     let x = extension name (take-prefix_len is_name_byte rest k size) most in
-    let grouped : names_text ns ++ 47 ∷ (name ++ x.rest) ≡ (names_text ns ++ 47 ∷ name) ++ x.rest = sym (append_assoc (names_text ns) (47 ∷ name) x.rest) in
-    (ns ++ (name ++ x.rest) ∷ [], x.rest, record {
-      names = IsPath-push ns (name ++ x.rest) valid x.named;
-      spelled = path_text-push ns (name ++ x.rest) ∙ grouped ∙ ap (λ t. t ++ x.rest) (sym (front ns rest k));
-    })
+    let grouped : names_text ns ++ 47 ∷ (name ++ x.rest) ≡ (names_text ns ++ 47 ∷ name) ++ x.rest = sym (append_assoc (names_text ns) (47 ∷ name) x.rest) in (
+      ns ++ (name ++ x.rest) ∷ [],
+      x.rest,
+      record {
+        names = IsPath-push ns (name ++ x.rest) valid x.named;
+        spelled = path_text-push ns (name ++ x.rest) ∙ grouped ∙ ap (λ t. t ++ x.rest) (sym (front ns rest k));
+      },
+    )
 
 no_more : (ns : List (List ℕ)) (rest : List ℕ) (k : ℕ) → IsPath ns → ¬ IsName (before_first is_slash rest) → beginning_len rest < k → k ≤ length rest
     → ¬ BeginsPath (take (length (names_text ns) + 1 + k) (names_text ns ++ 47 ∷ rest))
 no_more ns rest k valid bad over fits b =
     let text : path_text b.0 ≡ names_text ns ++ 47 ∷ (take k rest ++ b.1) =
-        b.2.spelled ∙ ap (λ t. t ++ b.1) (front ns rest k) ∙ append_assoc (names_text ns) (47 ∷ take k rest) b.1 in
+    b.2.spelled ∙ ap (λ t. t ++ b.1) (front ns rest k) ∙ append_assoc (names_text ns) (47 ∷ take k rest) b.1 in
     let some : 0 < length (names_text ns) + length (take k rest ++ b.1) =
-        omega (arith, length-append (take k rest) b.1, length-take-le k rest fits) in
+    omega (arith, length-append (take k rest) b.1, length-take-le k rest fits) in
     no_cover rest b.1 k (next_name ns b.0 (take k rest ++ b.1) valid b.2.names text some) fits over bad
 
 pub longest : (ns : List (List ℕ)) (rest : List ℕ) → IsPath ns → ¬ IsName (before_first is_slash rest)
@@ -165,9 +168,9 @@ longest ns rest valid bad =
       within = omega (arith, prefix_len-le-length is_name_byte rest);
       begins = begins ns rest valid;
       longest = λ n over fits b.
-        let k : ℕ = n - (length (names_text ns) + 1) in
-        let same : n ≡ length (names_text ns) + 1 + k = omega arith in
-        no_more ns rest k valid bad (omega arith) (omega arith) (subst (λ m. BeginsPath (take m (names_text ns ++ 47 ∷ rest))) same b);
+          let k : ℕ = n - (length (names_text ns) + 1) in
+          let same : n ≡ length (names_text ns) + 1 + k = omega arith in
+          no_more ns rest k valid bad (omega arith) (omega arith) (subst (λ m. BeginsPath (take m (names_text ns ++ 47 ∷ rest))) same b);
     }
 
 pub no_path : (ns : List (List ℕ)) (rest : List ℕ) → IsPath ns → 0 < length (names_text ns) + length rest → ¬ IsName (before_first is_slash rest)

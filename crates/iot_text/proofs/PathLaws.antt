@@ -1,13 +1,16 @@
 -- Laws of paths that callers cite: the path of a text, parents and last names.
-use Rattle.std.proofs.Common.{◌≡◌, ℕ, zero, suc, ◌+◌, ◌<◌, Bool, true, false, ◌&&◌, List, [], ◌∷◌, ◌++◌, length, take, drop, ◌-◌, take-append-drop, length-drop, refl, sym, ◌∙◌, ap, subst, arith, length-append, Some, None, get_or, ◌≢◌}
+use Rattle.std.proofs.Common.{◌≡◌, ℕ, ◌<◌, Bool, true, false, List, [], ◌∷◌, ◌++◌, length, take, drop, ◌-◌, take-append-drop, length-drop, refl, sym, ◌∙◌, ap, subst, arith, length-append, Some, None, get_or, ◌≢◌}
 use Rattle.std.specs.Prelude.{Option, if◌then◌else◌, unwrap_or, slice_get}
 use Rattle.std.specs.List.{list_all}
 use Rattle.std.proofs.Math.Seq.{take-append_seam}
-use Rattle.std.specs.Cmp.{first_so, second_so}
-use mathlib.Core.Bool.{true≢false}
+use Rattle.std.specs.Cmp.{IsTotalOrder, first_so, second_so}
+use Rattle.std.specs.Cmp.Lexicographic.{slice_cmp, pointwise_decides, bytes_decides, lists_ties, lists_total, texts_ties, nat_list_cmp_total}
+use Rattle.std.specs.Ordering.{nat_cmp, is_eq}
+use Rattle.std.specs.declared.cmp.Ordering.TheVariants.{Equal}
 use borrow.Author.Tests.{eqb-true}
-use Rattle.iot_text.specs.Names.{is_name_byte, is_name, IsName, NameParts, name_parts}
-use Rattle.iot_text.specs.Paths.{is_slash, IsPath, names_text, path_text, IsPathText, IsNoPathText, extended, slash_parts, names_of, path_of, parent_of, last_of}
+use Rattle.iot_text.specs.Names.{is_name_byte, is_name}
+use Rattle.iot_text.proofs.NameLaws.{NameParts, name_parts}
+use Rattle.iot_text.specs.Paths.{is_slash, IsPath, names_text, path_text, IsPathText, IsNoPathText, extended, slash_parts, names_of, path_of, parent_of, last_of, path_cmp}
 use Rattle.iot_text.proofs.Spelled.{not_slash, path_text-names}
 
 -- ---- the path of a text
@@ -27,13 +30,14 @@ names_of-some [] names some e valid = absurd (omega arith)
 names_of-some (b ∷ bs) names some e valid =
     ap (λ parts. if list_all is_name parts then Some parts else None) e ∙ ap (λ v. if v then Some names else None) valid
 
-spelled_back : (path : List (List ℕ)) → IsPath path → path_of (path_text path) ≡ Some path
+-- the text of a path gives it back
+pub spelled_back : (path : List (List ℕ)) → IsPath path → path_of (path_text path) ≡ Some path
 unfolding path_of
 spelled_back [] valid = refl
 spelled_back (name ∷ names) valid =
     let parts : NameParts name = name_parts name (first_so (is_name name) _ valid) in
     names_of-some (name ++ names_text names) (name ∷ names) (omega (arith, parts.not_empty, length-append name (names_text names)))
-        (slash_parts-names name names parts.name_bytes (second_so (is_name name) _ valid)) valid
+    (slash_parts-names name names parts.name_bytes (second_so (is_name name) _ valid)) valid
 
 -- the text of a path gives it back
 pub path_of-spelled : (text : List ℕ) (path : List (List ℕ)) → IsPathText text path → path_of text ≡ Some path
@@ -102,6 +106,16 @@ path_of-root [] one first = absurd (omega arith)
 path_of-root (b ∷ []) one first = ap (λ c. path_of (c ∷ [])) first
 path_of-root (b ∷ (c ∷ rest)) one first = absurd (omega arith)
 
+-- ---- the order
+
+-- paths that the order does not tell apart are one
+pub path_cmp-exact : (p q : List (List ℕ)) → path_cmp p q ≡ Equal → p ≡ q
+path_cmp-exact p q e =
+    (pointwise_decides bytes_decides p q).0 (lists_ties (slice_cmp nat_cmp) texts_ties p q ∙ ap is_eq e)
+
+pub path_cmp-total : IsTotalOrder path_cmp
+path_cmp-total = lists_total nat_list_cmp_total
+
 -- ---- parents and last names
 
 slice_get-end : (path : List (List ℕ)) (name : List ℕ) → slice_get (path ++ name ∷ []) (length path) ≡ Some name
@@ -136,4 +150,4 @@ parent_of-some (first ∷ names) parent e =
     let path : List (List ℕ) = first ∷ names in
     let rest : List (List ℕ) = drop (length names) path in
     subst (WithLast path) (ap (λ o. unwrap_or o []) e)
-        (with_last path rest (length names) (sym (take-append-drop (length names) path)) (omega (arith, length-drop (length names) path)))
+    (with_last path rest (length names) (sym (take-append-drop (length names) path)) (omega (arith, length-drop (length names) path)))

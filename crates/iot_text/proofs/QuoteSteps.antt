@@ -1,5 +1,5 @@
 -- Lemmas for the quoting of bytes.
-use Rattle.std.proofs.Common.{◌≡◌, ℕ, ◌+◌, ◌-◌, ◌<◌, ◌≤◌, List, [], ◌∷◌, ◌++◌, length, take, drop, refl, sym, ◌∙◌, ap, arith, append_assoc, get_or, take-append-drop, append-nil, length-drop}
+use Rattle.std.proofs.Common.{◌≡◌, ℕ, ◌+◌, ◌-◌, ◌<◌, ◌≤◌, List, [], ◌∷◌, ◌++◌, length, take, drop, sym, ◌∙◌, ap, arith, append_assoc, get_or, take-append-drop, append-nil, length-drop}
 use Rattle.std.specs.List.{flat_map}
 use Rattle.std.proofs.lemmas.Grind.{flat_map-append}
 use Rattle.std.proofs.lemmas.List.{take_more, take_all, get_or-drop}
@@ -68,9 +68,9 @@ at_escape old out bytes escaped done at q within is =
     let run : List ℕ = take (at - done) (drop done bytes) in
     let rest : List ℕ = flat_map quoted_byte (drop (at + 1) bytes) in
     let whole : flat_map quoted_byte (take (at + 1) bytes) ++ rest ≡ flat_map quoted_byte bytes =
-        sym (flat_map-append quoted_byte (take (at + 1) bytes) (drop (at + 1) bytes)) ∙ ap (flat_map quoted_byte) (take-append-drop (at + 1) bytes) in
+    sym (flat_map-append quoted_byte (take (at + 1) bytes) (drop (at + 1) bytes)) ∙ ap (flat_map quoted_byte) (take-append-drop (at + 1) bytes) in
     let front : (q.written ++ run) ++ escaped ≡ 34 ∷ flat_map quoted_byte (take (at + 1) bytes) =
-        ap (λ t. t ++ escaped) q.so_far ∙ ap (λ t. 34 ∷ (flat_map quoted_byte (take at bytes) ++ t)) (sym is) ∙ ap (λ t. 34 ∷ t) (sym (more_read bytes at within)) in
+    ap (λ t. t ++ escaped) q.so_far ∙ ap (λ t. 34 ∷ (flat_map quoted_byte (take at bytes) ++ t)) (sym is) ∙ ap (λ t. 34 ∷ t) (sym (more_read bytes at within)) in
     sym (append_assoc q.written (run ++ escaped) (rest ++ 34 ∷ []))
     ∙ ap (λ t. t ++ (rest ++ 34 ∷ [])) (sym (append_assoc q.written run escaped) ∙ front)
     ∙ ap (λ t. 34 ∷ t) (sym (append_assoc (flat_map quoted_byte (take (at + 1) bytes)) rest (34 ∷ [])) ∙ ap (λ t. t ++ 34 ∷ []) whole)

@@ -1,14 +1,13 @@
 -- Lemmas on the texts of paths: where a name ends in one.
-use Rattle.std.proofs.Common.{◌≡◌, ℕ, zero, suc, ◌+◌, ◌<◌, ◌≤◌, ◌==◌, Bool, true, false, cond, not, ◌&&◌, ◌⊎◌, inl, inr, List, [], ◌∷◌, ◌++◌, length, take, drop, refl, sym, ◌∙◌, ap, subst, arith, append_assoc, length-append, get_or, take-append-drop}
+use Rattle.std.proofs.Common.{◌≡◌, ℕ, zero, suc, ◌+◌, ◌<◌, ◌≤◌, Bool, true, false, cond, not, ◌&&◌, ◌⊎◌, inl, inr, List, [], ◌∷◌, ◌++◌, length, take, drop, refl, sym, ◌∙◌, ap, subst, arith, get_or, take-append-drop}
 use Rattle.std.proofs.lemmas.List.{drop_more}
-use Rattle.std.specs.List.{list_all, flat_map, before_first, position_or_len, prefix_len}
+use Rattle.std.specs.List.{list_all, before_first, prefix_len}
 use Rattle.std.specs.Cmp.{first_so, second_so}
 use Rattle.std.proofs.lemmas.Grind.{flat_map-append}
 use Rattle.std.proofs.lemmas.List.Sums.{take_while-cons}
-use Rattle.std.proofs.lemmas.List.Folds.{list_all-append}
 use mathlib.Core.Bool.{true≢false}
 use borrow.Author.Tests.{eqb-true}
-use Rattle.iot_text.specs.Names.{is_name_byte, is_name, IsName, NameParts, name_parts, beginning_len}
+use Rattle.iot_text.specs.Names.{is_name_byte, is_name}
 use Rattle.iot_text.specs.Paths.{is_slash, IsPath, names_text, path_text}
 
 -- a byte of a name is no slash
@@ -76,8 +75,9 @@ covered (c ∷ cs) more (x ∷ rest) r (suc k) named ended e fits =
     let tails : cs ++ more ≡ take k rest ++ r = cc in
     let byte : is_name_byte x ≡ true = ap is_name_byte (sym head) ∙ first_so (is_name_byte c) _ named in
     elim (covered cs more rest r k (second_so (is_name_byte c) _ named) ended tails (omega arith)) [
-      inl both ↦ inl (omega (arith, both.0), subst (λ b. suc k ≤ cond b (1 + prefix_len is_name_byte rest) 0) (sym byte) (omega (arith, both.1)))
-    | inr same ↦ inr (before_first-no_slash x rest (not_slash x byte) ∙ (λ i. (sym head) i ∷ same i)) ]
+      | inl both ↦ inl (omega (arith, both.0), subst (λ b. suc k ≤ cond b (1 + prefix_len is_name_byte rest) 0) (sym byte) (omega (arith, both.1)))
+      | inr same ↦ inr (before_first-no_slash x rest (not_slash x byte) ∙ (λ i. (sym head) i ∷ same i))
+    ]
 
 -- the front of a path is a path
 pub IsPath-take : (path : List (List ℕ)) (n : ℕ) → IsPath path → IsPath (take n path)

@@ -1,3 +1,4 @@
+pub mod NameArrays
 pub mod Names
 pub mod Paths
 pub mod Quotes

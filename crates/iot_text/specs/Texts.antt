@@ -1,5 +1,5 @@
 -- What a call leaves in a text that it appends to.
-use Rattle.std.specs.Prelude.{ℕ, ◌≡◌, List, ◌++◌, slice_index}
+use Rattle.std.specs.Prelude.{ℕ, ◌≡◌, List, [], ◌∷◌, ◌++◌, slice_index}
 use Rattle.std.specs.Str.Parse.{IsNumeral, digits_value}
 
 -- the new text is the old one followed by a beginning of what was to append
@@ -9,8 +9,8 @@ pub record AppendsPart (old new added : List ℕ) : Type 0 where
   pub appended : new ≡ old ++ part
   pub beginning : part ++ rest ≡ added
 
--- the decimal digits of a number, with no leading zero but that of 0 itself
+-- the decimal digits of a number; a leading zero stands alone
 pub record IsDecimal (number : ℕ) (text : List ℕ) : Type 0 where
   pub digits : IsNumeral 10 text
   pub value : digits_value 10 text ≡ number
-  pub no_leading_zero : slice_index text 0 ≡ 48 → number ≡ 0
+  pub no_leading_zero : slice_index text 0 ≡ 48 → text ≡ 48 ∷ []

@@ -13,3 +13,6 @@ pub use paths::Path;
 pub use quoting::quote;
 pub use std::alloc::AllocError as NoMemory;
 pub use texts::Text;
+
+#[cfg(test)]
+mod tests;

@@ -7,10 +7,9 @@ ghost use Rattle.std.specs.Cmp.{partial_equiv_from_equiv};
 ghost use Rattle.std.specs.Cmp.Lexicographic.{pointwise, slice_cmp, nat_list_eq_equiv, nat_list_cmp_total, texts_po, texts_ties};
 ghost use Rattle.iot_text.specs.Names.{is_name_byte, beginning_len, is_dots, is_name, IsName};
 
+use crate::TextFault;
 use std::cmp::Ordering;
 use std::marker::Model;
-
-use crate::TextFault;
 
 /// How many bytes a name has at most.
 const LIMIT: usize = 32;
@@ -25,7 +24,7 @@ pub struct Name {
 
 impl Model for Name {
     ghost use Rattle.std.specs.Prelude.{ℕ, List, ◌-◌, ◌++◌, length, take, replicate};
-    ghost use Rattle.iot_text.specs.Names.{IsStored, unpadded};
+    ghost use Rattle.iot_text.specs.NameArrays.{IsStored, unpadded};
 
     ghost Value = { List ℕ };
 
@@ -123,7 +122,10 @@ impl PartialEq for Name {
 
     ghost laws = { partial_equiv_from_equiv nat_list_eq_equiv };
 
-    fn eq(&self, other: &Name) -> bool {
+    fn eq(&self, other: &Name) -> bool
+        ensures value { result ≡ pointwise nat_eq self.now other.now }
+        ensures same { IsTrue result ↔ (self.now ≡ other.now) }
+    {
         self.as_bytes() == other.as_bytes()
     }
 }

@@ -7,12 +7,11 @@ ghost use Rattle.iot_text.specs.Paths.{IsPath, IsPathText, RefusesPath, is_slash
 ghost use Rattle.iot_text.specs.Texts.{AppendsPart};
 ghost use Rattle.std.specs.List.{position_or_len};
 
+use crate::names::beginning_len;
+use crate::{Name, NoMemory, Text, TextFault};
 use std::alloc::Global;
 use std::cmp::Ordering;
 use std::marker::Model;
-
-use crate::names::beginning_len;
-use crate::{Name, NoMemory, Text, TextFault};
 
 /// A path: the names on the way down from the root, whose own path has none.
 /// Contracts see it as the list of its names.
@@ -66,7 +65,8 @@ impl Path {
 
         // The same by the function that reads a path.
         ensures found { IfOk result (λ path. path_of text.now ≡ Some path) }
-        ensures none { IfErr result (λ fault. fault ≢ TextFault.NoMemory → path_of text.now ≡ None) }
+        ensures none { IfErr result (λ fault.
+            fault ≢ TextFault.NoMemory → path_of text.now ≡ None) }
     {
         let mut names = Vec::new(alloc);
         if text.is_empty() || text[0] != b'/' {
@@ -160,6 +160,7 @@ impl Path {
     pub fn joined(&self, alloc: Global, name: &Name) -> Result<Path, NoMemory>
         ensures { IfOk result (λ path. path ≡ self.now ++ name.now ∷ []) }
     {
+        // That it is a name is known of its bytes.
         let _valid = name.as_bytes();
         let mut names = Vec::with_capacity(alloc, self.names.len() + 1)?;
         names.extend_from_slice(self.names())?;
@@ -180,6 +181,7 @@ impl Path {
     pub fn write_to(&self, out: &mut Text) -> Result<(), NoMemory>
         ensures ok { OnOk result (out.new ≡ out.old ++ path_text self.now) }
         ensures err { OnErr result (AppendsPart out.old out.new (path_text self.now)) }
+        ensures reads_back { path_of (path_text self.now) ≡ Some self.now }
     {
         if self.names().is_empty() {
             return out.push(b'/');
@@ -196,7 +198,10 @@ impl PartialEq for Path {
 
     ghost laws = { partial_equiv_from_equiv (lists_equiv nat_list_eq_equiv) };
 
-    fn eq(&self, other: &Path) -> bool {
+    fn eq(&self, other: &Path) -> bool
+        ensures value { result ≡ pointwise (pointwise nat_eq) self.now other.now }
+        ensures same { IsTrue result ↔ (self.now ≡ other.now) }
+    {
         self.names() == other.names()
     }
 }

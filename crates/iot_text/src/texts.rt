@@ -5,12 +5,11 @@ ghost use Rattle.std.specs.Cmp.{partial_equiv_from_equiv};
 ghost use Rattle.std.specs.Cmp.Lexicographic.{pointwise, slice_cmp, nat_list_eq_equiv, nat_list_cmp_total, texts_po, texts_ties};
 ghost use Rattle.iot_text.specs.Texts.{IsDecimal};
 
+use crate::NoMemory;
 use itoa::Buffer;
 use std::alloc::Global;
 use std::cmp::Ordering;
 use std::marker::Model;
-
-use crate::NoMemory;
 
 /// Any bytes. Contracts see it as the list of them.
 #[derive(Clone, Debug, Drop)]
@@ -132,7 +131,10 @@ impl PartialEq for Text {
 
     ghost laws = { partial_equiv_from_equiv nat_list_eq_equiv };
 
-    fn eq(&self, other: &Text) -> bool {
+    fn eq(&self, other: &Text) -> bool
+        ensures value { result ≡ pointwise nat_eq self.now other.now }
+        ensures same { IsTrue result ↔ (self.now ≡ other.now) }
+    {
         self.as_bytes() == other.as_bytes()
     }
 }

@@ -1,0 +1,14 @@
+-- How a name lies in an array.
+use Rattle.std.specs.Prelude.{ℕ, ◌≡◌, ◌-◌, List, ◌++◌, length, take, replicate}
+use Rattle.std.proofs.Common.{sym}
+use Rattle.iot_text.specs.Names.{IsName}
+
+-- a name of `len` bytes at the front of an array of 32, and zeros behind it
+pub record IsStored (len : ℕ) (bytes : List ℕ) : Type 0 where
+  pub name : IsName (take len bytes)
+  pub padded : bytes ≡ take len bytes ++ replicate (32 - len) 0
+  pub len_is : length (take len bytes) ≡ len
+
+-- such an array is its name, and zeros up to 32 bytes
+pub unpadded : (len : ℕ) (bytes : List ℕ) → IsStored len bytes → take len bytes ++ replicate (32 - length (take len bytes)) 0 ≡ bytes
+unpadded len bytes stored = rw (stored.len_is) (sym stored.padded)
