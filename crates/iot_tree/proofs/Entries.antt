@@ -1,14 +1,14 @@
 -- Rows in order, cut at a place: what is found in them, and what a row put there leaves.
-use Rattle.std.proofs.Common.{◌≡◌, ℕ, zero, suc, ◌+◌, ◌<◌, ◌≤◌, Bool, true, false, cond, ◌&&◌, IsTrue, List, [], ◌∷◌, ◌++◌, Option, Some, None, Result, Ok, Err, Ordering, length, take, drop, get_or, set, refl, sym, ap, subst, ◌∙◌, arith, add-one}
+use Rattle.std.proofs.Common.{◌≡◌, ℕ, zero, suc, ◌+◌, ◌<◌, ◌≤◌, Bool, true, false, ◌&&◌, IsTrue, List, [], ◌∷◌, ◌++◌, Some, None, Result, Ok, Err, Ordering, length, take, drop, get_or, refl, sym, ap, ◌∙◌, arith}
 use Rattle.std.specs.declared.cmp.Ordering.TheVariants.{Less, Equal, Greater}
-use Rattle.std.specs.Ordering.{ordering_reverse, ordering_index, is_lt, is_eq, eq_by_cmp}
+use Rattle.std.specs.Ordering.{ordering_reverse, ordering_index, is_lt}
 use Rattle.std.specs.Cmp.{tied_itself, alike_right}
 use Rattle.std.specs.List.Sorted.{IsNonDecreasingBy, IsSearchInRange, IsBinarySearchResult}
 use Rattle.std.proofs.lemmas.List.Sorted.{searchable_from_sorted}
 use Rattle.std.specs.FinMap.{find, is_sorted}
-use Rattle.std.specs.FinMap.Entries.{put, below_all, by_order}
+use Rattle.std.specs.FinMap.Entries.{put, below_all}
 use Rattle.iot_text.specs.Paths.{path_cmp}
-use Rattle.iot_tree.specs.Place.{AllBefore, StandsAt, IsGap, IsPlace}
+use Rattle.iot_tree.specs.Place.{AllBefore, IsPlace}
 use Rattle.iot_tree.specs.declared.nodes.Node.{Node}
 use Rattle.iot_tree.proofs.Order.{path_total, path_same}
 

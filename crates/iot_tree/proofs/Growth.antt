@@ -1,27 +1,27 @@
 -- Rows of a tree, and one row more.
 use Rattle.std.proofs.Common.{◌≡◌, ◌≢◌, ◌⊎◌, ℕ, ◌+◌, ◌-◌, ◌<◌, ◌≤◌, slice_get, IsTrue, IsSome, MatchOption, List, [], ◌∷◌, ◌++◌, Option, Some, None, option_and_then, Bool, true, false, nat_eq, ◌==◌, ◌↔◌, length, length-append, take, drop, get_or, refl, sym, ap, subst, ◌∙◌, inl, inr, arith, append_assoc}
-use Rattle.std.proofs.lemmas.List.{append-nil, take_more, take_all}
-use Rattle.std.specs.declared.cmp.Ordering.TheVariants.{Less, Equal, Greater}
+use Rattle.std.proofs.lemmas.List.{append-nil, take_more}
+use Rattle.std.specs.declared.cmp.Ordering.TheVariants.{Less}
 use Rattle.std.specs.Ordering.{is_lt}
 use borrow.Author.Tests.{eqb-true}
 use Rattle.std.specs.List.{starts_with}
 use Rattle.std.specs.Cmp.Lexicographic.{pointwise, bytes_decides}
 use Rattle.std.proofs.lemmas.Slice.Eq.{starts_is}
 use Rattle.std.specs.FinMap.{get, from_sorted, find, is_sorted}
-use Rattle.std.specs.FinMap.Entries.{put, below_all}
+use Rattle.std.specs.FinMap.Entries.{put}
 use Rattle.iot_text.specs.Paths.{path_cmp, parent_of, IsBelow}
-use Rattle.iot_tree.specs.Tree.{Nodes, IsTree, parent_node}
+use Rattle.iot_tree.specs.Tree.{Nodes, parent_node}
 use Rattle.iot_tree.specs.Rows.{AreTreeRows, IsFirstBadRow}
 use Rattle.iot_tree.specs.Place.{AllBefore}
 use Rattle.iot_tree.specs.Questions.{is_dir, is_known_dir}
 use Rattle.iot_tree.specs.Follows.{HasDir, Follows}
 use Rattle.iot_tree.specs.declared.nodes.Node.{Node}
 use Rattle.iot_tree.specs.declared.nodes.Node.TheVariants.{Dir, File, FarDir, FarFile}
-use Rattle.iot_tree.proofs.Order.{path_total, between, above_first}
-use Rattle.iot_tree.proofs.Ancestry.{Ends, ends, at_root, in_name, parent_push, below_not_root}
+use Rattle.iot_tree.proofs.Order.{between, above_first}
+use Rattle.iot_tree.proofs.Ancestry.{ends, at_root, in_name, parent_push, below_not_root}
 use Rattle.iot_tree.proofs.Entries.{find_gap, put_gap, both_true}
 use Rattle.iot_tree.proofs.TreeLaws.{ancestors}
-use Rattle.iot_tree.proofs.RowLaws.{get_rows, front_before, before_higher, before_push, last_before, get_middle, put_tree, Order, lower, same, higher, order, one_of_two, none_not_some, root_rows}
+use Rattle.iot_tree.proofs.RowLaws.{get_rows, front_before, before_higher, before_push, last_before, get_middle, put_tree, lower, same, higher, order, one_of_two, none_not_some}
 
 is_mapped : (t : Nodes) (p : List (List ℕ)) (node : Node) → get t p ≡ Some node → IsSome (get t p)
 is_mapped t p node is = rw is refl

@@ -1,5 +1,5 @@
 -- Trees and their rows.
-use Rattle.std.proofs.Common.{◌≡◌, ◌≢◌, ◌⊎◌, ℕ, zero, suc, ◌+◌, ◌-◌, ◌<◌, ◌≤◌, ◌&&◌, Bool, true, false, cond, IsTrue, IsSome, List, [], ◌∷◌, ◌++◌, Option, Some, None, Ordering, length, take, drop, get_or, set, nat_eq, refl, sym, ap, subst, ◌∙◌, inl, inr, arith, append_assoc}
+use Rattle.std.proofs.Common.{◌≡◌, ◌≢◌, ◌⊎◌, ℕ, ◌+◌, ◌-◌, ◌<◌, Bool, true, false, IsTrue, IsSome, List, [], ◌∷◌, ◌++◌, Option, Some, None, Ordering, length, take, drop, get_or, set, nat_eq, refl, sym, ap, subst, ◌∙◌, inl, inr, arith, append_assoc}
 use lib.Dec.{T}
 use Rattle.std.proofs.lemmas.List.{append-nil, take_more, drop_more, take-append-drop, take-set, drop-set}
 use Rattle.std.proofs.lemmas.Slice.Eq.{starts_is}
@@ -7,8 +7,8 @@ use Rattle.std.specs.List.{starts_with}
 use Rattle.std.specs.Cmp.Lexicographic.{pointwise, bytes_decides}
 use Rattle.std.specs.Cmp.{tied_itself}
 use Rattle.std.specs.declared.cmp.Ordering.TheVariants.{Less, Equal, Greater}
-use Rattle.std.specs.Ordering.{eq_by_cmp, is_eq, is_lt, ordering_reverse}
-use Rattle.std.specs.FinMap.{FinMap, get, entries, insert, from_sorted, find, is_sorted, get-from_sorted, entries-from_sorted, entries-insert, same_entries_map, empty, empty_of_len, len-entries}
+use Rattle.std.specs.Ordering.{is_lt, ordering_reverse}
+use Rattle.std.specs.FinMap.{get, entries, insert, from_sorted, find, is_sorted, get-from_sorted, entries-from_sorted, entries-insert, same_entries_map, empty, empty_of_len, len-entries}
 use Rattle.std.specs.FinMap.Entries.{put, below_all, is_sorted-put}
 use Rattle.iot_text.specs.Paths.{path_cmp}
 use Rattle.iot_tree.specs.Tree.{Nodes, IsTree, root_alone, parent_node}
@@ -20,7 +20,7 @@ use Rattle.iot_tree.specs.declared.nodes.Node.TheVariants.{Dir, File, FarDir, Fa
 use Rattle.iot_tree.proofs.Order.{path_total, path_same, between, above_first}
 use Rattle.iot_tree.proofs.Ancestry.{any_above, none_above}
 use Rattle.iot_tree.proofs.Entries.{is_less, both_true, first_true, second_true, find_gap, find_at, put_gap, put_at}
-use Rattle.iot_tree.proofs.TreeLaws.{ancestors, no_far_above, tree_insert, same_or_apart}
+use Rattle.iot_tree.proofs.TreeLaws.{ancestors, no_far_above, tree_insert}
 
 -- a test that is true, in the form that the map's lemmas take
 pub tested : (b : Bool) → IsTrue b → T b

@@ -1,19 +1,16 @@
 -- What holds of every tree, and what keeps a tree a tree.
-use Rattle.std.proofs.Common.{◌≡◌, ◌≢◌, ◌⊎◌, ℕ, zero, suc, ◌≤◌, Bool, true, false, cond, IsSome, List, [], ◌∷◌, ◌++◌, Option, Some, None, Ordering, option_and_then, length, append_assoc, length-append, refl, sym, ap, subst, ◌∙◌, inl, inr, arith}
-use Rattle.std.proofs.lemmas.List.{append-nil}
+use Rattle.std.proofs.Common.{◌≡◌, ◌≢◌, ◌⊎◌, ℕ, zero, suc, ◌≤◌, false, cond, IsSome, List, [], ◌∷◌, ◌++◌, Option, Some, None, Ordering, option_and_then, length, append_assoc, length-append, refl, sym, ap, subst, ◌∙◌, inl, inr, arith}
 use Rattle.std.specs.declared.cmp.Ordering.TheVariants.{Less, Equal, Greater}
 use Rattle.std.specs.Ordering.{eq_by_cmp, is_eq}
-use Rattle.std.specs.List.{list_any}
-use Rattle.std.specs.FinMap.{FinMap, get, insert, get-insert}
+use Rattle.std.specs.FinMap.{get, insert, get-insert}
 use Rattle.iot_text.specs.Paths.{path_cmp}
 use Rattle.iot_text.specs.Paths.{parent_of}
-use Rattle.iot_tree.specs.Ancestors.{proper_prefixes}
 use Rattle.iot_tree.specs.Tree.{Nodes, IsTree, parent_node}
 use Rattle.iot_tree.specs.Questions.{is_far_above, is_far_dir}
 use Rattle.iot_tree.specs.declared.nodes.Node.{Node}
-use Rattle.iot_tree.specs.declared.nodes.Node.TheVariants.{Dir, File, FarDir, FarFile}
+use Rattle.iot_tree.specs.declared.nodes.Node.TheVariants.{Dir}
 use Rattle.iot_tree.proofs.Order.{path_total, path_same}
-use Rattle.iot_tree.proofs.Ancestry.{ends, at_root, in_name, parent_push, below_not_root, any_above, none_above}
+use Rattle.iot_tree.proofs.Ancestry.{ends, at_root, in_name, parent_push, below_not_root, none_above}
 
 -- two paths are one, or they do not tie
 by_cmp : (q p : List (List ℕ)) (c : Ordering) → path_cmp q p ≡ c → (q ≡ p) ⊎ (is_eq c ≡ false)

@@ -1,8 +1,8 @@
 -- Rows that make a tree.
-use Rattle.std.specs.Prelude.{◌≡◌, ℕ, ◌+◌, ◌<◌, IsTrue, List, take}
+use Rattle.std.specs.Prelude.{ℕ, ◌+◌, ◌<◌, IsTrue, List, take}
 use Rattle.std.specs.FinMap.{from_sorted, is_sorted}
 use Rattle.iot_text.specs.Paths.{path_cmp}
-use Rattle.iot_tree.specs.Tree.{Nodes, IsTree}
+use Rattle.iot_tree.specs.Tree.{IsTree}
 use Rattle.iot_tree.specs.declared.nodes.Node.{Node}
 use Rattle.iot_tree.specs.declared.faults.RowFault.{RowFault}
 use Rattle.iot_tree.specs.declared.faults.RowFault.TheVariants.{NoMemory, NoTree}

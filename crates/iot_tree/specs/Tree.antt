@@ -1,5 +1,5 @@
 -- What a tree is.
-use Rattle.std.specs.Prelude.{◌≡◌, ◌≢◌, ◌⊎◌, ℕ, List, [], Option, Some, None, IsSome, option_and_then}
+use Rattle.std.specs.Prelude.{◌≡◌, ◌≢◌, ◌⊎◌, ℕ, List, [], Option, Some, IsSome, option_and_then}
 use Rattle.std.specs.FinMap.{FinMap, get, insert, empty}
 use Rattle.iot_text.specs.Paths.{path_cmp, parent_of}
 use Rattle.iot_tree.specs.declared.nodes.Node.{Node}

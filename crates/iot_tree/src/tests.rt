@@ -7,8 +7,14 @@ fn path(rt: &impl Abort, alloc: Global, text: &str) -> Path {
     Path::parse(alloc, text.as_bytes()).expect(rt, "a path")
 }
 
-fn blob(alloc: Global, text: &str) -> Result<Blob, NoMemory> {
-    Ok(Blob::from_vec(Vec::from_slice(alloc, text.as_bytes())?))
+fn put(rt: &impl Abort, alloc: Global, text: &str, contents: &[u8]) -> Result<Update, NoMemory> {
+    let bytes = Blob::from_vec(Vec::from_slice(alloc, contents)?);
+    Ok(Update::Put(path(rt, alloc, text), bytes))
+}
+
+fn apply(rt: &impl Abort, alloc: Global, tree: &mut Tree, update: &Update) -> Result<(), NoMemory> {
+    assert!(rt; tree.fits(update));
+    tree.apply(alloc, update)
 }
 
 fn rows(rt: &impl Abort, alloc: Global, spelled: &[(&str, &Node)]) -> Result<Rows, NoMemory> {
@@ -19,17 +25,21 @@ fn rows(rt: &impl Abort, alloc: Global, spelled: &[(&str, &Node)]) -> Result<Row
     Ok(rows)
 }
 
-#[test]
-fn a_tree_grows_by_updates_that_fit(rt: HostRuntime) -> Result<(), NoMemory> {
-    let alloc = rt.alloc();
+fn day(rt: &impl Abort, alloc: Global) -> Result<Tree, NoMemory> {
     let mut tree = Tree::whole_root(alloc)?;
-    let file = Update::Put(path(&rt, alloc, "/src/a"), blob(alloc, "one\n")?);
-    assert!(rt; !tree.fits(&file), "there is no /src yet");
-    let made = Update::MakeDir(path(&rt, alloc, "/src"));
-    assert!(rt; tree.fits(&made));
-    tree.apply(alloc, &made)?;
-    assert!(rt; !tree.fits(&made) && tree.fits(&file));
-    tree.apply(alloc, &file)?;
+    apply(
+        rt,
+        alloc,
+        &mut tree,
+        &Update::MakeDir(path(rt, alloc, "/src")),
+    )?;
+    apply(rt, alloc, &mut tree, &put(rt, alloc, "/src/a", b"one\n")?)?;
+    Ok(tree)
+}
+
+#[test]
+fn a_tree_grows_by_updates(rt: HostRuntime) -> Result<(), NoMemory> {
+    let tree = day(&rt, rt.alloc())?;
     for (text, kind) in [
         ("/", Kind::IsDir),
         ("/src", Kind::IsDir),
@@ -37,43 +47,58 @@ fn a_tree_grows_by_updates_that_fit(rt: HostRuntime) -> Result<(), NoMemory> {
         ("/src/b", Kind::Absent),
         ("/src/a/b", Kind::Absent),
     ] {
-        assert!(rt; tree.kind(&path(&rt, alloc, text)) == kind, "{text}");
-    }
-    let copy = tree.copy(alloc)?;
-    let a = path(&rt, alloc, "/src/a");
-    assert_eq!(rt; copy.content(&a), Some(b"one\n".as_slice()));
-    assert!(rt; copy.rows().len() == 3 && !copy.rows().is_empty());
-    let again = Update::Put(a.copy(alloc)?, blob(alloc, "two\n")?);
-    assert!(rt; tree.fits(&again));
-    tree.apply(alloc, &again)?;
-    match tree.answer(alloc, &Question::Content(a.copy(alloc)?))? {
-        Answer::Bytes(bytes) => assert_eq!(rt; bytes.as_slice(), b"two\n".as_slice()),
-        _ => assert!(rt; false, "contents"),
-    }
-    for unfit in [
-        Update::Put(path(&rt, alloc, "/"), blob(alloc, "")?),
-        Update::Put(path(&rt, alloc, "/src"), blob(alloc, "")?),
-        Update::Put(path(&rt, alloc, "/src/a/b"), blob(alloc, "")?),
-        Update::MakeDir(path(&rt, alloc, "/")),
-        Update::MakeDir(path(&rt, alloc, "/src/a")),
-    ] {
-        assert!(rt; !tree.fits(&unfit));
+        assert!(rt; tree.kind(&path(&rt, rt.alloc(), text)) == kind, "{text}");
     }
     Ok(())
 }
 
 #[test]
-fn a_far_object_is_there_and_its_inside_is_away(rt: HostRuntime) -> Result<(), NoMemory> {
-    let alloc = rt.alloc();
+fn contents_are_lent_and_answered(rt: HostRuntime) -> Result<(), NoMemory> {
+    let mut tree = day(&rt, rt.alloc())?;
+    let file = path(&rt, rt.alloc(), "/src/a");
+    assert_eq!(rt;
+        tree.copy(rt.alloc())?.content(&file),
+        Some(b"one\n".as_slice())
+    );
+    let change = put(&rt, rt.alloc(), "/src/a", b"two\n")?;
+    apply(&rt, rt.alloc(), &mut tree, &change)?;
+    assert!(rt; tree.rows().len() == 3 && !tree.rows().is_empty());
+    match tree.answer(rt.alloc(), &Question::Content(file))? {
+        Answer::Bytes(bytes) => assert_eq!(rt; bytes.as_slice(), b"two\n".as_slice()),
+        _ => assert!(rt; false, "contents"),
+    }
+    Ok(())
+}
+
+#[test]
+fn some_updates_do_not_fit(rt: HostRuntime) -> Result<(), NoMemory> {
+    let tree = day(&rt, rt.alloc())?;
+    for text in ["/", "/src", "/src/a/b", "/lib/a"] {
+        let update = put(&rt, rt.alloc(), text, b"")?;
+        assert!(rt; !tree.fits(&update), "{text}");
+    }
+    for text in ["/", "/src", "/src/a", "/src/a/b"] {
+        let update = Update::MakeDir(path(&rt, rt.alloc(), text));
+        assert!(rt; !tree.fits(&update), "{text}");
+    }
+    Ok(())
+}
+
+fn tree_of(rt: &impl Abort, alloc: Global, spelled: &[(&str, &Node)]) -> Result<Tree, RowFault> {
+    match rows(rt, alloc, spelled) {
+        Ok(rows) => Tree::from_rows(rows),
+        Err(_) => Err(RowFault::NoMemory),
+    }
+}
+
+#[test]
+fn the_inside_of_a_far_object_is_away(rt: HostRuntime) -> Result<(), RowFault> {
     let spelled = [
         ("/", &Node::Dir),
         ("/d", &Node::FarDir),
         ("/f", &Node::FarFile),
     ];
-    let Ok(tree) = Tree::from_rows(rows(&rt, alloc, &spelled)?) else {
-        assert!(rt; false, "a tree");
-        return Ok(());
-    };
+    let tree = tree_of(&rt, rt.alloc(), &spelled)?;
     for (text, kind) in [
         ("/d", Kind::IsDir),
         ("/f", Kind::IsFile),
@@ -82,84 +107,82 @@ fn a_far_object_is_there_and_its_inside_is_away(rt: HostRuntime) -> Result<(), N
         ("/e", Kind::Absent),
         ("/f/n", Kind::Absent),
     ] {
-        assert!(rt; tree.kind(&path(&rt, alloc, text)) == kind, "{text}");
+        assert!(rt; tree.kind(&path(&rt, rt.alloc(), text)) == kind, "{text}");
     }
-    assert!(rt; tree.content(&path(&rt, alloc, "/f")).is_none());
-    for (text, away) in [("/f", true), ("/d/n", true), ("/d", false), ("/e", false)] {
-        let answer = tree.answer(alloc, &Question::Content(path(&rt, alloc, text)))?;
-        assert!(rt; matches!(answer, Answer::Away) == away, "{text}");
-    }
-    let put = Update::Put(path(&rt, alloc, "/f"), blob(alloc, "x")?);
-    assert!(rt; tree.fits(&put), "a file takes the place of a far file");
-    let below = Update::Put(path(&rt, alloc, "/d/n"), blob(alloc, "x")?);
-    assert!(rt;
-        !tree.fits(&below),
-        "names of a far directory are not known"
-    );
-    let far = Tree::far_root(alloc)?;
-    assert!(rt; far.kind(&path(&rt, alloc, "/a")) == Kind::Away);
+    assert!(rt; tree.content(&path(&rt, rt.alloc(), "/f")).is_none());
     Ok(())
 }
 
+fn bad_row(rt: &impl Abort, alloc: Global, spelled: &[(&str, &Node)]) -> Option<u64> {
+    match tree_of(rt, alloc, spelled) {
+        Err(RowFault::NoTree { at }) => Some(at),
+        _ => None,
+    }
+}
+
 #[test]
-fn rows_are_a_tree_or_have_a_first_bad_one(rt: HostRuntime) -> Result<(), NoMemory> {
+fn rows_begin_with_a_root(rt: HostRuntime) {
     let alloc = rt.alloc();
     let (dir, far, file) = (&Node::Dir, &Node::FarDir, &Node::FarFile);
-    for (spelled, want) in [
-        ([].as_slice(), Some(0)),
-        ([("/a", dir)].as_slice(), Some(0)),
-        ([("/", file)].as_slice(), Some(0)),
-        ([("/", far)].as_slice(), None),
-        ([("/", far), ("/a", file)].as_slice(), Some(1)),
-        ([("/", dir), ("/", dir)].as_slice(), Some(1)),
-        ([("/", dir), ("/b", dir), ("/a", dir)].as_slice(), Some(2)),
-        ([("/", dir), ("/a", dir), ("/b/c", dir)].as_slice(), Some(2)),
-        (
-            [("/", dir), ("/a", file), ("/a/b", dir)].as_slice(),
-            Some(2),
-        ),
-        (
-            [("/", dir), ("/a", dir), ("/a/b", far), ("/a/c", file)].as_slice(),
-            None,
-        ),
-    ] {
-        match Tree::from_rows(rows(&rt, alloc, spelled)?) {
-            Ok(tree) => assert!(rt; want.is_none() && tree.rows().len() == spelled.len()),
-            Err(RowFault::NoTree { at }) => assert!(rt; want == Some(at)),
-            Err(RowFault::NoMemory) => assert!(rt; false, "no memory is taken"),
-        }
-    }
-    Ok(())
+    assert_eq!(rt; bad_row(&rt, alloc, &[]), Some(0));
+    assert_eq!(rt; bad_row(&rt, alloc, &[("/a", dir)]), Some(0));
+    assert_eq!(rt; bad_row(&rt, alloc, &[("/", file)]), Some(0));
+    assert_eq!(rt; bad_row(&rt, alloc, &[("/", far)]), None);
+}
+
+#[test]
+fn rows_rise(rt: HostRuntime) {
+    let alloc = rt.alloc();
+    let dir = &Node::Dir;
+    assert_eq!(rt; bad_row(&rt, alloc, &[("/", dir), ("/", dir)]), Some(1));
+    assert_eq!(rt;
+        bad_row(&rt, alloc, &[("/", dir), ("/b", dir), ("/a", dir)]),
+        Some(2)
+    );
+    assert_eq!(rt;
+        bad_row(&rt, alloc, &[("/", dir), ("/a", dir), ("/a/b", dir)]),
+        None
+    );
+}
+
+fn bad_row_below(rt: &impl Abort, alloc: Global, above: Node) -> Option<u64> {
+    let (root, file) = (Node::Dir, Node::FarFile);
+    bad_row(rt, alloc, &[("/", &root), ("/a", &above), ("/a/b", &file)])
+}
+
+#[test]
+fn rows_stand_in_known_directories(rt: HostRuntime) {
+    let alloc = rt.alloc();
+    assert_eq!(rt; bad_row_below(&rt, alloc, Node::Dir), None);
+    assert_eq!(rt; bad_row_below(&rt, alloc, Node::FarDir), Some(2));
+    assert_eq!(rt; bad_row_below(&rt, alloc, Node::FarFile), Some(2));
 }
 
 #[test]
 fn lists_and_copies_keep_their_values(rt: HostRuntime) -> Result<(), NoMemory> {
-    let alloc = rt.alloc();
-    let contents = blob(alloc, "x")?;
-    assert!(rt; contents.len() == 1 && !contents.is_empty());
-    assert_eq!(rt;
-        contents.copy(alloc)?.into_vec().as_slice(),
-        b"x".as_slice()
-    );
-    let mut list = Sequence::from_vec(vec![in alloc; (1u8, 2u8), (3, 4)]?);
+    let mut list = Sequence::from_vec(vec![in rt.alloc(); (1u8, 2u8), (3, 4)]?);
     list.insert(1, (5, 6))?;
     list.set_value(0, 7);
     assert_eq!(rt; list.as_slice(), [(1, 7), (5, 6), (3, 4)].as_slice());
     assert!(rt; list.into_vec().len() == 3);
-    let file = Node::File(contents);
-    assert!(rt; file.kind() == Kind::IsFile && !file.is_dir() && !file.is_known_dir());
-    assert_eq!(rt; file.content(), Some(b"x".as_slice()));
+    let far = Tree::far_root(rt.alloc())?;
+    assert!(rt; far.kind(&path(&rt, rt.alloc(), "/a")) == Kind::Away);
+    Ok(())
+}
+
+#[test]
+fn acts_are_copied(rt: HostRuntime) -> Result<(), NoMemory> {
+    let mut reads = Reads::new(rt.alloc());
+    reads.push(Read {
+        question: Question::Kind(Path::root(rt.alloc())),
+        answer: Kind::Away.into_answer(),
+    })?;
     let act = Act {
-        reads: Reads::from_vec(vec![in alloc;
-            Read {
-                question: Question::Kind(Path::root(alloc)),
-                answer: Kind::Away.into_answer(),
-            },
-        ]?),
-        update: Some(Update::MakeDir(Path::root(alloc))),
-        lines: Lines::new(alloc),
+        reads,
+        update: Some(put(&rt, rt.alloc(), "/f", b"x")?),
+        lines: Lines::new(rt.alloc()),
     };
-    let copy = act.copy(alloc)?;
+    let copy = act.copy(rt.alloc())?;
     assert!(rt; copy.reads.len() == 1 && copy.update.is_some() && copy.lines.is_empty());
     Ok(())
 }

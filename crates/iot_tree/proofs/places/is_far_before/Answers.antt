@@ -1,4 +1,4 @@
-use Rattle.std.proofs.Common.{◌<◌, Bool, List, ℕ, sym, arith, ap, ◌∙◌, nat_eq}
+use Rattle.std.proofs.Common.{sym, arith, ap, ◌∙◌, nat_eq}
 use Rattle.std.specs.List.{starts_with}
 use Rattle.std.specs.Cmp.Lexicographic.{pointwise}
 use Rattle.iot_tree.proofs.RowLaws.{no_far_first, no_far_before, far_before}

@@ -1,4 +1,4 @@
-use Rattle.std.proofs.Common.{ℕ, sym}
+use Rattle.std.proofs.Common.{sym}
 use Rattle.iot_tree.specs.Place.{StandsAt, IsGap}
 use Rattle.iot_tree.proofs.RowLaws.{find_in_gap, find_here}
 use Rattle.iot_tree.proofs.places.node_at.Goals as goal

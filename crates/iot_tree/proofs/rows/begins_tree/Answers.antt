@@ -1,6 +1,5 @@
-use Rattle.std.proofs.Common.{◌≡◌, ◌∙◌, ◌==◌, IsTrue, ap, sym, subst, List, ℕ, [], ◌∷◌, length, true}
+use Rattle.std.proofs.Common.{◌≡◌, ◌∙◌, sym, subst, List, ℕ, [], ◌∷◌}
 use Rattle.iot_tree.specs.Rows.{AreTreeRows}
-use Rattle.iot_tree.specs.declared.nodes.Node.{Node}
 use Rattle.iot_tree.proofs.RowLaws.{root_rows}
 use Rattle.iot_tree.proofs.Growth.{root_only, empty_is}
 use Rattle.iot_tree.proofs.rows.begins_tree.Goals as goal

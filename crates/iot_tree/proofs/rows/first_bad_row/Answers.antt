@@ -1,4 +1,4 @@
-use Rattle.std.proofs.Common.{◌≡◌, ◌∙◌, sym, arith, ◌<◌}
+use Rattle.std.proofs.Common.{◌∙◌, sym, arith}
 use Rattle.iot_tree.proofs.Growth.{first_missing, grow_at, follow_at}
 use Rattle.iot_tree.proofs.rows.first_bad_row.Goals as goal
 

@@ -1,4 +1,4 @@
-use Rattle.std.proofs.Common.{◌≡◌, ◌∙◌, ap, sym, nat_eq, refl, List, ℕ}
+use Rattle.std.proofs.Common.{◌∙◌, ap, nat_eq, refl, List, ℕ}
 use Rattle.std.specs.List.{starts_with}
 use Rattle.std.specs.Cmp.Lexicographic.{pointwise}
 use Rattle.iot_tree.proofs.Growth.{not_begun, longer_has, same_has}

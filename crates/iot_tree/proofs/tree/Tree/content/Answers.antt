@@ -1,9 +1,5 @@
-use Rattle.std.proofs.Common.{sym, ap, ◌≡◌, ◌∙◌, Option, Some, None, List, ℕ}
-use Rattle.std.specs.FinMap.{get}
-use Rattle.std.specs.Option.{option_copied}
-use Rattle.iot_text.specs.Paths.{path_cmp}
+use Rattle.std.proofs.Common.{sym, ap, ◌∙◌}
 use Rattle.iot_tree.specs.Questions.{content_at}
-use Rattle.iot_tree.specs.declared.nodes.Node.{Node}
 use Rattle.iot_tree.proofs.RowLaws.{get_rows}
 use Rattle.iot_tree.proofs.tree.Tree.content.Goals as goal
 

@@ -1,7 +1,6 @@
-use Rattle.std.proofs.Common.{sym, ap, ◌≡◌, ◌∙◌, IfOk}
+use Rattle.std.proofs.Common.{sym, ap, ◌∙◌}
 use Rattle.iot_tree.specs.Place.{StandsAt, IsGap}
 use Rattle.iot_tree.specs.Questions.{kind_answer}
-use Rattle.iot_tree.specs.declared.questions.Answer.{Answer}
 use Rattle.iot_tree.proofs.RowLaws.{content_here, content_in_gap}
 use Rattle.iot_tree.proofs.tree.Tree.content_answer.Goals as goal
 

@@ -1,4 +1,3 @@
-use Rattle.std.proofs.Common.{◌≡◌, ◌∙◌}
 use Rattle.iot_tree.specs.Rows.{AreTreeRows}
 use Rattle.iot_tree.proofs.RowLaws.{entries_rows}
 use Rattle.iot_tree.proofs.tree.Tree.from_rows.Goals as goal

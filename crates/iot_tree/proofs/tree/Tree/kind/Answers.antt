@@ -1,4 +1,4 @@
-use Rattle.std.proofs.Common.{sym, ◌≡◌, ◌∙◌, get_or}
+use Rattle.std.proofs.Common.{sym, ◌∙◌}
 use Rattle.iot_tree.specs.Place.{StandsAt, IsGap}
 use Rattle.iot_tree.proofs.RowLaws.{kind_here, kind_in_gap}
 use Rattle.iot_tree.proofs.tree.Tree.kind.Goals as goal

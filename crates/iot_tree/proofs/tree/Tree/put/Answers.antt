@@ -1,9 +1,8 @@
-use Rattle.std.proofs.Common.{◌≡◌, ◌≢◌, ◌∙◌, sym, ap, subst, ℕ, List, [], ◌∷◌, Result, Ok, Err, OnOk, OnErr, Some}
+use Rattle.std.proofs.Common.{◌≡◌, ◌≢◌, ◌∙◌, sym, ap, subst, ℕ, List, [], Result, Ok, Err, OnOk, OnErr, Some}
 use Rattle.iot_text.specs.Paths.{path_cmp}
 use Rattle.std.specs.List.{insert}
 use Rattle.std.specs.FinMap.Entries.{put}
 use Rattle.std.specs.FinMap.{from_sorted, get}
-use Rattle.std.specs.FinMap as map
 use Rattle.iot_tree.specs.Place.{StandsAt, IsGap}
 use Rattle.iot_tree.specs.Rows.{AreTreeRows}
 use Rattle.iot_tree.specs.Tree.{Nodes, parent_node}

@@ -1,8 +1,4 @@
-use Rattle.std.proofs.Common.{◌≡◌, ◌∙◌, List, ℕ, [], ◌∷◌, ap, subst, sym, refl}
-use Rattle.std.specs.FinMap.{from_sorted}
-use Rattle.iot_text.specs.Paths.{path_cmp}
-use Rattle.iot_tree.specs.Rows.{AreTreeRows}
-use Rattle.iot_tree.specs.declared.nodes.Node.{Node}
+use Rattle.std.proofs.Common.{◌≡◌, ◌∙◌, [], ◌∷◌, refl}
 use Rattle.iot_tree.proofs.RowLaws.{root_rows, root_map}
 use Rattle.iot_tree.proofs.tree.Tree.with_root.Goals as goal
 
