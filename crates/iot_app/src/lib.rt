@@ -10,6 +10,8 @@ mod fault;
 mod form;
 mod input;
 mod job;
+#[cfg(test)]
+mod job_tests;
 mod parse;
 mod perform;
 mod play;
