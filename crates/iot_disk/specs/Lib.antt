@@ -1,0 +1,3 @@
+pub mod Bodies
+pub mod Disk
+pub mod Faults

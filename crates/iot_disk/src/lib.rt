@@ -1,0 +1,10 @@
+//! A disk whose calls may fail, what a crash may leave of it, and a disk in memory for programs and tests.
+#![tactic(auto)]
+
+mod bodies;
+mod disk;
+mod faults;
+
+pub use bodies::Bodies;
+pub use disk::{Arm, Disk, DiskFault, LIMIT, Pick};
+pub use faults::{JournalFault, StartFault};
