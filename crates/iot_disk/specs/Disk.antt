@@ -29,7 +29,7 @@ Counts (Err NoMemory) before now = now ≡ before
 Counts (Err Failed) before now = Rose before now
 
 -- these bytes with others written over them from a place on, at most at their end
-abbrev pub overwritten : List ℕ → ℕ → List ℕ → List ℕ
+abbrev pub overwritten : {X : Type 0} → List X → ℕ → List X → List X
 overwritten old at bytes = take at old ++ (bytes ++ drop (at + length bytes) old)
 
 -- image j is what a write of the range from `at` to `end`, whole or cut short, may have made of image i

@@ -1,7 +1,9 @@
 // The disk that the layers above stand on: six calls, each of which may fail.
 ghost use Rattle.std.specs.Prelude.{◌≡◌, ◌<◌, ◌≤◌, ◌+◌, ◌^◌, List, ℕ, length, slice_range, OnOk, OnErr, IsErrOf};
 ghost use Rattle.iot_disk.specs.Disk.{Arms, armed_with, Counts, overwritten, IsTornFrom, Only, SameImages};
+ghost use Rattle.iot_disk.specs.declared.disk.DiskFault.TheVariants.{NoMemory};
 
+use std::alloc::AllocError;
 use thiserror::Error;
 
 /// The greatest number of bytes that a disk holds.
@@ -32,6 +34,14 @@ pub enum DiskFault {
     NoMemory,
     #[error("the disk failed")]
     Failed,
+}
+
+impl From<AllocError> for DiskFault {
+    ghost from_gives = { λ _ fault. fault ≡ NoMemory };
+
+    fn from(_: AllocError) -> Self {
+        DiskFault::NoMemory
+    }
 }
 
 /// A disk: a list of bytes that grows, of which a crash leaves one of several images.

@@ -2,9 +2,14 @@
 #![tactic(auto)]
 
 mod bodies;
+mod bytes;
 mod disk;
+mod failures;
 mod faults;
+mod memory;
+mod unsynced;
 
 pub use bodies::Bodies;
 pub use disk::{Arm, Disk, DiskFault, LIMIT, Pick};
 pub use faults::{JournalFault, StartFault};
+pub use memory::MemDisk;
