@@ -13,3 +13,6 @@ pub use bodies::Bodies;
 pub use disk::{Arm, Disk, DiskFault, LIMIT, Pick};
 pub use faults::{JournalFault, StartFault};
 pub use memory::MemDisk;
+
+#[cfg(test)]
+mod tests;

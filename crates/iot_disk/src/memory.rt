@@ -133,11 +133,13 @@ impl MemDisk {
         ensures answer { result ≡ answer self.old.failures }
         ensures state { self.new ≡ after_sync self.old }
     {
-        self.failures.call()?;
-        let known = self.synced.len();
-        append(&mut self.synced, &self.written[known..]);
-        self.unsynced.settle(&self.written, &mut self.synced);
-        Ok(())
+        let answer = self.failures.call();
+        if answer.is_ok() {
+            let known = self.synced.len();
+            append(&mut self.synced, &self.written[known..]);
+            self.unsynced.settle(&self.written, &mut self.synced);
+        }
+        answer
     }
 
     /// Makes a later device call fail: the one with this number, counted from 1.
