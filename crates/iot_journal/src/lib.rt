@@ -7,3 +7,6 @@ mod records;
 mod start;
 
 pub use journal::Journal;
+
+#[cfg(test)]
+mod tests;
