@@ -65,6 +65,10 @@ pub record IsImage (written synced : List ℕ) (unsynced : List Bool) (image : L
   pub no_longer : length image ≤ length written
   pub kept : (k : ℕ) → k < length image → is_marked unsynced k ≡ false → slice_index image k ≡ slice_index written k
 
+-- the images of a disk in memory
+abbrev pub images_of : Memory → List ℕ → Type 0
+images_of m = IsImage m.written m.synced m.unsynced
+
 -- what is true of each disk in memory: there is a mark for each byte, a byte without a mark is as it was synced, and
 -- each behind the last sync has a mark
 pub record IsSound (written synced : List ℕ) (unsynced : List Bool) : Type 0 where

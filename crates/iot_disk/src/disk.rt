@@ -68,7 +68,8 @@ pub trait Disk {
     /// Reads as many bytes as `buf` has, from a place on.
     fn read_at(&mut self, at: u64, buf: &mut [u8]) -> Result<(), DiskFault>
         requires { at + length buf.old ≤ length (reads self.old) }
-        ensures bytes { OnOk result (buf.new ≡ slice_range (reads self.old) at (at + length buf.old)) }
+        ensures bytes { OnOk result
+            (buf.new ≡ slice_range (reads self.old) at (at + length buf.old)) }
         ensures reads { OnOk result (reads self.new ≡ reads self.old) }
         ensures images { SameImages (may_leave self.old) (may_leave self.new) }
         ensures no_memory { IsErrOf result DiskFault.NoMemory → ⊥ }
@@ -80,17 +81,22 @@ pub trait Disk {
     fn write_at(&mut self, at: u64, bytes: &[u8]) -> Result<(), DiskFault>
         requires { at ≤ length (reads self.old) }
         ensures written { OnOk result (reads self.new ≡ overwritten (reads self.old) at bytes.now) }
-        ensures images { IsTornFrom at (at + length bytes.now) (may_leave self.old) (may_leave self.new) }
+        ensures images { IsTornFrom at (at + length bytes.now)
+            (may_leave self.old) (may_leave self.new) }
 
         // Only a write that makes the disk longer takes memory, and for want of it changes nothing.
-        ensures longer { IsErrOf result DiskFault.NoMemory → length (reads self.old) < at + length bytes.now }
-        ensures no_memory_reads { IsErrOf result DiskFault.NoMemory → reads self.new ≡ reads self.old }
-        ensures no_memory_images { IsErrOf result DiskFault.NoMemory → SameImages (may_leave self.old) (may_leave self.new) }
+        ensures longer { IsErrOf result DiskFault.NoMemory
+            → length (reads self.old) < at + length bytes.now }
+        ensures no_memory_reads { IsErrOf result DiskFault.NoMemory
+            → reads self.new ≡ reads self.old }
+        ensures no_memory_images { IsErrOf result DiskFault.NoMemory
+            → SameImages (may_leave self.old) (may_leave self.new) }
 
         // A disk does not grow past its limit.
         ensures limit { 2 ^ 62 < at + length bytes.now → IsErrOf result DiskFault.Failed }
         ensures limit_reads { 2 ^ 62 < at + length bytes.now → reads self.new ≡ reads self.old }
-        ensures limit_images { 2 ^ 62 < at + length bytes.now → SameImages (may_leave self.old) (may_leave self.new) }
+        ensures limit_images { 2 ^ 62 < at + length bytes.now
+            → SameImages (may_leave self.old) (may_leave self.new) }
 
         ensures faults { Counts result (faults self.old) (faults self.new) }
         ensures arms { arms self.new ≡ arms self.old };

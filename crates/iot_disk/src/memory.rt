@@ -1,6 +1,6 @@
 // A disk in memory.
 ghost use Rattle.std.specs.Prelude.{◌≡◌, ◌≤◌, ◌<◌, ◌⊎◌, ◌+◌, ◌-◌, ◌^◌, [], ◌++◌, false, length, replicate, slice_range, vec_capacity, IfOk, OnOk, OnErr, IsErrOf};
-ghost use Rattle.iot_disk.specs.Disk.{overwritten};
+ghost use Rattle.iot_disk.specs.Disk.{Only};
 
 use crate::bytes::{append, copy_over, leave, overwrite};
 use crate::failures::Failures;
@@ -36,12 +36,13 @@ impl Model for MemDisk {
 }
 
 impl MemDisk {
-    ghost use Rattle.iot_disk.specs.Memory.{settled, after_read, after_write, after_refusal, after_sync, restarted};
+    ghost use Rattle.iot_disk.specs.Memory.{settled, after_read, after_write, after_refusal, after_sync, restarted, images_of};
     ghost use Rattle.iot_disk.specs.Failures.{answer, after_arm, no_failures};
 
     /// An empty disk. It takes no memory.
     pub fn new(alloc: Global) -> Self
-        ensures { result ≡ settled [] no_failures }
+        ensures state { result ≡ settled [] no_failures }
+        ensures only { Only [] (images_of result) }
     {
         MemDisk {
             written: Vec::new(alloc),
@@ -53,7 +54,8 @@ impl MemDisk {
 
     /// A disk that reads as these bytes, which are its only image. More than `LIMIT` bytes find no memory.
     pub fn of(alloc: Global, bytes: Vec<u8>) -> Result<Self, AllocError>
-        ensures { IfOk result (λ disk. disk ≡ settled bytes.items no_failures) }
+        ensures state { IfOk result (λ disk. disk ≡ settled bytes.items no_failures) }
+        ensures only { IfOk result (λ disk. Only bytes.items (images_of disk)) }
     {
         if bytes.len() as u64 > LIMIT {
             return Err(AllocError);
@@ -102,11 +104,15 @@ impl MemDisk {
     /// Writes bytes over those that are there, and past the end. It costs as much as it writes.
     pub fn write_at(&mut self, at: u64, bytes: &[u8]) -> Result<(), DiskFault>
         requires { at ≤ length self.old.written }
-        ensures limit { 2 ^ 62 < at + length bytes.now → (result ≡ Err DiskFault.Failed) × (self.new ≡ after_refusal self.old) }
-        ensures no_memory { IsErrOf result DiskFault.NoMemory → (self.new ≡ self.old) × (length self.old.written < at + length bytes.now) }
+        ensures limit { 2 ^ 62 < at + length bytes.now
+            → (result ≡ Err DiskFault.Failed) × (self.new ≡ after_refusal self.old) }
+        ensures no_memory { IsErrOf result DiskFault.NoMemory
+            → (self.new ≡ self.old) × (length self.old.written < at + length bytes.now) }
 
         // Otherwise it is written, whether the call fails or not.
-        ensures written { at + length bytes.now ≤ 2 ^ 62 → (result ≡ Err DiskFault.NoMemory) ⊎ ((result ≡ answer self.old.failures) × (self.new ≡ after_write at bytes.now self.old)) }
+        ensures written { at + length bytes.now ≤ 2 ^ 62
+            → (result ≡ Err DiskFault.NoMemory)
+            ⊎ ((result ≡ answer self.old.failures) × (self.new ≡ after_write at bytes.now self.old)) }
     {
         if at.saturating_add(bytes.len() as u64) > LIMIT {
             self.failures.fault();
@@ -153,7 +159,8 @@ impl MemDisk {
     /// were written, or the written length with one byte wherever a write since the last sync went. Where none came
     /// it leaves what was written.
     pub fn restart(&mut self)
-        ensures { self.new ≡ restarted self.old }
+        ensures state { self.new ≡ restarted self.old }
+        ensures only { Only self.new.written (images_of self.new) }
     {
         let pick = self.failures.restart();
         leave(pick, &mut self.written, &self.synced, self.unsynced.marks());
@@ -174,7 +181,8 @@ fn make_room(
     requires room { length written.old.items ≤ vec_capacity synced.old }
     ensures written { written.new.items ≡ written.old.items }
     ensures synced { synced.new.items ≡ synced.old.items }
-    ensures marks { OnOk result (unsynced.new ≡ unsynced.old ++ replicate (end - length unsynced.old) false) }
+    ensures marks { OnOk result
+        (unsynced.new ≡ unsynced.old ++ replicate (end - length unsynced.old) false) }
     ensures room_written { OnOk result (end ≤ vec_capacity written.new) }
     ensures room_synced { OnOk result (end ≤ vec_capacity synced.new) }
     ensures same_room { vec_capacity synced.old ≤ vec_capacity synced.new }
@@ -190,12 +198,12 @@ fn make_room(
 }
 
 impl Disk for MemDisk {
-    ghost use Rattle.iot_disk.specs.Memory.{IsImage, reads_is_image};
+    ghost use Rattle.iot_disk.specs.Memory.{images_of, reads_is_image};
     ghost use Rattle.iot_disk.specs.Failures.{arms_of};
 
     ghost reads = { λ d. d.written };
 
-    ghost may_leave = { λ d. IsImage d.written d.synced d.unsynced };
+    ghost may_leave = { images_of };
 
     ghost faults = { λ d. d.failures.faults };
 

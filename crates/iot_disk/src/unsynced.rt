@@ -64,7 +64,8 @@ impl Unsynced {
     pub fn cover(&mut self, span: Span)
         requires ordered { span.start ≤ span.end }
         requires inside { span.end ≤ length self.old }
-        ensures { self.new ≡ overwritten self.old span.start (replicate (span.end - span.start) true) }
+        ensures { self.new
+            ≡ overwritten self.old span.start (replicate (span.end - span.start) true) }
     {
         note(&mut self.spans, &mut self.rest, span);
         mark(&mut self.marks, span);
@@ -102,14 +103,17 @@ impl Unsynced {
     }
 }
 
+// Sets the marks of a span.
 fn mark(marks: &mut Vec<bool>, span: Span)
     requires ordered { span.start ≤ span.end }
     requires inside { span.end ≤ length marks.old.items }
-    ensures { marks.new.items ≡ overwritten marks.old.items span.start (replicate (span.end - span.start) true) }
+    ensures { marks.new.items
+        ≡ overwritten marks.old.items span.start (replicate (span.end - span.start) true) }
 {
     marks[span.start..span.end].fill(true);
 }
 
+// Takes a span in, by itself or, where memory for it is wanting, in the rest.
 fn note(spans: &mut Vec<Span>, rest: &mut Span, span: Span)
     ensures { TakeIn span spans.old.items rest.old spans.new.items rest.new }
 {
@@ -133,6 +137,7 @@ fn joined(one: Span, other: Span) -> Span
     }
 }
 
+// Settles one span after another, and the rest.
 fn settle_spans(spans: &[Span], rest: Span, written: &[u8], synced: &mut [u8], marks: &mut [bool])
     requires written { length written.now ≡ length marks.old }
     requires synced { length synced.old ≡ length marks.old }
@@ -147,6 +152,7 @@ fn settle_spans(spans: &[Span], rest: Span, written: &[u8], synced: &mut [u8], m
     settle_span(rest, written, synced, marks);
 }
 
+// Copies the bytes of a span, and takes its marks away.
 fn settle_span(span: Span, written: &[u8], synced: &mut [u8], marks: &mut [bool])
     requires written { length written.now ≡ length marks.old }
     requires synced { length synced.old ≡ length marks.old }

@@ -1,8 +1,6 @@
 -- A journal over its disk.
-use Rattle.std.specs.Prelude.{◌≡◌, ◌≤◌, ℕ, ◌+◌, ◌^◌, List, [], ◌∷◌, ◌++◌, length, Result, Ok, Err}
-use Rattle.iot_disk.specs.Disk.{Only, Rose, overwritten}
-use Rattle.iot_disk.specs.declared.faults.JournalFault.{JournalFault}
-use Rattle.iot_disk.specs.declared.faults.JournalFault.TheVariants.{NoMemory, Stopped}
+use Rattle.std.specs.Prelude.{◌≡◌, ◌≤◌, ℕ, ◌+◌, ◌^◌, List, [], ◌∷◌, ◌++◌, length}
+use Rattle.iot_disk.specs.Disk.{Only, overwritten}
 use Rattle.iot_journal.specs.Reading.{Stands, reading, bodies_in, records, spelled}
 use Rattle.iot_journal.specs.Keep.{IsLaidOut}
 use Rattle.iot_journal.specs.declared.journal.Journal.{Journal}
@@ -32,9 +30,3 @@ abbrev pub with_record : List (List ℕ) → List ℕ → List ℕ → List ℕ
 with_record bodies body bytes =
     let gate = 9 + length (records bodies) in
     overwritten (overwritten bytes (gate + 1) (spelled body ++ 0 ∷ [])) gate (165 ∷ [])
-
--- the disk's count of faults, before and after an append: it rises where the append was stopped, and only there
-abbrev pub Counts : Result (Unit {0}) JournalFault → ℕ → ℕ → Type 0
-Counts (Ok _) before now = now ≡ before
-Counts (Err NoMemory) before now = now ≡ before
-Counts (Err Stopped) before now = Rose before now

@@ -1,6 +1,7 @@
 // The journal itself.
 ghost use Rattle.std.specs.Prelude.{◌≡◌, ◌+◌, ◌++◌, [], ◌∷◌, length, IfOk, IfErr, OnOk, IsErrOf, MatchResult};
 ghost use Rattle.iot_disk.specs.Disk.{armed_with, Only, SameImages};
+ghost use Rattle.iot_disk.specs.Faults.{JournalCounts};
 ghost use Rattle.iot_journal.specs.Reading.{Stands, reading};
 ghost use Rattle.iot_journal.specs.Keep.{EachReads, EachReadsEither};
 ghost use Rattle.iot_journal.specs.Start.{HasCause, ChangesNothing, after_start};
@@ -25,10 +26,10 @@ pub struct Journal<D: Disk> {
 }
 
 impl<D: Disk> Journal<D> {
-    ghost use Rattle.iot_journal.specs.Journal.{disk_of, count_of, bodies_on, IsSettled, with_record, Counts};
+    ghost use Rattle.iot_journal.specs.Journal.{disk_of, count_of, bodies_on, IsSettled, with_record};
 
-    /// Starts a journal from its disk, which no one else writes, and gives the bodies that are on it. A disk on which none
-    /// was started becomes a journal with no records. The disk comes back where this gives no journal.
+    /// Starts a journal from its disk, which no one else writes, and gives the bodies that are on it. A disk on
+    /// which none was started becomes a journal with no records. The disk comes back where this gives no journal.
     pub fn start(alloc: Global, mut disk: D) -> Result<(Journal<D>, Bodies), (D, StartFault)>
         requires { Only (D.reads disk) (D.may_leave disk) }
         ensures bodies { IfOk result (λ made. reading (D.reads disk) ≡ Stands made.1) }
@@ -37,13 +38,23 @@ impl<D: Disk> Journal<D> {
         ensures bytes { IfOk result (λ made. D.reads (disk_of made.0) ≡ after_start (D.reads disk)) }
 
         // In no image, whichever device call failed, does the disk stand for anything else than before.
-        ensures images { MatchResult result (λ made. EachReads (D.may_leave (disk_of made.0)) (reading (D.reads disk))) (λ refused. EachReads (D.may_leave refused.0) (reading (D.reads disk))) }
+        ensures images { MatchResult result
+            (λ made. EachReads (D.may_leave (disk_of made.0)) (reading (D.reads disk)))
+            (λ refused. EachReads (D.may_leave refused.0) (reading (D.reads disk))) }
 
         ensures steady { IfOk result (λ made. D.faults (disk_of made.0) ≡ D.faults disk) }
-        ensures cause { IfErr result (λ refused. HasCause refused.1 (reading (D.reads disk)) (D.faults disk) (D.faults refused.0)) }
-        ensures refused_reads { IfErr result (λ refused. ChangesNothing refused.1 (D.reads refused.0 ≡ D.reads disk)) }
-        ensures refused_images { IfErr result (λ refused. ChangesNothing refused.1 (SameImages (D.may_leave disk) (D.may_leave refused.0))) }
-        ensures arms { MatchResult result (λ made. D.arms (disk_of made.0) ≡ D.arms disk) (λ refused. D.arms refused.0 ≡ D.arms disk) }
+        ensures cause { IfErr result (λ refused.
+            HasCause refused.1 (reading (D.reads disk)) (D.faults disk) (D.faults refused.0)) }
+
+        // A refusal of the bytes changes nothing.
+        ensures refused_reads { IfErr result (λ refused.
+            ChangesNothing refused.1 (D.reads refused.0 ≡ D.reads disk)) }
+        ensures refused_images { IfErr result (λ refused.
+            ChangesNothing refused.1 (SameImages (D.may_leave disk) (D.may_leave refused.0))) }
+
+        ensures arms { MatchResult result
+            (λ made. D.arms (disk_of made.0) ≡ D.arms disk)
+            (λ refused. D.arms refused.0 ≡ D.arms disk) }
     {
         match open(alloc, &mut disk) {
             Ok(found) => {
@@ -64,17 +75,24 @@ impl<D: Disk> Journal<D> {
     pub fn append(&mut self, body: &[u8]) -> Result<(), JournalFault>
         requires { IsSettled D.reads D.may_leave self.old }
 
-        // In each image, whichever device call failed, the journal stands for the bodies before or for those with the new one.
-        ensures images { EachReadsEither (D.may_leave (disk_of self.new)) (Stands (bodies_on D.reads self.old)) (Stands (bodies_on D.reads self.old ++ body.now ∷ [])) }
-        ensures no_memory { IsErrOf result JournalFault.NoMemory → EachReads (D.may_leave (disk_of self.new)) (Stands (bodies_on D.reads self.old)) }
+        // In each image, whichever device call failed, the journal stands for the bodies before or for those
+        // with the new one. After want of memory each stands for the former, and after Ok each for the latter.
+        ensures images { EachReadsEither (D.may_leave (disk_of self.new))
+            (Stands (bodies_on D.reads self.old))
+            (Stands (bodies_on D.reads self.old ++ body.now ∷ [])) }
+        ensures no_memory { IsErrOf result JournalFault.NoMemory
+            → EachReads (D.may_leave (disk_of self.new)) (Stands (bodies_on D.reads self.old)) }
+        ensures appended { OnOk result (EachReads (D.may_leave (disk_of self.new))
+            (Stands (bodies_on D.reads self.old ++ body.now ∷ []))) }
 
-        // After Ok each stands for the latter.
-        ensures appended { OnOk result (EachReads (D.may_leave (disk_of self.new)) (Stands (bodies_on D.reads self.old ++ body.now ∷ []))) }
-        ensures bodies { OnOk result (bodies_on D.reads self.new ≡ bodies_on D.reads self.old ++ body.now ∷ []) }
+        ensures bodies { OnOk result
+            (bodies_on D.reads self.new ≡ bodies_on D.reads self.old ++ body.now ∷ []) }
         ensures settled { OnOk result (IsSettled D.reads D.may_leave self.new) }
-        ensures bytes { OnOk result (D.reads (disk_of self.new) ≡ with_record (bodies_on D.reads self.old) body.now (D.reads (disk_of self.old))) }
+        ensures bytes { OnOk result (D.reads (disk_of self.new)
+            ≡ with_record (bodies_on D.reads self.old) body.now (D.reads (disk_of self.old))) }
 
-        ensures faults { Counts result (D.faults (disk_of self.old)) (D.faults (disk_of self.new)) }
+        ensures faults { JournalCounts result
+            (D.faults (disk_of self.old)) (D.faults (disk_of self.new)) }
         ensures arms { D.arms (disk_of self.new) ≡ D.arms (disk_of self.old) }
     {
         spell(&mut self.buffer, body)?;
@@ -94,12 +112,15 @@ impl<D: Disk> Journal<D> {
 
     /// Makes a later device call of the disk fail, and does nothing else.
     pub fn arm(&mut self, calls: u64, pick: Pick)
-        ensures arms { D.arms (disk_of self.new) ≡ armed_with (D.arms (disk_of self.old)) calls pick }
+        ensures arms { D.arms (disk_of self.new)
+            ≡ armed_with (D.arms (disk_of self.old)) calls pick }
         ensures reads { D.reads (disk_of self.new) ≡ D.reads (disk_of self.old) }
-        ensures images { SameImages (D.may_leave (disk_of self.old)) (D.may_leave (disk_of self.new)) }
+        ensures images { SameImages
+            (D.may_leave (disk_of self.old)) (D.may_leave (disk_of self.new)) }
         ensures faults { D.faults (disk_of self.new) ≡ D.faults (disk_of self.old) }
         ensures count { count_of self.new ≡ count_of self.old }
-        ensures settled { IsSettled D.reads D.may_leave self.old → IsSettled D.reads D.may_leave self.new }
+        ensures settled { IsSettled D.reads D.may_leave self.old
+            → IsSettled D.reads D.may_leave self.new }
     {
         self.disk.arm(calls, pick);
     }

@@ -27,7 +27,8 @@ pub struct Found {
     pub bodies: Bodies,
 }
 
-/// Spells what an append writes behind the closed gate: the number of bytes of the body, the body, and a closed gate.
+/// Spells what an append writes behind the closed gate: the number of bytes of the body, the body, and the next
+/// gate, closed.
 pub fn spell(out: &mut Vec<u8>, body: &[u8]) -> Result<(), AllocError>
     ensures { OnOk result (out.new.items ≡ spelled body.now ++ 0 ∷ []) }
 {
@@ -81,7 +82,8 @@ pub fn read(alloc: Global, bytes: &[u8]) -> Result<Found, StartFault>
 
 /// The body whose number of bytes stands at the start of these, if it and the next gate are there.
 fn whole_body(bytes: &[u8]) -> Option<&[u8]>
-    ensures body { IfSome result (λ body. bytes.now ≡ spelled body.now ++ drop (8 + length body.now) bytes.now) }
+    ensures body { IfSome result (λ body.
+        bytes.now ≡ spelled body.now ++ drop (8 + length body.now) bytes.now) }
     ensures gate { IfSome result (λ body. 8 + length body.now < length bytes.now) }
     ensures none { IfNone result (length bytes.now ≤ 8 + number_in bytes.now) }
 {

@@ -23,9 +23,12 @@ pub fn open<D: Disk>(alloc: Global, disk: &mut D) -> Result<Found, StartFault>
     ensures images { EachReads (D.may_leave disk.new) (reading (D.reads disk.old)) }
 
     ensures steady { OnOk result (D.faults disk.new ≡ D.faults disk.old) }
-    ensures cause { IfErr result (λ fault. HasCause fault (reading (D.reads disk.old)) (D.faults disk.old) (D.faults disk.new)) }
-    ensures refused_reads { IfErr result (λ fault. ChangesNothing fault (D.reads disk.new ≡ D.reads disk.old)) }
-    ensures refused_images { IfErr result (λ fault. ChangesNothing fault (SameImages (D.may_leave disk.old) (D.may_leave disk.new))) }
+    ensures cause { IfErr result (λ fault.
+        HasCause fault (reading (D.reads disk.old)) (D.faults disk.old) (D.faults disk.new)) }
+    ensures refused_reads { IfErr result (λ fault.
+        ChangesNothing fault (D.reads disk.new ≡ D.reads disk.old)) }
+    ensures refused_images { IfErr result (λ fault.
+        ChangesNothing fault (SameImages (D.may_leave disk.old) (D.may_leave disk.new))) }
     ensures arms { D.arms disk.new ≡ D.arms disk.old }
 {
     let bytes = read_all(alloc, disk)?;

@@ -1,14 +1,10 @@
 use Rattle.std.proofs.Common.{sym, subst}
-use Rattle.iot_disk.specs.Disk.{Only}
-use Rattle.iot_disk.specs.Memory.{Memory, IsImage, IsSound, restarted}
-use Rattle.iot_disk.proofs.Images.{picked_image, only_settled}
+use Rattle.iot_disk.specs.Memory.{Memory, IsImage, IsSound}
+use Rattle.iot_disk.proofs.Images.{picked_image}
 use Rattle.iot_disk.proofs.memory.MemDiskDisk.restart.Goals as goal
 
 pub returns-clause-image : goal.returns-clause-image
 returns-clause-image c =
     let m = c.args.self.now in
-    subst (λ (new : Memory). IsImage m.written m.synced m.unsynced new.written) (sym c.restart.ensures) (picked_image m.failures.failed m.written m.synced m.unsynced (subst (λ (d : Memory). IsSound d.written d.synced d.unsynced) c.self.view_is c.self.invariant.0))
-
-pub returns-clause-only : goal.returns-clause-only
-returns-clause-only c =
-    subst (λ (new : Memory). Only new.written (IsImage new.written new.synced new.unsynced)) (sym c.restart.ensures) (only_settled (restarted c.args.self.now).written)
+    subst (λ (new : Memory). IsImage m.written m.synced m.unsynced new.written) (sym c.restart.ensures.state)
+    (picked_image m.failures.failed m.written m.synced m.unsynced (subst (λ (d : Memory). IsSound d.written d.synced d.unsynced) c.self.view_is c.self.invariant.0))
