@@ -1,0 +1,5 @@
+mod BodiesLemmas
+mod Images
+mod Lists
+mod Sound
+mod Spans

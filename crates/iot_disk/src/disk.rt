@@ -1,0 +1,130 @@
+// The disk that the layers above stand on: six calls, each of which may fail.
+ghost use Rattle.std.specs.Prelude.{◌≡◌, ◌<◌, ◌≤◌, ◌+◌, ◌^◌, List, ℕ, length, slice_range, OnOk, OnErr, IsErrOf};
+ghost use Rattle.iot_disk.specs.Disk.{Arms, armed_with, Counts, overwritten, IsTornFrom, Only, SameImages};
+ghost use Rattle.iot_disk.specs.declared.disk.DiskFault.TheVariants.{NoMemory};
+
+use std::alloc::AllocError;
+use thiserror::Error;
+
+/// The greatest number of bytes that a disk holds.
+pub const LIMIT: u64 = 1 << 62;
+
+/// Which of its images a disk that failed has after the restart.
+#[derive(Clone, Copy, Debug, PartialEq, Eq)]
+pub enum Pick {
+    /// The bytes of the last sync.
+    Old,
+    /// The bytes as they were written.
+    New,
+    /// The length that was written, with this byte wherever a write since the last sync went.
+    Fill(u8),
+}
+
+/// Which device call of a disk is to fail, counted from 1, and what the restart after it leaves.
+#[derive(Clone, Copy, Debug, PartialEq, Eq)]
+pub struct Arm {
+    pub calls: u64,
+    pub pick: Pick,
+}
+
+/// Why a device call did not succeed.
+#[derive(Clone, Copy, Debug, PartialEq, Eq, Error)]
+pub enum DiskFault {
+    #[error("out of memory")]
+    NoMemory,
+    #[error("the disk failed")]
+    Failed,
+}
+
+impl From<AllocError> for DiskFault {
+    ghost from_gives = { λ _ fault. fault ≡ NoMemory };
+
+    fn from(_: AllocError) -> Self {
+        DiskFault::NoMemory
+    }
+}
+
+/// A disk: a list of bytes that grows, of which a crash leaves one of several images.
+///
+/// `read_at`, `write_at` and `sync` are its device calls, each of which may fail. No call shortens a disk.
+pub trait Disk {
+    /// The bytes that a read gives.
+    ghost reads: { Self → List ℕ };
+
+    /// The images: what a crash now may leave.
+    ghost may_leave: { Self → List ℕ → Type 0 };
+
+    /// How often a device call has failed.
+    ghost faults: { Self → ℕ };
+
+    /// How often the disk was armed, and with what the last time.
+    ghost arms: { Self → Arms };
+
+    /// The number of bytes, at most `LIMIT`.
+    fn len(&self) -> u64
+        ensures length { result ≡ length (reads self.now) }
+        ensures limit { result ≤ 2 ^ 62 };
+
+    /// Reads as many bytes as `buf` has, from a place on.
+    fn read_at(&mut self, at: u64, buf: &mut [u8]) -> Result<(), DiskFault>
+        requires { at + length buf.old ≤ length (reads self.old) }
+        ensures bytes { OnOk result
+            (buf.new ≡ slice_range (reads self.old) at (at + length buf.old)) }
+        ensures reads { OnOk result (reads self.new ≡ reads self.old) }
+        ensures images { SameImages (may_leave self.old) (may_leave self.new) }
+        ensures no_memory { IsErrOf result DiskFault.NoMemory → ⊥ }
+        ensures faults { Counts result (faults self.old) (faults self.new) }
+        ensures arms { arms self.new ≡ arms self.old };
+
+    /// Writes bytes over those that are there, and past the end. Until a sync a crash may leave any bytes in the
+    /// range that was written, also where the call failed. It writes nothing where the range ends past `LIMIT`.
+    fn write_at(&mut self, at: u64, bytes: &[u8]) -> Result<(), DiskFault>
+        requires { at ≤ length (reads self.old) }
+        ensures written { OnOk result (reads self.new ≡ overwritten (reads self.old) at bytes.now) }
+        ensures images { IsTornFrom at (at + length bytes.now)
+            (may_leave self.old) (may_leave self.new) }
+
+        // Only a write that makes the disk longer takes memory, and for want of it changes nothing.
+        ensures longer { IsErrOf result DiskFault.NoMemory
+            → length (reads self.old) < at + length bytes.now }
+        ensures no_memory_reads { IsErrOf result DiskFault.NoMemory
+            → reads self.new ≡ reads self.old }
+        ensures no_memory_images { IsErrOf result DiskFault.NoMemory
+            → SameImages (may_leave self.old) (may_leave self.new) }
+
+        // A disk does not grow past its limit.
+        ensures limit { 2 ^ 62 < at + length bytes.now → IsErrOf result DiskFault.Failed }
+        ensures limit_reads { 2 ^ 62 < at + length bytes.now → reads self.new ≡ reads self.old }
+        ensures limit_images { 2 ^ 62 < at + length bytes.now
+            → SameImages (may_leave self.old) (may_leave self.new) }
+
+        ensures faults { Counts result (faults self.old) (faults self.new) }
+        ensures arms { arms self.new ≡ arms self.old };
+
+    /// Makes what was written durable: after it a crash leaves what a read gives.
+    fn sync(&mut self) -> Result<(), DiskFault>
+        ensures durable { OnOk result (Only (reads self.new) (may_leave self.new)) }
+        ensures reads { OnOk result (reads self.new ≡ reads self.old) }
+        ensures images { OnErr result (SameImages (may_leave self.old) (may_leave self.new)) }
+        ensures no_memory { IsErrOf result DiskFault.NoMemory → ⊥ }
+        ensures faults { Counts result (faults self.old) (faults self.new) }
+        ensures arms { arms self.new ≡ arms self.old };
+
+    /// Makes a later device call fail: the one with this number, counted from 1. How a real disk takes it is its own
+    /// affair; it is no device call, and changes neither bytes nor images.
+    fn arm(&mut self, calls: u64, pick: Pick)
+        ensures arms { arms self.new ≡ armed_with (arms self.old) calls pick }
+        ensures reads { reads self.new ≡ reads self.old }
+        ensures images { SameImages (may_leave self.old) (may_leave self.new) }
+        ensures faults { faults self.new ≡ faults self.old };
+
+    /// Starts the disk again, as after a crash: it reads as one of its images, which is then the only one.
+    fn restart(&mut self)
+        ensures image { may_leave self.old (reads self.new) }
+        ensures only { Only (reads self.new) (may_leave self.new) }
+        ensures faults { faults self.new ≡ faults self.old }
+        ensures arms { arms self.new ≡ arms self.old };
+
+    /// A disk as it reads is one of its images.
+    ghost reads_is_image: { (disk : Self) → may_leave disk (reads disk) };
+}

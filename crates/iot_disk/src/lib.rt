@@ -1,0 +1,18 @@
+//! A disk whose calls may fail, what a crash may leave of it, and a disk in memory for programs and tests.
+#![tactic(auto)]
+
+mod bodies;
+mod bytes;
+mod disk;
+mod failures;
+mod faults;
+mod memory;
+mod unsynced;
+
+pub use bodies::Bodies;
+pub use disk::{Arm, Disk, DiskFault, LIMIT, Pick};
+pub use faults::{JournalFault, StartFault};
+pub use memory::MemDisk;
+
+#[cfg(test)]
+mod tests;

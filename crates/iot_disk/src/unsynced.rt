@@ -1,0 +1,168 @@
+// Which bytes a write since the last sync covered.
+ghost use Rattle.std.specs.Prelude.{◌≡◌, ◌≤◌, ◌-◌, ◌++◌, [], ℕ, List, Bool, true, false, length, replicate, IfOk, OnOk, OnErr};
+ghost use Rattle.iot_disk.specs.Disk.{overwritten};
+ghost use Rattle.iot_disk.specs.Unsynced.{Hold, IsIn, TakeIn, AreAlike, Clears};
+
+use std::alloc::{AllocError, Global};
+use std::marker::Model;
+
+/// A part of a disk: from a place on, up to another.
+#[derive(Clone, Copy, Debug, PartialEq, Eq)]
+pub struct Span {
+    pub start: usize,
+    pub end: usize,
+}
+
+impl Span {
+    const EMPTY: Span = Span { start: 0, end: 0 };
+}
+
+/// A mark for each byte of a disk, in a form whose use costs as much as was marked.
+///
+/// Each mark lies in a span that was covered. Where memory for one more span was wanting, `rest` takes it in.
+#[derive(Debug, Drop)]
+pub struct Unsynced {
+    marks: Vec<bool>,
+    spans: Vec<Span>,
+    rest: Span,
+}
+
+impl Model for Unsynced {
+    ghost use Rattle.std.specs.Prelude.{List, Bool};
+
+    ghost Value = { List Bool };
+
+    ghost use Rattle.iot_disk.specs.Unsynced.{Hold};
+
+    ghost view = { λ u. u.marks.items };
+
+    ghost invariant = { λ u. Hold u.spans.items u.rest u.marks.items };
+}
+
+impl Unsynced {
+    /// For an empty disk. It takes no memory.
+    pub fn new(alloc: Global) -> Self
+        ensures { result ≡ [] }
+    {
+        Unsynced {
+            marks: Vec::new(alloc),
+            spans: Vec::new(alloc),
+            rest: Span::EMPTY,
+        }
+    }
+
+    /// Makes room for a disk of `count` bytes, of which no new one is marked.
+    pub fn lengthen(&mut self, count: usize) -> Result<(), AllocError>
+        requires { length self.old ≤ count }
+        ensures ok { OnOk result (self.new ≡ self.old ++ replicate (count - length self.old) false) }
+        ensures err { OnErr result (self.new ≡ self.old) }
+    {
+        self.marks.resize(count, false)
+    }
+
+    /// Marks a span. It takes memory where there is some, and does without where there is none.
+    pub fn cover(&mut self, span: Span)
+        requires ordered { span.start ≤ span.end }
+        requires inside { span.end ≤ length self.old }
+        ensures { self.new
+            ≡ overwritten self.old span.start (replicate (span.end - span.start) true) }
+    {
+        note(&mut self.spans, &mut self.rest, span);
+        mark(&mut self.marks, span);
+    }
+
+    /// The marks, one for each byte.
+    pub fn marks(&self) -> &[bool]
+        ensures { result.now ≡ self.now }
+    {
+        &self.marks
+    }
+
+    /// Copies the bytes that are marked, and takes the marks away.
+    pub fn settle(&mut self, written: &[u8], synced: &mut [u8])
+        requires written { length written.now ≡ length self.old }
+        requires synced { length synced.old ≡ length self.old }
+        requires alike { AreAlike self.old synced.old written.now }
+        ensures synced { synced.new ≡ written.now }
+        ensures marks { self.new ≡ replicate (length self.old) false }
+    {
+        settle_spans(&self.spans, self.rest, written, synced, &mut self.marks);
+        self.spans.clear();
+        self.rest = Span::EMPTY;
+    }
+
+    /// Takes all marks away, for a disk that is now of `count` bytes.
+    pub fn clear(&mut self, count: usize)
+        requires { count ≤ length self.old }
+        ensures { self.new ≡ replicate count false }
+    {
+        self.marks.truncate(count);
+        self.marks.fill(false);
+        self.spans.clear();
+        self.rest = Span::EMPTY;
+    }
+}
+
+// Sets the marks of a span.
+fn mark(marks: &mut Vec<bool>, span: Span)
+    requires ordered { span.start ≤ span.end }
+    requires inside { span.end ≤ length marks.old.items }
+    ensures { marks.new.items
+        ≡ overwritten marks.old.items span.start (replicate (span.end - span.start) true) }
+{
+    marks[span.start..span.end].fill(true);
+}
+
+// Takes a span in, by itself or, where memory for it is wanting, in the rest.
+fn note(spans: &mut Vec<Span>, rest: &mut Span, span: Span)
+    ensures { TakeIn span spans.old.items rest.old spans.new.items rest.new }
+{
+    match spans.push(span) {
+        Ok(()) => (),
+        Err(_) => *rest = joined(*rest, span),
+    }
+}
+
+// The span from the start of the first of the two to the end of the last.
+fn joined(one: Span, other: Span) -> Span
+    ensures one { (k : ℕ) → IsIn one k → IsIn result k }
+    ensures other { (k : ℕ) → IsIn other k → IsIn result k }
+{
+    if one.end <= one.start {
+        return other;
+    }
+    Span {
+        start: one.start.min(other.start),
+        end: one.end.max(other.end),
+    }
+}
+
+// Settles one span after another, and the rest.
+fn settle_spans(spans: &[Span], rest: Span, written: &[u8], synced: &mut [u8], marks: &mut [bool])
+    requires written { length written.now ≡ length marks.old }
+    requires synced { length synced.old ≡ length marks.old }
+    requires alike { AreAlike marks.old synced.old written.now }
+    requires hold { Hold spans.now rest marks.old }
+    ensures synced { synced.new ≡ written.now }
+    ensures marks { marks.new ≡ replicate (length marks.old) false }
+{
+    for span in spans {
+        settle_span(*span, written, synced, marks);
+    }
+    settle_span(rest, written, synced, marks);
+}
+
+// Copies the bytes of a span, and takes its marks away.
+fn settle_span(span: Span, written: &[u8], synced: &mut [u8], marks: &mut [bool])
+    requires written { length written.now ≡ length marks.old }
+    requires synced { length synced.old ≡ length marks.old }
+    requires alike { AreAlike marks.old synced.old written.now }
+    ensures synced { length synced.new ≡ length synced.old }
+    ensures alike { AreAlike marks.new synced.new written.now }
+    ensures marks { Clears span marks.old marks.new }
+{
+    let end = span.end.min(marks.len());
+    let start = span.start.min(end);
+    synced[start..end].copy_from_slice(&written[start..end]);
+    marks[start..end].fill(false);
+}

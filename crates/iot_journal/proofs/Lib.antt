@@ -1,0 +1,5 @@
+mod Appends
+mod Found
+mod Readings
+mod Starting
+mod Writes

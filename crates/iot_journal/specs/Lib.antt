@@ -1,0 +1,4 @@
+pub mod Journal
+pub mod Keep
+pub mod Reading
+pub mod Start
