@@ -1,0 +1,11 @@
+pub mod Fronts
+pub mod Steps
+pub mod ByteLaws
+pub mod WordLaws
+pub mod LineLaws
+pub mod ScriptLaws
+pub mod BlockLaws
+pub mod NestingLaws
+pub mod NestingSteps
+pub mod PrintSteps
+pub mod PrintLaws

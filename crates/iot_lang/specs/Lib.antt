@@ -1,0 +1,13 @@
+pub mod Bytes
+pub mod Words
+pub mod Lines
+pub mod Code
+pub mod Scripts
+pub mod Blocks
+pub mod Falls
+pub mod Reading
+pub mod Names
+pub mod Statements
+pub mod Nesting
+pub mod Faults
+pub mod Print

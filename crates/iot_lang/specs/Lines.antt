@@ -1,0 +1,114 @@
+-- The lines of a text, and what one line of a script says.
+use Rattle.std.specs.Prelude.{ℕ, ◌≡◌, Bool, true, ◌&&◌, not, ◌==◌, List, [], ◌∷◌, ◌++◌, IsTrue, codes, if◌then◌else◌}
+use Rattle.std.specs.List.{list_all}
+use Rattle.iot_lang.specs.Bytes.{is_blank}
+use Rattle.iot_lang.specs.Words.{word_text, is_word, is_variable}
+use Rattle.iot_lang.specs.declared.words.Command.{Command}
+use Rattle.iot_lang.specs.declared.words.Command.TheVariants as commands
+use Rattle.iot_lang.specs.declared.words.Cond.{Cond}
+use Rattle.iot_lang.specs.declared.words.Cond.TheVariants as conditions
+use Rattle.iot_lang.specs.declared.lines.Line.{Line}
+use Rattle.iot_lang.specs.declared.lines.Line.TheVariants as says
+
+-- ---- the lines of a text
+
+-- a byte in front of a list of lines, on the first of them
+abbrev pub on_first : ℕ → List (List ℕ) → List (List ℕ)
+on_first b [] = (b ∷ []) ∷ []
+on_first b (line ∷ lines) = (b ∷ line) ∷ lines
+
+-- the pieces between newlines; a newline at the very end begins no further piece
+abbrev pub lines_of : List ℕ → List (List ℕ)
+lines_of [] = []
+lines_of (b ∷ bs) = if b == 10 then [] ∷ lines_of bs else on_first b (lines_of bs)
+
+-- a byte inside a line
+abbrev pub is_inside : ℕ → Bool
+is_inside b = not (b == 10)
+
+-- ---- one line
+
+-- whether a line is skipped: it has blanks alone, or its first byte after blanks is `#`
+abbrev pub is_skipped : List ℕ → Bool
+is_skipped [] = true
+is_skipped (b ∷ bs) = if is_blank b then is_skipped bs else b == 35
+
+-- the words of a condition
+abbrev pub condition_words : Cond → List (List ℕ)
+condition_words (conditions.File p) = codes "file" ∷ word_text p ∷ []
+condition_words (conditions.Dir p) = codes "dir" ∷ word_text p ∷ []
+condition_words (conditions.Same p q) = codes "same" ∷ word_text p ∷ word_text q ∷ []
+condition_words conditions.Ok = codes "ok" ∷ []
+
+-- the words of a command
+abbrev pub command_words : Command → List (List ℕ)
+command_words (commands.Echo w) = codes "echo" ∷ word_text w ∷ []
+command_words (commands.Set x w) = codes "set" ∷ x ∷ word_text w ∷ []
+command_words (commands.Read x p) = codes "read" ∷ x ∷ word_text p ∷ []
+command_words (commands.MakeDir p) = codes "mkdir" ∷ word_text p ∷ []
+command_words (commands.RemoveDir p) = codes "rmdir" ∷ word_text p ∷ []
+command_words (commands.Remove p) = codes "rm" ∷ word_text p ∷ []
+command_words (commands.Write p w) = codes "write" ∷ word_text p ∷ word_text w ∷ []
+command_words (commands.Append p w) = codes "append" ∷ word_text p ∷ word_text w ∷ []
+command_words (commands.Copy p q) = codes "copy" ∷ word_text p ∷ word_text q ∷ []
+command_words (commands.Concat q p1 p2) = codes "concat" ∷ word_text q ∷ word_text p1 ∷ word_text p2 ∷ []
+command_words (commands.Move p q) = codes "mv" ∷ word_text p ∷ word_text q ∷ []
+command_words (commands.Cat p) = codes "cat" ∷ word_text p ∷ []
+command_words (commands.List p) = codes "ls" ∷ word_text p ∷ []
+command_words (commands.Keep p q) = codes "keep" ∷ word_text p ∷ word_text q ∷ []
+
+-- the words of a line
+abbrev pub line_words : Line → List (List ℕ)
+line_words (says.Do command) = command_words command
+line_words says.Stop = codes "stop" ∷ []
+line_words (says.If condition) = codes "if" ∷ condition_words condition ++ codes "{" ∷ []
+line_words (says.For x p) = codes "for" ∷ x ∷ codes "in" ∷ word_text p ∷ codes "{" ∷ []
+line_words says.Else = codes "}" ∷ codes "else" ∷ codes "{" ∷ []
+line_words says.Close = codes "}" ∷ []
+
+-- whether the operands of a condition are words
+abbrev pub is_condition : Cond → Bool
+is_condition (conditions.File p) = is_word p
+is_condition (conditions.Dir p) = is_word p
+is_condition (conditions.Same p q) = is_word p && is_word q
+is_condition conditions.Ok = true
+
+-- whether the operands of a command are words, and variables' names
+abbrev pub is_command : Command → Bool
+is_command (commands.Echo w) = is_word w
+is_command (commands.Set x w) = is_variable x && is_word w
+is_command (commands.Read x p) = is_variable x && is_word p
+is_command (commands.MakeDir p) = is_word p
+is_command (commands.RemoveDir p) = is_word p
+is_command (commands.Remove p) = is_word p
+is_command (commands.Write p w) = is_word p && is_word w
+is_command (commands.Append p w) = is_word p && is_word w
+is_command (commands.Copy p q) = is_word p && is_word q
+is_command (commands.Concat q p1 p2) = is_word q && is_word p1 && is_word p2
+is_command (commands.Move p q) = is_word p && is_word q
+is_command (commands.Cat p) = is_word p
+is_command (commands.List p) = is_word p
+is_command (commands.Keep p q) = is_word p && is_word q
+
+-- whether the operands of a line are what they have to be
+abbrev pub is_line : Line → Bool
+is_line (says.Do command) = is_command command
+is_line says.Stop = true
+is_line (says.If condition) = is_condition condition
+is_line (says.For x p) = is_variable x && is_word p
+is_line says.Else = true
+is_line says.Close = true
+
+-- the text ends here, or a blank follows
+abbrev pub is_end : List ℕ → Bool
+is_end [] = true
+is_end (b ∷ bs) = is_blank b
+
+-- the text is these words, with blanks between them; there may be blanks at both ends
+abbrev pub IsSpaced : List ℕ → List (List ℕ) → Type 0
+IsSpaced text [] = IsTrue (list_all is_blank text)
+IsSpaced text (word ∷ words) = (blanks rest : List ℕ) × IsTrue (list_all is_blank blanks) × (text ≡ blanks ++ word ++ rest) × IsTrue (is_end rest) × IsSpaced rest words
+
+-- the text spells the line
+abbrev pub SpellsLine : List ℕ → Line → Type 0
+SpellsLine text line = IsTrue (is_line line) × IsSpaced text (line_words line)
