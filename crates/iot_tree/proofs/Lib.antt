@@ -4,3 +4,9 @@ pub mod Ancestry
 pub mod TreeLaws
 pub mod RowLaws
 pub mod Growth
+pub mod Within
+pub mod Renaming
+pub mod Moving
+pub mod Leaves
+pub mod Settling
+pub mod Keys

@@ -1,6 +1,7 @@
 -- Where a path stands among rows, or would stand.
-use Rattle.std.specs.Prelude.{◌≡◌, ℕ, ◌<◌, ◌≤◌, IsTrue, List, [], ◌∷◌, length, take, drop, slice_index_or, Result, Ok, Err}
-use Rattle.std.specs.FinMap.Entries.{below_all}
+use Rattle.std.specs.Prelude.{◌≡◌, ℕ, ◌++◌, not, ◌<◌, ◌≤◌, IsTrue, List, [], ◌∷◌, length, take, drop, slice_index_or, Result, Ok, Err}
+use Rattle.std.specs.FinMap.Entries.{below_all, where_key}
+use Rattle.std.specs.Ordering.{eq_by_cmp}
 use Rattle.std.specs.declared.cmp.Ordering.TheVariants.{Less}
 use Rattle.iot_text.specs.Paths.{path_cmp}
 use Rattle.iot_tree.specs.declared.nodes.Node.{Node}
@@ -26,3 +27,16 @@ pub record IsGap (rows : List (List (List ℕ) × Node)) (p : List (List ℕ)) (
 abbrev pub IsPlace : List (List (List ℕ) × Node) → List (List ℕ) → Result ℕ ℕ → Type 0
 IsPlace rows p (Ok at) = StandsAt rows p at
 IsPlace rows p (Err at) = IsGap rows p at
+
+-- the rows but that of q
+abbrev pub without : List (List ℕ) → List (List (List ℕ) × Node) → List (List (List ℕ) × Node)
+without q = where_key path_cmp (λ path. not (eq_by_cmp path_cmp q path))
+
+-- the moved rows stand at q's place among the others but q's own
+pub record IsPutAt (others moved : List (List (List ℕ) × Node)) (q : List (List ℕ)) (all : List (List (List ℕ) × Node)) : Type 0 where
+  pub front : List (List (List ℕ) × Node)
+  pub back : List (List (List ℕ) × Node)
+  pub whole : all ≡ front ++ (moved ++ back)
+  pub rest : front ++ back ≡ without q others
+  pub before : AllBefore q front
+  pub after : IsTrue (below_all path_cmp q back)

@@ -1,7 +1,8 @@
 -- What a tree answers.
-use Rattle.std.specs.Prelude.{ℕ, Bool, true, false, List, Option, Some, None}
-use Rattle.std.specs.FinMap.{get}
-use Rattle.std.specs.List.{list_any}
+use Rattle.std.specs.Prelude.{ℕ, ◌+◌, ◌==◌, ◌&&◌, Bool, true, false, List, length, bytes_eq, if◌then◌else◌, Option, Some, None, option_map}
+use Rattle.std.specs.FinMap.{get, entries}
+use Rattle.std.specs.List.{list_any, filter_map, starts_with}
+use Rattle.iot_text.specs.Paths.{last_of}
 use Rattle.iot_tree.specs.Ancestors.{proper_prefixes}
 use Rattle.iot_tree.specs.Tree.{Nodes}
 use Rattle.iot_tree.specs.declared.nodes.Node.{Node}
@@ -11,7 +12,7 @@ use Rattle.iot_tree.specs.declared.kinds.Kind.TheVariants as kinds
 use Rattle.iot_tree.specs.declared.questions.Question.{Question}
 use Rattle.iot_tree.specs.declared.questions.Question.TheVariants as asks
 use Rattle.iot_tree.specs.declared.questions.Answer.{Answer}
-use Rattle.iot_tree.specs.declared.questions.Answer.TheVariants.{Away, Absent, IsDir, IsFile, Bytes}
+use Rattle.iot_tree.specs.declared.questions.Answer.TheVariants.{Away, Absent, IsDir, IsFile, Bytes, Names}
 
 -- whether the node is a directory, whose names may be known or not
 abbrev pub is_dir : Node → Bool
@@ -75,7 +76,7 @@ kind_answer kinds.Absent = Absent
 kind_answer kinds.IsDir = IsDir
 kind_answer kinds.IsFile = IsFile
 
--- what is answered where there are no contents: away below a far directory, else absent
+-- what is answered where there is no such thing: away below a far directory, else absent
 abbrev pub no_content : Bool → Answer
 no_content true = Away
 no_content false = Absent
@@ -88,7 +89,32 @@ content_answer (Some Dir) far = no_content far
 content_answer (Some FarDir) far = no_content far
 content_answer None far = no_content far
 
+-- whether the row is at or below p
+abbrev pub is_within : List (List ℕ) → List (List ℕ) × Node → Bool
+is_within p row = starts_with bytes_eq row.0 p
+
+-- whether the path is p with one name more
+abbrev pub is_child : List (List ℕ) → List (List ℕ) → Bool
+is_child p path = (length path == length p + 1) && starts_with bytes_eq path p
+
+-- the name of a row in the directory p, with the kind of its object; nothing of any other row
+abbrev pub child_of : List (List ℕ) → List (List ℕ) × Node → Option (List ℕ × Kind)
+child_of p row = if is_child p row.0 then option_map (λ name. (name, node_kind row.1)) (last_of row.0) else None
+
+-- the names in the directory p with their kinds, in order of name
+abbrev pub children_of : Nodes → List (List ℕ) → List (List ℕ × Kind)
+children_of t p = filter_map (child_of p) (entries t)
+
+-- the names that a path's row shows, as an answer
+abbrev pub names_answer : Option Node → Bool → List (List ℕ × Kind) → Answer
+names_answer (Some Dir) far children = Names children
+names_answer (Some FarDir) far children = Away
+names_answer (Some (File bytes)) far children = no_content far
+names_answer (Some FarFile) far children = no_content far
+names_answer None far children = no_content far
+
 -- what the tree answers to the question
 abbrev pub answer_of : Nodes → Question → Answer
 answer_of t (asks.Kind p) = kind_answer (kind_of t p)
 answer_of t (asks.Content p) = content_answer (get t p) (is_far_above t p)
+answer_of t (asks.Names p) = names_answer (get t p) (is_far_above t p) (children_of t p)

@@ -1,10 +1,13 @@
 -- Where an update fits a tree, and the tree after it.
-use Rattle.std.specs.Prelude.{◌≡◌, ◌≢◌, ℕ, List, Some, None}
-use Rattle.std.specs.FinMap.{get, insert}
+use Rattle.std.specs.Prelude.{◌≡◌, ◌≢◌, ℕ, List, [], ◌++◌, map, drop, length, bytes_eq, if◌then◌else◌, IsSome, Some, None}
+use Rattle.std.specs.List.{starts_with}
+use Rattle.std.specs.FinMap.{get, insert, remove, entries, from_entries}
+use Rattle.iot_text.specs.Paths.{IsBelow}
 use Rattle.iot_tree.specs.Tree.{Nodes, parent_node}
+use Rattle.iot_tree.specs.declared.nodes.Node.{Node}
 use Rattle.iot_tree.specs.declared.nodes.Node.TheVariants.{Dir, File, FarDir}
 use Rattle.iot_tree.specs.declared.updates.Update.{Update}
-use Rattle.iot_tree.specs.declared.updates.Update.TheVariants.{Put, MakeDir}
+use Rattle.iot_tree.specs.declared.updates.Update.TheVariants.{Put, MakeDir, Remove, Move}
 
 -- a file can be put at p: p is not the root, its parent is a known directory, and p is no directory
 pub record FitsPut (t : Nodes) (p : List (List ℕ)) : Type 0 where
@@ -17,12 +20,50 @@ pub record FitsMakeDir (t : Nodes) (p : List (List ℕ)) : Type 0 where
   pub absent : get t p ≡ None
   pub parent : parent_node t p ≡ Some Dir
 
+-- no row lies below p
+abbrev pub IsLeaf : Nodes → List (List ℕ) → Type 0
+IsLeaf t p = (path : List (List ℕ)) → IsBelow path p → get t path ≡ None
+
+-- p's row can go: it is there, is not the root's, and no row lies below it
+pub record FitsRemove (t : Nodes) (p : List (List ℕ)) : Type 0 where
+  pub mapped : IsSome (get t p)
+  pub below_root : p ≢ []
+  pub leaf : IsLeaf t p
+
+-- p can be moved to q: it is there, neither is the root, neither is at or below the other, q's parent
+-- is a known directory, and no row lies below q
+pub record FitsMove (t : Nodes) (p q : List (List ℕ)) : Type 0 where
+  pub mapped : IsSome (get t p)
+  pub from_below_root : p ≢ []
+  pub to_below_root : q ≢ []
+  pub differ : p ≢ q
+  pub from_apart : ¬ IsBelow p q
+  pub to_apart : ¬ IsBelow q p
+  pub parent : parent_node t q ≡ Some Dir
+  pub leaf : IsLeaf t q
+
 -- the update fits the tree
 abbrev pub Fits : Nodes → Update → Type 0
 Fits t (Put p bytes) = FitsPut t p
 Fits t (MakeDir p) = FitsMakeDir t p
+Fits t (Remove p) = FitsRemove t p
+Fits t (Move p q) = FitsMove t p q
+
+-- a path at or below p gets p replaced by q; any other path stays
+abbrev pub renamed : List (List ℕ) → List (List ℕ) → List (List ℕ) → List (List ℕ)
+renamed p q path = if starts_with bytes_eq path p then q ++ drop (length p) path else path
+
+-- a row with its path renamed
+abbrev pub renamed_row : List (List ℕ) → List (List ℕ) → List (List ℕ) × Node → List (List ℕ) × Node
+renamed_row p q row = (renamed p q row.0, row.1)
+
+-- q's row goes if there is one, then every row at or below p gets p replaced by q
+abbrev pub moved : Nodes → List (List ℕ) → List (List ℕ) → Nodes
+moved t p q = from_entries (map (renamed_row p q) (entries (remove t q)))
 
 -- the tree after the update, in which every other row is as it was
 abbrev pub updated : Nodes → Update → Nodes
 updated t (Put p bytes) = insert t p (File bytes)
 updated t (MakeDir p) = insert t p Dir
+updated t (Remove p) = remove t p
+updated t (Move p q) = moved t p q

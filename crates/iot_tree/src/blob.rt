@@ -1,5 +1,7 @@
 //! The contents of files.
-ghost use Rattle.std.specs.Prelude.{ℕ, List, ◌≡◌, ◌==◌, length};
+ghost use Rattle.std.specs.Prelude.{ℕ, List, ◌≡◌, ◌==◌, ◌↔◌, IsTrue, length, nat_eq};
+ghost use Rattle.std.specs.Cmp.{partial_equiv_from_equiv};
+ghost use Rattle.std.specs.Cmp.Lexicographic.{pointwise, nat_list_eq_equiv};
 
 use std::marker::Model;
 
@@ -52,5 +54,18 @@ impl Blob {
         ensures { result ≡ (length self.now == 0) }
     {
         self.bytes.is_empty()
+    }
+}
+
+impl PartialEq for Blob {
+    ghost eq = { pointwise nat_eq };
+
+    ghost laws = { partial_equiv_from_equiv nat_list_eq_equiv };
+
+    fn eq(&self, other: &Blob) -> bool
+        ensures value { result ≡ pointwise nat_eq self.now other.now }
+        ensures same { IsTrue result ↔ (self.now ≡ other.now) }
+    {
+        self.as_slice() == other.as_slice()
     }
 }

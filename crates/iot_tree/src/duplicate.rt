@@ -1,8 +1,8 @@
 //! Copies in memory of their own.
 ghost use Rattle.std.specs.Prelude.{◌≡◌, ◌∷◌, [], ◌++◌, IfOk};
 
-use crate::{Act, Answer, Blob, Node, Question, Read, Sequence, Update};
-use iot_text::{NoMemory, Path, Text};
+use crate::{Act, Answer, Blob, Kind, Label, Node, Question, Read, Sequence, Update};
+use iot_text::{Name, NoMemory, Path, Text};
 use std::alloc::Global;
 
 /// Values of which an equal one can be made in memory of its own.
@@ -10,6 +10,18 @@ pub trait Duplicate: Drop {
     /// An equal value in memory of its own.
     fn copy(&self, alloc: Global) -> Result<Self, NoMemory>
         ensures { IfOk result (λ copy. copy ≡ self.now) };
+}
+
+impl Duplicate for Name {
+    fn copy(&self, _alloc: Global) -> Result<Name, NoMemory> {
+        Ok(*self)
+    }
+}
+
+impl Duplicate for Kind {
+    fn copy(&self, _alloc: Global) -> Result<Kind, NoMemory> {
+        Ok(*self)
+    }
 }
 
 impl Duplicate for Path {
@@ -47,6 +59,7 @@ impl Duplicate for Question {
         Ok(match self {
             Question::Kind(path) => Question::Kind(path.copy(alloc)?),
             Question::Content(path) => Question::Content(path.copy(alloc)?),
+            Question::Names(path) => Question::Names(path.copy(alloc)?),
         })
     }
 }
@@ -59,6 +72,7 @@ impl Duplicate for Answer {
             Answer::IsDir => Answer::IsDir,
             Answer::IsFile => Answer::IsFile,
             Answer::Bytes(bytes) => Answer::Bytes(bytes.copy(alloc)?),
+            Answer::Names(children) => Answer::Names(children.copy(alloc)?),
         })
     }
 }
@@ -68,6 +82,8 @@ impl Duplicate for Update {
         Ok(match self {
             Update::Put(path, bytes) => Update::Put(path.copy(alloc)?, bytes.copy(alloc)?),
             Update::MakeDir(path) => Update::MakeDir(path.copy(alloc)?),
+            Update::Remove(path) => Update::Remove(path.copy(alloc)?),
+            Update::Move(from, to) => Update::Move(from.copy(alloc)?, to.copy(alloc)?),
         })
     }
 }
@@ -87,6 +103,19 @@ impl Duplicate for Act {
             reads: self.reads.copy(alloc)?,
             update: self.update.copy(alloc)?,
             lines: self.lines.copy(alloc)?,
+        })
+    }
+}
+
+impl Duplicate for Label {
+    fn copy(&self, alloc: Global) -> Result<Label, NoMemory> {
+        Ok(Label {
+            client: self.client,
+            tid: self.tid,
+            script: self.script,
+            budget: self.budget,
+            way: self.way,
+            kept: self.kept.copy(alloc)?,
         })
     }
 }

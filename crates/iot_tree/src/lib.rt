@@ -3,9 +3,12 @@
 
 mod acts;
 mod blob;
+mod children;
 mod duplicate;
 mod faults;
 mod kinds;
+mod labels;
+mod moves;
 mod nodes;
 mod places;
 mod questions;
@@ -21,8 +24,9 @@ pub use blob::Blob;
 pub use duplicate::Duplicate;
 pub use faults::RowFault;
 pub use kinds::Kind;
+pub use labels::{Files, Label, Labels, OnConflict, Way};
 pub use nodes::{Node, Paths, Rows};
-pub use questions::{Answer, Question};
+pub use questions::{Answer, Children, Question};
 pub use sequence::Sequence;
 pub use tree::Tree;
 pub use updates::{Update, Updates};

@@ -1,6 +1,6 @@
 //! Questions to a tree, and its answers.
-use crate::Blob;
-use iot_text::Path;
+use crate::{Blob, Kind, Sequence};
+use iot_text::{Name, Path};
 
 /// What can be asked of a tree.
 #[derive(Drop)]
@@ -9,7 +9,12 @@ pub enum Question {
     Kind(Path),
     /// What are the contents of the file at the path?
     Content(Path),
+    /// What are the names in the directory at the path?
+    Names(Path),
 }
+
+/// The names in a directory, rising, each with the kind of what is there.
+pub type Children = Sequence<(Name, Kind)>;
 
 /// What a tree answers.
 #[derive(Drop)]
@@ -24,4 +29,6 @@ pub enum Answer {
     IsFile,
     /// The contents of the file.
     Bytes(Blob),
+    /// The names in the directory.
+    Names(Children),
 }

@@ -1,5 +1,5 @@
 //! Lists of one kind of value.
-ghost use Rattle.std.specs.Prelude.{◌≡◌, ◌==◌, ◌<◌, ◌≤◌, ◌++◌, ◌∷◌, [], length, insert, slice_set, slice_index_or, OnOk, OnErr};
+ghost use Rattle.std.specs.Prelude.{◌≡◌, ◌==◌, ◌<◌, ◌≤◌, ◌+◌, ◌++◌, ◌∷◌, [], List, length, map, take, drop, insert, slice_set, slice_index_or, OnOk, OnErr};
 
 use iot_text::NoMemory;
 use std::alloc::Global;
@@ -92,6 +92,26 @@ impl<T: Drop> Sequence<T> {
     }
 }
 
+impl<T: Drop> Sequence<T> {
+    /// Takes the item at a place away.
+    pub fn remove(&mut self, at: usize)
+        requires { at < length self.old }
+        ensures { self.new ≡ take at self.old ++ drop (at + 1) self.old }
+    {
+        self.items.remove(at);
+    }
+}
+
+impl<T> Sequence<T> {
+    /// Puts the `count` items from a place on behind all others. Takes no memory.
+    pub fn rotate(&mut self, at: usize, count: usize)
+        requires { at + count ≤ length self.old }
+        ensures { (a b c : List T) → self.old ≡ a ++ (b ++ c) → length a ≡ at → length b ≡ count → self.new ≡ a ++ (c ++ b) }
+    {
+        self.items[at..].rotate_left(count);
+    }
+}
+
 impl<K: Drop, V: Drop> Sequence<(K, V)> {
     /// Gives the key at a place another value.
     pub fn set_value(&mut self, at: usize, value: V)
@@ -99,5 +119,15 @@ impl<K: Drop, V: Drop> Sequence<(K, V)> {
         ensures { (d : K × V) → self.new ≡ slice_set self.old at ((slice_index_or self.old at d).0, value) }
     {
         self.items[at].1 = value;
+    }
+
+    /// Gives the items from a place on other keys, one for each key.
+    pub fn set_keys(&mut self, at: usize, mut keys: Vec<K>)
+        requires { at + length keys.items ≤ length self.old }
+        ensures { (f : K → K) (a b c : List (K × V)) → self.old ≡ a ++ (b ++ c) → length a ≡ at → keys.items ≡ map (λ item. f item.0) b → self.new ≡ a ++ (map (λ item. (f item.0, item.1)) b ++ c) }
+    {
+        'keys: while let Some(key) = keys.pop() {
+            self.items[at + keys.len()].0 = key;
+        }
     }
 }

@@ -1,5 +1,5 @@
 use crate::*;
-use iot_text::{NoMemory, Path};
+use iot_text::{Name, NoMemory, Path};
 use std::alloc::Global;
 use std::process::Abort;
 
@@ -184,5 +184,102 @@ fn acts_are_copied(rt: HostRuntime) -> Result<(), NoMemory> {
     };
     let copy = act.copy(rt.alloc())?;
     assert!(rt; copy.reads.len() == 1 && copy.update.is_some() && copy.lines.is_empty());
+    Ok(())
+}
+
+fn name(rt: &impl Abort, text: &str) -> Name {
+    Name::parse(text.as_bytes()).expect(rt, "a name")
+}
+
+#[test]
+fn names_stand_in_order_with_their_kinds(rt: HostRuntime) -> Result<(), NoMemory> {
+    let mut tree = day(&rt, rt.alloc())?;
+    let file = put(&rt, rt.alloc(), "/a", b"x")?;
+    apply(&rt, rt.alloc(), &mut tree, &file)?;
+    let question = Question::Names(path(&rt, rt.alloc(), "/"));
+    match tree.answer(rt.alloc(), &question.copy(rt.alloc())?)? {
+        Answer::Names(children) => assert_eq!(rt;
+            children.copy(rt.alloc())?.as_slice(),
+            [
+                (name(&rt, "a"), Kind::IsFile),
+                (name(&rt, "src"), Kind::IsDir)
+            ]
+            .as_slice()
+        ),
+        _ => assert!(rt; false, "names"),
+    }
+    Ok(())
+}
+
+#[test]
+fn what_is_empty_can_be_removed(rt: HostRuntime) -> Result<(), NoMemory> {
+    let mut tree = day(&rt, rt.alloc())?;
+    for text in ["/", "/src", "/lib"] {
+        let update = Update::Remove(path(&rt, rt.alloc(), text));
+        assert!(rt; !tree.fits(&update), "{text}");
+    }
+    for text in ["/src/a", "/src"] {
+        let update = Update::Remove(path(&rt, rt.alloc(), text)).copy(rt.alloc())?;
+        apply(&rt, rt.alloc(), &mut tree, &update)?;
+        assert!(rt;
+            tree.kind(&path(&rt, rt.alloc(), text)) == Kind::Absent,
+            "{text}"
+        );
+    }
+    Ok(())
+}
+
+fn mv(rt: &impl Abort, alloc: Global, from: &str, to: &str) -> Update {
+    Update::Move(path(rt, alloc, from), path(rt, alloc, to))
+}
+
+#[test]
+fn a_directory_moves_with_what_is_in_it(rt: HostRuntime) -> Result<(), NoMemory> {
+    let mut tree = day(&rt, rt.alloc())?;
+    let file = put(&rt, rt.alloc(), "/lib", b"old")?;
+    apply(&rt, rt.alloc(), &mut tree, &file)?;
+    let update = mv(&rt, rt.alloc(), "/src", "/lib").copy(rt.alloc())?;
+    apply(&rt, rt.alloc(), &mut tree, &update)?;
+    for (text, kind) in [
+        ("/src", Kind::Absent),
+        ("/src/a", Kind::Absent),
+        ("/lib", Kind::IsDir),
+        ("/lib/a", Kind::IsFile),
+    ] {
+        assert!(rt; tree.kind(&path(&rt, rt.alloc(), text)) == kind, "{text}");
+    }
+    Ok(())
+}
+
+#[test]
+fn some_moves_do_not_fit(rt: HostRuntime) -> Result<(), NoMemory> {
+    let tree = day(&rt, rt.alloc())?;
+    for (from, to) in [
+        ("/", "/lib"),
+        ("/src", "/"),
+        ("/src", "/src"),
+        ("/src", "/src/b"),
+        ("/src/a", "/src"),
+        ("/lib", "/b"),
+        ("/src/a", "/lib/a"),
+    ] {
+        assert!(rt; !tree.fits(&mv(&rt, rt.alloc(), from, to)), "{from} {to}");
+    }
+    Ok(())
+}
+
+#[test]
+fn labels_are_copied(rt: HostRuntime) -> Result<(), NoMemory> {
+    let label = Label {
+        client: 1,
+        tid: 2,
+        script: name(&rt, "build"),
+        budget: 3,
+        way: Way::Certified,
+        kept: Files::new(rt.alloc()),
+    };
+    let copy = label.copy(rt.alloc())?;
+    assert!(rt; copy.client == 1 && copy.tid == 2 && copy.budget == 3);
+    assert!(rt; copy.way == Way::Certified && copy.kept.is_empty());
     Ok(())
 }

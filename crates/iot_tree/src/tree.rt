@@ -1,12 +1,14 @@
 //! Trees.
-ghost use Rattle.std.specs.Prelude.{◌≡◌, ◌≢◌, ◌↔◌, Some, IsTrue, IfOk, IfErr, OnOk, OnErr};
+ghost use Rattle.std.specs.Prelude.{◌≡◌, ◌≢◌, ◌↔◌, false, Some, IsSome, IsTrue, IfOk, IfErr, OnOk, OnErr};
 ghost use Rattle.std.specs.Option.{option_copied};
 ghost use Rattle.std.specs.FinMap as map;
 ghost use Rattle.iot_tree.specs.Tree.{IsTree, root_alone, parent_node};
-ghost use Rattle.iot_tree.specs.Updates.{FitsPut, FitsMakeDir, Fits, updated};
+ghost use Rattle.iot_tree.specs.Updates.{FitsPut, FitsMakeDir, FitsRemove, FitsMove, IsLeaf, Fits, moved, updated};
 ghost use Rattle.iot_tree.specs.Rows.{AreTreeRows, RefusesRows};
-ghost use Rattle.iot_tree.specs.Questions.{is_dir, kind_of, content_of, answer_of, content_answer, is_far_above};
+ghost use Rattle.iot_tree.specs.Questions.{is_dir, kind_of, content_of, answer_of, content_answer, names_answer, children_of, is_far_above};
 
+use crate::children::{begins_within, children_of, count_within};
+use crate::moves::{put_last, renamed_paths};
 use crate::places::{kind_in_gap, node_at, place_of};
 use crate::rows::first_bad_row;
 use crate::{Answer, Duplicate, Kind, Node, Question, RowFault, Rows, Update};
@@ -122,7 +124,8 @@ impl Tree {
         }
     }
 
-    /// The answer to the question. Takes memory for contents alone.
+    /// The answer to the question. Takes memory for contents and names alone. The question for names
+    /// takes time for each row below the directory.
     pub fn answer(&self, alloc: Global, question: &Question) -> Result<Answer, NoMemory>
         ensures answer { IfOk result (λ answer. answer ≡ answer_of self.now question.now) }
         ensures tree { IsTree self.now }
@@ -130,6 +133,7 @@ impl Tree {
         match question {
             Question::Kind(path) => Ok(self.kind(path).into_answer()),
             Question::Content(path) => self.content_answer(alloc, path),
+            Question::Names(path) => self.names_answer(alloc, path),
         }
     }
 
@@ -140,6 +144,8 @@ impl Tree {
         match update {
             Update::Put(path, _) => self.fits_put(path),
             Update::MakeDir(path) => self.fits_make_dir(path),
+            Update::Remove(path) => self.fits_remove(path),
+            Update::Move(from, to) => self.fits_move(from, to),
         }
     }
 
@@ -152,6 +158,11 @@ impl Tree {
         match update {
             Update::Put(path, bytes) => self.put(alloc, path, Node::File(bytes.copy(alloc)?)),
             Update::MakeDir(path) => self.put(alloc, path, Node::Dir),
+            Update::Remove(path) => {
+                self.remove(path);
+                Ok(())
+            }
+            Update::Move(from, to) => self.move_to(alloc, from, to),
         }
     }
 
@@ -227,5 +238,107 @@ impl Tree {
             Ok(at) => rows[at].1.content_answer(alloc),
             Err(gap) => Ok(kind_in_gap(rows, gap, path.names()).into_answer()),
         }
+    }
+
+    /// The answer to the question for the names in a directory.
+    fn names_answer(&self, alloc: Global, path: &Path) -> Result<Answer, NoMemory>
+        ensures answer { IfOk result (λ answer. answer ≡ names_answer (map.get self.now path.now) (is_far_above self.now path.now) (children_of self.now path.now)) }
+        ensures tree { IsTree self.now }
+    {
+        let rows = self.rows.as_slice();
+        match place_of(rows, path.names()) {
+            Ok(at) => match &rows[at].1 {
+                Node::Dir => {
+                    let below = &rows[at + 1..];
+                    let count = count_within(below, path.names());
+                    Ok(Answer::Names(children_of(alloc, &below[..count], path.names())?))
+                }
+                Node::FarDir => Ok(Answer::Away),
+                Node::File(_) | Node::FarFile => Ok(Answer::Absent),
+            },
+            Err(gap) => Ok(kind_in_gap(rows, gap, path.names()).into_answer()),
+        }
+    }
+
+    /// Whether what is at the path can go.
+    fn fits_remove(&self, path: &Path) -> bool
+        ensures { IsTrue result ↔ FitsRemove self.now path.now }
+    {
+        if path.names().is_empty() {
+            return false;
+        }
+        if !self.has_row(path) {
+            return false;
+        }
+        !self.has_below(path)
+    }
+
+    /// Whether what is at the first path can be moved to the second.
+    fn fits_move(&self, from: &Path, to: &Path) -> bool
+        ensures { IsTrue result ↔ FitsMove self.now from.now to.now }
+    {
+        // A path that is at or below no other is not the root.
+        if from.names().starts_with(to.names()) {
+            return false;
+        }
+        if to.names().starts_with(from.names()) {
+            return false;
+        }
+        if !self.has_row(from) {
+            return false;
+        }
+        if !self.is_in_known_dir(to) {
+            return false;
+        }
+        !self.has_below(to)
+    }
+
+    /// Whether the path has a row.
+    fn has_row(&self, path: &Path) -> bool
+        ensures { IsTrue result ↔ IsSome (map.get self.now path.now) }
+    {
+        self.node(path.names()).is_some()
+    }
+
+    /// Whether a row lies below the path.
+    fn has_below(&self, path: &Path) -> bool
+        ensures { (result ≡ false) ↔ IsLeaf self.now path.now }
+    {
+        let rows = self.rows.as_slice();
+        match place_of(rows, path.names()) {
+            Ok(at) => begins_within(&rows[at + 1..], path.names()),
+            // Below a path without a row there is none.
+            Err(_) => false,
+        }
+    }
+
+    /// Takes the path's row away.
+    fn remove(&mut self, path: &Path)
+        requires { FitsRemove self.old path.now }
+        ensures { self.new ≡ map.remove self.old path.now }
+    {
+        if let Ok(at) = place_of(self.rows.as_slice(), path.names()) {
+            self.rows.remove(at);
+        }
+    }
+
+    /// Moves the rows at or below the first path to the second, in place of the row that is there:
+    /// behind all others, and then from there into their place. After an error the tree is as it was.
+    fn move_to(&mut self, alloc: Global, from: &Path, to: &Path) -> Result<(), NoMemory>
+        requires { FitsMove self.old from.now to.now }
+        ensures ok { OnOk result (self.new ≡ moved self.old from.now to.now) }
+        ensures err { OnErr result (self.new ≡ self.old) }
+    {
+        let rows = self.rows.as_slice();
+        let Ok(at) = place_of(rows, from.names()) else {
+            return Ok(());
+        };
+        let moving = &rows[at..];
+        let count = count_within(moving, from.names());
+        let paths = renamed_paths(alloc, &moving[..count], from, to)?;
+        self.rows.set_keys(at, paths);
+        self.rows.rotate(at, count);
+        put_last(&mut self.rows, count, to.names());
+        Ok(())
     }
 }
