@@ -1,0 +1,9 @@
+pub mod Bytes
+pub mod Forms
+pub mod Closing
+pub mod Scripts
+pub mod Lines
+pub mod Events
+pub mod Readings
+pub mod Declarations
+pub mod FirstFault

@@ -1,0 +1,251 @@
+//! The lines of an event script, one at a time: what each says behind the names that were declared before it.
+ghost use Rattle.std.specs.Prelude.{◌≡◌, ◌+◌, ◌<◌, ◌≤◌, ◌^◌, length, IfOk, Some};
+ghost use Rattle.iot_lines.specs.Lines.{lines};
+ghost use Rattle.iot_lines.specs.Words.{words};
+ghost use Rattle.iot_event.specs.Forms.{form_of};
+ghost use Rattle.iot_event.specs.Closing.{closed_by};
+ghost use Rattle.iot_event.specs.Lines.{Scope, Reading, nothing_declared, place_of, client_line, script_line, run_line, crash_line, restart_line, restarts, by_form};
+ghost use Rattle.iot_event.specs.Events.{Gives, GivesReading};
+ghost use Rattle.iot_event.specs.Readings.{scope_of, AnswersEvent, AnswersScript, Answers};
+
+use crate::bytes::{fits_line, is_skipped};
+use crate::closing::{Closed, find_closing};
+use crate::event::{Event, SharedScript};
+use crate::fault::EventFault;
+use crate::form::{Form, form_of_line, is_restart};
+use crate::script::read_script;
+use indexmap::IndexSet;
+use iot_lines::split_line;
+use iot_text::Name;
+use std::alloc::Global;
+
+/// How many clients an input declares at most.
+const MOST_CLIENTS: usize = 1;
+
+/// How many scripts an input declares at most.
+const MOST_SCRIPTS: usize = 256;
+
+/// What the next lines give: an event or none, the text that is left, and the number of its first line.
+#[derive(Drop)]
+pub(crate) struct Step<'a> {
+    pub(crate) event: Option<Event>,
+    pub(crate) later: &'a [u8],
+    pub(crate) number: u64,
+}
+
+/// The names that were declared so far, each list in the order of declaration, and whether the server is down.
+#[derive(Drop)]
+pub(crate) struct Declared {
+    clients: IndexSet<Name>,
+    scripts: IndexSet<Name>,
+    down: bool,
+}
+
+/// Whether the first line of a text that is not skipped is `restart server`.
+fn restarts(text: &[u8]) -> bool
+    ensures { result ≡ restarts (lines text.now) }
+{
+    let mut rest = text;
+    while let Some((line, later)) = split_line(rest) {
+        if !is_skipped(line) {
+            return fits_line(line) && is_restart(line);
+        }
+        rest = later;
+    }
+    false
+}
+
+/// A line that is this event, with the text behind it.
+fn after_line(
+    event: Result<Event, EventFault>,
+    later: &[u8],
+    number: u64,
+) -> Result<Step<'_>, EventFault>
+    requires { number < 2 ^ 63 }
+    ensures line { (line : Reading) (scope : Scope) (declared : Declared)
+        → AnswersEvent line event declared → Answers (GivesReading line scope number (lines later.now)) result declared }
+    ensures later { IfOk result (λ step. step.later.now ≡ later.now) }
+    ensures number { IfOk result (λ step. step.number ≡ number + 1) }
+{
+    Ok(Step {
+        event: Some(event?),
+        later,
+        number: number + 1,
+    })
+}
+
+impl Declared {
+    /// Nothing is declared. Takes no memory.
+    pub(crate) fn new(alloc: Global) -> Declared
+        ensures { scope_of result ≡ nothing_declared }
+    {
+        Declared {
+            clients: IndexSet::new(alloc),
+            scripts: IndexSet::new(alloc),
+            down: false,
+        }
+    }
+
+    /// `client N`
+    fn client_line(&mut self, name: Name, number: u64) -> Result<Event, EventFault>
+        ensures { AnswersEvent (client_line (scope_of self.old) number name) result self.new }
+    {
+        if name.as_bytes() == b"server".as_slice() || self.clients.contains(&name) {
+            return Err(EventFault::Twice { line: number });
+        }
+        if self.clients.len() >= MOST_CLIENTS {
+            return Err(EventFault::TooMany { line: number });
+        }
+        self.clients.insert(name)?;
+        Ok(Event::Client(name))
+    }
+
+    /// `script N {`, with the text behind it.
+    fn script_line<'a>(
+        &mut self,
+        name: Name,
+        later: &'a [u8],
+        number: u64,
+    ) -> Result<Closed<'a>, EventFault>
+        ensures line { AnswersScript (script_line (scope_of self.old) number name (closed_by (lines later.now) 0)) name result self.new }
+        ensures count { IfOk result (λ script. script.count ≡ length (lines script.inside.now)) }
+        ensures inside { IfOk result (λ script. length script.inside.now ≤ length later.now) }
+        ensures shorter { IfOk result (λ script. script.count + length script.later.now < length later.now) }
+    {
+        let Some(script) = find_closing(later) else {
+            return Err(EventFault::BadLine { line: number });
+        };
+        if self.scripts.contains(&name) {
+            return Err(EventFault::Twice { line: number });
+        }
+        if self.scripts.len() >= MOST_SCRIPTS {
+            return Err(EventFault::TooMany { line: number });
+        }
+        self.scripts.insert(name)?;
+        Ok(script)
+    }
+
+    /// `run C S abort`
+    fn run_line(&self, client: Name, script: Name, number: u64) -> Result<Event, EventFault>
+        ensures { AnswersEvent (run_line (scope_of self.now) number client script) result self.now }
+    {
+        let (Some(client), Some(script)) = (self.client_place(client), self.script_place(script))
+        else {
+            return Err(EventFault::UnknownName { line: number });
+        };
+        Ok(Event::Run { client, script })
+    }
+
+    /// The place of a client.
+    fn client_place(&self, name: Name) -> Option<u64>
+        ensures { result ≡ place_of name self.now.clients.keys }
+    {
+        self.clients.get_index_of(&name).map(|place| place as u64)
+    }
+
+    /// The place of a script.
+    fn script_place(&self, name: Name) -> Option<u64>
+        ensures { result ≡ place_of name self.now.scripts.keys }
+    {
+        self.scripts.get_index_of(&name).map(|place| place as u64)
+    }
+
+    /// `crash server`, with the text behind it, where its restart is.
+    fn crash_line(&mut self, later: &[u8], number: u64) -> Result<Event, EventFault>
+        ensures { AnswersEvent (crash_line (scope_of self.old) number (lines later.now)) result self.new }
+    {
+        if !restarts(later) {
+            return Err(EventFault::BadLine { line: number });
+        }
+        self.down = true;
+        Ok(Event::CrashServer)
+    }
+
+    /// `restart server`, behind its crash.
+    fn restart_line(&mut self, number: u64) -> Result<Event, EventFault>
+        ensures { AnswersEvent (restart_line (scope_of self.old) number) result self.new }
+    {
+        if !self.down {
+            return Err(EventFault::BadLine { line: number });
+        }
+        self.down = false;
+        Ok(Event::RestartServer)
+    }
+
+    /// A script, from the line behind its first on.
+    fn script<'a>(
+        &mut self,
+        alloc: Global,
+        name: Name,
+        later: &'a [u8],
+        number: u64,
+    ) -> Result<Step<'a>, EventFault>
+        requires { number + length later.now < 2 ^ 63 }
+        ensures line { Answers (GivesReading (script_line (scope_of self.old) number name (closed_by (lines later.now) 0)) (scope_of self.old) number (lines later.now)) result self.new }
+        ensures shorter { IfOk result (λ step. length step.later.now ≤ length later.now) }
+        ensures number { IfOk result (λ step. step.number + length step.later.now ≤ number + 1 + length later.now) }
+    {
+        let script = self.script_line(name, later, number)?;
+        let code = read_script(alloc, &script, number + 1)?;
+        let shared = SharedScript::new(alloc, code)?;
+        Ok(Step {
+            event: Some(Event::Script(name, shared)),
+            later: script.later,
+            number: number + 1 + script.count + 1,
+        })
+    }
+
+    /// A line of this form.
+    fn by_form<'a>(
+        &mut self,
+        alloc: Global,
+        form: Form,
+        later: &'a [u8],
+        number: u64,
+    ) -> Result<Step<'a>, EventFault>
+        requires { number + length later.now < 2 ^ 63 }
+        ensures line { Answers (GivesReading (by_form (Some form) (scope_of self.old) number (lines later.now)) (scope_of self.old) number (lines later.now)) result self.new }
+        ensures shorter { IfOk result (λ step. length step.later.now ≤ length later.now) }
+        ensures number { IfOk result (λ step. step.number + length step.later.now ≤ number + 1 + length later.now) }
+    {
+        match form {
+            Form::Client(name) => after_line(self.client_line(name, number), later, number),
+            Form::Script(name) => self.script(alloc, name, later, number),
+            Form::Run { client, script } => {
+                after_line(self.run_line(client, script, number), later, number)
+            }
+            Form::ShowServer => after_line(Ok(Event::ShowServer), later, number),
+            Form::CrashServer => after_line(self.crash_line(later, number), later, number),
+            Form::RestartServer => after_line(self.restart_line(number), later, number),
+        }
+    }
+
+    /// The line of this number, with the text behind it: what it gives, and with it the lines of its script.
+    pub(crate) fn take<'a>(
+        &mut self,
+        alloc: Global,
+        line: &[u8],
+        later: &'a [u8],
+        number: u64,
+    ) -> Result<Step<'a>, EventFault>
+        requires { number + length later.now < 2 ^ 63 }
+        ensures line { Answers (Gives (scope_of self.old) number line.now (lines later.now)) result self.new }
+        ensures shorter { IfOk result (λ step. length step.later.now ≤ length later.now) }
+        ensures number { IfOk result (λ step. step.number + length step.later.now ≤ number + 1 + length later.now) }
+    {
+        if !fits_line(line) {
+            return Err(EventFault::BadLine { line: number });
+        }
+        if is_skipped(line) {
+            return Ok(Step {
+                event: None,
+                later,
+                number: number + 1,
+            });
+        }
+        match form_of_line(line) {
+            None => Err(EventFault::BadLine { line: number }),
+            Some(form) => self.by_form(alloc, form, later, number),
+        }
+    }
+}

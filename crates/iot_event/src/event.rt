@@ -1,0 +1,95 @@
+//! Events: what an event script asks for.
+use iot_lang::Script;
+use iot_text::{Name, NoMemory};
+use std::alloc::Global;
+use std::marker::Model;
+use std::rc::Rc;
+
+/// One event. Clients and scripts that were declared go by their place of declaration, from 0.
+#[derive(Drop)]
+pub enum Event {
+    /// `client N`: the client of this name is a node from now on.
+    Client(Name),
+
+    /// `script N {` up to its `}`: the script of this name can be run from now on.
+    Script(Name, SharedScript),
+
+    /// `run C S abort`: the client runs the script, and gives up where it is in conflict.
+    Run { client: u64, script: u64 },
+
+    /// `show server`: the server's tree is printed.
+    ShowServer,
+
+    /// `crash server`: the server stops. A restart follows at once.
+    CrashServer,
+
+    /// `restart server`: the server that crashed comes back.
+    RestartServer,
+}
+
+/// A script, shared by the event that declares it and all who run it. Contracts see it as its `Code`.
+#[derive(Drop)]
+pub struct SharedScript {
+    script: Rc<Script>,
+}
+
+impl Model for SharedScript {
+    ghost use Rattle.iot_lang.specs.Code.{Code, coded_code};
+
+    ghost Value = { Code };
+
+    ghost coded = { coded_code };
+
+    ghost view = { λ shared. shared.script.value };
+}
+
+impl SharedScript {
+    ghost use Rattle.std.specs.Prelude.{◌≡◌, IfOk};
+
+    /// A script that can be shared.
+    ///
+    /// # Errors
+    ///
+    /// Where there is no memory for it.
+    pub fn new(alloc: Global, script: Script) -> Result<SharedScript, NoMemory>
+        ensures { IfOk result (λ shared. shared ≡ script) }
+    {
+        Ok(SharedScript {
+            script: Rc::new(alloc, script)?,
+        })
+    }
+
+    /// The script.
+    #[inline]
+    pub fn script(&self) -> &Script
+        ensures { result.now ≡ self.now }
+    {
+        &self.script
+    }
+
+    /// The same script, without a copy of it.
+    ///
+    /// # Errors
+    ///
+    /// Only where it is shared more often than can be counted.
+    #[inline]
+    pub fn share(&self) -> Result<SharedScript, NoMemory>
+        ensures { IfOk result (λ shared. shared ≡ self.now) }
+    {
+        Ok(SharedScript {
+            script: Rc::clone(&self.script)?,
+        })
+    }
+
+    /// The script behind its count of owners, for those who keep it while it runs.
+    ///
+    /// # Errors
+    ///
+    /// Only where it is shared more often than can be counted.
+    #[inline]
+    pub fn shared(&self) -> Result<Rc<Script>, NoMemory>
+        ensures { IfOk result (λ script. script.value ≡ self.now) }
+    {
+        Rc::clone(&self.script)
+    }
+}

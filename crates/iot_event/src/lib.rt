@@ -1,0 +1,19 @@
+//! Event scripts: what an input asks for, line by line.
+#![tactic(auto)]
+
+mod bytes;
+mod closing;
+mod declared;
+mod event;
+mod fault;
+mod form;
+mod parsing;
+mod script;
+
+pub use event::{Event, SharedScript};
+pub use fault::EventFault;
+pub use iot_text::NoMemory;
+pub use parsing::parse;
+
+#[cfg(test)]
+mod tests;
