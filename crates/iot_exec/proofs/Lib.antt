@@ -1,0 +1,15 @@
+pub mod PlanLaws
+pub mod MachineLaws
+pub mod Guards
+pub mod Elsewhere
+pub mod VariableLaws
+pub mod Steps
+pub mod CommandLaws
+pub mod KeptLaws
+pub mod PositionLaws
+pub mod DoneLaws
+pub mod ExecLaws
+pub mod Trees
+pub mod Roots
+pub mod Fits
+pub mod RunLaws

@@ -1,0 +1,13 @@
+use Rattle.std.proofs.Common.{length, ◌≤◌, ◌-◌}
+use Rattle.iot_exec.specs.Commands.{kept_files}
+use Rattle.iot_exec.specs.Execs.{IsRunning, act_count}
+use Rattle.iot_exec.proofs.job.run.Given as goal
+
+abbrev pub invariant-acts : goal.invariant-acts
+invariant-acts l = record {
+  running : IsRunning l.fn.script.value (kept_files l.fn.kept) l.t (length l.acts) l.acts l.exec l.tree;
+  within : act_count l.exec ≤ l.budget;
+}
+
+abbrev pub decreases-acts : goal.decreases-acts
+decreases-acts l = l.budget - act_count l.exec

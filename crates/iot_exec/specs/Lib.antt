@@ -1,0 +1,17 @@
+pub mod Paths
+pub mod Plans
+pub mod Variables
+pub mod Values
+pub mod Operands
+pub mod Endings
+pub mod Commands
+pub mod Runs
+pub mod Places
+pub mod Traces
+pub mod Serial
+pub mod Asking
+pub mod Positions
+pub mod Turns
+pub mod Going
+pub mod Misses
+pub mod Execs

@@ -1,0 +1,111 @@
+//! Conditions and the names of loops.
+ghost use Rattle.std.specs.Prelude.{◌≡◌, IfOk, OnOk, map};
+ghost use Rattle.std.specs.Option.{option_copied};
+ghost use Rattle.iot_tree.specs.Questions.{content_of};
+ghost use Rattle.iot_exec.specs.Plans.{Done};
+ghost use Rattle.iot_exec.specs.Asking.{asked, Leads, Ends};
+ghost use Rattle.iot_exec.specs.Commands.{truth, is_file_at, is_dir_at, are_same_at, path_if_any, name_of, turns};
+
+use crate::asking::Asking;
+use crate::endings::Stop;
+use crate::env::Env;
+use iot_lang::{Cond, Word};
+use iot_text::{Name, NoMemory, Path};
+use iot_tree::{Kind, Question, Sequence};
+use std::alloc::{AllocError, Global};
+
+/// The path whose text is the value of a word, if there is one.
+fn path_of(alloc: Global, env: &Env, word: &Word) -> Result<Option<Path>, NoMemory>
+    ensures { IfOk result (λ path. path ≡ path_if_any env.now word.now) }
+{
+    match env.path(alloc, word) {
+        Ok(path) => Ok(Some(path)),
+        Err(Stop::Refused(_)) => Ok(None),
+        Err(Stop::NoMemory) => Err(AllocError),
+    }
+}
+
+impl<'t> Asking<'t> {
+    /// Whether the condition holds.
+    pub(crate) fn holds(&mut self, env: &Env, condition: &Cond) -> Result<bool, NoMemory>
+        ensures { IfOk result (λ holds. Leads self.old (truth env.now condition.now) self.new (Done holds)) }
+    {
+        match condition {
+            Cond::File(path) => match path_of(self.alloc, env, path)? {
+                Some(path) => self.is_file(&path),
+                None => Ok(false),
+            },
+            Cond::Dir(path) => match path_of(self.alloc, env, path)? {
+                Some(path) => self.is_dir(&path),
+                None => Ok(false),
+            },
+            Cond::Same(first, second) => {
+                let Some(first) = path_of(self.alloc, env, first)? else {
+                    return Ok(false);
+                };
+                let Some(second) = path_of(self.alloc, env, second)? else {
+                    return Ok(false);
+                };
+                self.are_same(&first, &second)
+            }
+            Cond::Ok => Ok(env.ok),
+        }
+    }
+
+    /// Whether a file is at the path.
+    fn is_file(&mut self, path: &Path) -> Result<bool, NoMemory>
+        ensures { IfOk result (λ holds. Leads self.old (is_file_at path.now) self.new (Done holds)) }
+    {
+        Ok(matches!(self.kind(path)?, Kind::IsFile))
+    }
+
+    /// Whether a directory is at the path.
+    fn is_dir(&mut self, path: &Path) -> Result<bool, NoMemory>
+        ensures { IfOk result (λ holds. Leads self.old (is_dir_at path.now) self.new (Done holds)) }
+    {
+        Ok(matches!(self.kind(path)?, Kind::IsDir))
+    }
+
+    /// Whether two files have the same contents.
+    fn are_same(&mut self, first: &Path, second: &Path) -> Result<bool, NoMemory>
+        ensures { IfOk result (λ holds. Leads self.old (are_same_at first.now second.now) self.new (Done holds)) }
+    {
+        let one = self.content(first)?;
+        let two = self.content(second)?;
+        match (one, two) {
+            (Some(one), Some(two)) => Ok(one == two),
+            _ => Ok(false),
+        }
+    }
+
+    /// The contents of a file, if they are known, lent out of the tree.
+    fn content(&mut self, path: &Path) -> Result<Option<&'t [u8]>, NoMemory>
+        ensures content { IfOk result (λ bytes. option_copied bytes ≡ content_of self.old.tree.now path.now) }
+        ensures asked { OnOk result (self.new ≡ asked self.old (Question.Content path.now)) }
+    {
+        let question = Question::Content(path.copy(self.alloc)?);
+        let answer = self.tree.answer(self.alloc, &question)?;
+        self.record(question, answer)?;
+        Ok(self.tree.content(path))
+    }
+
+    /// The names that a loop goes through.
+    pub(crate) fn turns(&mut self, env: &Env, path: &Word) -> Result<Sequence<Name>, Stop>
+        ensures { Ends self.old (turns env.now path.now) self.new result }
+    {
+        let path = env.path(self.alloc, path)?;
+        let children = self.names(&path)?;
+        Ok(names_of(self.alloc, children.as_slice())?)
+    }
+}
+
+/// The names without their kinds.
+fn names_of(alloc: Global, children: &[(Name, Kind)]) -> Result<Sequence<Name>, NoMemory>
+    ensures { IfOk result (λ names. names ≡ map name_of children.now) }
+{
+    let mut names = Vec::with_capacity(alloc, children.len())?;
+    'names: for (name, _kind) in children {
+        names.push(*name)?;
+    }
+    Ok(Sequence::from_vec(names))
+}

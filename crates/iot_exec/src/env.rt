@@ -1,0 +1,86 @@
+//! What a script keeps beside the tree.
+ghost use Rattle.std.specs.Prelude.{◌≡◌, ◌++◌, ◌≤◌, length, OnOk, IfOk};
+ghost use Rattle.iot_exec.specs.Values.{fresh, with_variable, piece_value, word_value};
+ghost use Rattle.iot_text.specs.Paths.{path_of};
+ghost use Rattle.iot_exec.specs.Operands.{Gives, word_operand, path_operand, path_or_bad};
+
+use crate::endings::{Refusal, Stop};
+use crate::variables::Variables;
+use iot_lang::{Piece, Word};
+use iot_text::{NoMemory, Path, Text, TextFault};
+use std::alloc::Global;
+
+/// How many bytes the value of a word and the contents of a file have at most.
+pub(crate) const LIMIT: usize = 8192;
+
+/// What a script keeps beside the tree: the variables that are set, and whether its last command or `for` succeeded.
+#[derive(Drop)]
+pub struct Env {
+    pub(crate) variables: Variables,
+    pub(crate) ok: bool,
+}
+
+impl Env {
+    /// No variable is set, and all is well. Takes no memory.
+    pub(crate) fn new(alloc: Global) -> Env
+        ensures { result ≡ fresh }
+    {
+        Env {
+            variables: Variables::new(alloc),
+            ok: true,
+        }
+    }
+
+    /// Sets a variable.
+    pub(crate) fn set(&mut self, name: Text, value: Text) -> Result<(), NoMemory>
+        ensures { OnOk result (self.new ≡ with_variable name value self.old) }
+    {
+        self.variables.set(name, value)
+    }
+
+    /// Appends the value of a piece.
+    fn append(&self, piece: &Piece, out: &mut Text) -> Result<(), NoMemory>
+        ensures { OnOk result (out.new ≡ out.old ++ piece_value self.now piece.now) }
+    {
+        match piece {
+            Piece::Plain(text) | Piece::Quoted(text) => out.append_text(text),
+            Piece::Var(name) => match self.variables.get(name) {
+                Some(value) => out.append_text(value),
+                None => Ok(()),
+            },
+        }
+    }
+
+    /// The value of a word, or its refusal as too large.
+    pub(crate) fn word(&self, alloc: Global, word: &Word) -> Result<Text, Stop>
+        ensures { Gives result (word_operand self.now word.now) }
+    {
+        let mut value = Text::new(alloc);
+        'pieces: for piece in word.pieces() {
+            self.append(piece, &mut value)?;
+            if value.len() > LIMIT {
+                return Err(Stop::Refused(Refusal::TooLarge));
+            }
+        }
+        Ok(value)
+    }
+
+    /// The path whose text is the value of a word, or the refusal of the word.
+    pub(crate) fn path(&self, alloc: Global, word: &Word) -> Result<Path, Stop>
+        ensures { Gives result (path_operand self.now word.now) }
+    {
+        let text = self.word(alloc, word)?;
+        parse_path(alloc, text.as_bytes())
+    }
+}
+
+/// The path of the text, or its refusal.
+fn parse_path(alloc: Global, text: &[u8]) -> Result<Path, Stop>
+    ensures { Gives result (path_or_bad (path_of text.now)) }
+{
+    match Path::parse(alloc, text) {
+        Ok(path) => Ok(path),
+        Err(TextFault::NoMemory) => Err(Stop::NoMemory),
+        Err(_) => Err(Stop::Refused(Refusal::BadPath)),
+    }
+}

@@ -1,0 +1,15 @@
+//! What a script did.
+use iot_tree::{Acts, Tree};
+
+/// What a script did on a tree.
+#[derive(Drop)]
+pub struct Ran {
+    /// Its acts, in order.
+    pub acts: Acts,
+
+    /// The tree after them.
+    pub tree: Tree,
+
+    /// Whether no statement was left, or `stop` was done.
+    pub ended: bool,
+}
