@@ -1,5 +1,5 @@
 -- Lists that are looked up and changed at a place, seen through a map.
-use Rattle.std.proofs.Common.{◌≡◌, ℕ, zero, suc, ◌<◌, List, [], ◌∷◌, ◌++◌, length, map, slice_index_or, slice_set, refl, sym, ap, ◌∙◌, arith}
+use Rattle.std.proofs.Common.{◌≡◌, ℕ, zero, suc, ◌<◌, List, [], ◌∷◌, ◌++◌, length, map, slice_index_or, slice_set, refl, ap, arith}
 use Rattle.iot_app.specs.Steps.{change_at}
 
 module _ {A B : Type 0} (f : A → B) where

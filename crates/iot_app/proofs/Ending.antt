@@ -1,15 +1,15 @@
 -- How a whole run ends, by how its steps end.
-use Rattle.std.proofs.Common.{◌≡◌, ℕ, ◌+◌, ◌<◌, List, [], ◌++◌, Option, None, Some, refl, sym, subst, inl, inr, arith}
+use Rattle.std.proofs.Common.{◌≡◌, ℕ, ◌<◌, List, [], Option, None, Some, refl, sym, subst, inl, inr, arith}
 use Rattle.std.specs.Io.KnownBytes.{Consumes}
 use Rattle.iot_io.specs.ReadAll.{Took}
-use Rattle.iot_app.specs.Endings.{Counted, EndsWith, IsSaid, usage, too_long, no_script, transcript, usage_line, too_long_line, bad_line}
+use Rattle.iot_app.specs.Endings.{Counted, EndsWith, usage, too_long, no_script, transcript, usage_line, too_long_line, refusal_line}
 use Rattle.iot_app.specs.Input.{GivesEvents, GivesNone}
-use Rattle.iot_app.specs.Job.{LineEnds, whole, front, PlayEnds, all, first, part, RefusalEnds, Silent}
-use Rattle.iot_app.specs.declared.event.Event.{Event}
+use Rattle.iot_app.specs.Job.{LineEnds, whole, front, PlayEnds, all, first, part, RefusalEnds}
+use Rattle.iot_event.specs.declared.event.Event.{Event}
 use Rattle.iot_app.specs.declared.input.InputFault.{InputFault}
 use Rattle.iot_app.specs.declared.input.InputFault.TheVariants as inputs
 use Rattle.iot_app.specs.declared.status.Status.{Status}
-use Rattle.iot_app.specs.declared.status.Status.TheVariants.{Done, Refused, Usage, ReadFailed, WriteFailed, NoMemory}
+use Rattle.iot_app.specs.declared.status.Status.TheVariants.{Usage}
 
 consumes_none : (left : Option (List ℕ)) → Consumes left left []
 consumes_none None = tt
@@ -83,24 +83,24 @@ module _ (words : ℕ) (reads writes : List ℕ → Type 0) (at_end : Type 0) wh
         cut = line.cut;
         written = line.written;
       })
-  fault_ends (inputs.BadLine number) status w e none gives (inl (whole is written steady)) =
+  fault_ends (inputs.NoScript fault) status w e none gives (inl (whole is written steady)) =
       subst Ended (sym is) (record {
         no_words = none;
         input = gives.input;
-        text = bad_line number;
+        text = refusal_line fault;
         read = gives.read;
-        refused = inr (record { within = gives.within; number = number; spelled = gives.spelled; says = refl }, gives.whole);
+        refused = inr (record { within = gives.within; fault = fault; spelled = gives.spelled; says = refl }, gives.whole);
         written = written;
       })
-  fault_ends (inputs.BadLine number) status w e none gives (inl (front is line failed)) =
+  fault_ends (inputs.NoScript fault) status w e none gives (inl (front is line failed)) =
       subst Ended (sym is) (record {
         input = gives.input;
-        text = bad_line number;
+        text = refusal_line fault;
         count = line.count;
         read = gives.read;
-        said = no_script (record { within = gives.within; number = number; spelled = gives.spelled; says = refl });
+        said = no_script (record { within = gives.within; fault = fault; spelled = gives.spelled; says = refl });
         cut = line.cut;
         written = line.written;
       })
-  fault_ends (inputs.BadLine number) status w e none gives (inr silent) =
+  fault_ends (inputs.NoScript fault) status w e none gives (inr silent) =
       subst Ended (sym silent.same) (record { no_words = none; input = gives.input; text = []; read = gives.read; said = inl refl; written = silent.written })

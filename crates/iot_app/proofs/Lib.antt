@@ -1,10 +1,6 @@
 pub mod Serial
 pub mod ByPlace
-pub mod Fits
 pub mod Running
 pub mod Stepping
 pub mod Playing
 pub mod Ending
-pub mod Declarations
-pub mod Lines
-pub mod Unquoted

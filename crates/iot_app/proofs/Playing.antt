@@ -1,17 +1,17 @@
 -- Events that are done one by one.
-use Rattle.std.proofs.Common.{◌≡◌, ℕ, zero, suc, ◌+◌, ◌<◌, ◌≤◌, List, [], ◌∷◌, ◌++◌, length, take, drop, slice_index_or, Option, refl, sym, ap, subst, ◌∙◌, arith, append_assoc, add-one, length-append}
-use Rattle.std.proofs.lemmas.List.{append-nil, drop_all, take_all}
+use Rattle.std.proofs.Common.{◌≡◌, ℕ, suc, ◌+◌, ◌<◌, Bool, true, false, not, List, [], ◌∷◌, ◌++◌, length, take, drop, slice_index_or, Option, refl, sym, ap, subst, ◌∙◌, arith, append_assoc, add-one, length-append}
+use Rattle.std.proofs.lemmas.List.{append-nil}
 use Rattle.std.proofs.Math.Seq.{drop-cons, take-suc, take-append-add}
 use Rattle.std.specs.Io.KnownBytes.{Appends}
 use Rattle.std.proofs.KnownBytes.{Appends-trans}
-use Rattle.iot_app.specs.Parts.{Part, Then, Does, InTurn}
+use Rattle.iot_app.specs.Parts.{Part, InTurn}
 use Rattle.iot_app.specs.Machine.{Machine, opening}
 use Rattle.iot_app.specs.Steps.{Transcript, event_part}
-use Rattle.iot_app.specs.World.{StandsFor, Refines, CountsAtMost}
-use Rattle.iot_app.specs.Endings.{HasTranscript}
+use Rattle.iot_app.specs.World.{StandsFor, Refines, CountsAtMost, DeclaredOn}
 use Rattle.iot_app.specs.Played.{PlayedFirst, PlayedFront}
-use Rattle.iot_app.specs.Declarations.{AreDeclared}
-use Rattle.iot_app.specs.declared.event.Event.{Event}
+use Rattle.iot_app.specs.Allowed.{IsAllowed}
+use Rattle.iot_event.specs.declared.event.Event.{Event}
+use Rattle.iot_event.specs.declared.event.Event.TheVariants as events
 use Rattle.iot_app.specs.declared.world.World.{World}
 
 -- one more event in turn
@@ -34,6 +34,25 @@ module _ {S E : Type 0} (part : E → Part S) where
     whole = ap (λ (t : List ℕ). t ++ more) front.whole ∙ append_assoc front.front front.rest more;
   }
 
+-- ---- which event may come
+
+not_true : (alive : Bool) → not alive ≡ false → alive ≡ true
+not_true true is = refl
+not_true false is = absurd cc
+
+not_false : (alive : Bool) → not alive ≡ true → alive ≡ false
+not_false true is = absurd cc
+not_false false is = refl
+
+-- the first of events that are declared may come
+allowed : (event : Event) (later : List Event) (world : World) → DeclaredOn (event ∷ later) world → IsAllowed event (length world.clients.items) (length world.scripts.items) world.alive
+allowed (events.Client name) later world declared = tt
+allowed (events.Script name code) later world declared = tt
+allowed (events.Run client script) later world declared = (declared.1, declared.2, not_true world.alive declared.0)
+allowed events.ShowServer later world declared = tt
+allowed events.CrashServer later world declared = not_true world.alive declared.0
+allowed events.RestartServer later world declared = not_false world.alive declared.0
+
 -- the first so many events are done and what they say is written
 pub record PlaysOn (before after : Option (List ℕ)) (events : List Event) (world : World) (done : ℕ) : Type 0 where
   pub text : List ℕ
@@ -41,7 +60,7 @@ pub record PlaysOn (before after : Option (List ℕ)) (events : List Event) (wor
   pub transcript : Transcript (take done events) opening text machine
   pub stands : StandsFor world machine
   pub written : Appends before after text
-  pub declared : AreDeclared (drop done events) (length world.clients.items) (length world.scripts.items)
+  pub declared : DeclaredOn (drop done events) world
   pub counts : CountsAtMost done world
 
 -- the event that is done next, and its text
@@ -73,7 +92,7 @@ module _ (before mid : Option (List ℕ)) (events : List Event) (old new : World
 
   -- it is done, and what it says is written
   pub plays_more : (after : Option (List ℕ))
-      → ((later : List Event) → AreDeclared (event ∷ later) (length old.clients.items) (length old.scripts.items) → AreDeclared later (length new.clients.items) (length new.scripts.items))
+      → ((later : List Event) → DeclaredOn (event ∷ later) old → DeclaredOn later new)
       → ((limit : ℕ) → CountsAtMost limit old → CountsAtMost (limit + 1) new)
       → Appends mid after out
       → PlaysOn before after events new (done + 1)
@@ -83,7 +102,7 @@ module _ (before mid : Option (List ℕ)) (events : List Event) (old new : World
     transcript = next.transcript;
     stands = next.stands;
     written = Appends-trans before mid after plays.text out plays.written appends;
-    declared = declares (drop (done + 1) events) (subst (λ (es : List Event). AreDeclared es (length old.clients.items) (length old.scripts.items)) rest plays.declared);
+    declared = declares (drop (done + 1) events) (subst (λ (es : List Event). DeclaredOn es old) rest plays.declared);
     counts = counts done plays.counts;
   }
 
@@ -108,3 +127,9 @@ plays_first before after events world done plays = record {
   transcript = record { machine = plays.machine; transcript = plays.transcript };
   written = plays.written;
 }
+
+-- the next event may come
+pub next_allowed : (before after : Option (List ℕ)) (events : List Event) (world : World) (done : ℕ) (event : Event) → PlaysOn before after events world done → done < length events → event ≡ slice_index_or events done event → IsAllowed event (length world.clients.items) (length world.scripts.items) world.alive
+next_allowed before after events world done event plays within here =
+    allowed event (drop (suc done) events) world
+    (subst (λ (es : List Event). DeclaredOn es world) (drop-cons events done event within ∙ ap (λ (e : Event). e ∷ drop (suc done) events) (sym here)) plays.declared)

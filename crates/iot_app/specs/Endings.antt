@@ -1,12 +1,14 @@
 -- What a run of the program has read and written, by the status that it ends with. `reads bytes` says that these bytes were
 -- taken from the source, `at_end` that nothing is left there, and `writes bytes` that these were written to the sink.
-use Rattle.std.specs.Prelude.{◌≡◌, ◌⊎◌, ℕ, zero, suc, ◌+◌, ◌<◌, ◌≤◌, List, [], ◌∷◌, ◌++◌, length, take, codes, decimal}
+use Rattle.std.specs.Prelude.{◌≡◌, ◌⊎◌, ℕ, zero, suc, ◌<◌, ◌≤◌, List, [], ◌++◌, length, take, codes, decimal}
 use Rattle.iot_io.specs.Count.{Rose}
-use Rattle.iot_app.specs.Events.{parsed, Events, BadLine}
+use Rattle.iot_event.specs.Events.{IsRead, Events, Fault}
+use Rattle.iot_event.specs.declared.fault.EventFault.{EventFault}
+use Rattle.iot_event.specs.declared.fault.EventFault.TheVariants as faults
 use Rattle.iot_app.specs.Machine.{Machine, opening}
 use Rattle.iot_app.specs.Steps.{Transcript}
 use Rattle.iot_app.specs.Texts.{line}
-use Rattle.iot_app.specs.declared.event.Event.{Event}
+use Rattle.iot_event.specs.declared.event.Event.{Event}
 use Rattle.iot_app.specs.declared.status.Status.{Status}
 use Rattle.iot_app.specs.declared.status.Status.TheVariants as statuses
 
@@ -19,8 +21,19 @@ input_limit = 4194304
 abbrev pub too_long_line : List ℕ
 too_long_line = line (codes "input too long")
 
-abbrev pub bad_line : ℕ → List ℕ
-bad_line number = line (codes "line " ++ decimal number ++ codes ": bad line")
+-- what is wrong in a line
+abbrev pub fault_line : ℕ → List ℕ → List ℕ
+fault_line number what = line (codes "line " ++ decimal number ++ codes ": " ++ what)
+
+-- the line that names the fault of the first bad line; want of memory is none
+abbrev pub refusal_line : EventFault → List ℕ
+refusal_line faults.NoMemory = []
+refusal_line (faults.BadLine number) = fault_line number (codes "bad line")
+refusal_line (faults.UnknownName number) = fault_line number (codes "unknown name")
+refusal_line (faults.Twice number) = fault_line number (codes "named twice")
+refusal_line (faults.TooMany number) = fault_line number (codes "too many")
+refusal_line (faults.BadStatement number) = fault_line number (codes "bad statement")
+refusal_line (faults.TooDeep number) = fault_line number (codes "nested too deep")
 
 abbrev pub usage_line : List ℕ
 usage_line = line (codes "usage: iot [--json | --gen N | --save | --image]")
@@ -30,7 +43,7 @@ usage_line = line (codes "usage: iot [--json | --gen N | --save | --image]")
 -- the input is an event script of these events
 pub record IsScript (input : List ℕ) (events : List Event) : Type 0 where
   pub within : length input ≤ input_limit
-  pub spelled : parsed input ≡ Events events
+  pub spelled : IsRead input (Events events)
 
 -- the input is over its limit, as far as it was read, and refused with this line
 pub record IsTooLong (input text : List ℕ) : Type 0 where
@@ -40,9 +53,9 @@ pub record IsTooLong (input text : List ℕ) : Type 0 where
 -- the input is no event script, and refused with this line
 pub record IsNoScript (input text : List ℕ) : Type 0 where
   pub within : length input ≤ input_limit
-  pub number : ℕ
-  pub spelled : parsed input ≡ BadLine number
-  pub says : text ≡ bad_line number
+  pub fault : EventFault
+  pub spelled : IsRead input (Fault fault)
+  pub says : text ≡ refusal_line fault
 
 -- a transcript of these events, from the opening on
 pub record HasTranscript (events : List Event) (text : List ℕ) : Type 0 where

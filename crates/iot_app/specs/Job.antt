@@ -1,12 +1,12 @@
 -- How the steps of a run end, which `Endings` says of the whole.
 use Rattle.std.specs.Prelude.{◌≡◌, ◌⊎◌, ℕ, ◌<◌, List, [], length, take}
-use Rattle.iot_app.specs.Endings.{Counted, HasRisen, IsSteady, too_long_line, bad_line}
+use Rattle.iot_app.specs.Endings.{Counted, HasRisen, IsSteady, too_long_line, refusal_line}
 use Rattle.iot_app.specs.Played.{PlayedAll, PlayedFirst, PlayedFront}
-use Rattle.iot_app.specs.declared.event.Event.{Event}
+use Rattle.iot_event.specs.declared.event.Event.{Event}
 use Rattle.iot_app.specs.declared.input.InputFault.{InputFault}
 use Rattle.iot_app.specs.declared.input.InputFault.TheVariants as inputs
 use Rattle.iot_app.specs.declared.status.Status.{Status}
-use Rattle.iot_app.specs.declared.status.Status.TheVariants.{Done, Refused, Usage, ReadFailed, WriteFailed, NoMemory}
+use Rattle.iot_app.specs.declared.status.Status.TheVariants.{Done, Refused, ReadFailed, WriteFailed, NoMemory}
 
 -- the sink's counts stay as they were
 abbrev pub SinkSteady : (writes empties : Counted) → Type 0
@@ -43,4 +43,4 @@ abbrev pub RefusalEnds : InputFault → Status → (List ℕ → Type 0) → (wr
 RefusalEnds inputs.NoMemory status wrote writes empties = Silent status NoMemory wrote writes empties
 RefusalEnds inputs.Failed status wrote writes empties = Silent status ReadFailed wrote writes empties
 RefusalEnds inputs.TooLong status wrote writes empties = LineEnds Refused too_long_line status wrote writes empties
-RefusalEnds (inputs.BadLine number) status wrote writes empties = LineEnds Refused (bad_line number) status wrote writes empties ⊎ Silent status NoMemory wrote writes empties
+RefusalEnds (inputs.NoScript fault) status wrote writes empties = LineEnds Refused (refusal_line fault) status wrote writes empties ⊎ Silent status NoMemory wrote writes empties

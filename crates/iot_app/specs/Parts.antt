@@ -1,5 +1,5 @@
 -- Steps of a machine that writes, and how they are put together, over any state.
-use Rattle.std.specs.Prelude.{◌≡◌, ℕ, List, [], ◌∷◌, ◌++◌}
+use Rattle.std.specs.Prelude.{◌≡◌, ℕ, Bool, true, false, List, [], ◌∷◌, ◌++◌}
 
 -- from a state, a part may write this text and go on to the next state
 abbrev pub Part : Type 0 → Type 1
@@ -35,6 +35,14 @@ pub record Then {S : Type 0} (one other : Part S) (m : S) (text : List ℕ) (n :
   pub first : one m front mid
   pub second : other mid rest n
   pub whole : text ≡ front ++ rest
+
+-- one part where a test of the state holds, and else another
+abbrev pub if_holds : {S : Type 0} → Bool → Part S → Part S → Part S
+if_holds true one other = one
+if_holds false one other = other
+
+abbrev pub Choose : {S : Type 0} → (S → Bool) → Part S → Part S → Part S
+Choose test one other m = if_holds (test m) one other m
 
 -- events in turn, each by its part
 abbrev pub InTurn : {S E : Type 0} → (E → Part S) → List E → Part S

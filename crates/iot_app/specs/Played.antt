@@ -1,8 +1,8 @@
 -- What was written of the events, by how doing them ended. `writes bytes` says that these bytes were written to the sink.
-use Rattle.std.specs.Prelude.{◌≡◌, ◌⊎◌, ℕ, ◌<◌, List, [], length, take, Result, Ok, Err, ⊤}
+use Rattle.std.specs.Prelude.{◌≡◌, ◌⊎◌, ℕ, ◌<◌, List, length, take, Result, Ok, Err, ⊤}
 use Rattle.iot_io.specs.Count.{Rose}
 use Rattle.iot_app.specs.Endings.{HasTranscript}
-use Rattle.iot_app.specs.declared.event.Event.{Event}
+use Rattle.iot_event.specs.declared.event.Event.{Event}
 use Rattle.iot_app.specs.declared.play.PlayFault.{PlayFault}
 use Rattle.iot_app.specs.declared.play.PlayFault.TheVariants as faults
 

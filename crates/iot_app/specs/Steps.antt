@@ -1,11 +1,13 @@
 -- What each event does to the plain machine, and what it prints.
-use Rattle.std.specs.Prelude.{ℕ, zero, suc, ◌+◌, List, [], ◌∷◌, ◌++◌, length, slice_index_or}
-use Rattle.iot_app.specs.Parts.{Part, Does, Says, Append, Exchange, From, Then, InTurn}
-use Rattle.iot_app.specs.Runs.{acts_of, lines_of}
-use Rattle.iot_app.specs.Machine.{Machine, Entry, Client, Declared, Certified, entry_run, server_tree}
-use Rattle.iot_app.specs.Texts.{client_line, end_line, commit_line, settled_line, transaction_name, output, tree_text}
-use Rattle.iot_app.specs.declared.event.Event.{Event}
-use Rattle.iot_app.specs.declared.event.Event.TheVariants as events
+use Rattle.std.specs.Prelude.{ℕ, zero, suc, ◌+◌, Bool, true, false, List, [], ◌∷◌, ◌++◌, length, slice_index_or, codes}
+use Rattle.std.specs.FinMap.{empty}
+use Rattle.iot_exec.specs.Serial.{Entry, run_entry}
+use Rattle.iot_lang.specs.Code.{End}
+use Rattle.iot_app.specs.Parts.{Part, Does, Says, Append, Exchange, From, Then, Choose, InTurn}
+use Rattle.iot_app.specs.Machine.{Machine, Commit, Client, Declared, Way, Certified, server_tree}
+use Rattle.iot_app.specs.Texts.{line, client_line, end_line, commit_line, settled_line, transaction_name, acts_output, tree_text}
+use Rattle.iot_event.specs.declared.event.Event.{Event}
+use Rattle.iot_event.specs.declared.event.Event.TheVariants as events
 
 -- at most so many acts are in a transaction
 abbrev pub act_limit : ℕ
@@ -17,7 +19,7 @@ abbrev pub no_client : Client
 no_client = record { name = []; last = 0 }
 
 abbrev pub no_script : Declared
-no_script = record { name = []; statements = [] }
+no_script = record { name = []; code = End }
 
 abbrev pub client_at : Machine → ℕ → Client
 client_at m place = slice_index_or m.clients place no_client
@@ -49,24 +51,28 @@ change_at (x ∷ xs) (suc place) change = x ∷ change_at xs place change
 abbrev pub begin_at : ℕ → Machine → Machine
 begin_at place m = record m { clients = change_at m.clients place begin_next }
 
--- the entry of the client's last transaction
-abbrev pub entry_of : ℕ → ℕ → Machine → Entry
+-- the entry of the client's last transaction, for which `keep` found nothing
+abbrev pub entry_of : ℕ → ℕ → Machine → Entry Way
 entry_of client script m = record {
   client = client;
   number = (client_at m client).last;
-  script = script_at m script;
+  script = (script_at m script).code;
   budget = act_limit;
   way = Certified;
+  kept = empty;
 }
 
+abbrev pub commit_of : ℕ → ℕ → Machine → Commit
+commit_of client script m = record { script = (script_at m script).name; entry = entry_of client script m }
+
 abbrev pub commit_entry : ℕ → ℕ → Machine → Machine
-commit_entry client script m = record m { commits = m.commits ++ entry_of client script m ∷ [] }
+commit_entry client script m = record m { commits = m.commits ++ commit_of client script m ∷ [] }
 
 -- the line of a commit that was appended to this machine's list, and what its script prints on the tree before it
 abbrev pub commit_text : ℕ → ℕ → Machine → List ℕ
 commit_text client script before =
     commit_line (length before.commits + 1) (last_name before client) Certified
-    ++ output (lines_of (acts_of (entry_run (entry_of client script before) (server_tree before))))
+    ++ acts_output (run_entry (entry_of client script before) (server_tree before)).acts
 
 -- ---- the events
 
@@ -79,12 +85,29 @@ Runs client script =
     (Then (Exchange (From (λ before. Then (Append (commit_entry client script)) (Says (λ _. commit_text client script before)))))
     (Says (λ m. settled_line (last_name m client) (length m.commits)))))
 
+-- ---- a crash and a restart: the list is durable, and nothing else of the server is known to the machine
+
+abbrev pub set_alive : Bool → Machine → Machine
+set_alive alive m = record m { alive = alive }
+
+-- an event of the server that is refused where it is not alive
+abbrev pub WhereAlive : Part Machine → Part Machine
+WhereAlive part = Choose (λ m. m.alive) part (Says (λ _. line (codes "down")))
+
+abbrev pub Crashes : Part Machine
+Crashes = WhereAlive (Does (λ _. line (codes "crash server")) (set_alive false))
+
+abbrev pub Restarts : Part Machine
+Restarts = Choose (λ m. m.alive) (Says (λ _. line (codes "up"))) (Does (λ _. line (codes "restart server")) (set_alive true))
+
 -- what an event does
 abbrev pub event_part : Event → Part Machine
 event_part (events.Client name) = Does (λ m. client_line name) (declare_client name)
-event_part (events.Script name statements) = Does (λ m. []) (declare_script (record { name = name; statements = statements }))
+event_part (events.Script name code) = Does (λ m. []) (declare_script (record { name = name; code = code }))
 event_part (events.Run client script) = Runs client script
-event_part events.ShowServer = Says (λ m. tree_text (server_tree m))
+event_part events.ShowServer = WhereAlive (Says (λ m. tree_text (server_tree m)))
+event_part events.CrashServer = Crashes
+event_part events.RestartServer = Restarts
 
 -- a transcript of events in turn: what they print, from one machine to the next
 abbrev pub Transcript : List Event → Part Machine

@@ -7,6 +7,7 @@ use Rattle.iot_text.specs.Quotes.{quoted}
 use Rattle.iot_tree.specs.Tree.{Nodes}
 use Rattle.iot_tree.specs.declared.nodes.Node.{Node}
 use Rattle.iot_tree.specs.declared.nodes.Node.TheVariants.{Dir, File, FarDir, FarFile}
+use Rattle.iot_tree.specs.declared.acts.Act.{Act}
 use Rattle.iot_app.specs.Machine.{Way, Certified}
 
 -- a line ends with a newline
@@ -24,6 +25,10 @@ output_line text = line (124 ∷ text)
 -- the output lines of a script
 abbrev pub output : List (List ℕ) → List ℕ
 output lines = flat_map output_line lines
+
+-- what these acts print
+abbrev pub acts_output : List Act → List ℕ
+acts_output acts = output (flat_map (λ act. act.lines) acts)
 
 -- a row of a tree
 abbrev pub row_text : List (List ℕ) → Node → List ℕ

@@ -1,13 +1,11 @@
 //! The input: the events that are left in the source.
-ghost use Rattle.std.specs.Prelude.{◌≡◌, IfOk, IfErr, OnOk};
+ghost use Rattle.std.specs.Prelude.{◌≡◌, false, IfOk, IfErr, OnOk};
 ghost use Rattle.std.specs.Io.KnownBytes.{IsAtEnd};
 ghost use Rattle.iot_io.specs.ReadAll.{Took};
-ghost use Rattle.iot_app.specs.Declarations.{AreDeclared};
+ghost use Rattle.iot_event.specs.Declarations.{AreDeclared};
 ghost use Rattle.iot_app.specs.Input.{GivesEvents, GivesNone, CountsInputFault};
 
-use crate::event::Event;
-use crate::fault::ParseFault;
-use crate::parse::parse;
+use iot_event::{Event, EventFault, parse};
 use iot_io::{ReadFault, Source, read_all};
 use std::alloc::Global;
 
@@ -15,7 +13,7 @@ use std::alloc::Global;
 const INPUT_LIMIT: usize = 4_194_304;
 
 /// Why there are no events.
-#[derive(Clone, Copy, Debug)]
+#[derive(Debug, Drop)]
 pub(crate) enum InputFault {
     /// There was no memory for the input or for what it says.
     NoMemory,
@@ -26,8 +24,8 @@ pub(crate) enum InputFault {
     /// The input is over its limit.
     TooLong,
 
-    /// This line, from 1, is the first bad one.
-    BadLine { line: u64 },
+    /// It is no event script, by this fault of its first bad line.
+    NoScript(EventFault),
 }
 
 impl From<ReadFault> for InputFault {
@@ -45,16 +43,16 @@ impl From<ReadFault> for InputFault {
     }
 }
 
-impl From<ParseFault> for InputFault {
+impl From<EventFault> for InputFault {
     ghost use Rattle.std.specs.Prelude.{◌≡◌};
     ghost use Rattle.iot_app.specs.InputFaults.{of_parsing};
 
     ghost from_gives = { λ parsed fault. fault ≡ of_parsing parsed };
 
-    fn from(fault: ParseFault) -> InputFault {
+    fn from(fault: EventFault) -> InputFault {
         match fault {
-            ParseFault::NoMemory => InputFault::NoMemory,
-            ParseFault::BadLine { line } => InputFault::BadLine { line },
+            EventFault::NoMemory => InputFault::NoMemory,
+            fault => InputFault::NoScript(fault),
         }
     }
 }
@@ -65,7 +63,7 @@ pub(crate) fn read_events<S: Source>(
     source: &mut S,
 ) -> Result<Vec<Event>, InputFault>
     ensures events { IfOk result (λ events. GivesEvents events.items (Took S.left S.taken source.old source.new) (IsAtEnd (S.left source.new))) }
-    ensures declared { IfOk result (λ events. AreDeclared events.items 0 0) }
+    ensures declared { IfOk result (λ events. AreDeclared events.items 0 0 false) }
     ensures none { IfErr result (λ fault. GivesNone fault (Took S.left S.taken source.old source.new) (IsAtEnd (S.left source.new))) }
     ensures steady { OnOk result (S.faults source.new ≡ S.faults source.old) }
     ensures cause { IfErr result (λ fault. CountsInputFault fault (S.faults source.old) (S.faults source.new)) }

@@ -1,15 +1,15 @@
 //! The program as one call.
-ghost use Rattle.std.specs.Prelude.{◌≡◌, [], length, IfOk};
+ghost use Rattle.std.specs.Prelude.{◌≡◌, [], false, length, IfOk};
 ghost use Rattle.std.specs.Io.KnownBytes.{Appends, IsAtEnd};
 ghost use Rattle.iot_io.specs.ReadAll.{Took};
-ghost use Rattle.iot_app.specs.Declarations.{AreDeclared};
-ghost use Rattle.iot_app.specs.Endings.{usage_line, too_long_line, bad_line, Ends, EndsWith, Causes, CausesOf};
+ghost use Rattle.iot_event.specs.Declarations.{AreDeclared};
+ghost use Rattle.iot_app.specs.Endings.{usage_line, too_long_line, fault_line, refusal_line, Ends, EndsWith, Causes, CausesOf};
 ghost use Rattle.iot_app.specs.Job.{PlayEnds, LineEnds, RefusalEnds};
 
-use crate::event::Event;
 use crate::input::{InputFault, read_events};
 use crate::play::{PlayFault, play};
 use crate::status::Status;
+use iot_event::{Event, EventFault};
 use iot_io::{Sink, Source, write_all};
 use iot_text::{NoMemory, Text};
 use std::alloc::Global;
@@ -86,7 +86,7 @@ fn write_line<K: Sink>(sink: &mut K, line: &[u8], status: Status) -> Status
 
 /// Does the events of an input.
 fn do_events<K: Sink>(alloc: Global, events: &[Event], sink: &mut K) -> Status
-    requires { AreDeclared events.now 0 0 }
+    requires { AreDeclared events.now 0 0 false }
     ensures { PlayEnds events.now result
         (Appends (K.written sink.old) (K.written sink.new))
         (record { before = K.faults sink.old; after = K.faults sink.new })
@@ -110,20 +110,37 @@ fn refuse<K: Sink>(alloc: Global, fault: InputFault, sink: &mut K) -> Status
         InputFault::NoMemory => Status::NoMemory,
         InputFault::Failed => Status::ReadFailed,
         InputFault::TooLong => write_line(sink, b"input too long\n", Status::Refused),
-        InputFault::BadLine { line } => match bad_line(alloc, line) {
+        InputFault::NoScript(fault) => match refusal_line(alloc, &fault) {
             Ok(text) => write_line(sink, text.as_bytes(), Status::Refused),
             Err(_) => Status::NoMemory,
         },
     }
 }
 
-/// `line N: bad line`
-fn bad_line(alloc: Global, number: u64) -> Result<Text, NoMemory>
-    ensures { IfOk result (λ text. text ≡ bad_line number) }
+/// What is wrong in a line.
+fn fault_line(alloc: Global, number: u64, what: &[u8]) -> Result<Text, NoMemory>
+    ensures { IfOk result (λ text. text ≡ fault_line number what.now) }
 {
     let mut text = Text::new(alloc);
     text.append(b"line ")?;
     text.append_number(number)?;
-    text.append(b": bad line\n")?;
+    text.append(b": ")?;
+    text.append(what)?;
+    text.push(b'\n')?;
     Ok(text)
+}
+
+/// The line that names the fault of the first bad line.
+fn refusal_line(alloc: Global, fault: &EventFault) -> Result<Text, NoMemory>
+    ensures { IfOk result (λ text. text ≡ refusal_line fault.now) }
+{
+    match fault {
+        EventFault::NoMemory => Ok(Text::new(alloc)),
+        EventFault::BadLine { line } => fault_line(alloc, *line, b"bad line"),
+        EventFault::UnknownName { line } => fault_line(alloc, *line, b"unknown name"),
+        EventFault::Twice { line } => fault_line(alloc, *line, b"named twice"),
+        EventFault::TooMany { line } => fault_line(alloc, *line, b"too many"),
+        EventFault::BadStatement { line } => fault_line(alloc, *line, b"bad statement"),
+        EventFault::TooDeep { line } => fault_line(alloc, *line, b"nested too deep"),
+    }
 }

@@ -1,11 +1,11 @@
 //! Doing the events, and writing what they say.
-ghost use Rattle.std.specs.Prelude.{◌≡◌, ◌⊎◌, ℕ, ◌<◌, length, take, IfErr, OnOk};
+ghost use Rattle.std.specs.Prelude.{◌≡◌, ◌⊎◌, ℕ, ◌<◌, length, take, false, IfErr, OnOk};
 ghost use Rattle.std.specs.Io.KnownBytes.{Appends};
-ghost use Rattle.iot_app.specs.Declarations.{AreDeclared};
+ghost use Rattle.iot_event.specs.Declarations.{AreDeclared};
 ghost use Rattle.iot_app.specs.Played.{PlayedAll, PlayedSome, CountsPlayed};
 
-use crate::event::Event;
 use crate::world::World;
+use iot_event::Event;
 use iot_io::{Sink, SinkFault, write_all};
 use iot_text::{NoMemory, Text};
 use std::alloc::Global;
@@ -44,7 +44,7 @@ impl From<SinkFault> for PlayFault {
 
 /// Does the events in turn, and writes each one's text by one `write_all` before the next is done.
 pub(crate) fn play<K: Sink>(alloc: Global, events: &[Event], sink: &mut K) -> Result<(), PlayFault>
-    requires { AreDeclared events.now 0 0 }
+    requires { AreDeclared events.now 0 0 false }
     ensures all { OnOk result (PlayedAll events.now (Appends (K.written sink.old) (K.written sink.new))) }
     ensures some { IfErr result (λ fault. PlayedSome fault events.now (Appends (K.written sink.old) (K.written sink.new))) }
     ensures faults { CountsPlayed result (K.faults sink.old) (K.faults sink.new) (K.empties sink.old) (K.empties sink.new) }

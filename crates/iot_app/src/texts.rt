@@ -2,8 +2,7 @@
 ghost use Rattle.std.specs.Prelude.{◌≡◌, ◌++◌, ◌∷◌, [], OnOk};
 ghost use Rattle.std.specs.FinMap.{entries};
 ghost use Rattle.iot_app.specs.Machine.{Certified};
-ghost use Rattle.iot_app.specs.Runs.{lines_of};
-ghost use Rattle.iot_app.specs.Texts.{client_line, end_line, commit_line, settled_line, transaction_name, output, output_line, row_line, row_text, tree_text};
+ghost use Rattle.iot_app.specs.Texts.{line, client_line, end_line, commit_line, settled_line, transaction_name, output, acts_output, output_line, row_line, row_text, tree_text};
 
 use iot_text::{Name, NoMemory, Path, Text, quote};
 use iot_tree::{Act, Node, Tree};
@@ -23,6 +22,14 @@ impl Transaction {
         out.push(b'.')?;
         out.append_number(self.number)
     }
+}
+
+/// A line.
+pub(crate) fn say(text: &[u8], out: &mut Text) -> Result<(), NoMemory>
+    ensures { OnOk result (out.new ≡ out.old ++ line text.now) }
+{
+    out.append(text)?;
+    out.push(b'\n')
 }
 
 /// `client N`
@@ -94,7 +101,7 @@ fn say_lines(lines: &[Text], out: &mut Text) -> Result<(), NoMemory>
 
 /// The lines that a run printed.
 pub(crate) fn say_output(acts: &[Act], out: &mut Text) -> Result<(), NoMemory>
-    ensures { OnOk result (out.new ≡ out.old ++ output (lines_of acts.now)) }
+    ensures { OnOk result (out.new ≡ out.old ++ acts_output acts.now) }
 {
     for act in acts {
         say_lines(act.lines.as_slice(), out)?;

@@ -1,13 +1,12 @@
 //! The world: the server and its client, as they stand between two events.
-ghost use Rattle.std.specs.Prelude.{◌≡◌, ℕ, ◌+◌, ◌-◌, ◌^◌, ◌<◌, ◌≤◌, List, [], ◌∷◌, ◌++◌, OnOk, IfOk, length};
-ghost use Rattle.iot_app.specs.Texts.{client_line};
+ghost use Rattle.std.specs.Prelude.{◌≡◌, ℕ, ◌+◌, ◌-◌, ◌^◌, ◌<◌, ◌≤◌, List, [], ◌∷◌, ◌++◌, true, false, OnOk, IfOk, length};
+ghost use Rattle.iot_app.specs.Texts.{line, client_line};
 
-use crate::event::Event;
 use crate::perform::perform;
-use crate::script::Script;
 use crate::texts::{
-    Transaction, say_client, say_commit, say_end, say_output, say_settled, say_tree,
+    Transaction, say, say_client, say_commit, say_end, say_output, say_settled, say_tree,
 };
+use iot_event::{Event, SharedScript};
 use iot_text::{Name, NoMemory, Text};
 use iot_tree::Tree;
 use std::alloc::Global;
@@ -25,12 +24,15 @@ pub(crate) struct Client {
 #[derive(Drop)]
 pub(crate) struct DeclaredScript {
     pub(crate) name: Name,
-    pub(crate) script: Script,
+    pub(crate) script: SharedScript,
 }
 
 /// What an event works on. A world is given up after a refusal.
 #[derive(Drop)]
 pub(crate) struct World {
+    /// Whether the server is alive.
+    pub(crate) alive: bool,
+
     /// The server's tree.
     pub(crate) tree: Tree,
 
@@ -44,19 +46,21 @@ pub(crate) struct World {
 
 impl World {
     ghost use Rattle.iot_app.specs.Machine.{opening};
-    ghost use Rattle.iot_app.specs.Steps.{event_part, Runs};
-    ghost use Rattle.iot_app.specs.Declarations.{AreDeclared};
-    ghost use Rattle.iot_app.specs.World.{StandsFor, Refines, CountsAtMost, AddsClient, AddsScript, RanScript, Begins, run_text, client_in, transaction_of};
-    ghost use Rattle.iot_app.specs.declared.event.Event.{Event};
+    ghost use Rattle.iot_app.specs.Steps.{event_part};
+    ghost use Rattle.iot_app.specs.Allowed.{IsAllowed};
+    ghost use Rattle.iot_app.specs.World.{StandsFor, Refines, CountsAtMost, AddsClient, AddsScript, RanScript, Begins, SetsAlive, DeclaredOn, run_text, client_in, transaction_of, shown, crash_text, restart_text};
+    ghost use Rattle.iot_event.specs.declared.event.Event.{Event};
 
     /// The world before any event: the server's tree has only its root.
     pub(crate) fn new(alloc: Global) -> Result<World, NoMemory>
         ensures stands { IfOk result (λ world. StandsFor world opening) }
         ensures counts { IfOk result (CountsAtMost 0) }
+        ensures alive { IfOk result (λ world. world.alive ≡ true) }
         ensures clients { IfOk result (λ world. world.clients.items ≡ []) }
         ensures scripts { IfOk result (λ world. world.scripts.items ≡ []) }
     {
         Ok(World {
+            alive: true,
             tree: Tree::whole_root(alloc)?,
             commits: 0,
             clients: Vec::new(alloc),
@@ -71,22 +75,22 @@ impl World {
         event: &Event,
         out: &mut Text,
     ) -> Result<(), NoMemory>
-        requires declared { AreDeclared (event.now ∷ []) (length self.old.clients.items) (length self.old.scripts.items) }
+        requires allowed { IsAllowed event.now (length self.old.clients.items) (length self.old.scripts.items) self.old.alive }
         requires counts { CountsAtMost (2 ^ 64 - 2) self.old }
 
         ensures step { OnOk result (Refines (event_part event.now) self.old self.new out.old out.new) }
 
         // For the events behind it.
-        ensures declared { OnOk result ((later : List Event)
-            → AreDeclared (event.now ∷ later) (length self.old.clients.items) (length self.old.scripts.items)
-            → AreDeclared later (length self.new.clients.items) (length self.new.scripts.items)) }
+        ensures declared { OnOk result ((later : List Event) → DeclaredOn (event.now ∷ later) self.old → DeclaredOn later self.new) }
         ensures counts { OnOk result ((limit : ℕ) → CountsAtMost limit self.old → CountsAtMost (limit + 1) self.new) }
     {
         match event {
             Event::Client(name) => self.declare_client(name, out),
             Event::Script(name, script) => self.declare_script(name, script),
             Event::Run { client, script } => self.run(alloc, *client, *script, out),
-            Event::ShowServer => say_tree(&self.tree, out),
+            Event::ShowServer => self.show(out),
+            Event::CrashServer => self.crash(out),
+            Event::RestartServer => self.restart(out),
         }
     }
 
@@ -101,7 +105,7 @@ impl World {
         say_client(name, out)
     }
 
-    fn declare_script(&mut self, name: &Name, script: &Script) -> Result<(), NoMemory>
+    fn declare_script(&mut self, name: &Name, script: &SharedScript) -> Result<(), NoMemory>
         ensures { OnOk result (AddsScript name.now script.now self.old self.new) }
     {
         self.scripts.push(DeclaredScript {
@@ -127,8 +131,7 @@ impl World {
     {
         let transaction = self.begin(client as usize);
         say_end(&transaction, out)?;
-        let statements = self.scripts[script as usize].script.statements();
-        let acts = perform(alloc, statements, &mut self.tree)?;
+        let acts = perform(alloc, &self.scripts[script as usize].script, &mut self.tree)?;
         self.commits += 1;
         say_commit(self.commits, &transaction, out)?;
         say_output(acts.as_slice(), out)?;
@@ -148,5 +151,40 @@ impl World {
             client: client.name,
             number: client.last,
         }
+    }
+
+    /// The server's tree, where the server is alive.
+    fn show(&self, out: &mut Text) -> Result<(), NoMemory>
+        ensures { OnOk result (out.new ≡ out.old ++ shown self.now) }
+    {
+        if self.alive {
+            say_tree(&self.tree, out)
+        } else {
+            say(b"down", out)
+        }
+    }
+
+    /// The server stops.
+    fn crash(&mut self, out: &mut Text) -> Result<(), NoMemory>
+        ensures world { OnOk result (SetsAlive false self.old self.new) }
+        ensures text { OnOk result (out.new ≡ out.old ++ crash_text self.old) }
+    {
+        if !self.alive {
+            return say(b"down", out);
+        }
+        self.alive = false;
+        say(b"crash server", out)
+    }
+
+    /// The server comes back.
+    fn restart(&mut self, out: &mut Text) -> Result<(), NoMemory>
+        ensures world { OnOk result (SetsAlive true self.old self.new) }
+        ensures text { OnOk result (out.new ≡ out.old ++ restart_text self.old) }
+    {
+        if self.alive {
+            return say(b"up", out);
+        }
+        self.alive = true;
+        say(b"restart server", out)
     }
 }

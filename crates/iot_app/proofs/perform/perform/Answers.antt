@@ -1,9 +1,48 @@
-use Rattle.std.proofs.Common.{arith, ◌≤◌, length}
-use Rattle.iot_app.proofs.Running.{end_acts, end_tree}
+use Rattle.std.proofs.Common.{◌≡◌, ◌≤◌, ◌⊎◌, ℕ, List, [], true, sym, subst, ◌∙◌, inl, inr, length, arith}
+use Rattle.std.specs.FinMap.{empty}
+use Rattle.iot_lang.specs.Code.{Code}
+use Rattle.iot_exec.specs.Commands.{kept_files}
+use Rattle.iot_exec.specs.Places.{is_over}
+use Rattle.iot_exec.specs.Execs.{place, act_count, IsRunning}
+use Rattle.iot_app.proofs.Running.{begins, goes_on, ran_acts, ran_tree}
 use Rattle.iot_app.proofs.perform.perform.Goals as goal
+use Rattle.iot_app.proofs.perform.perform.Goals.{then-acts-test+else-not-at_end, else-acts-test}
+
+pub acts-init : goal.acts-init
+acts-init c =
+    let start : IsRunning c.args.script.now empty c.args.tree.now 0 [] c.new-exec.result c.args.tree.now =
+    subst (λ (code : Code). IsRunning code empty c.args.tree.now 0 [] c.new-exec.result c.args.tree.now) c.in_ok-shared.ensures
+    (subst (λ (files : List (List (List ℕ) × List ℕ)). IsRunning c.in_ok-shared.field-0.value (kept_files files) c.args.tree.now 0 [] c.new-exec.result c.args.tree.now) c.new.ensures (c.new-exec.ensures c.args.tree.now)) in
+    record {
+      running = begins c.args.script.now empty c.args.tree.now c.new-acts.result c.new-exec.result c.new-acts.ensures start;
+      within = omega (arith, start.counted);
+    }
+
+pub acts-preserved : goal.acts-preserved
+acts-preserved c =
+    let more = c.in_ok-act.ensures.runs c.args.script.now empty c.args.tree.now (length c.acts.acts) c.acts.acts c.acts.invariant.running in
+    record {
+      running = goes_on c.args.script.now empty c.args.tree.now c.act.new.t c.acts.acts c.push.new.self c.in_ok-act.field-0 c.act.new.self c.in_ok-push.ensures.ok more;
+      within = omega (arith, more.counted, c.acts.invariant.running.counted, c.acts-test.true, c.acts-in-acts.ensures);
+    }
+
+pub acts-smaller : goal.acts-smaller
+acts-smaller c =
+    let more = c.in_ok-act.ensures.runs c.args.script.now empty c.args.tree.now (length c.acts.acts) c.acts.acts c.acts.invariant.running in
+    omega (arith, more.counted, c.acts.invariant.running.counted, c.acts-test.true, c.acts-in-acts.ensures)
 
 pub returns-clause-acts : goal.returns-clause-acts
-returns-clause-acts c = end_acts c.args.script.now _ c.args.tree.now c.loop-statement.acts c.loop-statement.tree c.min.result c.loop-statement.statement-index c.loop-statement.invariant (omega arith) (grind arith) (grind arith)
+returns-clause-acts c =
+    let stops : (is_over (place c.acts.exec) ≡ true) ⊎ (4096 ≤ act_count c.acts.exec) = elim c.acts-test.branch [
+      | then-acts-test+else-not-at_end w ↦ inl (sym w.at_end.ensures ∙ w.if-not-at_end.false)
+      | else-acts-test w ↦ inr (omega (arith, w.acts-test.false, c.acts-in-acts.ensures))
+    ] in
+    ran_acts c.args.script.now empty c.args.tree.now c.acts.acts c.acts.exec c.acts.tree c.acts.invariant.running c.acts.invariant.within stops
 
 pub returns-clause-tree : goal.returns-clause-tree
-returns-clause-tree c = end_tree c.args.script.now _ c.args.tree.now c.loop-statement.acts c.loop-statement.tree c.min.result c.loop-statement.statement-index c.loop-statement.invariant (omega arith) (grind arith) (grind arith)
+returns-clause-tree c =
+    let stops : (is_over (place c.acts.exec) ≡ true) ⊎ (4096 ≤ act_count c.acts.exec) = elim c.acts-test.branch [
+      | then-acts-test+else-not-at_end w ↦ inl (sym w.at_end.ensures ∙ w.if-not-at_end.false)
+      | else-acts-test w ↦ inr (omega (arith, w.acts-test.false, c.acts-in-acts.ensures))
+    ] in
+    ran_tree c.args.script.now empty c.args.tree.now c.acts.acts c.acts.exec c.acts.tree c.acts.invariant.running c.acts.invariant.within stops

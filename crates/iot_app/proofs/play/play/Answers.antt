@@ -1,9 +1,9 @@
-use Rattle.std.proofs.Common.{ℕ, List, ◌<◌, length, take, ◌∙◌, sym, ap, refl, subst, []}
+use Rattle.std.proofs.Common.{ℕ, List, ◌<◌, length, take, ◌∙◌, subst}
 use Rattle.std.proofs.lemmas.Result.{err_from_is_err_and}
 use Rattle.std.specs.Io.KnownBytes.{Appends}
 use Rattle.iot_app.specs.Steps.{event_part}
 use Rattle.iot_app.specs.World.{Refines}
-use Rattle.iot_app.proofs.Playing.{plays_more, plays_front, plays_first}
+use Rattle.iot_app.proofs.Playing.{plays_more, plays_front, plays_first, next_allowed}
 use Rattle.iot_app.proofs.play.play.Goals as goal
 
 pub returns-in_err-apply-clause-some : goal.returns-in_err-apply-clause-some
@@ -20,6 +20,9 @@ returns-in_err-write_all-clause-some g c =
     (plays_front _ _ c.args.events.now c.events.world c.apply.new.self c.events.event-index c.event-item.result c.apply.new.out c.events.invariant.plays c.events-test.true c.event-item.is (subst (λ (t : List ℕ). Refines (event_part c.event-item.result) c.events.world c.apply.new.self t c.apply.new.out) c.clear.ensures c.in_ok-apply.ensures.step) _ prefix.0
     (subst (λ (t : List ℕ). prefix.0 < length t) out prefix.1)
     (subst (λ (t : List ℕ). Appends (g.K.Sink.written c.events.sink) (g.K.Sink.written c.write_all.new.sink) (take prefix.0 t)) out prefix.2))
+
+pub apply-requires-clause-allowed : goal.apply-requires-clause-allowed
+apply-requires-clause-allowed g c = next_allowed _ _ c.args.events.now c.events.world c.events.event-index c.event-item.result c.events.invariant.plays c.events-test.true c.event-item.is
 
 pub events-preserved : goal.events-preserved
 events-preserved g c = record {

@@ -1,8 +1,5 @@
-use Rattle.std.proofs.Common.{refl, sym, subst, OnOk}
-use Rattle.iot_app.specs.Steps.{event_part}
-use Rattle.iot_app.specs.World.{Refines}
-use Rattle.iot_app.specs.Declarations.{AreDeclared}
-use Rattle.iot_app.proofs.Stepping.{client_step, script_step, run_step, both_ok, only_ok}
+use Rattle.std.proofs.Common.{refl}
+use Rattle.iot_app.proofs.Stepping.{client_step, script_step, run_step, show_step, crash_step, restart_step, both_ok, only_ok}
 use Rattle.iot_app.proofs.world.World.apply.Goals as goal
 
 pub returns-in-Client-clause-step : goal.returns-in-Client-clause-step
@@ -15,5 +12,17 @@ returns-in-Script-clause-step c =
 
 pub returns-in-Run-clause-step : goal.returns-in-Run-clause-step
 returns-in-Run-clause-step c =
-    let declared = rw c.in-Run.is at c.requires.declared in
-    rw c.in-Run.is (both_ok c.run.result (run_step c.in-Run.client c.in-Run.script c.args.self.now c.run.new.self c.args.out.now c.run.new.out declared.0 declared.1) c.run.ensures.world c.run.ensures.text)
+    let allowed = rw c.in-Run.is at c.requires.allowed in
+    rw c.in-Run.is (both_ok c.run.result (run_step c.in-Run.client c.in-Run.script c.args.self.now c.run.new.self c.args.out.now c.run.new.out allowed.0 allowed.1) c.run.ensures.world c.run.ensures.text)
+
+pub returns-in-ShowServer-clause-step : goal.returns-in-ShowServer-clause-step
+returns-in-ShowServer-clause-step c =
+    rw c.in-ShowServer.is (only_ok c.show.result (show_step c.args.self.now c.args.out.now c.show.new.out) c.show.ensures)
+
+pub returns-in-CrashServer-clause-step : goal.returns-in-CrashServer-clause-step
+returns-in-CrashServer-clause-step c =
+    rw c.in-CrashServer.is (both_ok c.crash.result (crash_step c.args.self.now c.crash.new.self c.args.out.now c.crash.new.out) c.crash.ensures.world c.crash.ensures.text)
+
+pub returns-in-RestartServer-clause-step : goal.returns-in-RestartServer-clause-step
+returns-in-RestartServer-clause-step c =
+    rw c.in-RestartServer.is (both_ok c.restart.result (restart_step c.args.self.now c.restart.new.self c.args.out.now c.restart.new.out) c.restart.ensures.world c.restart.ensures.text)
