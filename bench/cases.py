@@ -1,0 +1,91 @@
+"""The inputs: one function per case, which makes the lines of an event script at a size (1, 4, 16)."""
+
+from collections import namedtuple
+
+# The input's lines, what its units of work are, and how many of them there are.
+Work = namedtuple('Work', 'lines what units')
+
+LEVELS = 32
+RUNS_PER_SIZE = 64
+MOVES = 16
+CHUNK = 16300
+CHUNKS_PER_SIZE = 16
+
+
+def script(name, statements):
+    return [f'script {name} {{', *statements, '}']
+
+
+def run(name):
+    return f'run laptop {name} abort'
+
+
+def transactions(size):
+    """Many small transactions on a tree that stays small."""
+    runs = 250 * size
+    init = ['mkdir /d', 'write /d/n "one\\n"']
+    small = ['write /d/n "two\\n"', 'cat /d/n', 'write /d/m "three\\n"', 'cat /d/m']
+    lines = ['client laptop', *script('init', init), *script('small', small), run('init')]
+    return Work(lines + [run('small')] * runs, 'transactions', runs)
+
+
+def tree(size):
+    """A tree of 32 levels with files in each, and then transactions at its top and at its bottom."""
+    lines = ['client laptop']
+    path = ''
+    acts = 0
+    for level in range(LEVELS):
+        path += f'/level{level}'
+        rows = [f'mkdir {path}'] + [f'write {path}/f{i} "in {level}\\n"' for i in range(8 * size)]
+        lines += script(f'make{level}', rows) + [run(f'make{level}')]
+        acts += len(rows)
+    use = ['write /level0/f1 "top\\n"', 'cat /level0/f1', f'write {path}/f1 "bottom\\n"', f'cat {path}/f1']
+    runs = RUNS_PER_SIZE * size
+    lines += script('use', use) + [run('use')] * runs
+    return Work(lines, 'acts', acts + len(use) * runs)
+
+
+def loops(size):
+    """One script whose loop goes over more and more files, with 4 acts in each turn; at 16x it does 4,000 acts."""
+    files = (250 * size - 1) // 4
+    init = ['mkdir /d', 'mkdir /e'] + [f'write /d/f{i} "{i}\\n"' for i in range(files)]
+    turn = ['if same /d/$x /d/f0 {', 'echo $x', '} else {', 'read v /d/$x', '}', 'write /e/$x $v$v', 'append /e/$x "+"']
+    acts = 250 * size
+    rest = acts - (1 + 4 * files)
+    body = ['for x in /d {', *turn, '}'] + ['echo rest'] * rest
+    lines = ['client laptop', *script('init', init), *script('all', body), run('init'), run('all')]
+    return Work(lines, 'acts', len(init) + acts)
+
+
+def moves(size):
+    """A directory with more and more files is moved there and back, and its names are printed."""
+    files = 250 * size
+    init = ['mkdir /a'] + [f'write /a/f{i} x' for i in range(files)]
+    lines = ['client laptop', *script('init', init), *script('move', ['mv /a /b', 'ls /b', 'mv /b /a'])]
+    return Work(lines + [run('init')] + [run('move')] * (MOVES // 2), 'rows moved', files * MOVES)
+
+
+def filler(number):
+    """The lines of one script of a little less than 16 KiB, half of them comments."""
+    file = f'/d/f{number}'
+    block = ['# Comments and empty lines cost a look at their bytes.',
+             f'if file {file} {{',
+             f'append {file} "some words in quotes, with \\"escapes\\" and a newline\\n"',
+             '} else {', f'write {file} left$x"right"', '}',
+             '    # A line may begin with blanks, and only the first script of this input is run.', '']
+    per_block = sum(len(line) + 1 for line in block)
+    return ['mkdir /d'] + block * ((CHUNK - 40) // per_block)
+
+
+def text(size):
+    """An input that is mostly script text and comments: 256 KiB, 1 MiB, and a little less than 4 MiB."""
+    lines = ['client laptop', '# Comments stand between the events too.', '']
+    for number in range(CHUNKS_PER_SIZE * size):
+        lines += script(f's{number}', filler(number))
+    lines.append(run('s0'))
+    return Work(lines, 'bytes', sum(len(line) + 1 for line in lines))
+
+
+# The cases in the order of the table, and those that need no more than `mkdir`, `write` and `cat`.
+CASES = [transactions, tree, loops, moves, text]
+FIRST = [transactions, tree]

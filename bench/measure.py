@@ -1,0 +1,121 @@
+"""Runs the program on each case at each size and prints the table."""
+
+import argparse
+import os
+import re
+import shutil
+import subprocess
+import sys
+import tempfile
+import time
+from pathlib import Path
+
+from cases import CASES, FIRST
+
+ROOT = Path(__file__).resolve().parent.parent
+BUILT = ROOT / 'crates' / 'iot' / 'out' / 'iot'
+# GNU time has a small memory of its own; what wait4 tells is never less than this Python's.
+TIME = shutil.which('time')
+ROW = '{:<13} {:>4}  {:<18} {:>9} {:>17} {:>12} {:>15}'
+HEAD = ROW.format('case', 'size', 'units', 'seconds', 'instructions/unit', 'peak KiB', 'peak bytes/unit')
+
+
+def words():
+    parser = argparse.ArgumentParser(prog='bench/run', description='Measures what a unit of work costs as inputs grow.')
+    parser.add_argument('program', nargs='?', default=os.environ.get('IOT'), help='the built program, else $IOT, else '
+                        'crates/iot/out/iot')
+    parser.add_argument('--first', action='store_true', help='only the cases of mkdir, write and cat')
+    parser.add_argument('--sizes', default='1,4,16', help='the sizes, with commas between them')
+    parser.add_argument('--no-count', action='store_true', help='count no instructions')
+    parser.add_argument('--keep', metavar='DIR', help='leave the inputs and transcripts in this directory')
+    return parser.parse_args()
+
+
+def program_of(given):
+    """The program's path; the one of this repository is built where it is missing."""
+    if given is None and not os.access(BUILT, os.X_OK):
+        subprocess.run([ROOT / 'iot'], stdin=subprocess.DEVNULL, check=True)
+    path = shutil.which(given or BUILT)
+    if path is None:
+        sys.exit(f'bench/run: {given or BUILT} is no program')
+    return os.path.abspath(path)
+
+
+def timed(program, source, transcript):
+    """The seconds and the peak resident memory in KiB of one run."""
+    peak = transcript.with_suffix('.peak')
+    command = [TIME, '-f', '%M', '-o', peak, program] if TIME else [program]
+    with open(source, 'rb') as given, open(transcript, 'wb') as taken:
+        begun = time.perf_counter()
+        child = subprocess.Popen(command, stdin=given, stdout=taken)
+        _, status, usage = os.wait4(child.pid, 0)
+        seconds = time.perf_counter() - begun
+    child.returncode = os.waitstatus_to_exitcode(status)
+    if child.returncode != 0:
+        sys.exit(f'bench/run: status {child.returncode} on {source.name}: {transcript.read_bytes()[:200]!r}')
+    return seconds, int(peak.read_text()) if TIME else usage.ru_maxrss
+
+
+def counted(program, source):
+    """The instructions of one run, by callgrind."""
+    command = ['valgrind', '--tool=callgrind', '--callgrind-out-file=/dev/null', program]
+    with open(source, 'rb') as given:
+        ran = subprocess.run(command, stdin=given, stdout=subprocess.DEVNULL, stderr=subprocess.PIPE, text=True)
+    found = re.search(r'Collected : (\d+)', ran.stderr)
+    if ran.returncode != 0 or not found:
+        sys.exit(f'bench/run: callgrind ended with {ran.returncode} on {source.name}: {ran.stderr[-400:]}')
+    return int(found[1])
+
+
+def check(transcript, runs):
+    """Each `run` of the input has to have settled."""
+    settled = sum(line.startswith(b'settled ') for line in transcript.read_bytes().split(b'\n'))
+    if settled != runs:
+        sys.exit(f'bench/run: {settled} of {runs} transactions settled in {transcript.name}')
+
+
+def measure(program, count, source, transcript):
+    seconds, peak = timed(program, source, transcript)
+    return seconds, peak, counted(program, source) if count else None
+
+
+def row(case, size, work, measured, empty):
+    """One line of the table; instructions and memory are those above the empty input's."""
+    seconds, peak, instructions = measured
+    per_unit = '' if instructions is None else f'{(instructions - empty[2]) / work.units:,.1f}'
+    memory = max(peak - empty[1], 0) * 1024 / work.units
+    units = f'{work.units:,} {work.what}'
+    return ROW.format(case, f'{size}x', units, f'{seconds:.3f}', per_unit, f'{peak:,}', f'{memory:,.1f}')
+
+
+def bench(directory, program, options):
+    count = not options.no_count and shutil.which('valgrind') is not None
+    source, transcript = directory / 'empty.events', directory / 'empty.out'
+    source.write_text('')
+    empty = measure(program, count, source, transcript)
+    print(HEAD)
+    fixed = '' if empty[2] is None else f'{empty[2]:,}'
+    print(ROW.format('empty', '', '', f'{empty[0]:.3f}', fixed, f'{empty[1]:,}', ''), flush=True)
+    for make in FIRST if options.first else CASES:
+        for size in map(int, options.sizes.split(',')):
+            work = make(size)
+            source = directory / f'{make.__name__}-{size}.events'
+            source.write_text(''.join(f'{line}\n' for line in work.lines))
+            transcript = source.with_suffix('.out')
+            measured = measure(program, count, source, transcript)
+            check(transcript, sum(line.startswith('run ') for line in work.lines))
+            print(row(make.__name__, size, work, measured, empty), flush=True)
+
+
+def main():
+    options = words()
+    program = program_of(options.program)
+    if options.keep:
+        os.makedirs(options.keep, exist_ok=True)
+        bench(Path(options.keep), program, options)
+        return
+    with tempfile.TemporaryDirectory() as directory:
+        bench(Path(directory), program, options)
+
+
+main()
