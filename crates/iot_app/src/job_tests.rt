@@ -63,7 +63,7 @@ fn refusals(rt: HostRuntime) -> Result<(), Fail> {
             alloc,
             b"client laptop\nrun laptop nope abort\n",
             1,
-            b"line 2: bad line\n"
+            b"line 2: unknown name\n"
         )?
     );
     let newlines = vec![in alloc; b'\n'; 4_194_304]?;
