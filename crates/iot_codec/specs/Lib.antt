@@ -1,0 +1,7 @@
+pub mod Readers
+pub mod Outcomes
+pub mod Places
+pub mod Spelling
+pub mod Rules
+pub mod Reading
+pub mod Laws

@@ -1,0 +1,118 @@
+//! Acts.
+ghost use Rattle.std.specs.Prelude.{◌≡◌, ◌≤◌, ◌++◌, length, OnOk, OnErr, IfOk};
+ghost use Rattle.iot_text.specs.Texts.{AppendsPart};
+ghost use Rattle.iot_codec.specs.Outcomes.{Gives, ReadsWhatStands};
+ghost use Rattle.iot_codec.specs.Places.{Stands, IsAlone};
+ghost use Rattle.iot_codec.specs.Reading.{act_at, acts_at};
+ghost use Rattle.iot_codec.specs.Rules.{IsAct, AreActs};
+ghost use Rattle.iot_codec.specs.Spelling.{act_spelling, acts_spelling};
+ghost use Rattle.iot_codec.specs.Laws.Updates.{act_laws, acts_laws};
+
+use crate::CodecFault;
+use crate::lists::{put_list, read_items};
+use crate::numbers::at_most;
+use crate::spelled::{Spelled, read};
+use iot_text::{NoMemory, Text};
+use iot_tree::{Act, Acts, Lines, Reads, Update};
+use std::alloc::Global;
+
+/// How many acts a transaction has at most.
+const LIMIT: u64 = 4096;
+
+impl Spelled for Act {
+    ghost has_spelling = { IsAct };
+
+    ghost spelling = { act_spelling };
+
+    ghost reading = { act_at };
+
+    #[tactic(auto, unfolding(crate::specs::Spelling::act_spelling))]
+    fn put(&self, out: &mut Text) -> Result<(), NoMemory> {
+        self.reads.put(out)?;
+        self.update.put(out)?;
+        self.lines.put(out)
+    }
+
+    #[tactic(auto, unfolding(crate::specs::Reading::act_at))]
+    fn read(alloc: Global, bytes: &[u8], at: usize) -> Result<(Act, usize), CodecFault> {
+        let (reads, at) = Reads::read(alloc, bytes, at)?;
+        let (update, at) = Option::<Update>::read(alloc, bytes, at)?;
+        let (lines, end) = Lines::read(alloc, bytes, at)?;
+        let act = Act {
+            reads,
+            update,
+            lines,
+        };
+        Ok((act, end))
+    }
+
+    ghost laws = { act_laws };
+}
+
+impl Spelled for Acts {
+    ghost has_spelling = { AreActs };
+
+    ghost spelling = { acts_spelling };
+
+    ghost reading = { acts_at };
+
+    fn put(&self, out: &mut Text) -> Result<(), NoMemory> {
+        put_list(self.as_slice(), out)
+    }
+
+    #[tactic(auto, unfolding(crate::specs::Reading::acts_at))]
+    fn read(alloc: Global, bytes: &[u8], at: usize) -> Result<(Acts, usize), CodecFault> {
+        let (count, at) = at_most(LIMIT, bytes, at)?;
+        read_items(alloc, count, bytes, at)
+    }
+
+    ghost laws = { acts_laws };
+}
+
+/// Appends the spelling of the act: its reads, its update and its lines.
+pub fn put_act(value: &Act, out: &mut Text) -> Result<(), NoMemory>
+    requires { IsAct value.now }
+    ensures ok { OnOk result (out.new ≡ out.old ++ act_spelling value.now) }
+    ensures err { OnErr result (AppendsPart out.old out.new (act_spelling value.now)) }
+{
+    value.put(out)
+}
+
+/// Reads the act that is spelled at the offset, and gives the offset behind it.
+///
+/// # Errors
+///
+/// `Malformed` exactly where no act is spelled there. `NoMemory` where there is none for it.
+pub fn read_act(alloc: Global, bytes: &[u8], at: usize) -> Result<(Act, usize), CodecFault>
+    requires { at ≤ length bytes.now }
+    ensures found { IfOk result (Stands IsAct act_spelling bytes.now at) }
+    ensures only { ReadsWhatStands IsAct act_spelling bytes.now at result }
+    ensures one { IsAlone IsAct act_spelling bytes.now at }
+    ensures exact { Gives result (act_at bytes.now at) }
+{
+    read(alloc, bytes, at)
+}
+
+/// Appends the spelling of the acts: their number, and then each act's spelling.
+pub fn put_acts(value: &Acts, out: &mut Text) -> Result<(), NoMemory>
+    requires { AreActs value.now }
+    ensures ok { OnOk result (out.new ≡ out.old ++ acts_spelling value.now) }
+    ensures err { OnErr result (AppendsPart out.old out.new (acts_spelling value.now)) }
+{
+    value.put(out)
+}
+
+/// Reads the acts that are spelled at the offset, and gives the offset behind them.
+///
+/// # Errors
+///
+/// `Malformed` exactly where no acts are spelled there. `NoMemory` where there is none for them.
+pub fn read_acts(alloc: Global, bytes: &[u8], at: usize) -> Result<(Acts, usize), CodecFault>
+    requires { at ≤ length bytes.now }
+    ensures found { IfOk result (Stands AreActs acts_spelling bytes.now at) }
+    ensures only { ReadsWhatStands AreActs acts_spelling bytes.now at result }
+    ensures one { IsAlone AreActs acts_spelling bytes.now at }
+    ensures exact { Gives result (acts_at bytes.now at) }
+{
+    read(alloc, bytes, at)
+}

@@ -1,0 +1,78 @@
+//! The contents of files.
+ghost use Rattle.std.specs.Prelude.{◌≡◌, ◌≤◌, ◌++◌, length, OnOk, OnErr, IfOk};
+ghost use Rattle.std.specs.List.{list_all};
+ghost use Rattle.iot_text.specs.Texts.{AppendsPart};
+ghost use Rattle.iot_codec.specs.Outcomes.{Gives, ReadsWhatStands};
+ghost use Rattle.iot_codec.specs.Places.{Stands, IsAlone};
+ghost use Rattle.iot_codec.specs.Reading.{contents_at};
+ghost use Rattle.iot_codec.specs.Rules.{IsContents, is_content_byte};
+ghost use Rattle.iot_codec.specs.Spelling.{contents_spelling};
+ghost use Rattle.iot_codec.specs.Laws.Kinds.{contents_laws};
+
+use crate::CodecFault;
+use crate::numbers::at_most;
+use crate::parts::{bytes_at, malformed, put_counted};
+use crate::spelled::{Spelled, read};
+use iot_text::{NoMemory, Text};
+use iot_tree::Blob;
+use std::alloc::Global;
+
+/// How many bytes contents have at most.
+const LIMIT: u64 = 8192;
+
+/// Whether contents may have each of these bytes.
+fn are_content_bytes(bytes: &[u8]) -> bool
+    ensures { result ≡ list_all is_content_byte bytes.now }
+{
+    bytes
+        .iter()
+        .all(|byte| (32 <= *byte && *byte <= 126) || *byte == b'\n')
+}
+
+impl Spelled for Blob {
+    ghost has_spelling = { IsContents };
+
+    ghost spelling = { contents_spelling };
+
+    ghost reading = { contents_at };
+
+    fn put(&self, out: &mut Text) -> Result<(), NoMemory> {
+        put_counted(self.as_slice(), out)
+    }
+
+    #[tactic(auto, unfolding(crate::specs::Reading::contents_at))]
+    fn read(alloc: Global, bytes: &[u8], at: usize) -> Result<(Blob, usize), CodecFault> {
+        let (len, at) = at_most(LIMIT, bytes, at)?;
+        let (contents, end) = bytes_at(bytes, at, len)?;
+        if !are_content_bytes(contents) {
+            return Err(malformed(at));
+        }
+        Ok((Blob::from_vec(Vec::from_slice(alloc, contents)?), end))
+    }
+
+    ghost laws = { contents_laws };
+}
+
+/// Appends the spelling of contents: the number of their bytes, and then the bytes.
+pub fn put_contents(value: &Blob, out: &mut Text) -> Result<(), NoMemory>
+    requires { IsContents value.now }
+    ensures ok { OnOk result (out.new ≡ out.old ++ contents_spelling value.now) }
+    ensures err { OnErr result (AppendsPart out.old out.new (contents_spelling value.now)) }
+{
+    value.put(out)
+}
+
+/// Reads the contents that are spelled at the offset, and gives the offset behind them.
+///
+/// # Errors
+///
+/// `Malformed` exactly where no contents are spelled there. `NoMemory` where there is none for them.
+pub fn read_contents(alloc: Global, bytes: &[u8], at: usize) -> Result<(Blob, usize), CodecFault>
+    requires { at ≤ length bytes.now }
+    ensures found { IfOk result (Stands IsContents contents_spelling bytes.now at) }
+    ensures only { ReadsWhatStands IsContents contents_spelling bytes.now at result }
+    ensures one { IsAlone IsContents contents_spelling bytes.now at }
+    ensures exact { Gives result (contents_at bytes.now at) }
+{
+    read(alloc, bytes, at)
+}

@@ -1,0 +1,39 @@
+//! Why bytes are refused.
+ghost use Rattle.std.specs.Prelude.{◌≡◌};
+
+use std::alloc::{AllocError, AllocFailed};
+use thiserror::Error;
+
+/// Why no value was read.
+#[derive(Debug, Drop, Error)]
+pub enum CodecFault {
+    /// There was no memory for the value. No clause says when this comes.
+    #[error("out of memory")]
+    NoMemory,
+
+    /// No value of the kind is spelled there. `at` is the offset of the first part, from the left,
+    /// that is missing, cut short or breaks its rule; of a path or name that breaks the order of
+    /// its list, it is where that path or name begins.
+    #[error("malformed bytes, from offset {at} on")]
+    Malformed { at: u64 },
+}
+
+impl From<AllocError> for CodecFault {
+    ghost use Rattle.iot_codec.specs.declared.faults.CodecFault.TheVariants.{NoMemory};
+
+    ghost from_gives = { λ _ fault. fault ≡ NoMemory };
+
+    fn from(_error: AllocError) -> CodecFault {
+        CodecFault::NoMemory
+    }
+}
+
+impl<T: Drop> From<AllocFailed<T>> for CodecFault {
+    ghost use Rattle.iot_codec.specs.declared.faults.CodecFault.TheVariants.{NoMemory};
+
+    ghost from_gives = { λ _ fault. fault ≡ NoMemory };
+
+    fn from(_failed: AllocFailed<T>) -> CodecFault {
+        CodecFault::NoMemory
+    }
+}

@@ -1,0 +1,43 @@
+//! Values as bytes: the one spelling of each, and reading it.
+//!
+//! A number is 8 bytes, most significant first. Bytes are their number and then the bytes, a list
+//! is the number of its elements and then the elements, and a tag is one byte. The calls `put_..`
+//! append the spelling of a value to a text. The calls `read_..` go from an offset to the right, in
+//! one pass, and answer the first fault that they meet.
+#![tactic(auto)]
+
+mod acts;
+mod answers;
+mod children;
+mod contents;
+mod faults;
+mod files;
+mod labels;
+mod lines;
+mod lists;
+mod names;
+mod numbers;
+mod parts;
+mod paths;
+mod questions;
+mod reads;
+mod spelled;
+mod tables;
+mod updates;
+
+pub use acts::{put_act, put_acts, read_act, read_acts};
+pub use answers::{put_answer, read_answer};
+pub use contents::{put_contents, read_contents};
+pub use faults::CodecFault;
+pub use files::{put_files, read_files};
+pub use labels::{put_label, read_label};
+pub use lines::{put_line, put_lines, read_line, read_lines};
+pub use names::{put_name, read_name};
+pub use numbers::{put_number, read_number};
+pub use paths::{put_path, read_path};
+pub use questions::{put_question, read_question};
+pub use reads::{put_reads, read_reads};
+pub use updates::{put_optional_update, put_update, read_optional_update, read_update};
+
+#[cfg(test)]
+mod tests;

@@ -1,0 +1,117 @@
+//! Lines.
+ghost use Rattle.std.specs.Prelude.{◌≡◌, ◌≤◌, ◌++◌, length, OnOk, OnErr, IfOk};
+ghost use Rattle.std.specs.List.{list_all};
+ghost use Rattle.iot_text.specs.Texts.{AppendsPart};
+ghost use Rattle.iot_codec.specs.Outcomes.{Gives, ReadsWhatStands};
+ghost use Rattle.iot_codec.specs.Places.{Stands, IsAlone};
+ghost use Rattle.iot_codec.specs.Reading.{line_at, lines_at};
+ghost use Rattle.iot_codec.specs.Rules.{IsLine, AreLines, is_printable};
+ghost use Rattle.iot_codec.specs.Spelling.{line_spelling, lines_spelling};
+ghost use Rattle.iot_codec.specs.Laws.Kinds.{line_laws, lines_laws};
+
+use crate::CodecFault;
+use crate::lists::{put_list, read_list};
+use crate::numbers::number_at;
+use crate::parts::{bytes_at, malformed, put_counted};
+use crate::spelled::{Spelled, read};
+use iot_text::{NoMemory, Text};
+use iot_tree::Lines;
+use std::alloc::Global;
+
+/// Whether a line may have each of these bytes.
+fn are_printable(bytes: &[u8]) -> bool
+    ensures { result ≡ list_all is_printable bytes.now }
+{
+    bytes.iter().all(|byte| 32 <= *byte && *byte <= 126)
+}
+
+impl Spelled for Text {
+    ghost has_spelling = { IsLine };
+
+    ghost spelling = { line_spelling };
+
+    ghost reading = { line_at };
+
+    fn put(&self, out: &mut Text) -> Result<(), NoMemory> {
+        put_counted(self.as_bytes(), out)
+    }
+
+    #[tactic(auto, unfolding(crate::specs::Reading::line_at))]
+    fn read(alloc: Global, bytes: &[u8], at: usize) -> Result<(Text, usize), CodecFault> {
+        let (len, at) = number_at(bytes, at)?;
+        let (line, end) = bytes_at(bytes, at, len)?;
+        if !are_printable(line) {
+            return Err(malformed(at));
+        }
+        Ok((Text::from(Vec::from_slice(alloc, line)?), end))
+    }
+
+    ghost laws = { line_laws };
+}
+
+impl Spelled for Lines {
+    ghost has_spelling = { AreLines };
+
+    ghost spelling = { lines_spelling };
+
+    ghost reading = { lines_at };
+
+    fn put(&self, out: &mut Text) -> Result<(), NoMemory> {
+        put_list(self.as_slice(), out)
+    }
+
+    #[tactic(auto, unfolding(crate::specs::Reading::lines_at))]
+    fn read(alloc: Global, bytes: &[u8], at: usize) -> Result<(Lines, usize), CodecFault> {
+        read_list(alloc, bytes, at)
+    }
+
+    ghost laws = { lines_laws };
+}
+
+/// Appends the spelling of the line: the number of its bytes, and then the bytes.
+pub fn put_line(value: &Text, out: &mut Text) -> Result<(), NoMemory>
+    requires { IsLine value.now }
+    ensures ok { OnOk result (out.new ≡ out.old ++ line_spelling value.now) }
+    ensures err { OnErr result (AppendsPart out.old out.new (line_spelling value.now)) }
+{
+    value.put(out)
+}
+
+/// Reads the line that is spelled at the offset, and gives the offset behind it.
+///
+/// # Errors
+///
+/// `Malformed` exactly where no line is spelled there. `NoMemory` where there is none for it.
+pub fn read_line(alloc: Global, bytes: &[u8], at: usize) -> Result<(Text, usize), CodecFault>
+    requires { at ≤ length bytes.now }
+    ensures found { IfOk result (Stands IsLine line_spelling bytes.now at) }
+    ensures only { ReadsWhatStands IsLine line_spelling bytes.now at result }
+    ensures one { IsAlone IsLine line_spelling bytes.now at }
+    ensures exact { Gives result (line_at bytes.now at) }
+{
+    read(alloc, bytes, at)
+}
+
+/// Appends the spelling of the lines: their number, and then each line's spelling.
+pub fn put_lines(value: &Lines, out: &mut Text) -> Result<(), NoMemory>
+    requires { AreLines value.now }
+    ensures ok { OnOk result (out.new ≡ out.old ++ lines_spelling value.now) }
+    ensures err { OnErr result (AppendsPart out.old out.new (lines_spelling value.now)) }
+{
+    value.put(out)
+}
+
+/// Reads the lines that are spelled at the offset, and gives the offset behind them.
+///
+/// # Errors
+///
+/// `Malformed` exactly where no lines are spelled there. `NoMemory` where there is none for them.
+pub fn read_lines(alloc: Global, bytes: &[u8], at: usize) -> Result<(Lines, usize), CodecFault>
+    requires { at ≤ length bytes.now }
+    ensures found { IfOk result (Stands AreLines lines_spelling bytes.now at) }
+    ensures only { ReadsWhatStands AreLines lines_spelling bytes.now at result }
+    ensures one { IsAlone AreLines lines_spelling bytes.now at }
+    ensures exact { Gives result (lines_at bytes.now at) }
+{
+    read(alloc, bytes, at)
+}

@@ -1,0 +1,75 @@
+//! Lists: the number of the elements, and then the elements.
+ghost use Rattle.std.specs.Prelude.{◌≡◌, ◌≤◌, ◌++◌, length, OnOk, OnErr, IfOk, None};
+ghost use Rattle.std.specs.List.{AllByRecursion};
+ghost use Rattle.iot_text.specs.Texts.{AppendsPart};
+ghost use Rattle.iot_codec.specs.Outcomes.{Gives};
+ghost use Rattle.iot_codec.specs.Readers.{items_at, list_at};
+ghost use Rattle.iot_codec.specs.Spelling.{list_spelling};
+
+use crate::CodecFault;
+use crate::numbers::number_at;
+use crate::spelled::Spelled;
+use iot_text::{NoMemory, Text};
+use iot_tree::Sequence;
+use std::alloc::Global;
+
+/// Appends a list.
+pub(crate) fn put_list<T: Spelled>(items: &[T], out: &mut Text) -> Result<(), NoMemory>
+    ensures ok { OnOk result (out.new ≡ out.old ++ list_spelling T.spelling items.now) }
+    ensures err { OnErr result (AppendsPart out.old out.new (list_spelling T.spelling items.now)) }
+{
+    (items.len() as u64).put(out)?;
+    'items: for item in items {
+        item.put(out)?;
+    }
+    Ok(())
+}
+
+/// Reads a list, whose elements have spellings.
+pub(crate) fn read_list<T: Spelled>(
+    alloc: Global,
+    bytes: &[u8],
+    at: usize,
+) -> Result<(Sequence<T>, usize), CodecFault>
+    requires { at ≤ length bytes.now }
+    ensures exact { Gives result (list_at T.reading bytes.now at) }
+    ensures within { IfOk result (λ read. read.1 ≤ length bytes.now) }
+    ensures each { IfOk result (λ read. AllByRecursion T.has_spelling read.0) }
+{
+    counted_items(alloc, bytes, at)
+}
+
+/// Reads a list.
+fn counted_items<T: Spelled>(
+    alloc: Global,
+    bytes: &[u8],
+    at: usize,
+) -> Result<(Sequence<T>, usize), CodecFault>
+    requires { at ≤ length bytes.now }
+    ensures exact { Gives result (list_at T.reading bytes.now at) }
+    ensures within { IfOk result (λ read. read.1 ≤ length bytes.now) }
+{
+    let (count, at) = number_at(bytes, at)?;
+    read_items(alloc, count, bytes, at)
+}
+
+/// Reads so many elements.
+pub(crate) fn read_items<T: Spelled>(
+    alloc: Global,
+    count: u64,
+    bytes: &[u8],
+    at: usize,
+) -> Result<(Sequence<T>, usize), CodecFault>
+    requires { at ≤ length bytes.now }
+    ensures exact { Gives result (items_at (λ _. T.reading) count None bytes.now at) }
+    ensures within { IfOk result (λ read. read.1 ≤ length bytes.now) }
+{
+    let mut items = Vec::new(alloc);
+    let mut end = at;
+    'items: for _ in 0..count {
+        let (item, behind) = T::read(alloc, bytes, end)?;
+        items.push(item)?;
+        end = behind;
+    }
+    Ok((Sequence::from_vec(items), end))
+}

@@ -1,0 +1,63 @@
+//! Names.
+ghost use Rattle.std.specs.Prelude.{◌≡◌, ◌≤◌, ◌++◌, length, OnOk, OnErr, IfOk};
+ghost use Rattle.iot_text.specs.Names.{IsName};
+ghost use Rattle.iot_text.specs.Texts.{AppendsPart};
+ghost use Rattle.iot_codec.specs.Outcomes.{Gives, ReadsWhatStands};
+ghost use Rattle.iot_codec.specs.Places.{Stands, IsAlone};
+ghost use Rattle.iot_codec.specs.Reading.{name_at};
+ghost use Rattle.iot_codec.specs.Spelling.{name_spelling};
+ghost use Rattle.iot_codec.specs.Laws.Kinds.{name_laws};
+
+use crate::CodecFault;
+use crate::numbers::number_at;
+use crate::parts::{bytes_at, malformed, put_counted};
+use crate::spelled::{Spelled, read};
+use iot_text::{Name, NoMemory, Text};
+use std::alloc::Global;
+
+impl Spelled for Name {
+    ghost has_spelling = { IsName };
+
+    ghost spelling = { name_spelling };
+
+    ghost reading = { name_at };
+
+    fn put(&self, out: &mut Text) -> Result<(), NoMemory> {
+        put_counted(self.as_bytes(), out)
+    }
+
+    #[tactic(auto, unfolding(crate::specs::Reading::name_at))]
+    fn read(_alloc: Global, bytes: &[u8], at: usize) -> Result<(Name, usize), CodecFault> {
+        let (len, at) = number_at(bytes, at)?;
+        let (text, end) = bytes_at(bytes, at, len)?;
+        match Name::parse(text) {
+            Ok(name) => Ok((name, end)),
+            Err(_) => Err(malformed(at)),
+        }
+    }
+
+    ghost laws = { name_laws };
+}
+
+/// Appends the spelling of the name: the number of its bytes, and then the bytes.
+pub fn put_name(value: &Name, out: &mut Text) -> Result<(), NoMemory>
+    ensures ok { OnOk result (out.new ≡ out.old ++ name_spelling value.now) }
+    ensures err { OnErr result (AppendsPart out.old out.new (name_spelling value.now)) }
+{
+    value.put(out)
+}
+
+/// Reads the name that is spelled at the offset, and gives the offset behind it.
+///
+/// # Errors
+///
+/// `Malformed` exactly where no name is spelled there.
+pub fn read_name(alloc: Global, bytes: &[u8], at: usize) -> Result<(Name, usize), CodecFault>
+    requires { at ≤ length bytes.now }
+    ensures found { IfOk result (Stands IsName name_spelling bytes.now at) }
+    ensures only { ReadsWhatStands IsName name_spelling bytes.now at result }
+    ensures one { IsAlone IsName name_spelling bytes.now at }
+    ensures exact { Gives result (name_at bytes.now at) }
+{
+    read(alloc, bytes, at)
+}

@@ -1,0 +1,83 @@
+//! Questions to a tree.
+ghost use Rattle.std.specs.Prelude.{◌≡◌, ◌≤◌, ◌++◌, length, OnOk, OnErr, IfOk};
+ghost use Rattle.iot_text.specs.Texts.{AppendsPart};
+ghost use Rattle.iot_codec.specs.Outcomes.{Gives, ReadsWhatStands};
+ghost use Rattle.iot_codec.specs.Places.{Stands, IsAlone};
+ghost use Rattle.iot_codec.specs.Reading.{question_at};
+ghost use Rattle.iot_codec.specs.Rules.{IsQuestion};
+ghost use Rattle.iot_codec.specs.Spelling.{question_spelling};
+ghost use Rattle.iot_codec.specs.Laws.Questions.{question_laws};
+
+use crate::CodecFault;
+use crate::parts::{malformed, tag_at};
+use crate::spelled::{Spelled, read};
+use iot_text::{NoMemory, Path, Text};
+use iot_tree::Question;
+use std::alloc::Global;
+
+impl Spelled for Question {
+    ghost has_spelling = { IsQuestion };
+
+    ghost spelling = { question_spelling };
+
+    ghost reading = { question_at };
+
+    #[tactic(auto, unfolding(crate::specs::Spelling::question_spelling))]
+    fn put(&self, out: &mut Text) -> Result<(), NoMemory> {
+        let (tag, path) = match self {
+            Question::Kind(path) => (1, path),
+            Question::Content(path) => (2, path),
+            Question::Names(path) => (3, path),
+        };
+        out.push(tag)?;
+        path.put(out)
+    }
+
+    #[tactic(auto, unfolding(crate::specs::Reading::question_at))]
+    fn read(alloc: Global, bytes: &[u8], at: usize) -> Result<(Question, usize), CodecFault> {
+        match tag_at(bytes, at) {
+            Some(1) => {
+                let (path, end) = Path::read(alloc, bytes, at + 1)?;
+                Ok((Question::Kind(path), end))
+            }
+            Some(2) => {
+                let (path, end) = Path::read(alloc, bytes, at + 1)?;
+                Ok((Question::Content(path), end))
+            }
+            Some(3) => {
+                let (path, end) = Path::read(alloc, bytes, at + 1)?;
+                Ok((Question::Names(path), end))
+            }
+            _ => Err(malformed(at)),
+        }
+    }
+
+    ghost laws = { question_laws };
+}
+
+/// Appends the spelling of the question: its tag, and then its path.
+pub fn put_question(value: &Question, out: &mut Text) -> Result<(), NoMemory>
+    ensures ok { OnOk result (out.new ≡ out.old ++ question_spelling value.now) }
+    ensures err { OnErr result (AppendsPart out.old out.new (question_spelling value.now)) }
+{
+    value.put(out)
+}
+
+/// Reads the question that is spelled at the offset, and gives the offset behind it.
+///
+/// # Errors
+///
+/// `Malformed` exactly where no question is spelled there. `NoMemory` where there is none for it.
+pub fn read_question(
+    alloc: Global,
+    bytes: &[u8],
+    at: usize,
+) -> Result<(Question, usize), CodecFault>
+    requires { at ≤ length bytes.now }
+    ensures found { IfOk result (Stands IsQuestion question_spelling bytes.now at) }
+    ensures only { ReadsWhatStands IsQuestion question_spelling bytes.now at result }
+    ensures one { IsAlone IsQuestion question_spelling bytes.now at }
+    ensures exact { Gives result (question_at bytes.now at) }
+{
+    read(alloc, bytes, at)
+}

@@ -1,0 +1,106 @@
+//! Tables: lists of pairs whose keys rise.
+ghost use Rattle.std.specs.Prelude.{◌≡◌, ◌≤◌, ◌++◌, length, OnOk, OnErr, IfOk, None};
+ghost use Rattle.std.specs.Option.{option_copied};
+ghost use Rattle.iot_text.specs.Texts.{AppendsPart};
+ghost use Rattle.iot_codec.specs.Outcomes.{Gives};
+ghost use Rattle.iot_codec.specs.Reading.{pair_at, table_at};
+ghost use Rattle.iot_codec.specs.Readers.{items_at};
+ghost use Rattle.iot_codec.specs.Rules.{rises};
+ghost use Rattle.iot_codec.specs.Spelling.{pair_spelling, table_spelling};
+
+use crate::CodecFault;
+use crate::numbers::number_at;
+use crate::parts::malformed;
+use crate::spelled::Spelled;
+use iot_text::{NoMemory, Text};
+use iot_tree::Sequence;
+use std::alloc::Global;
+
+/// Appends a pair: the key, and then the value.
+fn put_pair<K: Spelled, V: Spelled>(pair: &(K, V), out: &mut Text) -> Result<(), NoMemory>
+    ensures ok { OnOk result (out.new ≡ out.old ++ pair_spelling K.spelling V.spelling pair.now) }
+    ensures err { OnErr result (AppendsPart out.old out.new (pair_spelling K.spelling V.spelling pair.now)) }
+{
+    pair.0.put(out)?;
+    pair.1.put(out)
+}
+
+/// Appends a table: the number of its pairs, and then the pairs.
+pub(crate) fn put_table<K: Spelled, V: Spelled>(
+    pairs: &[(K, V)],
+    out: &mut Text,
+) -> Result<(), NoMemory>
+    ensures ok { OnOk result (out.new ≡ out.old ++ table_spelling K.spelling V.spelling pairs.now) }
+    ensures err { OnErr result (AppendsPart out.old out.new (table_spelling K.spelling V.spelling pairs.now)) }
+{
+    (pairs.len() as u64).put(out)?;
+    'pairs: for pair in pairs {
+        put_pair(pair, out)?;
+    }
+    Ok(())
+}
+
+/// Whether the key is greater than that of the pair before it, where there is one.
+fn rises<K: Ord, V>(previous: Option<&(K, V)>, key: &K) -> bool
+    ensures { result ≡ rises K.cmp (option_copied previous.entry) key.now }
+{
+    match previous {
+        Some(pair) => pair.0.cmp(key).is_lt(),
+        None => true,
+    }
+}
+
+/// Reads a pair that stands behind another one, or is the first.
+#[tactic(auto, unfolding(crate::specs::Reading::pair_at))]
+fn read_pair<K: Spelled + Ord, V: Spelled>(
+    alloc: Global,
+    previous: Option<&(K, V)>,
+    bytes: &[u8],
+    at: usize,
+) -> Result<((K, V), usize), CodecFault>
+    requires { at ≤ length bytes.now }
+    ensures exact { Gives result (pair_at K.cmp K.reading V.reading (option_copied previous.entry) bytes.now at) }
+    ensures within { IfOk result (λ read. read.1 ≤ length bytes.now) }
+{
+    let (key, behind) = K::read(alloc, bytes, at)?;
+    if !rises(previous, &key) {
+        return Err(malformed(at));
+    }
+    let (value, end) = V::read(alloc, bytes, behind)?;
+    Ok(((key, value), end))
+}
+
+/// Reads so many pairs.
+fn read_pairs<K: Spelled + Ord, V: Spelled>(
+    alloc: Global,
+    count: u64,
+    bytes: &[u8],
+    at: usize,
+) -> Result<(Sequence<(K, V)>, usize), CodecFault>
+    requires { at ≤ length bytes.now }
+    ensures exact { Gives result (items_at (pair_at K.cmp K.reading V.reading) count None bytes.now at) }
+    ensures within { IfOk result (λ read. read.1 ≤ length bytes.now) }
+{
+    let mut pairs = Vec::new(alloc);
+    let mut end = at;
+    'pairs: for _ in 0..count {
+        let (pair, behind) = read_pair(alloc, pairs.last(), bytes, end)?;
+        pairs.push(pair)?;
+        end = behind;
+    }
+    Ok((Sequence::from_vec(pairs), end))
+}
+
+/// Reads a table.
+pub(crate) fn read_table<K: Spelled + Ord, V: Spelled>(
+    alloc: Global,
+    bytes: &[u8],
+    at: usize,
+) -> Result<(Sequence<(K, V)>, usize), CodecFault>
+    requires { at ≤ length bytes.now }
+    ensures exact { Gives result (table_at K.cmp K.reading V.reading bytes.now at) }
+    ensures within { IfOk result (λ read. read.1 ≤ length bytes.now) }
+{
+    let (count, at) = number_at(bytes, at)?;
+    read_pairs(alloc, count, bytes, at)
+}

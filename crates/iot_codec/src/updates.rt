@@ -1,0 +1,154 @@
+//! Updates of a tree.
+ghost use Rattle.std.specs.Prelude.{◌≡◌, ◌≤◌, ◌++◌, length, OnOk, OnErr, IfOk};
+ghost use Rattle.iot_text.specs.Texts.{AppendsPart};
+ghost use Rattle.iot_codec.specs.Outcomes.{Gives, ReadsWhatStands};
+ghost use Rattle.iot_codec.specs.Places.{Stands, IsAlone};
+ghost use Rattle.iot_codec.specs.Reading.{update_at, optional_update_at};
+ghost use Rattle.iot_codec.specs.Rules.{IsUpdate, IsOptionalUpdate};
+ghost use Rattle.iot_codec.specs.Spelling.{update_spelling, optional_update_spelling};
+ghost use Rattle.iot_codec.specs.Laws.Updates.{update_laws, optional_update_laws};
+
+use crate::CodecFault;
+use crate::parts::{malformed, tag_at};
+use crate::spelled::{Spelled, read};
+use iot_text::{NoMemory, Path, Text};
+use iot_tree::{Blob, Update};
+use std::alloc::Global;
+
+impl Spelled for Update {
+    ghost has_spelling = { IsUpdate };
+
+    ghost spelling = { update_spelling };
+
+    ghost reading = { update_at };
+
+    #[tactic(auto, unfolding(crate::specs::Spelling::update_spelling))]
+    fn put(&self, out: &mut Text) -> Result<(), NoMemory> {
+        match self {
+            Update::Put(path, contents) => {
+                out.push(1)?;
+                path.put(out)?;
+                contents.put(out)
+            }
+            Update::MakeDir(path) => {
+                out.push(2)?;
+                path.put(out)
+            }
+            Update::Remove(path) => {
+                out.push(3)?;
+                path.put(out)
+            }
+            Update::Move(path, other) => {
+                out.push(4)?;
+                path.put(out)?;
+                other.put(out)
+            }
+        }
+    }
+
+    #[tactic(auto, unfolding(crate::specs::Reading::update_at))]
+    fn read(alloc: Global, bytes: &[u8], at: usize) -> Result<(Update, usize), CodecFault> {
+        match tag_at(bytes, at) {
+            Some(1) => {
+                let (path, behind) = Path::read(alloc, bytes, at + 1)?;
+                let (contents, end) = Blob::read(alloc, bytes, behind)?;
+                Ok((Update::Put(path, contents), end))
+            }
+            Some(2) => {
+                let (path, end) = Path::read(alloc, bytes, at + 1)?;
+                Ok((Update::MakeDir(path), end))
+            }
+            Some(3) => {
+                let (path, end) = Path::read(alloc, bytes, at + 1)?;
+                Ok((Update::Remove(path), end))
+            }
+            Some(4) => {
+                let (path, behind) = Path::read(alloc, bytes, at + 1)?;
+                let (other, end) = Path::read(alloc, bytes, behind)?;
+                Ok((Update::Move(path, other), end))
+            }
+            _ => Err(malformed(at)),
+        }
+    }
+
+    ghost laws = { update_laws };
+}
+
+impl Spelled for Option<Update> {
+    ghost has_spelling = { IsOptionalUpdate };
+
+    ghost spelling = { optional_update_spelling };
+
+    ghost reading = { optional_update_at };
+
+    #[tactic(auto, unfolding(crate::specs::Spelling::optional_update_spelling))]
+    fn put(&self, out: &mut Text) -> Result<(), NoMemory> {
+        match self {
+            None => out.push(0),
+            Some(update) => update.put(out),
+        }
+    }
+
+    #[tactic(auto, unfolding(crate::specs::Reading::optional_update_at))]
+    fn read(alloc: Global, bytes: &[u8], at: usize) -> Result<(Option<Update>, usize), CodecFault> {
+        if let Some(0) = tag_at(bytes, at) {
+            return Ok((None, at + 1));
+        }
+        let (update, end) = Update::read(alloc, bytes, at)?;
+        Ok((Some(update), end))
+    }
+
+    ghost laws = { optional_update_laws };
+}
+
+/// Appends the spelling of the update: its tag, and then what it holds.
+pub fn put_update(value: &Update, out: &mut Text) -> Result<(), NoMemory>
+    requires { IsUpdate value.now }
+    ensures ok { OnOk result (out.new ≡ out.old ++ update_spelling value.now) }
+    ensures err { OnErr result (AppendsPart out.old out.new (update_spelling value.now)) }
+{
+    value.put(out)
+}
+
+/// Reads the update that is spelled at the offset, and gives the offset behind it.
+///
+/// # Errors
+///
+/// `Malformed` exactly where no update is spelled there. `NoMemory` where there is none for it.
+pub fn read_update(alloc: Global, bytes: &[u8], at: usize) -> Result<(Update, usize), CodecFault>
+    requires { at ≤ length bytes.now }
+    ensures found { IfOk result (Stands IsUpdate update_spelling bytes.now at) }
+    ensures only { ReadsWhatStands IsUpdate update_spelling bytes.now at result }
+    ensures one { IsAlone IsUpdate update_spelling bytes.now at }
+    ensures exact { Gives result (update_at bytes.now at) }
+{
+    read(alloc, bytes, at)
+}
+
+/// Appends the spelling of the update, or a 0 where there is none.
+pub fn put_optional_update(value: &Option<Update>, out: &mut Text) -> Result<(), NoMemory>
+    requires { IsOptionalUpdate value.now }
+    ensures ok { OnOk result (out.new ≡ out.old ++ optional_update_spelling value.now) }
+    ensures err { OnErr result (AppendsPart out.old out.new (optional_update_spelling value.now)) }
+{
+    value.put(out)
+}
+
+/// Reads the update, or none, that is spelled at the offset, and gives the offset behind it.
+///
+/// # Errors
+///
+/// `Malformed` exactly where no update, or none, is spelled there. `NoMemory` where there is none for it.
+pub fn read_optional_update(
+    alloc: Global,
+    bytes: &[u8],
+    at: usize,
+) -> Result<(Option<Update>, usize), CodecFault>
+    requires { at ≤ length bytes.now }
+    ensures found { IfOk result (Stands IsOptionalUpdate optional_update_spelling bytes.now at) }
+    ensures only { ReadsWhatStands IsOptionalUpdate optional_update_spelling bytes.now at result }
+    ensures one { IsAlone IsOptionalUpdate optional_update_spelling bytes.now at }
+    ensures exact { Gives result (optional_update_at bytes.now at) }
+{
+    read(alloc, bytes, at)
+}
