@@ -4,3 +4,4 @@ pub mod ClosingSteps
 pub mod ScriptFaults
 pub mod Declarations
 pub mod Steps
+pub mod Outcomes

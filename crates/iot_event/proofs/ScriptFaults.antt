@@ -33,7 +33,7 @@ fault_fits (lang_faults.BadStatement line) texts first (inl bad) within = omega 
 fault_fits (lang_faults.BadStatement line) texts first (inr open_) within = omega (arith, within, open_.behind)
 fault_fits (lang_faults.TooDeep line) texts first has within = omega (arith, within, has.first.there)
 
-unfit_within : (inside : List (List ℕ)) (closing : List ℕ) (place : ℕ) → first_unfit (inside ++ closing ∷ []) ≡ Some place → place ≤ length inside
+pub unfit_within : (inside : List (List ℕ)) (closing : List ℕ) (place : ℕ) → first_unfit (inside ++ closing ∷ []) ≡ Some place → place ≤ length inside
 unfit_within inside closing place is =
     let there = (position-Some (λ line. not (fits_line line)) (inside ++ closing ∷ []) place [] is).0 in
     omega (arith, there, length-append inside (closing ∷ []))
@@ -49,7 +49,7 @@ take_short (suc n) (suc m) [] h = refl
 take_short (suc n) (suc m) (x ∷ xs) h = ap (λ (ys : List (List ℕ)). x ∷ ys) (take_short n m xs (omega (arith, h)))
 
 -- lines up to one in front of a bad line begin a script
-begun_before : (texts : List (List ℕ)) (n m : ℕ) → n ≤ m → Begin (take m texts) → Begin (take n texts)
+pub begun_before : (texts : List (List ℕ)) (n m : ℕ) → n ≤ m → Begin (take m texts) → Begin (take n texts)
 begun_before texts n m h begun = subst (λ (ls : List (List ℕ)). Begin ls) (take_short n m texts h) (begins_take n (take m texts) begun)
 
 begun_bad : (texts : List (List ℕ)) (n m : ℕ) → n ≤ m → HasFault texts (lang_faults.BadStatement m) → Begin (take n texts)

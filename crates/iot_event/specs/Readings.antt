@@ -1,5 +1,6 @@
 -- What the parser knows and answers, line by line.
-use Rattle.std.specs.Prelude.{ℕ, List, Result, Ok, Err, ◌≡◌}
+use Rattle.std.specs.Prelude.{ℕ, List, Vec, Result, Ok, Err, ◌≡◌, ◌⊎◌}
+use Rattle.std.specs.declared.alloc.Global.{Global}
 use Rattle.iot_lines.specs.Lines.{lines}
 use Rattle.iot_lang.specs.Code.{Code}
 use Rattle.iot_event.specs.declared.closing.Closed as rust
@@ -11,7 +12,7 @@ use Rattle.iot_event.specs.declared.fault.EventFault.TheVariants as faults
 use Rattle.iot_event.specs.Closing.{Closed}
 use Rattle.iot_event.specs.Scripts.{SpellsScript, HasScriptFault}
 use Rattle.iot_event.specs.Lines.{Scope, Reading, Refused, Says, Opens}
-use Rattle.iot_event.specs.Events.{Step, Stops, Goes, Fault, IsRead}
+use Rattle.iot_event.specs.Events.{Step, Stops, Goes, Outcome, Events, Fault, IsRead}
 
 -- the names that were declared, and whether the server is down
 abbrev pub scope_of : Declared → Scope
@@ -49,3 +50,12 @@ Answers gives (Err fault) declared = gives (Stops fault)
 abbrev pub HasFault : List ℕ → EventFault → Type 0
 HasFault input faults.NoMemory = Unit {0}
 HasFault input fault = IsRead input (Fault fault)
+
+-- the outcome that an answer stands for
+abbrev pub outcome_of : Result (Vec Event Global) EventFault → Outcome
+outcome_of (Ok events) = Events events.items
+outcome_of (Err fault) = Fault fault
+
+-- the answer stands for this outcome, or memory ran out
+abbrev pub UnlessMemory : Result (Vec Event Global) EventFault → Outcome → Type 0
+UnlessMemory result outcome = (outcome_of result ≡ outcome) ⊎ (result ≡ Err faults.NoMemory)

@@ -1,8 +1,8 @@
 //! Event scripts: the events that an input asks for.
 ghost use Rattle.std.specs.Prelude.{◌≡◌, false, IfOk, IfErr};
-ghost use Rattle.iot_event.specs.Events.{IsRead, Events};
+ghost use Rattle.iot_event.specs.Events.{IsRead, Outcome, Events};
 ghost use Rattle.iot_event.specs.Declarations.{AreDeclared};
-ghost use Rattle.iot_event.specs.Readings.{HasFault};
+ghost use Rattle.iot_event.specs.Readings.{HasFault, UnlessMemory};
 
 use crate::declared::{Declared, Step};
 use crate::event::Event;
@@ -19,6 +19,9 @@ pub fn parse(alloc: Global, input: &[u8]) -> Result<Vec<Event>, EventFault>
     ensures events { IfOk result (λ events. IsRead input.now (Events events.items)) }
     ensures declared { IfOk result (λ events. AreDeclared events.items 0 0 false) }
     ensures fault { IfErr result (HasFault input.now) }
+
+    // An input has one outcome, and it is answered, unless memory runs out.
+    ensures only { (outcome : Outcome) → IsRead input.now outcome → UnlessMemory result outcome }
 {
     let mut declared = Declared::new(alloc);
     let mut events = Vec::new(alloc);

@@ -1,6 +1,7 @@
 //! Event scripts whose events, or whose first bad line, were written by hand.
 use crate::{Event, EventFault, parse};
 use iot_lang::print;
+use std::alloc::{AllocError, Global};
 use std::rt::HostRuntime;
 use std::test::Fail;
 
@@ -80,4 +81,39 @@ fn names_the_first_bad_line(rt: HostRuntime) {
         ("bad line", 2)
     );
     assert_eq!(rt; fault(&rt, b"restart server\n"), ("bad line", 1));
+}
+
+/// An input whose second line begins a script with so many blocks in one another.
+fn nested(alloc: Global, blocks: usize) -> Result<Vec<u8>, AllocError> {
+    let mut input = b"client laptop\nscript s {\n".to_vec(alloc)?;
+    for _ in 0..blocks {
+        input.extend_from_slice(b"if ok {\n")?;
+    }
+    for _ in 0..=blocks {
+        input.extend_from_slice(b"}\n")?;
+    }
+    Ok(input)
+}
+
+#[test]
+fn blocks_nest_16_deep(rt: HostRuntime) -> Result<(), Fail> {
+    assert_eq!(rt; fault(&rt, &nested(rt.alloc(), 16)?), ("none", 0));
+    assert_eq!(rt; fault(&rt, &nested(rt.alloc(), 17)?), ("too deep", 19));
+    Ok(())
+}
+
+/// An input of so many scripts, each of two lines.
+fn scripts(alloc: Global, count: u32) -> Result<Vec<u8>, AllocError> {
+    let mut input = Vec::new(alloc);
+    for number in 0..count {
+        input.extend_from_slice(format!(in alloc; "script s{number} {{\n}}\n")?.as_bytes())?;
+    }
+    Ok(input)
+}
+
+#[test]
+fn there_are_256_scripts_at_most(rt: HostRuntime) -> Result<(), Fail> {
+    assert_eq!(rt; fault(&rt, &scripts(rt.alloc(), 256)?), ("none", 0));
+    assert_eq!(rt; fault(&rt, &scripts(rt.alloc(), 257)?), ("too many", 513));
+    Ok(())
 }

@@ -1,10 +1,11 @@
-use Rattle.std.proofs.Common.{◌≡◌, ◌++◌, [], ◌∷◌, List, Option, Some, None, Result, Ok, Err, IsErrAnd, IfErr, sym, subst, ap, ◌∙◌, arith, rules, append-nil}
+use Rattle.std.proofs.Common.{◌≡◌, ◌++◌, [], ◌∷◌, List, Option, Some, None, Result, Ok, Err, IsErrAnd, IfOk, IfErr, sym, subst, ap, ◌∙◌, arith, rules, append-nil}
 use Rattle.std.specs.Option.{option_to_list}
 use Rattle.iot_lines.specs.Lines.{lines}
 use Rattle.iot_event.specs.Readings.{scope_of, HasFault}
 use Rattle.iot_event.specs.declared.event.Event.{Event}
 use Rattle.iot_event.specs.declared.fault.EventFault.{EventFault}
 use Rattle.iot_event.proofs.Declarations.{are_declared}
+use Rattle.iot_event.proofs.Outcomes.{only_outcome}
 use Rattle.iot_event.proofs.Steps.{more, all_read, stopped}
 use Rattle.iot_event.proofs.parsing.parse.Goals as goal
 
@@ -54,3 +55,16 @@ returns-in_err-event-clause-fault c =
     c.loop-line.invariant.follows c.in-Some.ensures.first c.in_err-event.ensures.line in
     handed c.from_residual.result _ (HasFault c.args.input.now) c.from_residual.ensures.1
     (λ other is. let same : c.in_err-event.field-0.0 ≡ other = sym is in subst (λ (f : EventFault). HasFault c.args.input.now f) same has)
+
+pub returns-clause-only : goal.returns-clause-only
+returns-clause-only c = λ outcome is. only_outcome c.args.input.now (Ok c.loop-line.events) outcome (returns-clause-events c) tt is
+
+no_events : {X : Type 0} (result : Result X EventFault) (Is : EventFault → Type 0) (Has : X → Type 0) → IsErrAnd result Is → IfOk result Has
+no_events (Ok x) Is Has is = absurd is
+no_events (Err fault) Is Has is = tt
+
+pub returns-in_err-event-clause-only : goal.returns-in_err-event-clause-only
+returns-in_err-event-clause-only c = λ outcome is.
+    only_outcome c.args.input.now c.from_residual.result outcome
+    (no_events c.from_residual.result _ _ c.from_residual.ensures.1)
+    (returns-in_err-event-clause-fault c) is
