@@ -1,5 +1,5 @@
 -- Steps of the commands that join contents.
-use Rattle.std.proofs.Common.{◌≡◌, ℕ, ◌+◌, ◌==◌, Bool, true, false, List, ◌++◌, length, Result, Ok, Err, refl, ap, subst, sym, if◌then◌else◌}
+use Rattle.std.proofs.Common.{◌≡◌, ℕ, ◌+◌, ◌==◌, Bool, true, false, List, ◌++◌, length, Result, Err, refl, subst, if◌then◌else◌}
 use Rattle.std.specs.Result.{IsErrAnd}
 use Rattle.iot_tree.specs.declared.updates.Update.TheVariants.{Remove}
 use Rattle.iot_exec.specs.Plans.{Plan}

@@ -1,5 +1,5 @@
 -- What was done is what the plan of the statement says.
-use Rattle.std.proofs.Common.{◌≡◌, ℕ, Bool, true, false, List, [], ◌∷◌, ◌++◌, Option, Some, None, Result, Ok, Err, IfOk, refl, sym, ap, subst, ◌∙◌, codes, if◌then◌else◌}
+use Rattle.std.proofs.Common.{◌≡◌, ℕ, Bool, true, false, List, [], ◌∷◌, ◌++◌, Option, Some, None, Result, Ok, Err, IfOk, refl, sym, ap, subst, ◌∙◌, if◌then◌else◌}
 use Rattle.std.proofs.lemmas.List.{append-nil}
 use Rattle.iot_tree.specs.Tree.{Nodes}
 use Rattle.iot_tree.specs.declared.acts.Read.{Read}
@@ -13,7 +13,7 @@ use Rattle.iot_exec.specs.Plans.{Plan, Done as Ended, mapped, Performed, perform
 use Rattle.iot_exec.specs.Endings.{ending}
 use Rattle.iot_exec.specs.Commands.{Kept, Ending, command_name, table, Turns, plan_of_command, plan_of_condition, plan_of_loop, truth, turns, loop_ending}
 use Rattle.iot_exec.specs.Places.{Frame, Rest, Again, Place, settle}
-use Rattle.iot_exec.specs.Asking.{onto, Leads, Ends}
+use Rattle.iot_exec.specs.Asking.{Leads, Ends}
 use Rattle.iot_exec.specs.Going.{IsDone, Finishes, finished, silent_act, branch_done, loop_done, goes_to}
 use Rattle.iot_exec.specs.declared.performing.Goes.TheVariants.{Branches}
 use Rattle.iot_exec.specs.declared.asking.Asking.{Asking}

@@ -1,15 +1,13 @@
 -- A run on another tree.
-use Rattle.std.proofs.Common.{◌≡◌, ℕ, zero, suc, List, [], ◌∷◌, ◌++◌, Option, Some, None, refl, sym, ap, subst, ◌∙◌, ◌↔◌}
+use Rattle.std.proofs.Common.{◌≡◌, ℕ, zero, suc, [], ◌∷◌, refl, sym, ap, subst, ◌∙◌}
 use Rattle.iot_tree.specs.Tree.{Nodes, IsTree}
-use Rattle.iot_tree.specs.declared.acts.Act.{Act}
-use Rattle.iot_tree.specs.declared.acts.Read.{Read}
 use Rattle.iot_lang.specs.Code.{Code}
-use Rattle.iot_exec.specs.Plans.{Plan, perform, Performed, Effect, act_of, after_update}
-use Rattle.iot_exec.specs.declared.env.Env.{Env}
+use Rattle.iot_exec.specs.Plans.{Plan, perform, Performed, Effect, act_of}
+use Rattle.iot_acts.specs.Traces.{after_update, ReadsHold, FitsIfAny, ActsHold, after_acts}
 use Rattle.iot_exec.specs.Commands.{Kept}
 use Rattle.iot_exec.specs.Runs.{run}
-use Rattle.iot_exec.specs.Places.{Frame, Place, Over, At, start, plan_at, ran_before, ran_then, exec}
-use Rattle.iot_exec.specs.Traces.{ReadsHold, FitsIfAny, ActsHold, after_acts, reads_of, IsAlike}
+use Rattle.iot_exec.specs.Places.{Place, Over, At, start, plan_at, ran_before, ran_then, exec}
+use Rattle.iot_exec.specs.Traces.{reads_of, IsAlike}
 use Rattle.iot_exec.specs.declared.ran.Ran.{Ran}
 use Rattle.iot_exec.proofs.PlanLaws.{own_reads, same_answers, SameStart, same_reads}
 use Rattle.iot_exec.proofs.MachineLaws.{exec_from_start}

@@ -1,17 +1,18 @@
 -- An interpreter, and the place at which it stands.
-use Rattle.std.proofs.Common.{◌≡◌, ℕ, zero, suc, ◌+◌, ◌<◌, ◌≤◌, ◌==◌, Bool, true, false, List, [], ◌∷◌, ◌++◌, Option, Some, None, is_none, is_some, not, length, drop, get_or, refl, sym, ap, subst, ◌∙◌, add-one, drop-cons, arith, if◌then◌else◌}
+use Rattle.std.proofs.Common.{◌≡◌, ℕ, suc, ◌+◌, ◌<◌, ◌≤◌, Bool, true, false, List, [], ◌∷◌, ◌++◌, Option, Some, None, is_none, is_some, not, length, drop, get_or, refl, sym, ap, subst, ◌∙◌, add-one, drop-cons, if◌then◌else◌}
 use Rattle.iot_tree.specs.Tree.{Nodes}
 use Rattle.iot_tree.specs.declared.acts.Act.{Act}
 use Rattle.iot_tree.specs.declared.acts.Read.{Read}
 use Rattle.iot_lang.specs.Code.{Code, End, Plain, Halt, If, IfElse, For}
-use Rattle.iot_lang.specs.Blocks.{with_statement, code_of_statements}
+use Rattle.iot_lang.specs.Blocks.{with_statement}
 use Rattle.iot_lang.specs.declared.blocks.Stmt.{Stmt}
 use Rattle.iot_lang.specs.declared.blocks.Stmt.TheVariants as statements
 use Rattle.iot_exec.specs.Values.{fresh}
 use Rattle.iot_exec.specs.Commands.{Kept}
 use Rattle.iot_exec.specs.Places.{Frame, Place, Over, At, is_over, start, plan_at, IsAfter}
 use Rattle.iot_exec.specs.Positions.{here, around, place_at, place_of, IsFirst}
-use Rattle.iot_exec.specs.Traces.{FitsIfAny, IsGuarded}
+use Rattle.iot_exec.specs.Traces.{IsGuarded}
+use Rattle.iot_acts.specs.Traces.{FitsIfAny, after_update, ReadsHold, ActsHold}
 use Rattle.iot_exec.specs.declared.position.Position.{Position}
 use Rattle.iot_exec.proofs.Fits.{place_fits}
 use Rattle.iot_exec.proofs.Guards.{place_guarded}
@@ -19,11 +20,12 @@ use Rattle.iot_tree.specs.Tree.{IsTree}
 use denote.Ref.{Bor}
 use Rattle.std.specs.Option.{option_copied}
 use Rattle.iot_exec.specs.Misses.{first_away, is_away, path_of_question}
-use Rattle.iot_exec.specs.Plans.{perform, act_of, after_update}
+use Rattle.iot_exec.specs.Plans.{perform, act_of}
 use Rattle.iot_exec.specs.Going.{IsDone, goes_to}
 use Rattle.iot_exec.specs.Execs.{IsNextAt, next_miss}
 use Rattle.iot_exec.specs.declared.performing.Done.{Done}
 use Rattle.iot_exec.specs.declared.env.Env.{Env}
+use Rattle.iot_exec.proofs.PlanLaws.{own_reads}
 use Rattle.iot_exec.proofs.PositionLaws.{drop_past}
 use Rattle.iot_exec.proofs.MachineLaws.{at_start, one_more}
 
@@ -108,6 +110,9 @@ module _ (block script : Code) (is : block ≡ script) (position : Position) (en
 
     pub next_fits : IsTree t → FitsIfAny t done.act.update
     next_fits tree = subst (λ (act : Act). FitsIfAny t act.update) (was first.0 []).act (place_fits kept (with_statement s first.0) [] env t tree)
+
+    pub next_holds : IsTree t → ActsHold t (done.act ∷ [])
+    next_holds tree = (subst (λ (act : Act). ReadsHold t act.reads) (was first.0 []).act (own_reads (plan_at kept (with_statement s first.0) [] env) t), next_fits tree, tt)
 
     pub next_guarded : IsTree t → IsGuarded done.act
     next_guarded tree = subst (λ (act : Act). IsGuarded act) (was first.0 []).act (place_guarded kept (with_statement s first.0) [] env t tree)

@@ -1,27 +1,27 @@
 -- What is guarded by a tree's answers fits that tree.
-use Rattle.std.proofs.Common.{◌≡◌, ◌≢◌, ◌⊎◌, ℕ, Bool, true, false, ◌||◌, IsSome, List, [], ◌∷◌, ◌++◌, Option, Some, None, refl, sym, ap, subst, ◌∙◌, inl, inr, bytes_eq}
+use Rattle.std.proofs.Common.{◌≡◌, ◌≢◌, ◌⊎◌, Bool, true, false, ◌||◌, IsSome, List, [], Option, Some, None, refl, sym, ap, subst, ◌∙◌, inl, inr, bytes_eq}
 use Rattle.std.specs.FinMap.{get}
 use Rattle.std.specs.Cmp.Lexicographic.{pointwise, lists_equiv, nat_list_eq_equiv}
 use Rattle.iot_text.specs.Paths.{IsBelow, is_below}
 use Rattle.iot_text.proofs.Below.{is_below-of}
 use Rattle.iot_tree.specs.Tree.{Nodes, IsTree, parent_node}
-use Rattle.iot_tree.specs.Questions.{answer_of, is_far_above, children_of}
-use Rattle.iot_tree.specs.Updates.{FitsPut, FitsMakeDir, FitsRemove, FitsMove, Fits, IsLeaf}
+use Rattle.iot_tree.specs.Questions.{is_far_above, children_of}
+use Rattle.iot_tree.specs.Updates.{FitsPut, FitsRemove, FitsMove, Fits, IsLeaf}
 use Rattle.iot_tree.specs.declared.nodes.Node.{Node}
-use Rattle.iot_tree.specs.declared.nodes.Node.TheVariants.{Dir, File, FarDir, FarFile}
+use Rattle.iot_tree.specs.declared.nodes.Node.TheVariants.{Dir, FarDir}
 use Rattle.iot_tree.specs.declared.questions.Question.TheVariants.{Kind, Content, Names}
 use Rattle.iot_tree.specs.declared.questions.Answer.TheVariants as answers
 use Rattle.iot_tree.specs.declared.updates.Update.{Update}
 use Rattle.iot_tree.specs.declared.updates.Update.TheVariants.{Put, MakeDir, Remove, Move}
 use Rattle.iot_tree.specs.declared.acts.Read.{Read}
-use Rattle.iot_tree.proofs.TreeLaws.{ancestors}
 use Rattle.iot_tree.proofs.Within.{Path}
 use Rattle.iot_lang.specs.Code.{Code}
 use Rattle.iot_exec.specs.Paths.{is_at_or_below}
 use Rattle.iot_exec.specs.Plans.{perform}
 use Rattle.iot_exec.specs.Commands.{Kept}
 use Rattle.iot_exec.specs.Places.{Frame, plan_at}
-use Rattle.iot_exec.specs.Traces.{ReadsHold, Asked, AskedFree, FitsIfAny, GuardsPut, GuardsRemove, GuardsMove, MayRemove, MayMove, over_file, over_contents, in_free, file_goes, empty_goes, file_to_file, dir_to_empty, any_to_free, Guards, GuardsIfAny}
+use Rattle.iot_exec.specs.Traces.{Asked, AskedFree, GuardsPut, GuardsRemove, GuardsMove, MayMove, over_file, over_contents, in_free, file_goes, empty_goes, file_to_file, dir_to_empty, any_to_free, Guards, GuardsIfAny}
+use Rattle.iot_acts.specs.Traces.{ReadsHold, FitsIfAny}
 use Rattle.iot_exec.specs.declared.env.Env.{Env}
 use Rattle.iot_exec.proofs.PlanLaws.{own_reads}
 use Rattle.iot_exec.proofs.Guards.{place_guarded, asked_answer}

@@ -1,18 +1,15 @@
 -- Every act is guarded.
-use Rattle.std.proofs.Common.{◌≡◌, ◌≢◌, ◌⊎◌, ℕ, ◌+◌, ◌==◌, Bool, true, false, List, [], ◌∷◌, ◌++◌, Option, Some, None, Result, Ok, Err, length, refl, sym, ap, subst, ◌∙◌, append_assoc, inl, inr, if◌then◌else◌, bytes_eq, map, arith}
+use Rattle.std.proofs.Common.{◌≡◌, ◌≢◌, ◌⊎◌, ℕ, ◌+◌, ◌==◌, Bool, true, false, List, [], ◌∷◌, ◌++◌, Option, Some, None, Result, Ok, Err, length, refl, sym, ap, subst, ◌∙◌, append_assoc, inl, inr, if◌then◌else◌, map, arith}
 use Rattle.std.proofs.lemmas.List.{append-nil}
 use Rattle.std.proofs.lemmas.Bool.Decides.{nat_tests}
-use Rattle.std.specs.Cmp.Lexicographic.{pointwise}
 use Rattle.std.specs.FinMap.{get}
 use Rattle.iot_tree.specs.Tree.{Nodes, IsTree}
 use Rattle.iot_tree.specs.Questions.{answer_of}
 use Rattle.iot_tree.specs.declared.acts.Read.{Read}
-use Rattle.iot_tree.specs.declared.kinds.Kind.{Kind as ChildKind}
 use Rattle.iot_tree.specs.declared.questions.Question.{Question}
 use Rattle.iot_tree.specs.declared.questions.Question.TheVariants.{Kind, Content, Names}
 use Rattle.iot_tree.specs.declared.questions.Answer.{Answer}
 use Rattle.iot_tree.specs.declared.questions.Answer.TheVariants as answers
-use Rattle.iot_tree.specs.declared.updates.Update.{Update}
 use Rattle.iot_tree.specs.declared.updates.Update.TheVariants as updates
 use Rattle.iot_lines.specs.Lines.{lines}
 use Rattle.iot_lang.specs.declared.words.Cond.{Cond}
@@ -24,9 +21,10 @@ use Rattle.iot_exec.specs.Paths.{parent_path, is_at_or_below}
 use Rattle.iot_exec.specs.Operands.{is_too_large, word_operand, path_operand}
 use Rattle.iot_exec.specs.Plans.{Plan, Done, Ask, mapped, Performed, perform, Effect, silent, going_on, act_of}
 use Rattle.iot_exec.specs.Endings.{ending}
-use Rattle.iot_exec.specs.Commands.{Kept, Ending, makes, prints, sets, fails, given, echo, read, cat, list_names, name_line, contents_or, contents, names_or, names, in_parent, ask_parent, at_target, target, at_new_dir, new_dir, make_dir, write, with_more, append, copy, join, concat, at_file, remove_file, when_empty, empty_dir, remove_dir, at_dir_target, dir_target, at_moved, move_target, move, at_kept, keep, table, command_name, plan_of_command, plan_of_condition, plan_of_loop, truth, turns, loop_ending, Turns}
+use Rattle.iot_exec.specs.Commands.{Kept, Ending, makes, prints, sets, given, echo, read, cat, list_names, name_line, contents_or, contents, names_or, names, in_parent, ask_parent, at_target, target, at_new_dir, new_dir, make_dir, write, with_more, append, copy, join, concat, at_file, remove_file, when_empty, empty_dir, remove_dir, at_dir_target, dir_target, at_moved, move, at_kept, keep, table, command_name, plan_of_command, plan_of_condition, plan_of_loop, truth, turns, loop_ending, Turns}
 use Rattle.iot_exec.specs.Places.{Frame, Place, plan_at}
-use Rattle.iot_exec.specs.Traces.{ReadsHold, Asked, AskedFree, GuardsPut, GuardsRemove, GuardsMove, MayRemove, MayMove, over_file, over_contents, in_free, file_goes, empty_goes, file_to_file, dir_to_empty, any_to_free, Guards, GuardsIfAny, IsGuarded}
+use Rattle.iot_exec.specs.Traces.{Asked, AskedFree, GuardsPut, GuardsMove, over_file, over_contents, in_free, file_goes, empty_goes, file_to_file, dir_to_empty, any_to_free, Guards, GuardsIfAny, IsGuarded}
+use Rattle.iot_acts.specs.Traces.{ReadsHold}
 use Rattle.iot_exec.specs.declared.env.Env.{Env}
 use Rattle.iot_exec.specs.declared.endings.Success.{Success}
 use Rattle.iot_exec.specs.declared.endings.Success.TheVariants.{Makes, Prints, Sets}

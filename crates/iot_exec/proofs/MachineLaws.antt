@@ -1,17 +1,18 @@
 -- One act at a time is the meaning by the syntax.
-use Rattle.std.proofs.Common.{◌≡◌, ℕ, zero, suc, ◌+◌, Bool, true, false, List, [], ◌∷◌, ◌++◌, length, refl, sym, ap, ◌∙◌, append_assoc, length-append, zero-add, add-zero, arith, if◌then◌else◌}
+use Rattle.std.proofs.Common.{◌≡◌, ℕ, zero, suc, ◌+◌, Bool, true, false, List, [], ◌∷◌, ◌++◌, refl, sym, ap, ◌∙◌, append_assoc, length-append, zero-add, add-zero, arith, if◌then◌else◌}
 use Rattle.std.proofs.lemmas.List.{append-nil}
 use Rattle.iot_tree.specs.Tree.{Nodes}
 use Rattle.iot_tree.specs.declared.acts.Act.{Act}
 use Rattle.iot_lang.specs.Code.{Code, End, Plain, Halt, If, IfElse, For}
-use Rattle.iot_exec.specs.Plans.{Plan, mapped, perform, Performed, Effect, going_on, act_of, after_update}
+use Rattle.iot_exec.specs.Plans.{Plan, mapped, perform, Performed, Effect, going_on, act_of}
+use Rattle.iot_acts.specs.Traces.{after_update}
 use Rattle.iot_exec.specs.Values.{fresh, with_variable}
 use Rattle.iot_exec.specs.declared.env.Env.{Env}
 use Rattle.iot_exec.specs.Commands.{Kept, plan_of_command, plan_of_condition, plan_of_loop}
 use Rattle.iot_exec.specs.Runs.{Outcome, Done, Cut, Stopped, with_acts, after, act_then, each_turn, stop, run_code, ran_of, run}
-use Rattle.iot_exec.specs.Places.{Frame, Rest, Again, Place, Over, At, begin_turn, settle, start, plan_at, is_over, ran_before, ran_then, acts_at, exec, IsAfter}
+use Rattle.iot_exec.specs.Places.{Frame, Rest, Again, Place, Over, At, settle, start, plan_at, is_over, ran_before, ran_then, exec, IsAfter}
 use Rattle.iot_exec.specs.declared.ran.Ran.{Ran}
-use Rattle.iot_exec.proofs.PlanLaws.{with_result, perform-mapped}
+use Rattle.iot_exec.proofs.PlanLaws.{perform-mapped}
 
 -- what a run comes to that goes on behind these statements
 abbrev pub finish : Outcome → (Nodes → Env → ℕ → Ran) → Ran

@@ -1,12 +1,10 @@
 -- What holds of every plan.
-use Rattle.std.proofs.Common.{◌≡◌, ℕ, List, [], ◌∷◌, ◌++◌, Option, Some, None, refl, sym, ap, ◌∙◌}
+use Rattle.std.proofs.Common.{◌≡◌, List, ◌∷◌, ◌++◌, refl, sym, ap, ◌∙◌}
 use Rattle.iot_tree.specs.Tree.{Nodes}
 use Rattle.iot_tree.specs.Questions.{answer_of}
-use Rattle.iot_tree.specs.declared.questions.Question.{Question}
-use Rattle.iot_tree.specs.declared.questions.Answer.{Answer}
 use Rattle.iot_tree.specs.declared.acts.Read.{Read}
 use Rattle.iot_exec.specs.Plans.{Plan, Done, Ask, mapped, Performed, perform, with_read}
-use Rattle.iot_exec.specs.Traces.{ReadsHold}
+use Rattle.iot_acts.specs.Traces.{ReadsHold}
 
 abbrev pub with_result : {R S : Type 0} → (R → S) → Performed R → Performed S
 with_result f performed = record { reads = performed.reads; result = f performed.result }

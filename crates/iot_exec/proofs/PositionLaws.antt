@@ -1,7 +1,7 @@
 -- Positions, block by block.
-use Rattle.std.proofs.Common.{◌≡◌, ℕ, zero, suc, ◌+◌, ◌-◌, ◌<◌, ◌≤◌, ◌==◌, Bool, true, false, subst, List, [], ◌∷◌, ◌++◌, Option, Some, None, length, drop, take, get_or, refl, sym, ap, ◌∙◌, append_assoc, add-one, length-drop, drop-cons, arith}
-use Rattle.std.proofs.lemmas.List.{nil_from_length, append-nil}
-use Rattle.iot_lang.specs.Code.{Code, End, Plain, Halt, If, IfElse, For}
+use Rattle.std.proofs.Common.{◌≡◌, ℕ, zero, suc, ◌+◌, ◌<◌, ◌≤◌, ◌==◌, false, subst, List, [], ◌∷◌, ◌++◌, Some, None, length, drop, get_or, refl, sym, ap, ◌∙◌, add-one, length-drop, drop-cons, arith}
+use Rattle.std.proofs.lemmas.List.{nil_from_length}
+use Rattle.iot_lang.specs.Code.{Code, End}
 use Rattle.iot_lang.specs.Blocks.{with_statement, code_of_statements}
 use Rattle.iot_lang.specs.declared.blocks.Stmt.{Stmt}
 use Rattle.iot_lang.specs.declared.blocks.Stmt.TheVariants as statements

@@ -1,22 +1,21 @@
 -- What a tree's answers say of its rows.
-use Rattle.std.proofs.Common.{◌≡◌, ◌≢◌, ◌⊎◌, ℕ, ◌+◌, ◌-◌, ◌==◌, Bool, true, false, ◌&&◌, ◌||◌, IsSome, List, [], ◌∷◌, ◌++◌, Option, Some, None, option_map, option_and_then, cond, length, refl, sym, ap, subst, ◌∙◌, inl, inr, bytes_eq, if◌then◌else◌, length-append, arith, append_assoc, unwrap_or}
+use Rattle.std.proofs.Common.{◌≡◌, ◌≢◌, ℕ, ◌+◌, ◌-◌, ◌==◌, Bool, true, false, ◌&&◌, IsSome, List, [], ◌∷◌, ◌++◌, Option, Some, None, option_map, option_and_then, cond, length, refl, sym, ap, subst, ◌∙◌, inl, inr, bytes_eq, if◌then◌else◌, length-append, arith, append_assoc, unwrap_or}
 use Rattle.std.proofs.lemmas.Bool.Decides.{nat_tests}
-use Rattle.std.specs.Ordering.{eq_by_cmp, is_eq}
 use Rattle.std.specs.List.{filter_map, cons_option, slice_get, starts_with}
 use Rattle.std.specs.FinMap.{get, entries, get-entries}
 use Rattle.std.specs.FinMap.Entries.{find}
-use Rattle.iot_text.specs.Paths.{path_cmp, parent_of, last_of, IsBelow}
+use Rattle.iot_text.specs.Paths.{path_cmp, last_of, IsBelow}
 use Rattle.iot_tree.specs.Tree.{Nodes, IsTree, parent_node}
-use Rattle.iot_tree.specs.Questions.{answer_of, kind_answer, kind_at, is_far_above, is_far_dir, no_content, content_answer, names_answer, children_of, child_of, is_child, node_kind}
+use Rattle.iot_tree.specs.Questions.{answer_of, kind_answer, kind_at, is_far_above, is_far_dir, no_content, content_answer, names_answer, children_of, child_of, node_kind}
 use Rattle.iot_tree.specs.Updates.{IsLeaf}
 use Rattle.iot_tree.specs.declared.nodes.Node.{Node}
 use Rattle.iot_tree.specs.declared.nodes.Node.TheVariants.{Dir, File, FarDir, FarFile}
 use Rattle.iot_tree.specs.declared.kinds.Kind.{Kind as ChildKind}
-use Rattle.iot_tree.specs.declared.questions.Question.TheVariants.{Kind, Content, Names}
+use Rattle.iot_tree.specs.declared.questions.Question.TheVariants.{Kind, Names}
 use Rattle.iot_tree.specs.declared.questions.Answer.{Answer}
 use Rattle.iot_tree.specs.declared.questions.Answer.TheVariants as answers
 use Rattle.iot_tree.proofs.Ancestry.{ends, at_root, in_name, parent_push, any_above}
-use Rattle.iot_tree.proofs.TreeLaws.{same_or_apart, apart, ancestors}
+use Rattle.iot_tree.proofs.TreeLaws.{same_or_apart, ancestors}
 use Rattle.iot_tree.proofs.Within.{Path, Row, test_is}
 use Rattle.iot_exec.specs.Paths.{parent_path}
 

@@ -1,5 +1,5 @@
 -- A whole run, act by act.
-use Rattle.std.proofs.Common.{◌≡◌, ◌⊎◌, ℕ, zero, suc, ◌+◌, ◌-◌, ◌<◌, ◌≤◌, Bool, true, false, not, List, [], ◌∷◌, ◌++◌, length, refl, sym, ap, subst, ◌∙◌, inl, inr, length-append, arith}
+use Rattle.std.proofs.Common.{◌≡◌, ◌⊎◌, ℕ, ◌+◌, ◌-◌, ◌≤◌, Bool, true, List, [], ◌∷◌, ◌++◌, length, sym, ap, subst, ◌∙◌, inl, inr, length-append, arith}
 use Rattle.std.proofs.lemmas.List.{append-nil}
 use Rattle.iot_tree.specs.Tree.{Nodes, IsTree}
 use Rattle.iot_tree.specs.declared.acts.Act.{Act}

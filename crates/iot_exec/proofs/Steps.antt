@@ -1,13 +1,13 @@
 -- How the steps of a command follow its plan.
-use Rattle.std.proofs.Common.{◌≡◌, ℕ, Bool, true, false, List, Result, Ok, Err, refl, ◌∙◌, ap, subst, sym, append_assoc, if◌then◌else◌}
+use Rattle.std.proofs.Common.{◌≡◌, ℕ, List, Result, Ok, Err, ◌∙◌, ap, subst, sym, append_assoc}
 use Rattle.std.specs.Result.{IsErrAnd}
 use Rattle.iot_tree.specs.Questions.{answer_of}
 use Rattle.iot_tree.specs.declared.questions.Question.{Question}
 use Rattle.iot_tree.specs.declared.questions.Answer.{Answer}
-use Rattle.iot_exec.specs.Plans.{Plan, Done, Ask, Performed, perform}
+use Rattle.iot_exec.specs.Plans.{Plan, Done, Ask, perform}
 use Rattle.iot_exec.specs.Operands.{IsStopAt}
 use Rattle.iot_exec.specs.Commands.{Ending, fails}
-use Rattle.iot_exec.specs.Asking.{asked, onto, Leads, Finds, Passes, Ends}
+use Rattle.iot_exec.specs.Asking.{asked, Leads, Finds, Passes, Ends}
 use Rattle.iot_exec.specs.declared.asking.Asking.{Asking}
 use Rattle.iot_exec.specs.declared.endings.Reason.{Reason}
 use Rattle.iot_exec.specs.declared.endings.Success.{Success}

@@ -1,5 +1,5 @@
 -- What an update leaves of a tree is a tree.
-use Rattle.std.proofs.Common.{◌≡◌, ◌≢◌, ◌⊎◌, ℕ, Bool, true, false, cond, IsSome, List, [], ◌∷◌, ◌++◌, map, Option, Some, None, option_and_then, append_assoc, refl, sym, ap, subst, ◌∙◌, inl, inr, length, length-append, arith}
+use Rattle.std.proofs.Common.{◌≡◌, ◌≢◌, ◌⊎◌, ℕ, true, false, cond, IsSome, List, [], ◌∷◌, ◌++◌, map, Option, Some, None, option_and_then, append_assoc, refl, sym, ap, subst, ◌∙◌, length, length-append, arith}
 use Rattle.std.proofs.lemmas.List.{append-nil}
 use Rattle.std.specs.Cmp.{tied_itself}
 use Rattle.std.specs.Ordering.{eq_by_cmp, is_eq}
@@ -7,7 +7,7 @@ use Rattle.std.specs.FinMap.{get, remove, entries, get-remove, get-entries, get-
 use Rattle.std.specs.FinMap.Entries.{find}
 use Rattle.iot_text.specs.Paths.{path_cmp, parent_of, IsBelow}
 use Rattle.iot_tree.specs.Tree.{Nodes, IsTree, parent_node}
-use Rattle.iot_tree.specs.Updates.{FitsPut, FitsMakeDir, FitsRemove, FitsMove, IsLeaf, renamed, renamed_row, moved, Fits, updated}
+use Rattle.iot_tree.specs.Updates.{FitsRemove, FitsMove, renamed, renamed_row, moved, Fits, updated}
 use Rattle.iot_tree.specs.declared.nodes.Node.{Node}
 use Rattle.iot_tree.specs.declared.nodes.Node.TheVariants.{Dir, FarDir}
 use Rattle.iot_tree.specs.declared.updates.Update.{Update}
@@ -18,8 +18,7 @@ use Rattle.iot_tree.proofs.TreeLaws.{apart, ancestors, tree_insert}
 use Rattle.iot_tree.proofs.Within.{Path, Row, IsOutside, Outside, side, inside, outside, same_front, outside_found}
 use Rattle.iot_tree.proofs.Renaming.{renamed_inside, renamed_outside}
 use Rattle.iot_tree.proofs.Moving.{forked}
-use Rattle.iot_exec.specs.Plans.{after_update}
-use Rattle.iot_exec.specs.Traces.{FitsIfAny}
+use Rattle.iot_acts.specs.Traces.{after_update, FitsIfAny}
 
 -- nodes are a tree where the root is a directory, and each row's parent a directory whose names are known
 tree_from : (u : Nodes) → (get u [] ≡ Some Dir) ⊎ (get u [] ≡ Some FarDir) → ((front : Path) (last : List ℕ) → IsSome (get u (front ++ last ∷ [])) → get u front ≡ Some Dir) → IsTree u

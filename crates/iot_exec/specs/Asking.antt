@@ -4,11 +4,9 @@ use denote.Ref.{Bor}
 use Rattle.iot_tree.specs.Questions.{answer_of}
 use Rattle.iot_tree.specs.declared.questions.Question.{Question}
 use Rattle.iot_tree.specs.declared.questions.Answer.{Answer}
-use Rattle.iot_tree.specs.declared.acts.Read.{Read}
 use Rattle.iot_exec.specs.Plans.{Plan, Done, Performed, perform}
 use Rattle.iot_exec.specs.Commands.{Ending}
 use Rattle.iot_exec.specs.declared.asking.Asking.{Asking}
-use Rattle.iot_exec.specs.declared.endings.Success.{Success}
 use Rattle.iot_exec.specs.declared.endings.Refusal.{Refusal}
 use Rattle.iot_exec.specs.declared.endings.Stop.{Stop}
 use Rattle.iot_exec.specs.declared.endings.Stop.TheVariants.{NoMemory, Refused}

@@ -6,7 +6,6 @@ use Rattle.iot_lines.specs.Lines.{lines}
 use Rattle.iot_text.specs.Paths.{path_cmp}
 use Rattle.iot_tree.specs.declared.kinds.Kind.{Kind}
 use Rattle.iot_tree.specs.declared.kinds.Kind.TheVariants as kinds
-use Rattle.iot_tree.specs.declared.questions.Question.{Question}
 use Rattle.iot_tree.specs.declared.questions.Question.TheVariants as asks
 use Rattle.iot_tree.specs.declared.questions.Answer.{Answer}
 use Rattle.iot_tree.specs.declared.questions.Answer.TheVariants.{Away, Absent, IsDir, IsFile, Bytes, Names}

@@ -1,5 +1,5 @@
 -- What a command's end does: its update, its lines, and what the script goes on with.
-use Rattle.std.specs.Prelude.{ℕ, true, false, List, [], ◌∷◌, ◌++◌, Option, Some, None, Result, Ok, Err, codes}
+use Rattle.std.specs.Prelude.{ℕ, true, false, List, [], ◌∷◌, ◌++◌, Some, None, Result, Ok, Err, codes}
 use Rattle.iot_text.specs.Paths.{path_text}
 use Rattle.iot_exec.specs.Plans.{Effect}
 use Rattle.iot_exec.specs.Values.{with_ok, with_variable}

@@ -3,7 +3,8 @@ use Rattle.std.specs.Prelude.{◌≡◌, ℕ, List, Option, None}
 use Rattle.iot_tree.specs.Tree.{Nodes}
 use Rattle.iot_tree.specs.declared.acts.Act.{Act}
 use Rattle.iot_lang.specs.Code.{Code}
-use Rattle.iot_exec.specs.Plans.{Performed, perform, Effect, act_of, after_update}
+use Rattle.iot_exec.specs.Plans.{Performed, perform, Effect, act_of}
+use Rattle.iot_acts.specs.Traces.{after_update}
 use Rattle.iot_exec.specs.Commands.{Kept, kept_files}
 use Rattle.iot_exec.specs.Places.{Place, Over, At, plan_at, IsAfter}
 use Rattle.iot_exec.specs.Misses.{first_away}

@@ -1,5 +1,5 @@
 -- What a script goes on with after an act.
-use Rattle.std.specs.Prelude.{◌≡◌, ℕ, Bool, true, false, List, [], ◌∷◌, ◌++◌, Option, Some, None, Result, Ok, Err, codes}
+use Rattle.std.specs.Prelude.{◌≡◌, ℕ, Bool, true, false, List, [], ◌∷◌, ◌++◌, Some, None, Result, Ok, Err, codes}
 use Rattle.iot_tree.specs.Tree.{Nodes}
 use Rattle.iot_lang.specs.Code.{Code}
 use Rattle.iot_lang.specs.Blocks.{with_statement}

@@ -3,10 +3,11 @@ use Rattle.std.specs.Prelude.{◌≡◌, ℕ, zero, suc, ◌+◌, Bool, true, fa
 use Rattle.iot_tree.specs.Tree.{Nodes}
 use Rattle.iot_tree.specs.declared.acts.Act.{Act}
 use Rattle.iot_lang.specs.Code.{Code, End, Plain, Halt, If, IfElse, For}
-use Rattle.iot_exec.specs.Plans.{Plan, Done, mapped, perform, Performed, Effect, silent, going_on, act_of, after_update}
+use Rattle.iot_exec.specs.Plans.{Plan, Done, mapped, perform, Performed, Effect, silent, going_on, act_of}
+use Rattle.iot_acts.specs.Traces.{after_update}
 use Rattle.iot_exec.specs.Values.{fresh, with_variable}
 use Rattle.iot_exec.specs.declared.env.Env.{Env}
-use Rattle.iot_exec.specs.Commands.{Kept, Turns, plan_of_command, plan_of_condition, plan_of_loop}
+use Rattle.iot_exec.specs.Commands.{Kept, plan_of_command, plan_of_condition, plan_of_loop}
 use Rattle.iot_exec.specs.Runs.{run}
 use Rattle.iot_exec.specs.declared.ran.Ran.{Ran}
 

@@ -1,8 +1,7 @@
 -- Acts as plans: what an act asks and does, whatever the tree.
-use Rattle.std.specs.Prelude.{ℕ, List, [], ◌∷◌, Option, Some, None}
+use Rattle.std.specs.Prelude.{ℕ, List, [], ◌∷◌, Option, None}
 use Rattle.iot_tree.specs.Tree.{Nodes}
 use Rattle.iot_tree.specs.Questions.{answer_of}
-use Rattle.iot_tree.specs.Updates.{updated}
 use Rattle.iot_tree.specs.declared.questions.Question.{Question}
 use Rattle.iot_tree.specs.declared.questions.Answer.{Answer}
 use Rattle.iot_tree.specs.declared.updates.Update.{Update}
@@ -51,8 +50,3 @@ going_on f effect = record { update = effect.update; lines = effect.lines; resul
 -- the act that was performed
 abbrev pub act_of : {R : Type 0} → Performed (Effect R) → Act
 act_of performed = record { reads = performed.reads; update = performed.result.update; lines = performed.result.lines }
-
--- the tree after an act
-abbrev pub after_update : Nodes → Option Update → Nodes
-after_update t None = t
-after_update t (Some update) = updated t update

@@ -1,9 +1,10 @@
 -- What a script does on a tree with at most so many acts, by its syntax.
-use Rattle.std.specs.Prelude.{ℕ, zero, suc, Bool, true, false, List, [], ◌∷◌, ◌++◌, Option, None, if◌then◌else◌}
+use Rattle.std.specs.Prelude.{ℕ, zero, suc, true, false, List, [], ◌∷◌, ◌++◌, None, if◌then◌else◌}
 use Rattle.iot_tree.specs.Tree.{Nodes}
 use Rattle.iot_tree.specs.declared.acts.Act.{Act}
 use Rattle.iot_lang.specs.Code.{Code, End, Plain, Halt, If, IfElse, For}
-use Rattle.iot_exec.specs.Plans.{Plan, perform, Effect, act_of, after_update}
+use Rattle.iot_exec.specs.Plans.{Plan, perform, Effect, act_of}
+use Rattle.iot_acts.specs.Traces.{after_update}
 use Rattle.iot_exec.specs.Values.{fresh, with_variable}
 use Rattle.iot_exec.specs.declared.env.Env.{Env}
 use Rattle.iot_exec.specs.Commands.{Kept, plan_of_command, plan_of_condition, plan_of_loop}

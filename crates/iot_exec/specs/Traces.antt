@@ -1,8 +1,6 @@
--- Which acts hold on a tree, and which acts are guarded.
+-- What becomes of a run on another tree, and which acts are guarded.
 use Rattle.std.specs.Prelude.{◌≡◌, ◌⊎◌, ℕ, List, [], ◌∷◌, ◌++◌, Option, Some, None, false, ◌≢◌, ◌↔◌}
 use Rattle.iot_tree.specs.Tree.{Nodes}
-use Rattle.iot_tree.specs.Questions.{answer_of}
-use Rattle.iot_tree.specs.Updates.{Fits, updated}
 use Rattle.iot_tree.specs.declared.updates.Update.{Update}
 use Rattle.iot_tree.specs.declared.acts.Act.{Act}
 use Rattle.iot_tree.specs.declared.acts.Read.{Read}
@@ -12,28 +10,8 @@ use Rattle.iot_tree.specs.declared.questions.Answer.{Answer}
 use Rattle.iot_tree.specs.declared.questions.Answer.TheVariants as answers
 use Rattle.iot_tree.specs.declared.updates.Update.TheVariants.{Put, MakeDir, Remove, Move}
 use Rattle.iot_exec.specs.Paths.{parent_path, is_at_or_below}
-use Rattle.iot_exec.specs.Plans.{after_update}
+use Rattle.iot_acts.specs.Traces.{ActsHold, after_acts}
 use Rattle.iot_exec.specs.declared.ran.Ran.{Ran}
-
--- each read is the tree's answer
-abbrev pub ReadsHold : Nodes → List Read → Type 0
-ReadsHold t [] = Unit {0}
-ReadsHold t (read ∷ reads) = (answer_of t read.question ≡ read.answer) × ReadsHold t reads
-
--- the update, if there is one, fits the tree
-abbrev pub FitsIfAny : Nodes → Option Update → Type 0
-FitsIfAny t None = Unit {0}
-FitsIfAny t (Some update) = Fits t update
-
--- each read in turn is the tree's answer after the updates before it, and each update fits at its turn
-abbrev pub ActsHold : Nodes → List Act → Type 0
-ActsHold t [] = Unit {0}
-ActsHold t (act ∷ acts) = ReadsHold t act.reads × FitsIfAny t act.update × ActsHold (after_update t act.update) acts
-
--- the tree after the updates of these acts
-abbrev pub after_acts : Nodes → List Act → Nodes
-after_acts t [] = t
-after_acts t (act ∷ acts) = after_acts (after_update t act.update) acts
 
 -- all reads of these acts, in order
 abbrev pub reads_of : List Act → List Read

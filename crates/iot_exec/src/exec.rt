@@ -5,8 +5,8 @@ ghost use Rattle.iot_tree.specs.declared.acts.Act.{Act};
 ghost use Rattle.iot_lang.specs.Code.{Code};
 ghost use Rattle.iot_exec.specs.Commands.{Kept, kept_files};
 ghost use Rattle.iot_exec.specs.Places.{is_over};
-ghost use Rattle.iot_exec.specs.Traces.{IsGuarded, FitsIfAny};
-ghost use Rattle.iot_exec.specs.Plans.{after_update};
+ghost use Rattle.iot_exec.specs.Traces.{IsGuarded};
+ghost use Rattle.iot_acts.specs.Traces.{FitsIfAny, ActsHold, after_update};
 ghost use Rattle.iot_exec.specs.Misses.{first_away, path_of_question};
 
 use crate::env::Env;
@@ -122,6 +122,8 @@ impl Exec {
         requires limit { act_count self.old < 4096 }
         ensures next { IfOk result (λ act. IsNextAt (kept_by self.old) (place self.old) t.old act (place self.new) t.new) }
         ensures runs { IfOk result (λ act. (script : Code) (kept : Kept) (t0 : Nodes) (n : ℕ) (acts : List Act) → IsRunning script kept t0 n acts self.old t.old → IsRunning script kept t0 (n + 1) (acts ++ act ∷ []) self.new t.new) }
+        ensures holds { IfOk result (λ act. ActsHold t.old (act ∷ [])) }
+        ensures makes { IfOk result (λ act. t.new ≡ after_update t.old act.update) }
         ensures guarded { IfOk result IsGuarded }
     {
         self.step(alloc, t)
@@ -133,6 +135,8 @@ impl Exec {
         requires room { act_count self.old + 1 < 2 ^ 64 }
         ensures next { IfOk result (λ act. IsNextAt (kept_by self.old) (place self.old) t.old act (place self.new) t.new) }
         ensures runs { IfOk result (λ act. (script : Code) (kept : Kept) (t0 : Nodes) (n : ℕ) (acts : List Act) → IsRunning script kept t0 n acts self.old t.old → IsRunning script kept t0 (n + 1) (acts ++ act ∷ []) self.new t.new) }
+        ensures holds { IfOk result (λ act. ActsHold t.old (act ∷ [])) }
+        ensures makes { IfOk result (λ act. t.new ≡ after_update t.old act.update) }
         ensures guarded { IfOk result IsGuarded }
     {
         let block = self.script.block();

@@ -1,7 +1,7 @@
-use Rattle.std.proofs.Common.{◌≡◌, ◌≤◌, ◌⊎◌, ◌++◌, true, refl, sym, ap, ◌∙◌, inl, inr, length, arith}
+use Rattle.std.proofs.Common.{◌≡◌, ◌≤◌, ◌⊎◌, true, sym, ◌∙◌, inl, inr, length, arith}
 use Rattle.iot_exec.specs.Commands.{kept_files}
 use Rattle.iot_exec.specs.Places.{is_over}
-use Rattle.iot_exec.specs.Execs.{place, act_count, IsRunning}
+use Rattle.iot_exec.specs.Execs.{place, act_count}
 use Rattle.iot_exec.proofs.RunLaws.{begins, goes_on, ran_is, alike_is}
 use Rattle.iot_exec.proofs.job.run.Goals as goal
 use Rattle.iot_exec.proofs.job.run.Goals.{then-acts-test+else-not-at_end, else-acts-test}

@@ -1,4 +1,4 @@
-use Rattle.std.proofs.Common.{◌≡◌, Bool, true, false, sym, ap, ◌∙◌, is_eq}
+use Rattle.std.proofs.Common.{true, false, sym, ap, ◌∙◌, is_eq}
 use Rattle.std.specs.FinMap.{get}
 use Rattle.iot_exec.specs.Commands.{kept_files}
 use Rattle.iot_exec.proofs.KeptLaws.{is_found, next_file, none_left}

@@ -1,5 +1,4 @@
-use Rattle.std.proofs.Common.{◌≡◌, sym, ap, ◌∙◌, take, drop, length, ◌-◌}
-use Rattle.iot_lang.specs.Blocks.{code_of_statements}
+use Rattle.std.proofs.Common.{sym}
 use Rattle.iot_exec.proofs.PositionLaws.{skipped, skipped_all}
 use Rattle.std.proofs.lemmas.List.{take_rest}
 use Rattle.iot_exec.proofs.position.from.Goals as goal

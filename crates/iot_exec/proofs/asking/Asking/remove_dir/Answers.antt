@@ -1,6 +1,6 @@
 use Rattle.std.proofs.Common.{sym, ◌∙◌, subst}
 use Rattle.iot_tree.specs.declared.updates.Update.TheVariants.{Remove}
-use Rattle.iot_exec.specs.Plans.{Plan, Done}
+use Rattle.iot_exec.specs.Plans.{Plan}
 use Rattle.iot_exec.specs.Commands.{Ending, makes, empty_dir}
 use Rattle.iot_exec.specs.Asking.{Leads, Ends}
 use Rattle.iot_exec.proofs.Steps.{stopped}

@@ -1,7 +1,7 @@
 use Rattle.std.proofs.Common.{◌+◌, ap, subst, ◌∙◌}
 use Rattle.iot_exec.specs.Commands.{Kept, kept_files}
 use Rattle.iot_exec.specs.Execs.{place, IsNextAt}
-use Rattle.iot_exec.proofs.ExecLaws.{next_fits, next_guarded, step_next, runs_on}
+use Rattle.iot_exec.proofs.ExecLaws.{next_fits, next_guarded, next_holds, step_next, runs_on}
 use Rattle.iot_exec.proofs.exec.Exec.step.Goals as goal
 
 pub apply-requires : goal.apply-requires
@@ -18,6 +18,11 @@ returns-clause-next c =
 pub returns-clause-guarded : goal.returns-clause-guarded
 returns-clause-guarded c =
     next_guarded c.block-block.result.now c.args.self.now.script.value (c.block-block.ensures.value ∙ c.deref.ensures) c.args.self.now.position c.args.self.now.env
+    (kept_files c.args.self.now.kept) c.args.t.now c.in-Some.statement.now c.in-Some.ensures c.in_ok-done.done c.in_ok-done.ensures.done c.in_ok-done.ensures.tree
+
+pub returns-clause-holds : goal.returns-clause-holds
+returns-clause-holds c =
+    next_holds c.block-block.result.now c.args.self.now.script.value (c.block-block.ensures.value ∙ c.deref.ensures) c.args.self.now.position c.args.self.now.env
     (kept_files c.args.self.now.kept) c.args.t.now c.in-Some.statement.now c.in-Some.ensures c.in_ok-done.done c.in_ok-done.ensures.done c.in_ok-done.ensures.tree
 
 pub returns-clause-runs : goal.returns-clause-runs

@@ -1,4 +1,4 @@
-use Rattle.std.proofs.Common.{◌≡◌, List, [], ◌∷◌, ◌++◌, ap, ◌∙◌}
+use Rattle.std.proofs.Common.{[], ◌∷◌, ◌++◌, ap, ◌∙◌}
 use Rattle.iot_exec.specs.declared.position.Open.{Open}
 use Rattle.iot_exec.specs.Positions.{all_open}
 use Rattle.iot_exec.proofs.PositionLaws.{entered_here, entered_around, entered_weight}

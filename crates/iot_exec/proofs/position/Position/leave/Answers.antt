@@ -1,4 +1,4 @@
-use Rattle.std.proofs.Common.{◌≡◌, List, [], ◌∷◌, ◌++◌, ◌+◌, sym, ap, ◌∙◌, subst}
+use Rattle.std.proofs.Common.{[], ◌∷◌, ◌++◌, ◌+◌, sym, ap, ◌∙◌}
 use Rattle.iot_exec.specs.declared.position.Open.{Open}
 use Rattle.iot_exec.specs.Positions.{round_it, here, around, weight, kind_weight}
 use Rattle.iot_exec.proofs.PositionLaws.{left_around_is, left_weight_is}
