@@ -13,6 +13,8 @@ set x /f
 cat $x
 read y /f
 echo $y$z!
+read y /n
+read y /d
 cat /d
 cat /n
 ls /
@@ -60,13 +62,69 @@ mv /empty /full
 mv / /x
 keep /x /y
 mkdir relative
+if file /x {
+echo file
+}
+if file /full {
+echo no
+}
+if dir /full {
+echo dir
+}
+if dir /n {
+echo no
+}
+if same /g /x {
+echo same
+}
+if same /g /h {
+echo no
+}
+if same /g /n {
+echo no
+}
+rm /n
+if ok {
+echo no
+} else {
+echo failed
+}
+if ok {
+echo ok
+}
+if file relative {
+echo no
+}
+for name in /full {
+echo $name
+}
+for name in /n {
+echo no
+}
+set a 0123456789abcdef
+set a $a$a$a$a$a$a$a$a
+set a $a$a$a$a$a$a$a$a
+set a $a$a$a$a$a$a$a$a
+set b $a"-"
+mkdir $a"-"
+write /large $a
+append /large "-"
+concat /h /large /g
+write /large $a"-"
+if dir $a"-" {
+echo no
+}
 echo end
+stop
+echo no
 "#;
 
 const PRINTED: &[u8] = b"one
 two
 top
 top!
+read: /n: no file
+read: /d: no file
 cat: /d: no file
 cat: /n: no file
 d/
@@ -103,6 +161,19 @@ mv: /full: not empty
 mv: /x: into itself
 keep: /x: nothing kept
 mkdir: bad path
+file
+dir
+same
+rm: /n: no file
+failed
+ok
+x
+for: /n: no directory
+set: too large
+mkdir: too large
+append: /large: too large
+concat: /h: too large
+write: too large
 end
 ";
 
