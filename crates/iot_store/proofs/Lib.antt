@@ -1,0 +1,6 @@
+mod ActLaws
+mod AnswerLaws
+mod IndexLaws
+mod Keeping
+mod Leading
+mod RecordLaws

@@ -1,0 +1,5 @@
+use Rattle.iot_store.proofs.ActLaws.{ActsOnWay}
+use Rattle.iot_store.proofs.commits.replay_all.Given as goal
+
+abbrev pub invariant-acts : goal.invariant-acts
+invariant-acts l = ActsOnWay l.acts l.act-index l.fn.tree l.tree

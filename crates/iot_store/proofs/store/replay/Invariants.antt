@@ -1,0 +1,5 @@
+use Rattle.iot_store.proofs.Keeping.{BodiesOnWay}
+use Rattle.iot_store.proofs.store.replay.Given as goal
+
+abbrev pub invariant-bodies : goal.invariant-bodies
+invariant-bodies l = BodiesOnWay l.bodies l.body-index l.commits l.gate

@@ -1,0 +1,29 @@
+-- What the server's disk keeps: a tree, and the labels of the commits that made it.
+use Rattle.std.specs.Prelude.{◌≡◌, ℕ, ◌==◌, ◌&&◌, Bool, false, List, [], ◌∷◌, ◌++◌}
+use Rattle.std.specs.List.{list_any}
+use Rattle.iot_tree.specs.Tree.{Nodes, root_alone}
+use Rattle.iot_tree.specs.declared.nodes.Node.TheVariants.{Dir}
+use Rattle.iot_tree.specs.declared.acts.Act.{Act}
+use Rattle.iot_tree.specs.declared.labels.Label.{Label}
+use Rattle.iot_acts.specs.Traces.{ActsHold, after_acts}
+
+pub record State : Type 0 where
+  pub tree : Nodes
+  pub labels : List Label
+
+-- before the first commit
+abbrev pub opening : State
+opening = record { tree = root_alone Dir; labels = [] }
+
+-- whether the label is that of this client's transaction
+abbrev pub is_of : ℕ → ℕ → Label → Bool
+is_of client tid label = label.client == client && label.tid == tid
+
+-- the commit can follow: its transaction is not among the labels, and its acts hold on the tree
+pub record CanFollow (state : State) (label : Label) (acts : List Act) : Type 0 where
+  pub is_new : list_any (is_of label.client label.tid) state.labels ≡ false
+  pub holds : ActsHold state.tree acts
+
+-- the state after it
+abbrev pub after_commit : State → Label → List Act → State
+after_commit state label acts = record { tree = after_acts state.tree acts; labels = state.labels ++ label ∷ [] }

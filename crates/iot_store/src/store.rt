@@ -1,0 +1,216 @@
+//! The store itself.
+ghost use Rattle.std.specs.Prelude.{◌≡◌, ◌≤◌, ◌+◌, ◌^◌, ◌++◌, [], ◌∷◌, length, IfOk, IfErr, OnOk, IsErrOf, MatchResult};
+ghost use Rattle.iot_disk.specs.Bodies.{bodies_of};
+ghost use Rattle.iot_disk.specs.Disk.{armed_with, Only, SameImages};
+ghost use Rattle.iot_disk.specs.Faults.{JournalCounts};
+ghost use Rattle.iot_journal.specs.Reading.{Stands, reading, records};
+ghost use Rattle.iot_journal.specs.Keep.{EachReadsEither};
+ghost use Rattle.iot_journal.specs.Start.{ChangesNothing};
+ghost use Rattle.iot_codec.specs.Rules.{IsLabel, AreActs};
+ghost use Rattle.iot_store.specs.States.{State, opening, CanFollow, after_commit};
+ghost use Rattle.iot_store.specs.Commits.{state_in, IsIndexed, ReplaysWhere};
+ghost use Rattle.iot_store.specs.Records.{record_spelling};
+ghost use Rattle.iot_store.specs.Standing.{Leads, StandFor, EachStands, EachStandsEither};
+ghost use Rattle.iot_store.specs.Numbers.{number_in};
+ghost use Rattle.iot_store.specs.Causes.{HasCause, TakesBytes, IsReason};
+
+use crate::commits::Commits;
+use crate::records::{read, spell};
+use iot_disk::{Disk, JournalFault, Pick, StartFault};
+use iot_journal::Journal;
+use iot_text::{NoMemory, Text};
+use iot_tree::{Acts, Label, Labels, Tree};
+use std::alloc::Global;
+
+/// The place of the first record's gate.
+const FIRST_GATE: u64 = 9;
+
+/// How many bytes a record has besides its body: its gate, and the number of the body's bytes.
+const RECORD: u64 = 9;
+
+/// A server's tree and the labels of its commits, on a disk to which each commit is appended as one record.
+///
+/// After an `Err` of `commit` only `into_disk` says anything more: start again from the disk.
+#[derive(Drop)]
+pub struct Store<D: Disk> {
+    pub(crate) journal: Journal<D>,
+    pub(crate) commits: Commits,
+
+    /// The last record, whose memory serves the next one.
+    pub(crate) buffer: Text,
+}
+
+impl<D: Disk> Store<D> {
+    ghost use Rattle.iot_store.specs.Store.{state_of, disk_of, bodies_on, IsSettled};
+
+    /// Starts a store from its disk, which no one else writes. A disk on which none was started becomes that of a server
+    /// without a commit, whose tree has only its root. The disk comes back where this gives no store.
+    ///
+    /// # Errors
+    ///
+    /// `Foreign` where something else wrote the disk, and `Damaged` with the place of its gate where a record is none
+    /// or cannot follow the ones before it. `Stopped` where the disk failed in this call, and `NoMemory`.
+    pub fn start(alloc: Global, disk: D) -> Result<Store<D>, (D, StartFault)>
+        requires { Only (D.reads disk) (D.may_leave disk) }
+        ensures stands { IfOk result (λ store. StandFor (D.reads disk) (state_of store)) }
+        ensures records { IfOk result (λ store. reading (D.reads disk) ≡ Stands (bodies_on D.reads store)) }
+
+        // The disk stands for no other state.
+        ensures only { (state : State) → StandFor (D.reads disk) state
+            → IfOk result (λ store. state_of store ≡ state) }
+        ensures settled { IfOk result (λ store. IsSettled D.reads D.may_leave store) }
+
+        // For whatever state the disk stood, it stands for that in each image, whichever device call failed; and its bytes
+        // are not refused.
+        ensures images { (state : State) → StandFor (D.reads disk) state → MatchResult result
+            (λ store. EachStands (D.may_leave (disk_of store)) state)
+            (λ refused. EachStands (D.may_leave refused.0) state) }
+        ensures never { (state : State) → StandFor (D.reads disk) state
+            → IfErr result (λ refused. TakesBytes refused.1) }
+
+        ensures steady { IfOk result (λ store. D.faults (disk_of store) ≡ D.faults disk) }
+        ensures cause { IfErr result (λ refused.
+            HasCause refused.1 (D.reads disk) (D.faults disk) (D.faults refused.0)) }
+
+        // A refusal of the bytes changes nothing.
+        ensures refused_reads { IfErr result (λ refused.
+            ChangesNothing refused.1 (D.reads refused.0 ≡ D.reads disk)) }
+        ensures refused_images { IfErr result (λ refused.
+            ChangesNothing refused.1 (SameImages (D.may_leave disk) (D.may_leave refused.0))) }
+
+        ensures arms { MatchResult result
+            (λ store. D.arms (disk_of store) ≡ D.arms disk)
+            (λ refused. D.arms refused.0 ≡ D.arms disk) }
+    {
+        let (journal, bodies) = match Journal::start(alloc, disk) {
+            Ok(started) => started,
+            Err(refused) => return Err(refused),
+        };
+        match replay(alloc, bodies.as_slice()) {
+            Ok(commits) => Ok(Store {
+                journal,
+                commits,
+                buffer: Text::new(alloc),
+            }),
+            Err(fault) => Err((journal.into_disk(), fault)),
+        }
+    }
+
+    /// Adds a commit, and gives its number: its record is on the disk when this answers Ok. It costs as much as the record
+    /// is long, and a search of the tree for each update.
+    ///
+    /// # Errors
+    ///
+    /// `Stopped` where the disk failed in this call: its images then stand for the commits before or for those with the
+    /// new one. `NoMemory`: they stand for the commits before.
+    pub fn commit(&mut self, alloc: Global, label: Label, acts: &Acts) -> Result<u64, JournalFault>
+        requires settled { IsSettled D.reads D.may_leave self.old }
+        requires label { IsLabel label }
+        requires acts { AreActs acts.now }
+        requires follows { CanFollow (state_of self.old) label acts.now }
+
+        // In each image, whichever device call failed, the disk stands for the commits before or for those with the new
+        // one: its records are those before, or those and the record of this commit.
+        ensures images { EachStandsEither (D.may_leave (disk_of self.new))
+            (state_of self.old) (after_commit (state_of self.old) label acts.now) }
+        ensures one_record { EachReadsEither (D.may_leave (disk_of self.new))
+            (Stands (bodies_on D.reads self.old))
+            (Stands (bodies_on D.reads self.old ++ record_spelling label acts.now ∷ [])) }
+        ensures no_memory { IsErrOf result JournalFault.NoMemory
+            → EachStands (D.may_leave (disk_of self.new)) (state_of self.old) }
+        ensures committed { OnOk result (EachStands (D.may_leave (disk_of self.new))
+            (after_commit (state_of self.old) label acts.now)) }
+
+        ensures state { OnOk result (state_of self.new ≡ after_commit (state_of self.old) label acts.now) }
+        ensures recorded { OnOk result (bodies_on D.reads self.new
+            ≡ bodies_on D.reads self.old ++ record_spelling label acts.now ∷ []) }
+        ensures settled { OnOk result (IsSettled D.reads D.may_leave self.new) }
+        ensures number { IfOk result (λ number. number ≡ length (state_of self.old).labels + 1) }
+
+        ensures faults { JournalCounts result
+            (D.faults (disk_of self.old)) (D.faults (disk_of self.new)) }
+        ensures arms { D.arms (disk_of self.new) ≡ D.arms (disk_of self.old) }
+    {
+        spell(&mut self.buffer, &label, acts)?;
+        self.commits.add(alloc, label, acts.as_slice())?;
+        self.journal.append(self.buffer.as_bytes())?;
+        Ok(self.number())
+    }
+
+    /// The tree that the commits make.
+    pub fn tree(&self) -> &Tree
+        ensures { result.now ≡ (state_of self.now).tree }
+    {
+        &self.commits.tree
+    }
+
+    /// The labels of the commits, in their order.
+    pub fn labels(&self) -> &Labels
+        ensures { result.now ≡ (state_of self.now).labels }
+    {
+        &self.commits.labels
+    }
+
+    /// How many commits there are.
+    pub fn number(&self) -> u64
+        ensures { result ≡ length (state_of self.now).labels }
+    {
+        self.commits.labels.len() as u64
+    }
+
+    /// The number of a client's transaction, if it is among the commits. Its cost is logarithmic in these.
+    pub fn number_of(&self, client: u64, tid: u64) -> Option<u64>
+        requires { IsSettled D.reads D.may_leave self.now }
+        ensures { result ≡ number_in (state_of self.now).labels client tid }
+    {
+        self.commits.number_of(client, tid)
+    }
+
+    /// Makes a later device call of the disk fail, and does nothing else.
+    pub fn arm(&mut self, calls: u64, pick: Pick)
+        ensures arms { D.arms (disk_of self.new) ≡ armed_with (D.arms (disk_of self.old)) calls pick }
+        ensures reads { D.reads (disk_of self.new) ≡ D.reads (disk_of self.old) }
+        ensures images { SameImages (D.may_leave (disk_of self.old)) (D.may_leave (disk_of self.new)) }
+        ensures faults { D.faults (disk_of self.new) ≡ D.faults (disk_of self.old) }
+        ensures state { state_of self.new ≡ state_of self.old }
+        ensures settled { IsSettled D.reads D.may_leave self.old → IsSettled D.reads D.may_leave self.new }
+    {
+        self.journal.arm(calls, pick);
+    }
+
+    /// Gives the disk back.
+    pub fn into_disk(self) -> D
+        ensures { result ≡ disk_of self }
+    {
+        self.journal.into_disk()
+    }
+}
+
+/// The commits whose records these bodies are, in their order.
+fn replay(alloc: Global, bodies: &[Vec<u8>]) -> Result<Commits, StartFault>
+    requires { 9 + length (records (bodies_of bodies.now)) ≤ 2 ^ 62 }
+    ensures leads { IfOk result (λ commits. Leads (bodies_of bodies.now) opening (state_in commits)) }
+    ensures indexed { IfOk result IsIndexed }
+    ensures err { IfErr result (λ fault. IsReason fault (bodies_of bodies.now)) }
+{
+    let mut commits = Commits::new(alloc)?;
+    let mut gate: u64 = FIRST_GATE;
+    'bodies: for body in bodies {
+        if !replay_body(alloc, &mut commits, body)? {
+            return Err(StartFault::Damaged { at: gate });
+        }
+        gate += RECORD + body.len() as u64;
+    }
+    Ok(commits)
+}
+
+/// Adds the commit whose record the body is, where it can follow, and says whether it can.
+fn replay_body(alloc: Global, commits: &mut Commits, body: &[u8]) -> Result<bool, NoMemory>
+    requires { IsIndexed commits.old }
+    ensures { IfOk result (λ follows. ReplaysWhere follows body.now commits.old commits.new) }
+{
+    match read(alloc, body)? {
+        Some((label, acts)) => commits.replay(alloc, label, acts.as_slice()),
+        None => Ok(false),
+    }
+}
