@@ -1,0 +1,2 @@
+//! Laws of the limits of values: the acts of a run have spellings. It has no code.
+#![tactic(auto)]
