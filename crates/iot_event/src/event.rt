@@ -45,6 +45,7 @@ impl Model for SharedScript {
 
 impl SharedScript {
     ghost use Rattle.std.specs.Prelude.{◌≡◌, IfOk};
+    ghost use Rattle.iot_lang.specs.Scripts.{IsScript};
 
     /// A script that can be shared.
     ///
@@ -88,8 +89,11 @@ impl SharedScript {
     /// Only where it is shared more often than can be counted.
     #[inline]
     pub fn shared(&self) -> Result<Rc<Script>, NoMemory>
-        ensures { IfOk result (λ script. script.value ≡ self.now) }
+        ensures value { IfOk result (λ script. script.value ≡ self.now) }
+        ensures script { IsScript self.now }
     {
+        // A `Script` is always one that some lines spell, as its block says.
+        let _ = self.script.block();
         Rc::clone(&self.script)
     }
 }
