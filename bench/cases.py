@@ -2,14 +2,17 @@
 
 from collections import namedtuple
 
-# The input's lines, what its units of work are, and how many of them there are.
-Work = namedtuple('Work', 'lines what units')
+# The input's lines, what its units of work are, and how many of them there are; and how many of its first lines only
+# prepare, so that what they cost alone is no part of the units' cost.
+Work = namedtuple('Work', 'lines what units prepare', defaults=[0])
 
 LEVELS = 32
 RUNS_PER_SIZE = 64
 MOVES = 16
 CHUNK = 16300
 CHUNKS_PER_SIZE = 16
+COMMITS = 500
+FILLED_AT_ONCE = 1024
 
 
 def script(name, statements):
@@ -86,6 +89,16 @@ def text(size):
     return Work(lines, 'bytes', sum(len(line) + 1 for line in lines))
 
 
+def journal(size):
+    """Small transactions, behind 64 KiB, 2 MiB and 64 MiB that stand on the server's disk already."""
+    writes = 8 * round(size ** 2.5)
+    at_once = min(writes, FILLED_AT_ONCE)
+    fill = ['set a x'] + ['set a $a$a'] * 13 + ['write /f $a'] * at_once
+    lines = ['client laptop', *script('fill', fill), *script('small', ['write /n "two\\n"', 'cat /n'])]
+    lines += [run('fill')] * (writes // at_once)
+    return Work(lines + [run('small')] * COMMITS, 'commits', COMMITS, len(lines))
+
+
 # The cases in the order of the table, and those that need no more than `mkdir`, `write` and `cat`.
-CASES = [transactions, tree, loops, moves, text]
+CASES = [transactions, tree, loops, moves, text, journal]
 FIRST = [transactions, tree]

@@ -79,32 +79,38 @@ def measure(program, count, source, transcript):
     return seconds, peak, counted(program, source) if count else None
 
 
-def row(case, size, work, measured, empty):
-    """One line of the table; instructions and memory are those above the empty input's."""
+def row(case, size, work, measured, base):
+    """One line of the table; instructions and memory are those above what the input's preparation costs alone."""
     seconds, peak, instructions = measured
-    per_unit = '' if instructions is None else f'{(instructions - empty[2]) / work.units:,.1f}'
-    memory = max(peak - empty[1], 0) * 1024 / work.units
+    per_unit = '' if instructions is None else f'{(instructions - base[2]) / work.units:,.1f}'
+    memory = max(peak - base[1], 0) * 1024 / work.units
     units = f'{work.units:,} {work.what}'
     return ROW.format(case, f'{size}x', units, f'{seconds:.3f}', per_unit, f'{peak:,}', f'{memory:,.1f}')
 
 
+def ran(directory, name, program, count, lines):
+    """What a run on these lines costs, where each of its transactions settles."""
+    source = directory / f'{name}.events'
+    source.write_text(''.join(f'{line}\n' for line in lines))
+    transcript = source.with_suffix('.out')
+    measured = measure(program, count, source, transcript)
+    check(transcript, sum(line.startswith('run ') for line in lines))
+    return measured
+
+
 def bench(directory, program, options):
     count = not options.no_count and shutil.which('valgrind') is not None
-    source, transcript = directory / 'empty.events', directory / 'empty.out'
-    source.write_text('')
-    empty = measure(program, count, source, transcript)
+    empty = ran(directory, 'empty', program, count, [])
     print(HEAD)
     fixed = '' if empty[2] is None else f'{empty[2]:,}'
     print(ROW.format('empty', '', '', f'{empty[0]:.3f}', fixed, f'{empty[1]:,}', ''), flush=True)
     for make in FIRST if options.first else CASES:
         for size in map(int, options.sizes.split(',')):
             work = make(size)
-            source = directory / f'{make.__name__}-{size}.events'
-            source.write_text(''.join(f'{line}\n' for line in work.lines))
-            transcript = source.with_suffix('.out')
-            measured = measure(program, count, source, transcript)
-            check(transcript, sum(line.startswith('run ') for line in work.lines))
-            print(row(make.__name__, size, work, measured, empty), flush=True)
+            name = f'{make.__name__}-{size}'
+            base = ran(directory, f'{name}-before', program, count, work.lines[:work.prepare]) if work.prepare else empty
+            measured = ran(directory, name, program, count, work.lines)
+            print(row(make.__name__, size, work, measured, base), flush=True)
 
 
 def main():
