@@ -1,7 +1,7 @@
-//! The program: `run` on the words of the command line, standard input and standard output.
+//! The program: `run` on the words of the command line, standard input and output, and nine disks in memory.
 #![tactic(auto)]
 
-use iot_app::run;
+use iot_app::{empty_disks, run};
 use iot_io::{StdSink, StdSource};
 use std::alloc::{Alloc, AllocError, Global};
 use std::env::{self, Env};
@@ -40,7 +40,7 @@ fn words<R: Env + Alloc<A = Global>>(rt: &R) -> Result<Vec<String>, AllocError> 
     Ok(words)
 }
 
-/// Lends the words to the one call.
+/// Lends the words and the disks to the one call.
 fn start(
     alloc: Global,
     words: &[String],
@@ -51,5 +51,6 @@ fn start(
     for word in words {
         lent.push(word.as_str())?;
     }
-    Ok(run(alloc, &lent, source, sink))
+    let disks = empty_disks(alloc)?;
+    Ok(run(alloc, &lent, source, sink, disks).status)
 }

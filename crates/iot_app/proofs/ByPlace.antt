@@ -17,3 +17,9 @@ module _ {A B : Type 0} (f : A → B) where
   pub map-push : (xs : List A) (x : A) → map f (xs ++ x ∷ []) ≡ map f xs ++ f x ∷ []
   map-push [] x = refl
   map-push (y ∷ ys) x = ap (λ (zs : List B). f y ∷ zs) (map-push ys x)
+
+-- what stands at a place inside does not go by what stands at none
+pub any_default : {A : Type 0} (xs : List A) (place : ℕ) (d e : A) → place < length xs → slice_index_or xs place d ≡ slice_index_or xs place e
+any_default [] place d e within = absurd (omega arith)
+any_default (x ∷ xs) zero d e within = refl
+any_default (x ∷ xs) (suc place) d e within = any_default xs place d e (omega arith)

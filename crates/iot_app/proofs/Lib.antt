@@ -4,3 +4,7 @@ pub mod Running
 pub mod Stepping
 pub mod Playing
 pub mod Ending
+pub mod Serving
+pub mod Beginning
+pub mod Submitting
+pub mod Handing

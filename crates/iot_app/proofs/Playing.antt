@@ -1,14 +1,29 @@
 -- Events that are done one by one.
-use Rattle.std.proofs.Common.{◌≡◌, ℕ, suc, ◌+◌, ◌<◌, Bool, true, false, not, List, [], ◌∷◌, ◌++◌, length, take, drop, slice_index_or, Option, refl, sym, ap, subst, ◌∙◌, arith, append_assoc, add-one, length-append}
-use Rattle.std.proofs.lemmas.List.{append-nil}
+use Rattle.std.proofs.Common.{◌≡◌, ℕ, suc, ◌+◌, ◌<◌, Bool, true, false, not, List, [], ◌∷◌, ◌++◌, length, take, drop, slice_index_or, Option, Some, None, Result, Ok, Err, OnOk, IfErr, ◌≤◌, refl, sym, ap, subst, ◌∙◌, arith, append_assoc, add-one, length-append}
+use Rattle.std.specs.Bool.{⊤}
+use Rattle.std.proofs.lemmas.List.{append-nil, take_all}
 use Rattle.std.proofs.Math.Seq.{drop-cons, take-suc, take-append-add}
 use Rattle.std.specs.Io.KnownBytes.{Appends}
 use Rattle.std.proofs.KnownBytes.{Appends-trans}
 use Rattle.iot_app.specs.Parts.{Part, InTurn}
 use Rattle.iot_app.specs.Machine.{Machine, opening}
 use Rattle.iot_app.specs.Steps.{Transcript, event_part}
-use Rattle.iot_app.specs.World.{StandsFor, Refines, CountsAtMost, DeclaredOn}
-use Rattle.iot_app.specs.Played.{PlayedFirst, PlayedFront}
+use Rattle.iot_store.specs.Store as store
+use Rattle.iot_app.specs.Machine.{Commit}
+use Rattle.iot_app.specs.Records.{Holds, records_of, state_of}
+use Rattle.iot_disk.specs.Disk.{Arms}
+use Rattle.iot_app.specs.Faults.{of_world}
+use Rattle.iot_app.specs.Servers.{is_up, disk_of, IsImage, AreImages, CountsFault, Starts, SameDisk}
+use Rattle.iot_app.specs.declared.fault.WorldFault.{WorldFault}
+use Rattle.iot_app.specs.declared.fault.WorldFault.TheVariants as world
+use Rattle.iot_app.specs.World.{StandsFor, Refines, CountsAtMost, DeclaredOn, IsOpened, KeepsList}
+use Rattle.iot_app.specs.Played.{PlayedAll, PlayedFirst, PlayedFront, PlayedSome, CountsPlayed, DiskCounts}
+use Rattle.iot_app.specs.declared.play.PlayFault.{PlayFault}
+use Rattle.iot_app.specs.declared.play.PlayFault.TheVariants as play
+use Rattle.iot_app.specs.declared.server.Server.{Server}
+use Rattle.iot_app.specs.declared.server.Server.TheVariants.{Up, Down, Between}
+use Rattle.iot_app.proofs.Serving.{store_images, one_disk}
+use Rattle.iot_event.specs.Declarations.{AreDeclared}
 use Rattle.iot_app.specs.Allowed.{IsAllowed}
 use Rattle.iot_event.specs.declared.event.Event.{Event}
 use Rattle.iot_event.specs.declared.event.Event.TheVariants as events
@@ -45,28 +60,48 @@ not_false true is = absurd cc
 not_false false is = refl
 
 -- the first of events that are declared may come
-allowed : (event : Event) (later : List Event) (world : World) → DeclaredOn (event ∷ later) world → IsAllowed event (length world.clients.items) (length world.scripts.items) world.alive
-allowed (events.Client name) later world declared = tt
+allowed : {D : Type 0} (event : Event) (later : List Event) (world : World D) → DeclaredOn (event ∷ later) world → IsAllowed event (length world.clients.items) (length world.scripts.items) (is_up world.server)
+allowed (events.Client name) later world declared = declared.1
 allowed (events.Script name code) later world declared = tt
-allowed (events.Run client script) later world declared = (declared.1, declared.2, not_true world.alive declared.0)
+allowed (events.Run client script) later world declared = (declared.1, declared.2, not_true (is_up world.server) declared.0)
 allowed events.ShowServer later world declared = tt
-allowed events.CrashServer later world declared = not_true world.alive declared.0
-allowed events.RestartServer later world declared = not_false world.alive declared.0
+allowed events.CrashServer later world declared = not_true (is_up world.server) declared.0
+allowed events.RestartServer later world declared = not_false (is_up world.server) declared.0
 
 -- the first so many events are done and what they say is written
-pub record PlaysOn (before after : Option (List ℕ)) (events : List Event) (world : World) (done : ℕ) : Type 0 where
+pub record PlaysOn {D : Type 0} (reads : D → List ℕ) (may_leave : D → List ℕ → Type 0) (before after : Option (List ℕ)) (events : List Event) (world : World D) (done : ℕ) : Type 0 where
   pub text : List ℕ
   pub machine : Machine
   pub transcript : Transcript (take done events) opening text machine
-  pub stands : StandsFor world machine
+  pub stands : StandsFor reads may_leave world machine
   pub written : Appends before after text
   pub declared : DeclaredOn (drop done events) world
   pub counts : CountsAtMost done world
 
+-- counts that are at most this are at most that
+pub counts_within : {D : Type 0} (n limit : ℕ) (world : World D) → n ≤ limit → CountsAtMost n world → CountsAtMost limit world
+counts_within n limit world within counts = record { clients = λ k d there. omega (arith, within, counts.clients k d there) }
+
+pub appends_none : (written : Option (List ℕ)) → Appends written written []
+appends_none None = tt
+appends_none (Some bytes) = sym (append-nil bytes)
+
+-- nothing is done yet
+pub plays_none : {D : Type 0} (reads : D → List ℕ) (may_leave : D → List ℕ → Type 0) (before after : Option (List ℕ)) (events : List Event) (world : World D) → IsOpened reads may_leave world → AreDeclared events 0 0 false → Appends before after [] → PlaysOn reads may_leave before after events world 0
+plays_none reads may_leave before after events world is declared written = record {
+  text = [];
+  machine = opening;
+  transcript = (refl, refl);
+  stands = is.stands;
+  written = written;
+  declared = subst (λ (n : ℕ). AreDeclared events n (length world.scripts.items) (not (is_up world.server))) (sym (ap length is.no_clients)) (subst (λ (n : ℕ). AreDeclared events 0 n (not (is_up world.server))) (sym (ap length is.no_scripts)) (subst (λ (down : Bool). AreDeclared events 0 0 down) (ap not (sym is.stands.alive)) declared));
+  counts = is.counts;
+}
+
 -- the event that is done next, and its text
-module _ (before mid : Option (List ℕ)) (events : List Event) (old new : World) (done : ℕ) (event : Event) (out : List ℕ)
-    (plays : PlaysOn before mid events old done) (within : done < length events) (here : event ≡ slice_index_or events done event)
-    (refines : Refines (event_part event) old new [] out) where
+module _ {D : Type 0} (reads : D → List ℕ) (may_leave : D → List ℕ → Type 0) (before mid : Option (List ℕ)) (events : List Event) (old new : World D) (done : ℕ) (event : Event) (out : List ℕ)
+    (plays : PlaysOn reads may_leave before mid events old done) (within : done < length events) (here : event ≡ slice_index_or events done event)
+    (refines : Refines reads may_leave (event_part event) old new [] out) where
   front : take (done + 1) events ≡ take done events ++ event ∷ []
   front = ap (λ (k : ℕ). take k events) (add-one done) ∙ take-suc events done event within ∙ ap (λ (e : Event). take done events ++ e ∷ []) (sym here)
 
@@ -76,7 +111,7 @@ module _ (before mid : Option (List ℕ)) (events : List Event) (old new : World
   record Next : Type 0 where
     machine : Machine
     transcript : Transcript (take (done + 1) events) opening (plays.text ++ out) machine
-    stands : StandsFor new machine
+    stands : StandsFor reads may_leave new machine
 
   next : Next
   next =
@@ -95,7 +130,7 @@ module _ (before mid : Option (List ℕ)) (events : List Event) (old new : World
       → ((later : List Event) → DeclaredOn (event ∷ later) old → DeclaredOn later new)
       → ((limit : ℕ) → CountsAtMost limit old → CountsAtMost (limit + 1) new)
       → Appends mid after out
-      → PlaysOn before after events new (done + 1)
+      → PlaysOn reads may_leave before after events new (done + 1)
   plays_more after declares counts appends = record {
     text = plays.text ++ out;
     machine = next.machine;
@@ -107,29 +142,127 @@ module _ (before mid : Option (List ℕ)) (events : List Event) (old new : World
   }
 
   -- it is done, and only a front of what it says is written
-  pub plays_front : (after : Option (List ℕ)) (count : ℕ) → count < length out → Appends mid after (take count out) → PlayedFront events (Appends before after)
+  pub plays_front : (after : Option (List ℕ)) (count : ℕ) → count < length out → Appends mid after (take count out) → PlayedFront events (Appends before after) (KeepsList reads may_leave new.server)
   plays_front after count cut appends = record {
     done = done + 1;
     text = plays.text ++ out;
     count = length plays.text + count;
-    transcript = record { machine = next.machine; transcript = next.transcript };
+    transcript = record { machine = next.machine; transcript = next.transcript; kept = next.stands.server };
     cut = omega (arith, length-append plays.text out);
     written =
         subst (λ (t : List ℕ). Appends before after t) (sym (take-append-add plays.text out count))
         (Appends-trans before mid after plays.text (take count out) plays.written appends);
   }
 
--- what was written before an event is a transcript of those before it
-pub plays_first : (before after : Option (List ℕ)) (events : List Event) (world : World) (done : ℕ) → PlaysOn before after events world done → PlayedFirst events (Appends before after)
-plays_first before after events world done plays = record {
-  done = done;
-  text = plays.text;
-  transcript = record { machine = plays.machine; transcript = plays.transcript };
-  written = plays.written;
+module _ {D : Type 0} (reads : D → List ℕ) (may_leave : D → List ℕ → Type 0) (before after : Option (List ℕ)) (events : List Event) (world : World D) where
+  -- what was written before an event is a transcript of those before it
+  pub plays_first : (done : ℕ) → PlaysOn reads may_leave before after events world done → PlayedFirst events (Appends before after)
+  plays_first done plays = record {
+    done = done;
+    text = plays.text;
+    transcript = record { machine = plays.machine; transcript = plays.transcript; kept = tt };
+    written = plays.written;
+  }
+
+  -- all are done
+  pub plays_all : (done : ℕ) → length events ≤ done → PlaysOn reads may_leave before after events world done → PlayedAll events (Appends before after) (KeepsList reads may_leave world.server)
+  plays_all done whole plays = record {
+    text = plays.text;
+    transcript = record {
+      machine = plays.machine;
+      transcript = subst (λ (es : List Event). Transcript es opening plays.text plays.machine) (take_all done events whole) plays.transcript;
+      kept = plays.stands.server;
+    };
+    written = plays.written;
+  }
+
+  -- the next event may come
+  pub next_allowed : (done : ℕ) (event : Event) → PlaysOn reads may_leave before after events world done → done < length events → event ≡ slice_index_or events done event → IsAllowed event (length world.clients.items) (length world.scripts.items) (is_up world.server)
+  next_allowed done event plays within here =
+      allowed event (drop (suc done) events) world
+      (subst (λ (es : List Event). DeclaredOn es world) (drop-cons events done event within ∙ ap (λ (e : Event). e ∷ drop (suc done) events) (sym here)) plays.declared)
+
+-- ---- what is said of a server that keeps a list is said of its disk
+
+pub holds_list : {D : Type 0} (reads : D → List ℕ) (may_leave : D → List ℕ → Type 0) (server : Server D) (disk : D) (commits : List Commit) → disk_of server ≡ Some disk → KeepsList reads may_leave server commits → Holds (may_leave disk) commits
+holds_list {D = D} reads may_leave (Up it) disk commits has keeps = record {
+  each = λ image here.
+      let images : AreImages (records_of commits) (state_of commits) (may_leave (store.disk_of it)) = store_images reads may_leave it (records_of commits) (state_of commits) keeps in
+      let is : IsImage (records_of commits) (state_of commits) image = images.each image (subst (λ (d : D). may_leave d image) (sym (one_disk _ _ has)) here) in
+      record { records = is.has_records; follow = is.leads };
+}
+holds_list {D = D} reads may_leave (Down it) disk commits has keeps = record {
+  each = λ image here.
+      let is : IsImage (records_of commits) (state_of commits) image = keeps.each image (subst (λ (d : D). may_leave d image) (sym (one_disk _ _ has)) here) in
+      record { records = is.has_records; follow = is.leads };
+}
+holds_list reads may_leave Between disk commits has keeps = absurd keeps
+
+module _ (events : List Event) (writes : List ℕ → Type 0) (one other : List Commit → Type 0) (follows : (commits : List Commit) → one commits → other commits) where
+  pub all_holds : PlayedAll events writes one → PlayedAll events writes other
+  all_holds played = record {
+    text = played.text;
+    transcript = record { machine = played.transcript.machine; transcript = played.transcript.transcript; kept = follows played.transcript.machine.commits played.transcript.kept };
+    written = played.written;
+  }
+
+  pub some_holds : (fault : PlayFault) → PlayedSome fault events writes one → PlayedSome fault events writes other
+  some_holds play.NoMemory played = played
+  some_holds play.DiskFailed played = played
+  some_holds play.Sink played = record {
+    done = played.done;
+    text = played.text;
+    count = played.count;
+    transcript = record { machine = played.transcript.machine; transcript = played.transcript.transcript; kept = follows played.transcript.machine.commits played.transcript.kept };
+    cut = played.cut;
+    written = played.written;
+  }
+
+-- ---- how it ends
+
+pub some_first : (events : List Event) (writes : List ℕ → Type 0) (holds : List Commit → Type 0) (fault : WorldFault) → PlayedFirst events writes → PlayedSome (of_world fault) events writes holds
+some_first events writes holds world.NoMemory played = played
+some_first events writes holds world.DiskFailed played = played
+
+-- no event was done
+pub none_played : (events : List Event) (written : Option (List ℕ)) → PlayedFirst events (Appends written written)
+none_played events written = record {
+  done = 0;
+  text = [];
+  transcript = record { machine = opening; transcript = (refl, refl); kept = tt };
+  written = appends_none written;
 }
 
--- the next event may come
-pub next_allowed : (before after : Option (List ℕ)) (events : List Event) (world : World) (done : ℕ) (event : Event) → PlaysOn before after events world done → done < length events → event ≡ slice_index_or events done event → IsAllowed event (length world.clients.items) (length world.scripts.items) world.alive
-next_allowed before after events world done event plays within here =
-    allowed event (drop (suc done) events) world
-    (subst (λ (es : List Event). DeclaredOn es world) (drop-cons events done event within ∙ ap (λ (e : Event). e ∷ drop (suc done) events) (sym here)) plays.declared)
+pub ok_holds : (events : List Event) (writes : List ℕ → Type 0) (one other : List Commit → Type 0) → ((commits : List Commit) → one commits → other commits) → (r : Result ⊤ PlayFault) → OnOk r (PlayedAll events writes one) → OnOk r (PlayedAll events writes other)
+ok_holds events writes one other follows (Ok all) played = all_holds events writes one other follows played
+ok_holds events writes one other follows (Err fault) played = tt
+
+pub err_holds : (events : List Event) (writes : List ℕ → Type 0) (one other : List Commit → Type 0) → ((commits : List Commit) → one commits → other commits) → (r : Result ⊤ PlayFault) → IfErr r (λ fault. PlayedSome fault events writes one) → IfErr r (λ fault. PlayedSome fault events writes other)
+err_holds events writes one other follows (Ok all) played = tt
+err_holds events writes one other follows (Err fault) played = some_holds events writes one other follows fault played
+
+-- the counts of a world that was not opened
+pub world_counts : (fault : WorldFault) (before now : ℕ) → CountsFault fault before now → DiskCounts (Err (of_world fault)) before now
+world_counts world.NoMemory before now counts = counts
+world_counts world.DiskFailed before now counts = counts
+
+-- what was done to the disk from the opening on
+module _ {D : Type 0} (arms_of : D → Arms) (faults_of : D → ℕ) (disk back : D) (first last : Server D) (counts : ℕ → ℕ → Type 0) (starts : Starts arms_of faults_of disk first) (same : SameDisk arms_of faults_of counts first last) (has : disk_of last ≡ Some back) where
+  it_was : starts.now ≡ same.was
+  it_was = one_disk starts.now same.was (sym starts.has ∙ same.old_has)
+
+  it_is : same.now ≡ back
+  it_is = one_disk same.now back (sym same.new_has ∙ has)
+
+  pub whole_arms : arms_of back ≡ arms_of disk
+  whole_arms = ap arms_of (sym it_is) ∙ same.arms ∙ ap arms_of (sym it_was) ∙ starts.arms
+
+  pub whole_counts : counts (faults_of disk) (faults_of back)
+  whole_counts =
+      subst (λ (n : ℕ). counts n (faults_of back)) (ap faults_of (sym it_was) ∙ starts.faults)
+      (subst (λ (n : ℕ). counts (faults_of same.was) n) (ap faults_of it_is) same.faults)
+
+-- and nothing was written of it
+pub world_sink : (fault : WorldFault) (faults empties : ℕ) → CountsPlayed (Err (of_world fault)) faults faults empties empties
+world_sink world.NoMemory faults empties = (refl, refl)
+world_sink world.DiskFailed faults empties = (refl, refl)

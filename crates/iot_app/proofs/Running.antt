@@ -3,6 +3,7 @@ use Rattle.std.proofs.Common.{◌≡◌, ◌⊎◌, inl, inr, ℕ, zero, suc, �
 use Rattle.std.proofs.lemmas.List.{append-nil}
 use Rattle.iot_tree.specs.Tree.{Nodes}
 use Rattle.iot_tree.specs.declared.acts.Act.{Act}
+use Rattle.iot_acts.specs.Traces.{ActsHold, after_acts, after_update}
 use Rattle.iot_lang.specs.Code.{Code}
 use Rattle.iot_exec.specs.Commands.{Kept}
 use Rattle.iot_exec.specs.Runs.{run}
@@ -46,3 +47,24 @@ ran_acts script kept t0 acts it t running within stops = ap (λ (r : Ran). r.act
 
 pub ran_tree : (script : Code) (kept : Kept) (t0 : Nodes) (acts : List Act) (it : Exec) (t : Nodes) → IsRunning script kept t0 (length acts) acts it t → act_count it ≤ 4096 → (is_over (place it) ≡ true) ⊎ (4096 ≤ act_count it) → t ≡ (run script kept t0 4096).tree
 ran_tree script kept t0 acts it t running within stops = ap (λ (r : Ran). r.tree) (sym (ran_is script kept t0 acts it t running within stops))
+
+-- ---- one more act holds, and is made
+
+pub made_more : (acts : List Act) (act : Act) (t : Nodes) → after_acts t (acts ++ act ∷ []) ≡ after_update (after_acts t acts) act.update
+made_more [] act t = refl
+made_more (first ∷ later) act t = made_more later act (after_update t first.update)
+
+pub hold_more : (acts : List Act) (act : Act) (t : Nodes) → ActsHold t acts → ActsHold (after_acts t acts) (act ∷ []) → ActsHold t (acts ++ act ∷ [])
+hold_more [] act t hold more = more
+hold_more (first ∷ later) act t hold more = (hold.0, hold.1, hold_more later act (after_update t first.update) hold.2 more)
+
+-- what an act that was done makes of these
+pub record HaveMade (t : Nodes) (acts : List Act) (now : Nodes) : Type 0 where
+  pub hold : ActsHold t acts
+  pub made : now ≡ after_acts t acts
+
+pub have_made : (t : Nodes) (before acts : List Act) (act : Act) (mid now : Nodes) → acts ≡ before ++ act ∷ [] → HaveMade t before mid → ActsHold mid (act ∷ []) → now ≡ after_update mid act.update → HaveMade t acts now
+have_made t before acts act mid now is have hold made = record {
+  hold = subst (ActsHold t) (sym is) (hold_more before act t have.hold (subst (λ (u : Nodes). ActsHold u (act ∷ [])) have.made hold));
+  made = made ∙ ap (λ (u : Nodes). after_update u act.update) have.made ∙ sym (made_more before act t) ∙ ap (after_acts t) (sym is);
+}

@@ -1,170 +1,276 @@
 -- What the world does is what the machine does.
-use Rattle.std.proofs.Common.{◌≡◌, ℕ, zero, suc, ◌+◌, ◌<◌, Bool, true, false, List, [], ◌∷◌, ◌++◌, length, map, slice_index_or, if◌then◌else◌, refl, sym, ap, ◌∙◌, arith, append_assoc, length-append, Result, Ok, Err, OnOk}
-use Rattle.std.proofs.lemmas.List.{append-nil, map-append, length-map}
-use Rattle.std.specs.FinMap.{empty}
+use Rattle.std.proofs.Common.{◌≡◌, ℕ, ◌+◌, ◌<◌, ◌≤◌, Bool, true, false, List, [], ◌∷◌, ◌++◌, length, map, slice_index_or, if◌then◌else◌, refl, sym, ap, subst, ◌∙◌, arith, append_assoc, length-append, Result, Ok, Err, OnOk, Some, None}
+use Rattle.std.proofs.lemmas.List.{append-nil, map-append, length-map, length-set}
+use Rattle.std.specs.FinMap.{empty, entries, len-entries, len-empty}
+use Rattle.iot_text.specs.Paths.{path_cmp}
 use Rattle.iot_tree.specs.Tree.{Nodes}
-use Rattle.iot_lang.specs.Code.{Code, End}
+use Rattle.iot_tree.specs.declared.acts.Act.{Act}
+use Rattle.iot_tree.specs.declared.labels.Label.{Label}
+use Rattle.iot_tree.specs.declared.labels.Way.TheVariants.{Certified}
+use Rattle.iot_acts.specs.Traces.{after_acts}
+use Rattle.iot_lang.specs.Code.{Code}
+use Rattle.iot_limits.specs.Spelled.{IsSpelledTree}
 use Rattle.iot_exec.specs.Runs.{run}
 use Rattle.iot_exec.specs.Serial.{run_entry}
 use Rattle.iot_exec.specs.declared.ran.Ran.{Ran}
+use Rattle.iot_store.specs.States.{State, after_commit}
+use Rattle.iot_store.specs.Records.{record_spelling}
 use Rattle.iot_app.specs.Parts.{Part, Says, Append, Then, if_holds}
 use Rattle.iot_app.specs.Machine as machine
-use Rattle.iot_app.specs.Machine.{Machine, Certified, server_tree}
-use Rattle.iot_app.specs.Steps.{Runs, set_alive, event_part, client_at, script_at, last_name, declare_client, declare_script, begin_at, begin_next, change_at, entry_of, commit_of, commit_entry, commit_text}
-use Rattle.iot_app.specs.Texts.{client_line, end_line, commit_line, settled_line, acts_output, tree_text, transaction_name}
-use Rattle.iot_app.specs.World.{StandsFor, Refines, AddsClient, AddsScript, SetsAlive, RanScript, client_of, script_of, client_in, script_in, no_client, no_script, run_in, run_text, next_client, next_name, shown, crash_text, restart_text}
+use Rattle.iot_app.specs.Machine.{Machine, Commit, server_tree}
+use Rattle.iot_app.specs.Records.{label_of, records_of, state_of}
+use Rattle.iot_app.specs.Servers.{is_up, count_of, tree_of, Keeps}
+use Rattle.iot_app.specs.Steps.{Runs, set_alive, event_part, client_at, script_at, last_name, declare_client, declare_script, begin_at, entry_of, commit_of, commit_entry, commit_text}
+use Rattle.iot_app.specs.Texts.{client_line, end_line, commit_line, settled_line, acts_output, transaction_name, run_lines}
+use Rattle.iot_app.specs.World.{StandsFor, Refines, KeepsList, AreNumbered, AddsClient, AddsScript, Sets, Submits, RanScript, client_of, script_of, client_in, script_in, run_in, label_in, next_client, shown, shown_tree, crash_text, restart_text}
 use Rattle.iot_app.specs.declared.world.World.{World}
+use Rattle.iot_app.specs.declared.server.Server.{Server}
+use Rattle.iot_app.specs.declared.server.Server.TheVariants.{Up, Down, Between}
 use Rattle.iot_event.specs.declared.event.Event.TheVariants as events
-use Rattle.iot_app.proofs.ByPlace.{index-map, map-set}
-use Rattle.iot_app.proofs.Serial.{serial_tree-append}
+use Rattle.iot_app.proofs.Beginning.{client_is, script_is, begin_stands}
+use Rattle.iot_app.proofs.Serial.{serial_tree-append, records_of-append, state_of-append}
 
--- a client is declared
-pub client_step : (name : List ℕ) (old new : World) (before after : List ℕ) → AddsClient name old new → after ≡ before ++ client_line name → Refines (event_part (events.Client name)) old new before after
-client_step name old new before after adds says = record {
-  step = λ m stands.
-      let n = declare_client name m in
-      let after_it : StandsFor new n = record {
-        alive = adds.alive ∙ stands.alive;
-        tree = adds.tree ∙ stands.tree;
-        commits = adds.commits ∙ stands.commits;
-        clients = ap (map client_of) adds.clients ∙ map-append client_of old.clients.items (record { name = name; last = 0 } ∷ []) ∙ ap (λ (cs : List machine.Client). cs ++ record { name = name; last = 0 } ∷ []) stands.clients;
-        scripts = ap (map script_of) adds.scripts ∙ stands.scripts;
-      } in
-      (client_line name, n, says, (refl, refl), after_it);
-}
+-- ---- a live server's store has the machine's list
 
--- a script is declared
-pub script_step : (name : List ℕ) (code : Code) (old new : World) (before after : List ℕ) → AddsScript name code old new → after ≡ before → Refines (event_part (events.Script name code)) old new before after
-script_step name code old new before after adds says = record {
-  step = λ m stands.
-      let declared : machine.Declared = record { name = name; code = code } in
-      let n = declare_script declared m in
-      let after_it : StandsFor new n = record {
-        alive = adds.alive ∙ stands.alive;
-        tree = adds.tree ∙ stands.tree;
-        commits = adds.commits ∙ stands.commits;
-        clients = ap (map client_of) adds.clients ∙ stands.clients;
-        scripts = ap (map script_of) adds.scripts ∙ map-append script_of old.scripts.items (record { name = name; script = code } ∷ []) ∙ ap (λ (ss : List machine.Declared). ss ++ declared ∷ []) stands.scripts;
-      } in
-      ([], n, says ∙ sym (append-nil before), (refl, refl), after_it);
-}
+pub count_is : {D : Type 0} (reads : D → List ℕ) (may_leave : D → List ℕ → Type 0) (server : Server D) (commits : List Commit) → is_up server ≡ true → KeepsList reads may_leave server commits → count_of server ≡ length commits
+count_is reads may_leave (Up it) commits up keeps = ap (λ (s : State). length s.labels) keeps.has_state ∙ length-map commits label_of
+count_is reads may_leave (Down disk) commits up keeps = absurd cc
+count_is reads may_leave Between commits up keeps = absurd cc
+
+tree_is : {D : Type 0} (reads : D → List ℕ) (may_leave : D → List ℕ → Type 0) (server : Server D) (commits : List Commit) → is_up server ≡ true → KeepsList reads may_leave server commits → tree_of server ≡ Some (state_of commits).tree
+tree_is reads may_leave (Up it) commits up keeps = ap (λ (s : State). Some s.tree) keeps.has_state
+tree_is reads may_leave (Down disk) commits up keeps = absurd cc
+tree_is reads may_leave Between commits up keeps = absurd cc
+
+no_tree : {D : Type 0} (reads : D → List ℕ) (may_leave : D → List ℕ → Type 0) (server : Server D) (commits : List Commit) → is_up server ≡ false → KeepsList reads may_leave server commits → tree_of server ≡ None
+no_tree reads may_leave (Up it) commits down keeps = absurd cc
+no_tree reads may_leave (Down disk) commits down keeps = refl
+no_tree reads may_leave Between commits down keeps = refl
+
+-- ---- a declaration leaves the commits' numbers
+
+numbered_append : (m : Machine) (commits : List Commit) (commit : Commit) → AreNumbered m commits → commit.entry.number ≤ (client_at m commit.entry.client).last → AreNumbered m (commits ++ commit ∷ [])
+numbered_append m [] commit all one = (one, tt)
+numbered_append m (first ∷ later) commit all one = (all.0, numbered_append m later commit all.1 one)
+
+-- a client behind no others changes no number that is at most its own
+numbered_first : (m n : Machine) (commits : List Commit) → m.clients ≡ [] → AreNumbered m commits → AreNumbered n commits
+numbered_first m n [] none all = tt
+numbered_first m n (commit ∷ commits) none all =
+    let nothing : (client_at m commit.entry.client).last ≡ 0 = ap (λ (cs : List machine.Client). (slice_index_or cs commit.entry.client (record { name = []; last = 0 })).last) none in
+    (omega (arith, all.0, nothing), numbered_first m n commits none all.1)
+
+module _ {D : Type 0} (reads : D → List ℕ) (may_leave : D → List ℕ → Type 0) where
+  -- a client is declared
+  pub client_step : (name : List ℕ) (old new : World D) (before after : List ℕ) → length old.clients.items ≡ 0 → AddsClient name old new → after ≡ before ++ client_line name → Refines reads may_leave (event_part (events.Client name)) old new before after
+  client_step name old new before after none adds says = record {
+    step = λ m stands.
+        let n = declare_client name m in
+        let after_it : StandsFor reads may_leave new n = record {
+          server = subst (λ (s : Server D). KeepsList reads may_leave s m.commits) (sym adds.server) stands.server;
+          alive = ap is_up adds.server ∙ stands.alive;
+          view = adds.view ∙ stands.view;
+          clients = ap (map client_of) adds.clients ∙ map-append client_of old.clients.items (record { name = name; last = 0 } ∷ []) ∙ ap (λ (cs : List machine.Client). cs ++ record { name = name; last = 0 } ∷ []) stands.clients;
+          scripts = ap (map script_of) adds.scripts ∙ stands.scripts;
+          spelled = subst IsSpelledTree (sym adds.view) stands.spelled;
+          few = omega (arith, none, ap length adds.clients, length-append old.clients.items (record { name = name; last = 0 } ∷ []));
+          numbered = numbered_first m n m.commits (no_clients m.clients (omega (arith, none, ap length stands.clients, length-map old.clients.items client_of))) stands.numbered;
+        } in
+        (client_line name, n, says, (refl, refl), after_it);
+  }
+    where
+      no_clients : (cs : List machine.Client) → length cs ≡ 0 → cs ≡ []
+      no_clients [] is = refl
+      no_clients (c ∷ cs) is = absurd (omega (arith, is))
+
+  -- a script is declared
+  pub script_step : (name : List ℕ) (code : Code) (old new : World D) (before after : List ℕ) → AddsScript name code old new → after ≡ before → Refines reads may_leave (event_part (events.Script name code)) old new before after
+  script_step name code old new before after adds says = record {
+    step = λ m stands.
+        let declared : machine.Declared = record { name = name; code = code } in
+        let n = declare_script declared m in
+        let after_it : StandsFor reads may_leave new n = record {
+          server = subst (λ (s : Server D). KeepsList reads may_leave s m.commits) (sym adds.server) stands.server;
+          alive = ap is_up adds.server ∙ stands.alive;
+          view = adds.view ∙ stands.view;
+          clients = ap (map client_of) adds.clients ∙ stands.clients;
+          scripts = ap (map script_of) adds.scripts ∙ map-append script_of old.scripts.items (record { name = name; script = code } ∷ []) ∙ ap (λ (ss : List machine.Declared). ss ++ declared ∷ []) stands.scripts;
+          spelled = subst IsSpelledTree (sym adds.view) stands.spelled;
+          few = omega (arith, stands.few, ap length adds.clients);
+          numbered = stands.numbered;
+        } in
+        ([], n, says ∙ sym (append-nil before), (refl, refl), after_it);
+  }
 
 -- ---- a run
 
--- the machine's client is the world's
-client_is : (world : World) (m : Machine) (place : ℕ) → StandsFor world m → place < length world.clients.items → client_at m place ≡ client_of (client_in world place)
-client_is world m place stands within = ap (λ (cs : List machine.Client). slice_index_or cs place (record { name = []; last = 0 })) (sym stands.clients) ∙ index-map client_of world.clients.items place no_client (record { name = []; last = 0 }) within
+-- no files are listed where none are kept
+no_files : entries (empty {K = List (List ℕ)} {X = List ℕ} {R = path_cmp}) ≡ []
+no_files = none (entries empty) (sym (len-entries empty) ∙ len-empty path_cmp (List ℕ))
+  where
+    none : {A : Type 0} (xs : List A) → length xs ≡ 0 → xs ≡ []
+    none [] is = refl
+    none (x ∷ xs) is = absurd (omega (arith, is))
 
-script_is : (world : World) (m : Machine) (place : ℕ) → StandsFor world m → place < length world.scripts.items → (script_at m place).code ≡ script_in world place
-script_is world m place stands within =
-    ap (λ (s : machine.Declared). s.code)
-    (ap (λ (ss : List machine.Declared). slice_index_or ss place (record { name = []; code = End })) (sym stands.scripts)
-    ∙ index-map script_of world.scripts.items place no_script (record { name = []; code = End }) within)
-
--- a client that was changed at its place
-changed_at : {A : Type 0} (xs : List A) (place : ℕ) (change : A → A) (d : A) → place < length xs → slice_index_or (change_at xs place change) place d ≡ change (slice_index_or xs place d)
-changed_at [] place change d within = absurd (omega arith)
-changed_at (x ∷ xs) zero change d within = refl
-changed_at (x ∷ xs) (suc place) change d within = changed_at xs place change d (omega arith)
-
--- the machine when the transaction has begun, and when it is committed
-abbrev begun : ℕ → Machine → Machine
-begun client m = begin_at client m
-
+-- the machine when the transaction is committed
 abbrev committed : ℕ → ℕ → Machine → Machine
-committed client script m = commit_entry client script (begun client m)
+committed client script m = commit_entry client script m
 
-module _ (client script : ℕ) (old new : World) (in_clients : client < length old.clients.items) (in_scripts : script < length old.scripts.items) (ran : RanScript client script old new) (m : Machine) (stands : StandsFor old m) where
-  in_machine : client < length m.clients
-  in_machine = omega (arith, ap length stands.clients, length-map old.clients.items client_of)
+module _ {D : Type 0} (reads : D → List ℕ) (may_leave : D → List ℕ → Type 0) (client script : ℕ) (mid new : World D) (submitted : ℕ × List Act) (m : Machine)
+    (in_clients : client < length mid.clients.items) (in_scripts : script < length mid.scripts.items) (up : is_up mid.server ≡ true)
+    (stands : StandsFor reads may_leave mid m) (submits : Submits reads may_leave client script (client_in mid client).last mid new submitted) where
+  the_client : client_at m client ≡ client_of (client_in mid client)
+  the_client = client_is reads may_leave mid m client stands in_clients
 
-  begun_client : client_at (begun client m) client ≡ client_of (next_client (client_in old client))
-  begun_client = changed_at m.clients client begin_next (record { name = []; last = 0 }) in_machine ∙ ap begin_next (client_is old m client stands in_clients)
+  the_script : script_at m script ≡ script_of (script_in mid script)
+  the_script = script_is reads may_leave mid m script stands in_scripts
 
-  name_is : last_name (begun client m) client ≡ next_name old client
-  name_is = ap (λ (c : machine.Client). transaction_name c.name c.last) begun_client
+  abbrev name : List ℕ
+  name = transaction_name (client_in mid client).name (client_in mid client).last
 
-  run_is : run_entry (entry_of client script (begun client m)) (server_tree (begun client m)) ≡ run_in old script
+  name_is : last_name m client ≡ name
+  name_is = ap (λ (c : machine.Client). transaction_name c.name c.last) the_client
+
+  abbrev ran : Ran
+  ran = run_entry (entry_of client script m) (server_tree m)
+
+  run_is : ran ≡ run_in mid script
   run_is =
-      ap (λ (t : Nodes). run (script_at m script).code empty t 4096) (sym stands.tree)
-      ∙ ap (λ (c : Code). run c empty old.tree 4096) (script_is old m script stands in_scripts)
+      ap (λ (t : Nodes). run (script_at m script).code empty t 4096) (sym stands.view)
+      ∙ ap (λ (s : machine.Declared). run s.code empty mid.view 4096) the_script
 
-  commits_are : length (committed client script m).commits ≡ old.commits + 1
-  commits_are = omega (arith, length-append m.commits (commit_of client script (begun client m) ∷ []), stands.commits)
+  label_is : label_of (commit_of client script m) ≡ label_in client (client_in mid client).last (script_in mid script).name
+  label_is =
+      ap (λ (kept : List (List (List ℕ) × List ℕ)). record { client = client; tid = (client_at m client).last; script = (script_at m script).name; budget = 4096; way = Certified; kept = kept }) no_files
+      ∙ ap (λ (c : machine.Client). label_in client c.last (script_at m script).name) the_client
+      ∙ ap (λ (s : machine.Declared). label_in client (client_in mid client).last s.name) the_script
 
-  commit_is : commit_text client script (begun client m) ≡ commit_line (old.commits + 1) (next_name old client) Certified ++ acts_output (run_in old script).acts
+  counted : length m.commits ≡ count_of mid.server
+  counted = sym (count_is reads may_leave mid.server m.commits up stands.server)
+
+  number_is : length m.commits + 1 ≡ submitted.0
+  number_is = omega (arith, counted, submits.count)
+
+  acts_are : ran.acts ≡ submitted.1
+  acts_are = ap (λ (r : Ran). r.acts) run_is ∙ sym submits.acts
+
+  commits_are : length (committed client script m).commits ≡ submitted.0
+  commits_are = omega (arith, length-append m.commits (commit_of client script m ∷ []), number_is)
+
+  commit_is : commit_text client script m ≡ commit_line submitted.0 name Certified ++ acts_output submitted.1
   commit_is =
-      ap (λ (k : ℕ). commit_line (k + 1) (last_name (begun client m) client) Certified ++ acts_output (run_entry (entry_of client script (begun client m)) (server_tree (begun client m))).acts) (sym stands.commits)
-      ∙ ap (λ (name : List ℕ). commit_line (old.commits + 1) name Certified ++ acts_output (run_entry (entry_of client script (begun client m)) (server_tree (begun client m))).acts) name_is
-      ∙ ap (λ (r : Ran). commit_line (old.commits + 1) (next_name old client) Certified ++ acts_output r.acts) run_is
+      ap (λ (k : ℕ). commit_line k (last_name m client) Certified ++ acts_output ran.acts) number_is
+      ∙ ap (λ (n : List ℕ). commit_line submitted.0 n Certified ++ acts_output ran.acts) name_is
+      ∙ ap (λ (acts : List Act). commit_line submitted.0 name Certified ++ acts_output acts) acts_are
 
-  settled_is : settled_line (last_name (committed client script m) client) (length (committed client script m).commits) ≡ settled_line (next_name old client) (old.commits + 1)
-  settled_is = ap (λ (name : List ℕ). settled_line name (length (committed client script m).commits)) name_is ∙ ap (settled_line (next_name old client)) commits_are
+  settled_is : settled_line (last_name (committed client script m) client) (length (committed client script m).commits) ≡ settled_line name submitted.0
+  settled_is = ap (λ (n : List ℕ). settled_line n (length (committed client script m).commits)) name_is ∙ ap (settled_line name) commits_are
 
   -- what the machine says
   abbrev said : List ℕ
-  said = end_line (last_name (begun client m) client)
-      ++ (commit_text client script (begun client m) ++ settled_line (last_name (committed client script m) client) (length (committed client script m).commits))
+  said = end_line (last_name m client)
+      ++ (commit_text client script m ++ settled_line (last_name (committed client script m) client) (length (committed client script m).commits))
 
-  abbrev committing : Part Machine
-  committing = Then (Append (commit_entry client script)) (Says (λ _. commit_text client script (begun client m)))
-
-  exchanged : committing (begun client m) (commit_text client script (begun client m)) (committed client script m)
-  exchanged = record { mid = committed client script m; front = []; rest = commit_text client script (begun client m); first = (refl, refl); second = (refl, refl); whole = refl }
-
-  runs : Runs client script m said (committed client script m)
-  runs = record {
-    mid = begun client m;
-    front = [];
-    rest = said;
-    first = (refl, refl);
-    whole = refl;
-    second = record {
-      mid = begun client m;
-      front = end_line (last_name (begun client m) client);
-      first = (refl, refl);
-      whole = refl;
-      rest = commit_text client script (begun client m) ++ settled_line (last_name (committed client script m) client) (length (committed client script m).commits);
-      second = record {
-        mid = committed client script m;
-        front = commit_text client script (begun client m);
-        first = exchanged;
-        whole = refl;
-        rest = settled_line (last_name (committed client script m) client) (length (committed client script m).commits);
-        second = (refl, refl);
-      };
-    };
-  }
-
-  said_is : said ≡ run_text client script old
+  said_is : said ≡ run_lines name submitted.0 submitted.1
   said_is =
-      ap (λ (name : List ℕ). end_line name ++ (commit_text client script (begun client m) ++ settled_line (last_name (committed client script m) client) (length (committed client script m).commits))) name_is
-      ∙ ap (λ (text : List ℕ). end_line (next_name old client) ++ (text ++ settled_line (last_name (committed client script m) client) (length (committed client script m).commits))) commit_is
-      ∙ ap (λ (text : List ℕ). end_line (next_name old client) ++ ((commit_line (old.commits + 1) (next_name old client) Certified ++ acts_output (run_in old script).acts) ++ text)) settled_is
-      ∙ regroup (end_line (next_name old client)) (commit_line (old.commits + 1) (next_name old client) Certified) (acts_output (run_in old script).acts) (settled_line (next_name old client) (old.commits + 1))
+      ap (λ (n : List ℕ). end_line n ++ (commit_text client script m ++ settled_line (last_name (committed client script m) client) (length (committed client script m).commits))) name_is
+      ∙ ap (λ (text : List ℕ). end_line name ++ (text ++ settled_line (last_name (committed client script m) client) (length (committed client script m).commits))) commit_is
+      ∙ ap (λ (text : List ℕ). end_line name ++ ((commit_line submitted.0 name Certified ++ acts_output submitted.1) ++ text)) settled_is
+      ∙ regroup (end_line name) (commit_line submitted.0 name Certified) (acts_output submitted.1) (settled_line name submitted.0)
     where
       regroup : (a b c d : List ℕ) → a ++ ((b ++ c) ++ d) ≡ ((a ++ b) ++ c) ++ d
       regroup a b c d = simp append_assoc
 
-  stands_after : StandsFor new (committed client script m)
+  -- the record that was appended is that of the machine's commit
+  record_is : records_of (committed client script m).commits ≡ records_of m.commits ++ record_spelling (label_in client (client_in mid client).last (script_in mid script).name) (run_in mid script).acts ∷ []
+  record_is =
+      records_of-append m.commits (commit_of client script m)
+      ∙ ap (λ (l : Label). records_of m.commits ++ record_spelling l ran.acts ∷ []) label_is
+      ∙ ap (λ (r : Ran). records_of m.commits ++ record_spelling (label_in client (client_in mid client).last (script_in mid script).name) r.acts ∷ []) run_is
+
+  ran_made : ran.tree ≡ after_acts (server_tree m) ran.acts
+  ran_made =
+      ap (λ (r : Ran). r.tree) run_is ∙ submits.made
+      ∙ ap (λ (t : Nodes). after_acts t (run_in mid script).acts) stands.view
+      ∙ ap (λ (r : Ran). after_acts (server_tree m) r.acts) (sym run_is)
+
+  state_is : state_of (committed client script m).commits ≡ after_commit (state_of m.commits) (label_in client (client_in mid client).last (script_in mid script).name) (run_in mid script).acts
+  state_is =
+      state_of-append m.commits (commit_of client script m) ran_made
+      ∙ ap (λ (l : Label). after_commit (state_of m.commits) l ran.acts) label_is
+      ∙ ap (λ (r : Ran). after_commit (state_of m.commits) (label_in client (client_in mid client).last (script_in mid script).name) r.acts) run_is
+
+  kept : KeepsList reads may_leave new.server (committed client script m).commits
+  kept =
+      subst (λ (rs : List (List ℕ)). Keeps reads may_leave rs (state_of (committed client script m).commits) new.server) (sym record_is)
+      (subst (λ (s : State). Keeps reads may_leave (records_of m.commits ++ record_spelling (label_in client (client_in mid client).last (script_in mid script).name) (run_in mid script).acts ∷ []) s new.server) (sym state_is)
+      (submits.server.keeps (records_of m.commits) (state_of m.commits) stands.server))
+
+  pub stands_after : StandsFor reads may_leave new (committed client script m)
   stands_after = record {
-    alive = ran.alive ∙ stands.alive;
-    tree = ran.tree ∙ ap (λ (r : Ran). r.tree) (sym run_is) ∙ sym (serial_tree-append m.commits (commit_of client script (begun client m)));
-    commits = ran.commits ∙ sym commits_are;
-    clients = ap (map client_of) ran.clients ∙ map-set client_of old.clients.items client (next_client (client_in old client)) begin_next no_client in_clients refl ∙ ap (λ (cs : List machine.Client). change_at cs client begin_next) stands.clients;
-    scripts = ap (map script_of) ran.scripts ∙ stands.scripts;
+    server = kept;
+    alive = submits.alive ∙ sym up ∙ stands.alive;
+    view = submits.view ∙ ap (λ (r : Ran). r.tree) (sym run_is) ∙ sym (serial_tree-append m.commits (commit_of client script m));
+    clients = ap (map client_of) submits.clients ∙ stands.clients;
+    scripts = ap (map script_of) submits.scripts ∙ stands.scripts;
+    spelled = submits.spelled;
+    few = omega (arith, stands.few, ap length submits.clients);
+    numbered = numbered_append (committed client script m) m.commits (commit_of client script m) stands.numbered (omega arith);
   }
 
+  abbrev committing : Part Machine
+  committing = Then (Append (commit_entry client script)) (Says (λ _. commit_text client script m))
+
+  exchanged : committing m (commit_text client script m) (committed client script m)
+  exchanged = record { mid = committed client script m; front = []; rest = commit_text client script m; first = (refl, refl); second = (refl, refl); whole = refl }
+
+-- the parts of a run, one after another
+runs : (client script : ℕ) (m : Machine) → Runs client script m
+    (end_line (last_name (begin_at client m) client)
+    ++ (commit_text client script (begin_at client m) ++ settled_line (last_name (committed client script (begin_at client m)) client) (length (committed client script (begin_at client m)).commits)))
+    (committed client script (begin_at client m))
+runs client script m =
+    let begun : Machine = begin_at client m in
+    let settled : List ℕ = settled_line (last_name (committed client script begun) client) (length (committed client script begun).commits) in
+    record {
+      mid = begun;
+      front = [];
+      rest = end_line (last_name begun client) ++ (commit_text client script begun ++ settled);
+      first = (refl, refl);
+      whole = refl;
+      second = record {
+        mid = begun;
+        front = end_line (last_name begun client);
+        first = (refl, refl);
+        whole = refl;
+        rest = commit_text client script begun ++ settled;
+        second = record {
+          mid = committed client script begun;
+          front = commit_text client script begun;
+          first = record { mid = committed client script begun; front = []; rest = commit_text client script begun; first = (refl, refl); second = (refl, refl); whole = refl };
+          whole = refl;
+          rest = settled;
+          second = (refl, refl);
+        };
+      };
+    }
+
 -- a run is done
-pub run_step : (client script : ℕ) (old new : World) (before after : List ℕ) → client < length old.clients.items → script < length old.scripts.items → RanScript client script old new → after ≡ before ++ run_text client script old → Refines (event_part (events.Run client script)) old new before after
-run_step client script old new before after in_clients in_scripts ran says = record {
-  step = λ m stands. (
-    said client script old new in_clients in_scripts ran m stands,
-    committed client script m,
-    says ∙ ap (λ (text : List ℕ). before ++ text) (sym (said_is client script old new in_clients in_scripts ran m stands)),
-    runs client script old new in_clients in_scripts ran m stands,
-    stands_after client script old new in_clients in_scripts ran m stands,
-  );
+pub run_step : {D : Type 0} (reads : D → List ℕ) (may_leave : D → List ℕ → Type 0) (client script : ℕ) (old new : World D) (before after : List ℕ)
+    → client < length old.clients.items → script < length old.scripts.items → is_up old.server ≡ true
+    → RanScript reads may_leave client script old new before after → Refines reads may_leave (event_part (events.Run client script)) old new before after
+run_step reads may_leave client script old new before after in_clients in_scripts up did = record {
+  step = λ m stands.
+      let begun : StandsFor reads may_leave did.mid (begin_at client m) = begin_stands reads may_leave client old did.mid m in_clients did.begins stands in
+      let clients : client < length did.mid.clients.items = omega (arith, in_clients, ap length did.begins.clients, length-set old.clients.items client (next_client (client_in old client))) in
+      let scripts : script < length did.mid.scripts.items = omega (arith, in_scripts, ap length did.begins.scripts) in
+      let still_up : is_up did.mid.server ≡ true = ap is_up did.begins.server ∙ up in (
+        said reads may_leave client script did.mid new did.submitted (begin_at client m) clients scripts still_up begun did.submits,
+        committed client script (begin_at client m),
+        did.says ∙ ap (λ (text : List ℕ). before ++ text) (sym (said_is reads may_leave client script did.mid new did.submitted (begin_at client m) clients scripts still_up begun did.submits)),
+        runs client script m,
+        stands_after reads may_leave client script did.mid new did.submitted (begin_at client m) clients scripts still_up begun did.submits,
+      );
 }
 
 -- ---- a crash, a restart, and what is shown
@@ -174,9 +280,6 @@ chosen : (test : Bool) (one other : Part Machine) (m : Machine) (text : List ℕ
 chosen true one other m text n at_true at_false = at_true refl
 chosen false one other m text n at_true at_false = at_false refl
 
-if_is : {A : Type 0} (test same : Bool) (x y : A) → test ≡ same → (if test then x else y) ≡ (if same then x else y)
-if_is test same x y is = ap (λ (b : Bool). if b then x else y) is
-
 if_true : {A : Type 0} (test : Bool) (x y : A) → test ≡ true → (if test then x else y) ≡ x
 if_true true x y is = refl
 if_true false x y is = absurd cc
@@ -185,58 +288,62 @@ if_false : {A : Type 0} (test : Bool) (x y : A) → test ≡ false → (if test 
 if_false true x y is = absurd cc
 if_false false x y is = refl
 
-pub show_step : (world : World) (before after : List ℕ) → after ≡ before ++ shown world → Refines (event_part events.ShowServer) world world before after
-show_step world before after says = record {
-  step = λ m stands. (
-    shown world,
-    m,
-    says,
-    chosen m.alive _ _ m (shown world) m
-        (λ is. (if_true world.alive _ _ (stands.alive ∙ is) ∙ ap tree_text stands.tree, refl))
-        (λ is. (if_false world.alive _ _ (stands.alive ∙ is), refl)),
-    stands,
-  );
-}
+module _ {D : Type 0} (reads : D → List ℕ) (may_leave : D → List ℕ → Type 0) where
+  pub show_step : (world : World D) (before after : List ℕ) → after ≡ before ++ shown world → Refines reads may_leave (event_part events.ShowServer) world world before after
+  show_step world before after says = record {
+    step = λ m stands. (
+      shown world,
+      m,
+      says,
+      chosen m.alive _ _ m (shown world) m
+          (λ is. (ap shown_tree (tree_is reads may_leave world.server m.commits (stands.alive ∙ is) stands.server), refl))
+          (λ is. (ap shown_tree (no_tree reads may_leave world.server m.commits (stands.alive ∙ is) stands.server), refl)),
+      stands,
+    );
+  }
 
--- the world whose server is set so stands for the machine whose server is
-set_stands : (alive : Bool) (old new : World) (m : Machine) → SetsAlive alive old new → StandsFor old m → StandsFor new (set_alive alive m)
-set_stands alive old new m sets stands = record {
-  alive = sets.alive;
-  tree = sets.tree ∙ stands.tree;
-  commits = sets.commits ∙ stands.commits;
-  clients = ap (map client_of) sets.clients ∙ stands.clients;
-  scripts = ap (map script_of) sets.scripts ∙ stands.scripts;
-}
+  -- the world whose server is set so stands for the machine whose server is
+  set_stands : (alive : Bool) (old new : World D) (m : Machine) → Sets reads may_leave alive old new → StandsFor reads may_leave old m → StandsFor reads may_leave new (set_alive alive m)
+  set_stands alive old new m sets stands = record {
+    server = sets.server.keeps (records_of m.commits) (state_of m.commits) stands.server;
+    alive = sets.alive;
+    view = sets.view ∙ stands.view;
+    clients = ap (map client_of) sets.clients ∙ stands.clients;
+    scripts = ap (map script_of) sets.scripts ∙ stands.scripts;
+    spelled = subst IsSpelledTree (sym sets.view) stands.spelled;
+    few = omega (arith, stands.few, ap length sets.clients);
+    numbered = stands.numbered;
+  }
 
--- setting it as it is changes nothing
-same_alive : (alive : Bool) (m : Machine) → m.alive ≡ alive → set_alive alive m ≡ m
-same_alive alive m is i = record m { alive = (sym is) i }
+  -- setting it as it is changes nothing
+  same_alive : (alive : Bool) (m : Machine) → m.alive ≡ alive → set_alive alive m ≡ m
+  same_alive alive m is i = record m { alive = (sym is) i }
 
-pub crash_step : (old new : World) (before after : List ℕ) → SetsAlive false old new → after ≡ before ++ crash_text old → Refines (event_part events.CrashServer) old new before after
-crash_step old new before after sets says = record {
-  step = λ m stands. (
-    crash_text old,
-    set_alive false m,
-    says,
-    chosen m.alive _ _ m (crash_text old) (set_alive false m)
-        (λ is. (if_true old.alive _ _ (stands.alive ∙ is), refl))
-        (λ is. (if_false old.alive _ _ (stands.alive ∙ is), same_alive false m is)),
-    set_stands false old new m sets stands,
-  );
-}
+  pub crash_step : (old new : World D) (before after : List ℕ) → Sets reads may_leave false old new → after ≡ before ++ crash_text old → Refines reads may_leave (event_part events.CrashServer) old new before after
+  crash_step old new before after sets says = record {
+    step = λ m stands. (
+      crash_text old,
+      set_alive false m,
+      says,
+      chosen m.alive _ _ m (crash_text old) (set_alive false m)
+          (λ is. (if_true (is_up old.server) _ _ (stands.alive ∙ is), refl))
+          (λ is. (if_false (is_up old.server) _ _ (stands.alive ∙ is), same_alive false m is)),
+      set_stands false old new m sets stands,
+    );
+  }
 
-pub restart_step : (old new : World) (before after : List ℕ) → SetsAlive true old new → after ≡ before ++ restart_text old → Refines (event_part events.RestartServer) old new before after
-restart_step old new before after sets says = record {
-  step = λ m stands. (
-    restart_text old,
-    set_alive true m,
-    says,
-    chosen m.alive _ _ m (restart_text old) (set_alive true m)
-        (λ is. (if_true old.alive _ _ (stands.alive ∙ is), same_alive true m is))
-        (λ is. (if_false old.alive _ _ (stands.alive ∙ is), refl)),
-    set_stands true old new m sets stands,
-  );
-}
+  pub restart_step : (old new : World D) (before after : List ℕ) → Sets reads may_leave true old new → after ≡ before ++ restart_text old → Refines reads may_leave (event_part events.RestartServer) old new before after
+  restart_step old new before after sets says = record {
+    step = λ m stands. (
+      restart_text old,
+      set_alive true m,
+      says,
+      chosen m.alive _ _ m (restart_text old) (set_alive true m)
+          (λ is. (if_true (is_up old.server) _ _ (stands.alive ∙ is), same_alive true m is))
+          (λ is. (if_false (is_up old.server) _ _ (stands.alive ∙ is), refl)),
+      set_stands true old new m sets stands,
+    );
+  }
 
 -- what follows from two facts of a call that succeeded
 pub both_ok : {T E A B C : Type 0} (r : Result T E) → (A → B → C) → OnOk r A → OnOk r B → OnOk r C

@@ -5,7 +5,7 @@ use Rattle.iot_io.specs.Count.{Rose}
 use Rattle.iot_event.specs.Events.{IsRead, Events, Fault}
 use Rattle.iot_event.specs.declared.fault.EventFault.{EventFault}
 use Rattle.iot_event.specs.declared.fault.EventFault.TheVariants as faults
-use Rattle.iot_app.specs.Machine.{Machine, opening}
+use Rattle.iot_app.specs.Machine.{Machine, Commit, opening}
 use Rattle.iot_app.specs.Steps.{Transcript}
 use Rattle.iot_app.specs.Texts.{line}
 use Rattle.iot_event.specs.declared.event.Event.{Event}
@@ -57,34 +57,40 @@ pub record IsNoScript (input text : List ℕ) : Type 0 where
   pub spelled : IsRead input (Fault fault)
   pub says : text ≡ refusal_line fault
 
--- a transcript of these events, from the opening on
-pub record HasTranscript (events : List Event) (text : List ℕ) : Type 0 where
+-- a transcript of these events, from the opening on; `holds commits` says that the server's disk holds this list, and it is
+-- so for the list at the end of this same transcript
+pub record HasTranscript (events : List Event) (text : List ℕ) (holds : List Commit → Type 0) : Type 0 where
   pub machine : Machine
   pub transcript : Transcript events opening text machine
+  pub kept : holds machine.commits
+
+-- where nothing is said of the disk
+abbrev pub whatever : List Commit → Type 0
+whatever commits = Unit {0}
 
 -- a whole transcript of the events that the input is
-pub record IsTranscript (input text : List ℕ) : Type 0 where
+pub record IsTranscript (input text : List ℕ) (holds : List Commit → Type 0) : Type 0 where
   pub events : List Event
   pub script : IsScript input events
-  pub whole : HasTranscript events text
+  pub whole : HasTranscript events text holds
 
 -- a transcript of the first so many events that the input is
-pub record IsTranscriptOfFirst (input text : List ℕ) : Type 0 where
+pub record IsTranscriptOfFirst (input text : List ℕ) (holds : List Commit → Type 0) : Type 0 where
   pub events : List Event
   pub script : IsScript input events
   pub done : ℕ
-  pub first : HasTranscript (take done events) text
+  pub first : HasTranscript (take done events) text holds
 
 -- what the program has to say: with words the usage line, else why the input is refused, or a transcript
-pub data IsSaid (words : ℕ) (input text : List ℕ) : Type 0 where
-  usage : 0 < words → text ≡ usage_line → IsSaid words input text
-  too_long : IsTooLong input text → IsSaid words input text
-  no_script : IsNoScript input text → IsSaid words input text
-  transcript : IsTranscriptOfFirst input text → IsSaid words input text
+pub data IsSaid (words : ℕ) (input text : List ℕ) (holds : List Commit → Type 0) : Type 0 where
+  usage : 0 < words → text ≡ usage_line → IsSaid words input text holds
+  too_long : IsTooLong input text → IsSaid words input text holds
+  no_script : IsNoScript input text → IsSaid words input text holds
+  transcript : IsTranscriptOfFirst input text holds → IsSaid words input text holds
 
 -- ---- the endings
 
-module _ (words : ℕ) (reads writes : List ℕ → Type 0) (at_end : Type 0) where
+module _ (words : ℕ) (reads writes : List ℕ → Type 0) (at_end : Type 0) (holds : List Commit → Type 0) where
   -- the input was read to its end, is an event script, and a whole transcript of it was written
   pub record WroteAll : Type 0 where
     pub no_words : words ≡ 0
@@ -92,7 +98,7 @@ module _ (words : ℕ) (reads writes : List ℕ → Type 0) (at_end : Type 0) wh
     pub text : List ℕ
     pub read : reads input
     pub whole : at_end
-    pub transcript : IsTranscript input text
+    pub transcript : IsTranscript input text holds
     pub written : writes text
 
   -- the input is over its limit, or was read to its end and is no event script, and the line that says so was written
@@ -118,13 +124,13 @@ module _ (words : ℕ) (reads writes : List ℕ → Type 0) (at_end : Type 0) wh
     pub within : length input ≤ input_limit
     pub written : writes []
 
-  -- only a part of what there was to say was written
+  -- only a part of what there was to say was written; no event was done behind the one whose text was cut
   pub record WroteFront : Type 0 where
     pub input : List ℕ
     pub text : List ℕ
     pub count : ℕ
     pub read : reads input
-    pub said : IsSaid words input text
+    pub said : IsSaid words input text holds
     pub cut : count < length text
     pub written : writes (take count text)
 
@@ -134,7 +140,7 @@ module _ (words : ℕ) (reads writes : List ℕ → Type 0) (at_end : Type 0) wh
     pub input : List ℕ
     pub text : List ℕ
     pub read : reads input
-    pub said : (text ≡ []) ⊎ IsTranscriptOfFirst input text
+    pub said : (text ≡ []) ⊎ IsTranscriptOfFirst input text whatever
     pub written : writes text
 
   abbrev pub EndsWith : Status → Type 0
@@ -144,6 +150,7 @@ module _ (words : ℕ) (reads writes : List ℕ → Type 0) (at_end : Type 0) wh
   EndsWith statuses.ReadFailed = ReadNotAll
   EndsWith statuses.WriteFailed = WroteFront
   EndsWith statuses.NoMemory = WroteSome
+  EndsWith statuses.DiskFailed = WroteSome
 
   -- by the number of the status; there is no other
   abbrev pub Ends : ℕ → Type 0
@@ -153,7 +160,9 @@ module _ (words : ℕ) (reads writes : List ℕ → Type 0) (at_end : Type 0) wh
   Ends (suc (suc (suc zero))) = ReadNotAll
   Ends (suc (suc (suc (suc zero)))) = WroteFront
   Ends (suc (suc (suc (suc (suc zero))))) = WroteSome
-  Ends (suc (suc (suc (suc (suc (suc n)))))) = ⊥
+  Ends (suc (suc (suc (suc (suc (suc zero)))))) = ⊥
+  Ends (suc (suc (suc (suc (suc (suc (suc zero))))))) = WroteSome
+  Ends (suc (suc (suc (suc (suc (suc (suc (suc n)))))))) = ⊥
 
 -- ---- the causes
 
@@ -168,17 +177,20 @@ HasRisen counted = Rose counted.before counted.after
 abbrev pub IsSteady : Counted → Type 0
 IsSteady counted = counted.after ≡ counted.before
 
--- a status of faults comes only where that count rose: of reads, of writes, or of writes that took nothing
-abbrev pub CausesOf : Status → (reads writes empties : Counted) → Type 0
-CausesOf statuses.Done reads writes empties = IsSteady reads × IsSteady writes × IsSteady empties
-CausesOf statuses.Refused reads writes empties = IsSteady reads × IsSteady writes × IsSteady empties
-CausesOf statuses.Usage reads writes empties = IsSteady reads × IsSteady writes × IsSteady empties
-CausesOf statuses.ReadFailed reads writes empties = HasRisen reads × IsSteady writes × IsSteady empties
-CausesOf statuses.WriteFailed reads writes empties = IsSteady reads × (HasRisen writes ⊎ HasRisen empties)
-CausesOf statuses.NoMemory reads writes empties = IsSteady reads × IsSteady writes × IsSteady empties
+-- a status of faults comes only where that count rose: of reads, of writes, of writes that took nothing, or of the disk's faults
+abbrev pub CausesOf : Status → (reads writes empties disk : Counted) → Type 0
+CausesOf statuses.Done reads writes empties disk = IsSteady reads × IsSteady writes × IsSteady empties × IsSteady disk
+CausesOf statuses.Refused reads writes empties disk = IsSteady reads × IsSteady writes × IsSteady empties × IsSteady disk
+CausesOf statuses.Usage reads writes empties disk = IsSteady reads × IsSteady writes × IsSteady empties × IsSteady disk
+CausesOf statuses.ReadFailed reads writes empties disk = HasRisen reads × IsSteady writes × IsSteady empties × IsSteady disk
+CausesOf statuses.WriteFailed reads writes empties disk = IsSteady reads × (HasRisen writes ⊎ HasRisen empties) × IsSteady disk
+CausesOf statuses.NoMemory reads writes empties disk = IsSteady reads × IsSteady writes × IsSteady empties × IsSteady disk
+CausesOf statuses.DiskFailed reads writes empties disk = IsSteady reads × IsSteady writes × IsSteady empties × HasRisen disk
 
--- the same by the number of the status: status 3 exactly where a read failed, status 4 exactly where a write failed or took nothing
-abbrev pub Causes : ℕ → (reads writes empties : Counted) → Type 0
-Causes (suc (suc (suc zero))) reads writes empties = HasRisen reads × IsSteady writes × IsSteady empties
-Causes (suc (suc (suc (suc zero)))) reads writes empties = IsSteady reads × (HasRisen writes ⊎ HasRisen empties)
-Causes status reads writes empties = IsSteady reads × IsSteady writes × IsSteady empties
+-- the same by the number of the status: status 3 exactly where a read failed, status 4 exactly where a write failed or took
+-- nothing, status 7 exactly where the server's disk failed
+abbrev pub Causes : ℕ → (reads writes empties disk : Counted) → Type 0
+Causes (suc (suc (suc zero))) reads writes empties disk = HasRisen reads × IsSteady writes × IsSteady empties × IsSteady disk
+Causes (suc (suc (suc (suc zero)))) reads writes empties disk = IsSteady reads × (HasRisen writes ⊎ HasRisen empties) × IsSteady disk
+Causes (suc (suc (suc (suc (suc (suc (suc zero))))))) reads writes empties disk = IsSteady reads × IsSteady writes × IsSteady empties × HasRisen disk
+Causes status reads writes empties disk = IsSteady reads × IsSteady writes × IsSteady empties × IsSteady disk

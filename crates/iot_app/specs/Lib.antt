@@ -10,3 +10,7 @@ pub mod Played
 pub mod InputFaults
 pub mod Input
 pub mod Job
+pub mod Records
+pub mod Faults
+pub mod Servers
+pub mod Disks

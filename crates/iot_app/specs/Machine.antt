@@ -2,6 +2,7 @@
 -- messages and no records: the server's tree is what its list gives when it is run from the start.
 use Rattle.std.specs.Prelude.{ℕ, Bool, true, List, [], map}
 use Rattle.iot_tree.specs.Tree.{Nodes}
+use Rattle.iot_tree.specs.declared.labels.Way.{Way}
 use Rattle.iot_lang.specs.Code.{Code}
 use Rattle.iot_exec.specs.Serial.{Entry, serial_tree}
 
@@ -9,10 +10,6 @@ use Rattle.iot_exec.specs.Serial.{Entry, serial_tree}
 pub record Declared : Type 0 where
   pub name : List ℕ
   pub code : Code
-
--- how a transaction came into the list
-pub data Way : Type 0 where
-  Certified : Way
 
 -- a committed transaction, and the name of its script
 pub record Commit : Type 0 where

@@ -4,7 +4,9 @@ use Rattle.std.specs.FinMap.{empty}
 use Rattle.iot_exec.specs.Serial.{Entry, run_entry}
 use Rattle.iot_lang.specs.Code.{End}
 use Rattle.iot_app.specs.Parts.{Part, Does, Says, Append, Exchange, From, Then, Choose, InTurn}
-use Rattle.iot_app.specs.Machine.{Machine, Commit, Client, Declared, Way, Certified, server_tree}
+use Rattle.iot_tree.specs.declared.labels.Way.{Way}
+use Rattle.iot_tree.specs.declared.labels.Way.TheVariants.{Certified}
+use Rattle.iot_app.specs.Machine.{Machine, Commit, Client, Declared, server_tree}
 use Rattle.iot_app.specs.Texts.{line, client_line, end_line, commit_line, settled_line, transaction_name, acts_output, tree_text}
 use Rattle.iot_event.specs.declared.event.Event.{Event}
 use Rattle.iot_event.specs.declared.event.Event.TheVariants as events

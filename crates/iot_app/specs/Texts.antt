@@ -8,7 +8,8 @@ use Rattle.iot_tree.specs.Tree.{Nodes}
 use Rattle.iot_tree.specs.declared.nodes.Node.{Node}
 use Rattle.iot_tree.specs.declared.nodes.Node.TheVariants.{Dir, File, FarDir, FarFile}
 use Rattle.iot_tree.specs.declared.acts.Act.{Act}
-use Rattle.iot_app.specs.Machine.{Way, Certified}
+use Rattle.iot_tree.specs.declared.labels.Way.{Way}
+use Rattle.iot_tree.specs.declared.labels.Way.TheVariants.{Certified, Reexecuted, Resolved}
 
 -- a line ends with a newline
 abbrev pub line : List ℕ → List ℕ
@@ -49,6 +50,8 @@ tree_text tree = rows_text (entries tree)
 
 abbrev pub way_text : Way → List ℕ
 way_text Certified = codes "certified"
+way_text Reexecuted = codes "reexecuted"
+way_text Resolved = codes "resolved"
 
 abbrev pub end_line : List ℕ → List ℕ
 end_line tid = line (codes "end " ++ tid)
@@ -61,3 +64,7 @@ settled_line tid number = line (codes "settled " ++ tid ++ 32 ∷ decimal number
 
 abbrev pub client_line : List ℕ → List ℕ
 client_line name = line (codes "client " ++ name)
+
+-- the lines of a run of this name that was committed under this number
+abbrev pub run_lines : List ℕ → ℕ → List Act → List ℕ
+run_lines name number acts = end_line name ++ commit_line number name Certified ++ acts_output acts ++ settled_line name number

@@ -1,14 +1,18 @@
 //! The program as one call.
-ghost use Rattle.std.specs.Prelude.{◌≡◌, [], false, length, IfOk};
+ghost use Rattle.std.specs.Prelude.{◌≡◌, ◌<◌, ◌∷◌, [], false, length, IfOk};
 ghost use Rattle.std.specs.Io.KnownBytes.{Appends, IsAtEnd};
+ghost use Rattle.std.specs.Vec.{vec_len, vec_capacity};
 ghost use Rattle.iot_io.specs.ReadAll.{Took};
 ghost use Rattle.iot_event.specs.Declarations.{AreDeclared};
 ghost use Rattle.iot_app.specs.Endings.{usage_line, too_long_line, fault_line, refusal_line, Ends, EndsWith, Causes, CausesOf};
+ghost use Rattle.iot_app.specs.Disks.{AreFresh, OnlyFirst, FirstHolds, first_count, WithoutEvents};
 ghost use Rattle.iot_app.specs.Job.{PlayEnds, LineEnds, RefusalEnds};
+ghost use Rattle.iot_app.specs.Status.{code_of};
 
 use crate::input::{InputFault, read_events};
 use crate::play::{PlayFault, play};
 use crate::status::Status;
+use iot_disk::Disk;
 use iot_event::{Event, EventFault};
 use iot_io::{Sink, Source, write_all};
 use iot_text::{NoMemory, Text};
@@ -17,9 +21,19 @@ use std::alloc::Global;
 /// What a faulty command line is answered with.
 const USAGE: &[u8] = b"usage: iot [--json | --gen N | --save | --image]\n";
 
+/// How a run ended: the status of the process, and the disks that were handed in.
+#[derive(Drop)]
+pub struct Outcome<D> {
+    /// What the process ends with.
+    pub status: u8,
+
+    /// In the order in which they were handed in.
+    pub disks: Vec<D>,
+}
+
 /// Runs the program: reads the source to its end as an event script, does its events, and writes what they say, each
 /// event's text by one `write_all`. `words` are the words of the command line behind the program's name; none is known
-/// yet. Answers the status that the process ends with.
+/// yet. Of the nine disks, which are empty and come back, the first is the server's and the others are not used yet.
 ///
 /// # Statuses
 ///
@@ -30,43 +44,69 @@ const USAGE: &[u8] = b"usage: iot [--json | --gen N | --save | --image]\n";
 /// - 3: a read failed. Nothing was written.
 /// - 4: a write failed, or took nothing. A front of what there was to say was written.
 /// - 5: there was no memory. Nothing was written, or what the first events say.
-pub fn run<S: Source, K: Sink>(alloc: Global, words: &[&str], source: &mut S, sink: &mut K) -> u8
-    // What was read and written, by the status.
-    ensures ends { Ends (length words.now)
-        (Took S.left S.taken source.old source.new)
-        (Appends (K.written sink.old) (K.written sink.new))
-        (IsAtEnd (S.left source.new)) result }
-
-    // A fault's status comes exactly where its count rose.
-    ensures causes { Causes result
-        (record { before = S.faults source.old; after = S.faults source.new })
-        (record { before = K.faults sink.old; after = K.faults sink.new })
-        (record { before = K.empties sink.old; after = K.empties sink.new }) }
-{
-    status_of(alloc, words, source, sink).code()
-}
-
-/// The same, as a status.
-fn status_of<S: Source, K: Sink>(
+/// - 7: the server's disk failed. Nothing was written, or what the first events say.
+///
+/// With the statuses 0 and 4 the first disk holds the commits of the events that were done, whatever of its images a
+/// crash leaves. With the statuses 1, 2 and 3 the disks are as they were.
+pub fn run<S: Source, K: Sink, D: Disk>(
     alloc: Global,
     words: &[&str],
     source: &mut S,
     sink: &mut K,
+    disks: Vec<D>,
+) -> Outcome<D>
+    requires { AreFresh D.reads D.may_leave disks.items }
+
+    // What was read and written, by the status, and what the first disk holds then.
+    ensures ends { Ends (length words.now)
+        (Took S.left S.taken source.old source.new)
+        (Appends (K.written sink.old) (K.written sink.new))
+        (IsAtEnd (S.left source.new))
+        (FirstHolds D.may_leave result.disks.items) result.status }
+
+    // A fault's status comes exactly where its count rose.
+    ensures causes { Causes result.status
+        (record { before = S.faults source.old; after = S.faults source.new })
+        (record { before = K.faults sink.old; after = K.faults sink.new })
+        (record { before = K.empties sink.old; after = K.empties sink.new })
+        (record { before = first_count D.faults disks.items; after = first_count D.faults result.disks.items }) }
+
+    // The disks come back, and none was armed; without an event they are as they were.
+    ensures disks { OnlyFirst D.arms disks.items result.disks.items }
+    ensures untouched { WithoutEvents result.status (result.disks.items ≡ disks.items) }
+{
+    let mut disks = disks;
+    let status = status_of(alloc, words, source, sink, &mut disks).code();
+    Outcome { status, disks }
+}
+
+/// The same, as a status.
+fn status_of<S: Source, K: Sink, D: Disk>(
+    alloc: Global,
+    words: &[&str],
+    source: &mut S,
+    sink: &mut K,
+    disks: &mut Vec<D>,
 ) -> Status
+    requires { AreFresh D.reads D.may_leave disks.old.items }
     ensures ends { EndsWith (length words.now)
         (Took S.left S.taken source.old source.new)
         (Appends (K.written sink.old) (K.written sink.new))
-        (IsAtEnd (S.left source.new)) result }
+        (IsAtEnd (S.left source.new))
+        (FirstHolds D.may_leave disks.new.items) result }
     ensures causes { CausesOf result
         (record { before = S.faults source.old; after = S.faults source.new })
         (record { before = K.faults sink.old; after = K.faults sink.new })
-        (record { before = K.empties sink.old; after = K.empties sink.new }) }
+        (record { before = K.empties sink.old; after = K.empties sink.new })
+        (record { before = first_count D.faults disks.old.items; after = first_count D.faults disks.new.items }) }
+    ensures disks { OnlyFirst D.arms disks.old.items disks.new.items }
+    ensures untouched { WithoutEvents (code_of result) (disks.new.items ≡ disks.old.items) }
 {
     if !words.is_empty() {
         return write_line(sink, USAGE, Status::Usage);
     }
     match read_events(alloc, source) {
-        Ok(events) => do_events(alloc, &events, sink),
+        Ok(events) => do_events(alloc, &events, sink, disks),
         Err(fault) => refuse(alloc, fault, sink),
     }
 }
@@ -84,19 +124,50 @@ fn write_line<K: Sink>(sink: &mut K, line: &[u8], status: Status) -> Status
     }
 }
 
-/// Does the events of an input.
-fn do_events<K: Sink>(alloc: Global, events: &[Event], sink: &mut K) -> Status
-    requires { AreDeclared events.now 0 0 false }
-    ensures { PlayEnds events.now result
+/// Does the events of an input, with the first of the disks as the server's.
+fn do_events<K: Sink, D: Disk>(
+    alloc: Global,
+    events: &[Event],
+    sink: &mut K,
+    disks: &mut Vec<D>,
+) -> Status
+    requires declared { AreDeclared events.now 0 0 false }
+    requires fresh { AreFresh D.reads D.may_leave disks.old.items }
+    ensures ends { PlayEnds events.now result
         (Appends (K.written sink.old) (K.written sink.new))
+        (FirstHolds D.may_leave disks.new.items)
         (record { before = K.faults sink.old; after = K.faults sink.new })
-        (record { before = K.empties sink.old; after = K.empties sink.new }) }
+        (record { before = K.empties sink.old; after = K.empties sink.new })
+        (record { before = first_count D.faults disks.old.items; after = first_count D.faults disks.new.items }) }
+    ensures disks { OnlyFirst D.arms disks.old.items disks.new.items }
 {
-    match play(alloc, events, sink) {
+    let disk = take_first(disks);
+    let (ended, disk) = play(alloc, events, sink, disk);
+    put_first(disks, disk);
+    match ended {
         Ok(()) => Status::Done,
         Err(PlayFault::NoMemory) => Status::NoMemory,
+        Err(PlayFault::DiskFailed) => Status::DiskFailed,
         Err(PlayFault::Sink) => Status::WriteFailed,
     }
+}
+
+/// Takes the first disk out of the others, and leaves room for it.
+fn take_first<D>(disks: &mut Vec<D>) -> D
+    requires { 0 < length disks.old.items }
+    ensures items { disks.old.items ≡ result ∷ disks.new.items }
+    ensures room { vec_len disks.new < vec_capacity disks.new }
+{
+    disks.remove(0)
+}
+
+/// Puts the first disk before the others, where room was left for it.
+fn put_first<D>(disks: &mut Vec<D>, disk: D)
+    requires { vec_len disks.old < vec_capacity disks.old }
+    ensures { disks.new.items ≡ disk ∷ disks.old.items }
+{
+    disks.push_reserved(disk);
+    disks.rotate_right(1);
 }
 
 /// Says why there are no events.

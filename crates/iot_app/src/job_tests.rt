@@ -1,3 +1,4 @@
+use crate::disks::empty_disks;
 use crate::job::run;
 use iot_io::{MemSink, MemSource};
 use iot_text::NoMemory;
@@ -22,8 +23,8 @@ fn ran(
         Vec::from_slice(alloc, writes)?,
         Vec::new(alloc),
     )?;
-    let status = run(alloc, words, &mut source, &mut sink);
-    Ok((status, Vec::from_slice(alloc, sink.written())?))
+    let ended = run(alloc, words, &mut source, &mut sink, empty_disks(alloc)?);
+    Ok((ended.status, Vec::from_slice(alloc, sink.written())?))
 }
 
 /// Whether a run on this input, where nothing fails, has this status and writes this.

@@ -22,6 +22,9 @@ pub(crate) enum Status {
 
     /// There was no memory.
     NoMemory,
+
+    /// The server's disk failed.
+    DiskFailed,
 }
 
 impl Status {
@@ -36,6 +39,7 @@ impl Status {
             Status::ReadFailed => 3,
             Status::WriteFailed => 4,
             Status::NoMemory => 5,
+            Status::DiskFailed => 7,
         }
     }
 }

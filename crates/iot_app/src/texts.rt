@@ -1,8 +1,8 @@
 //! The lines that events print.
 ghost use Rattle.std.specs.Prelude.{◌≡◌, ◌++◌, ◌∷◌, [], OnOk};
 ghost use Rattle.std.specs.FinMap.{entries};
-ghost use Rattle.iot_app.specs.Machine.{Certified};
-ghost use Rattle.iot_app.specs.Texts.{line, client_line, end_line, commit_line, settled_line, transaction_name, output, acts_output, output_line, row_line, row_text, tree_text};
+ghost use Rattle.iot_tree.specs.declared.labels.Way.TheVariants.{Certified};
+ghost use Rattle.iot_app.specs.Texts.{line, client_line, end_line, commit_line, settled_line, transaction_name, output, acts_output, output_line, row_line, row_text, tree_text, run_lines};
 
 use iot_text::{Name, NoMemory, Path, Text, quote};
 use iot_tree::{Act, Node, Tree};
@@ -42,7 +42,7 @@ pub(crate) fn say_client(name: &Name, out: &mut Text) -> Result<(), NoMemory>
 }
 
 /// `end TID`
-pub(crate) fn say_end(transaction: &Transaction, out: &mut Text) -> Result<(), NoMemory>
+fn say_end(transaction: &Transaction, out: &mut Text) -> Result<(), NoMemory>
     ensures { OnOk result (out.new ≡ out.old ++ end_line (transaction_name transaction.now.client transaction.now.number)) }
 {
     out.append(b"end ")?;
@@ -51,11 +51,7 @@ pub(crate) fn say_end(transaction: &Transaction, out: &mut Text) -> Result<(), N
 }
 
 /// `commit N TID certified`
-pub(crate) fn say_commit(
-    number: u64,
-    transaction: &Transaction,
-    out: &mut Text,
-) -> Result<(), NoMemory>
+fn say_commit(number: u64, transaction: &Transaction, out: &mut Text) -> Result<(), NoMemory>
     ensures { OnOk result (out.new ≡ out.old ++ commit_line number (transaction_name transaction.now.client transaction.now.number) Certified) }
 {
     out.append(b"commit ")?;
@@ -66,11 +62,7 @@ pub(crate) fn say_commit(
 }
 
 /// `settled TID N`
-pub(crate) fn say_settled(
-    transaction: &Transaction,
-    number: u64,
-    out: &mut Text,
-) -> Result<(), NoMemory>
+fn say_settled(transaction: &Transaction, number: u64, out: &mut Text) -> Result<(), NoMemory>
     ensures { OnOk result (out.new ≡ out.old ++ settled_line (transaction_name transaction.now.client transaction.now.number) number) }
 {
     out.append(b"settled ")?;
@@ -100,7 +92,7 @@ fn say_lines(lines: &[Text], out: &mut Text) -> Result<(), NoMemory>
 }
 
 /// The lines that a run printed.
-pub(crate) fn say_output(acts: &[Act], out: &mut Text) -> Result<(), NoMemory>
+fn say_output(acts: &[Act], out: &mut Text) -> Result<(), NoMemory>
     ensures { OnOk result (out.new ≡ out.old ++ acts_output acts.now) }
 {
     for act in acts {
@@ -137,4 +129,19 @@ pub(crate) fn say_tree(tree: &Tree, out: &mut Text) -> Result<(), NoMemory>
         say_row(path, node, out)?;
     }
     Ok(())
+}
+
+/// What a run says that was committed under this number.
+pub(crate) fn say_run(
+    transaction: &Transaction,
+    number: u64,
+    acts: &[Act],
+    out: &mut Text,
+) -> Result<(), NoMemory>
+    ensures { OnOk result (out.new ≡ out.old ++ run_lines (transaction_name transaction.now.client transaction.now.number) number acts.now) }
+{
+    say_end(transaction, out)?;
+    say_commit(number, transaction, out)?;
+    say_output(acts, out)?;
+    say_settled(transaction, number, out)
 }

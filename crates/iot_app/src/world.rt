@@ -1,15 +1,24 @@
 //! The world: the server and its client, as they stand between two events.
-ghost use Rattle.std.specs.Prelude.{◌≡◌, ℕ, ◌+◌, ◌-◌, ◌^◌, ◌<◌, ◌≤◌, List, [], ◌∷◌, ◌++◌, true, false, OnOk, IfOk, length};
+ghost use Rattle.std.specs.Prelude.{◌≡◌, ℕ, ◌+◌, ◌-◌, ◌^◌, ◌<◌, ◌≤◌, List, [], ◌∷◌, ◌++◌, true, false, Some, OnOk, IfOk, IfErr, length};
+ghost use Rattle.iot_disk.specs.Disk.{Only};
+ghost use Rattle.iot_codec.specs.Rules.{IsLabel};
+ghost use Rattle.iot_tree.specs.declared.labels.Way.TheVariants.{Certified};
 ghost use Rattle.iot_app.specs.Texts.{line, client_line};
+ghost use Rattle.iot_app.specs.Servers.{is_up, disk_of, Counts, Steady, SameDisk, HasDisk, GivesBack};
+ghost use Rattle.iot_app.specs.World.{label_in};
 
+use crate::fault::WorldFault;
 use crate::perform::perform;
-use crate::texts::{
-    Transaction, say, say_client, say_commit, say_end, say_output, say_settled, say_tree,
-};
+use crate::server::Server;
+use crate::texts::{Transaction, say, say_client, say_run, say_tree};
+use iot_disk::Disk;
 use iot_event::{Event, SharedScript};
 use iot_text::{Name, NoMemory, Text};
-use iot_tree::Tree;
+use iot_tree::{Acts, Files, Label, Tree, Way};
 use std::alloc::Global;
+
+/// How many acts a transaction has at most.
+const BUDGET: u64 = 4096;
 
 /// A client that was declared.
 #[derive(Clone, Copy)]
@@ -27,45 +36,46 @@ pub(crate) struct DeclaredScript {
     pub(crate) script: SharedScript,
 }
 
-/// What an event works on. A world is given up after a refusal.
+/// What an event works on. After a refusal only `into_disk` says anything more.
 #[derive(Drop)]
-pub(crate) struct World {
-    /// Whether the server is alive.
-    pub(crate) alive: bool,
+pub(crate) struct World<D: Disk> {
+    pub(crate) server: Server<D>,
 
-    /// The server's tree.
-    pub(crate) tree: Tree,
-
-    /// How many transactions the server has committed.
-    pub(crate) commits: u64,
+    /// What the client sees: the server's tree, since no one else changes it.
+    pub(crate) view: Tree,
 
     /// In order of declaration, as the scripts are.
     pub(crate) clients: Vec<Client>,
     pub(crate) scripts: Vec<DeclaredScript>,
 }
 
-impl World {
+impl<D: Disk> World<D> {
     ghost use Rattle.iot_app.specs.Machine.{opening};
     ghost use Rattle.iot_app.specs.Steps.{event_part};
     ghost use Rattle.iot_app.specs.Allowed.{IsAllowed};
-    ghost use Rattle.iot_app.specs.World.{StandsFor, Refines, CountsAtMost, AddsClient, AddsScript, RanScript, Begins, SetsAlive, DeclaredOn, run_text, client_in, transaction_of, shown, crash_text, restart_text};
+    ghost use Rattle.iot_app.specs.World.{StandsFor, Stands, IsReady, Refines, CountsAtMost, AddsClient, AddsScript, RanScript, Submits, Begins, Sets, DeclaredOn, client_in, run_in, transaction_of, shown, crash_text, restart_text, Opens};
     ghost use Rattle.iot_event.specs.declared.event.Event.{Event};
 
-    /// The world before any event: the server's tree has only its root.
-    pub(crate) fn new(alloc: Global) -> Result<World, NoMemory>
-        ensures stands { IfOk result (λ world. StandsFor world opening) }
-        ensures counts { IfOk result (CountsAtMost 0) }
-        ensures alive { IfOk result (λ world. world.alive ≡ true) }
-        ensures clients { IfOk result (λ world. world.clients.items ≡ []) }
-        ensures scripts { IfOk result (λ world. world.scripts.items ≡ []) }
+    /// The world before any event, with a server on an empty disk.
+    pub(crate) fn new(alloc: Global, disk: D) -> Result<World<D>, (D, WorldFault)>
+        requires empty { D.reads disk ≡ [] }
+        requires only { Only (D.reads disk) (D.may_leave disk) }
+        ensures opens { IfOk result (Opens D.reads D.may_leave D.arms D.faults disk) }
+        ensures refused { IfErr result (GivesBack D.arms D.faults disk) }
     {
-        Ok(World {
-            alive: true,
-            tree: Tree::whole_root(alloc)?,
-            commits: 0,
-            clients: Vec::new(alloc),
-            scripts: Vec::new(alloc),
-        })
+        let view = match Tree::whole_root(alloc) {
+            Ok(view) => view,
+            Err(_) => return Err((disk, WorldFault::NoMemory)),
+        };
+        match Server::start(alloc, disk) {
+            Ok(server) => Ok(World {
+                server,
+                view,
+                clients: Vec::new(alloc),
+                scripts: Vec::new(alloc),
+            }),
+            Err(refused) => Err(refused),
+        }
     }
 
     /// Does one event, and appends what it says.
@@ -74,29 +84,35 @@ impl World {
         alloc: Global,
         event: &Event,
         out: &mut Text,
-    ) -> Result<(), NoMemory>
-        requires allowed { IsAllowed event.now (length self.old.clients.items) (length self.old.scripts.items) self.old.alive }
+    ) -> Result<(), WorldFault>
+        requires allowed { IsAllowed event.now (length self.old.clients.items) (length self.old.scripts.items) (is_up self.old.server) }
         requires counts { CountsAtMost (2 ^ 64 - 2) self.old }
+        requires stands { Stands D.reads D.may_leave self.old }
 
-        ensures step { OnOk result (Refines (event_part event.now) self.old self.new out.old out.new) }
+        ensures step { OnOk result (Refines D.reads D.may_leave (event_part event.now) self.old self.new out.old out.new) }
+
+        // The server's disk is not armed, and its faults say whether it ended this.
+        ensures disk { SameDisk D.arms D.faults (Counts result) self.old.server self.new.server }
 
         // For the events behind it.
         ensures declared { OnOk result ((later : List Event) → DeclaredOn (event.now ∷ later) self.old → DeclaredOn later self.new) }
         ensures counts { OnOk result ((limit : ℕ) → CountsAtMost limit self.old → CountsAtMost (limit + 1) self.new) }
     {
         match event {
-            Event::Client(name) => self.declare_client(name, out),
-            Event::Script(name, script) => self.declare_script(name, script),
-            Event::Run { client, script } => self.run(alloc, *client, *script, out),
-            Event::ShowServer => self.show(out),
-            Event::CrashServer => self.crash(out),
-            Event::RestartServer => self.restart(out),
+            Event::Client(name) => self.declare_client(name, out)?,
+            Event::Script(name, script) => self.declare_script(name, script)?,
+            Event::Run { client, script } => self.run(alloc, *client, *script, out)?,
+            Event::ShowServer => self.show(out)?,
+            Event::CrashServer => self.crash(out)?,
+            Event::RestartServer => self.restart(alloc, out)?,
         }
+        Ok(())
     }
 
     fn declare_client(&mut self, name: &Name, out: &mut Text) -> Result<(), NoMemory>
         ensures world { OnOk result (AddsClient name.now self.old self.new) }
         ensures text { OnOk result (out.new ≡ out.old ++ client_line name.now) }
+        ensures server { self.new.server ≡ self.old.server }
     {
         self.clients.push(Client {
             name: *name,
@@ -106,7 +122,8 @@ impl World {
     }
 
     fn declare_script(&mut self, name: &Name, script: &SharedScript) -> Result<(), NoMemory>
-        ensures { OnOk result (AddsScript name.now script.now self.old self.new) }
+        ensures world { OnOk result (AddsScript name.now script.now self.old self.new) }
+        ensures server { self.new.server ≡ self.old.server }
     {
         self.scripts.push(DeclaredScript {
             name: *name,
@@ -122,20 +139,19 @@ impl World {
         client: u64,
         script: u64,
         out: &mut Text,
-    ) -> Result<(), NoMemory>
+    ) -> Result<(), WorldFault>
         requires client { client < length self.old.clients.items }
         requires script { script < length self.old.scripts.items }
+        requires up { is_up self.old.server ≡ true }
         requires counts { CountsAtMost (2 ^ 64 - 2) self.old }
-        ensures world { OnOk result (RanScript client script self.old self.new) }
-        ensures text { OnOk result (out.new ≡ out.old ++ run_text client script self.old) }
+        requires stands { Stands D.reads D.may_leave self.old }
+        ensures ran { OnOk result (RanScript D.reads D.may_leave client script self.old self.new out.old out.new) }
+        ensures disk { SameDisk D.arms D.faults (Counts result) self.old.server self.new.server }
     {
         let transaction = self.begin(client as usize);
-        say_end(&transaction, out)?;
-        let acts = perform(alloc, &self.scripts[script as usize].script, &mut self.tree)?;
-        self.commits += 1;
-        say_commit(self.commits, &transaction, out)?;
-        say_output(acts.as_slice(), out)?;
-        say_settled(&transaction, self.commits, out)
+        let (number, acts) = self.submit(alloc, client, script, transaction.number)?;
+        say_run(&transaction, number, acts.as_slice(), out)?;
+        Ok(())
     }
 
     /// The client's next transaction.
@@ -153,38 +169,92 @@ impl World {
         }
     }
 
+    /// Runs a script as the transaction of this number on what the client sees, and commits it: the number of the commit,
+    /// and the acts of the run. The commit's record is on the disk then.
+    fn submit(
+        &mut self,
+        alloc: Global,
+        client: u64,
+        script: u64,
+        number: u64,
+    ) -> Result<(u64, Acts), WorldFault>
+        requires client { client < length self.old.clients.items }
+        requires script { script < length self.old.scripts.items }
+        requires up { is_up self.old.server ≡ true }
+        requires ready { IsReady D.reads D.may_leave client number self.old }
+        ensures submits { IfOk result (Submits D.reads D.may_leave client script number self.old self.new) }
+        ensures disk { SameDisk D.arms D.faults (Counts result) self.old.server self.new.server }
+    {
+        let declared = &self.scripts[script as usize];
+        let acts = perform(alloc, &declared.script, &mut self.view)?;
+        let label = label_of(alloc, client, number, declared.name);
+        let number = self.server.commit(alloc, label, &acts)?;
+        Ok((number, acts))
+    }
+
     /// The server's tree, where the server is alive.
     fn show(&self, out: &mut Text) -> Result<(), NoMemory>
         ensures { OnOk result (out.new ≡ out.old ++ shown self.now) }
     {
-        if self.alive {
-            say_tree(&self.tree, out)
-        } else {
-            say(b"down", out)
+        match self.server.tree() {
+            Some(tree) => say_tree(tree, out),
+            None => say(b"down", out),
         }
     }
 
     /// The server stops.
     fn crash(&mut self, out: &mut Text) -> Result<(), NoMemory>
-        ensures world { OnOk result (SetsAlive false self.old self.new) }
+        requires { Stands D.reads D.may_leave self.old }
+        ensures world { OnOk result (Sets D.reads D.may_leave false self.old self.new) }
         ensures text { OnOk result (out.new ≡ out.old ++ crash_text self.old) }
+        ensures disk { SameDisk D.arms D.faults Steady self.old.server self.new.server }
     {
-        if !self.alive {
+        if !self.server.is_up() {
             return say(b"down", out);
         }
-        self.alive = false;
+        self.server.crash();
         say(b"crash server", out)
     }
 
-    /// The server comes back.
-    fn restart(&mut self, out: &mut Text) -> Result<(), NoMemory>
-        ensures world { OnOk result (SetsAlive true self.old self.new) }
+    /// The server comes back, from one of the images that its crash left.
+    fn restart(&mut self, alloc: Global, out: &mut Text) -> Result<(), WorldFault>
+        requires { Stands D.reads D.may_leave self.old }
+        ensures world { OnOk result (Sets D.reads D.may_leave true self.old self.new) }
         ensures text { OnOk result (out.new ≡ out.old ++ restart_text self.old) }
+        ensures disk { SameDisk D.arms D.faults (Counts result) self.old.server self.new.server }
     {
-        if self.alive {
-            return say(b"up", out);
+        if self.server.is_up() {
+            say(b"up", out)?;
+            return Ok(());
         }
-        self.alive = true;
-        say(b"restart server", out)
+        self.server.restart(alloc)?;
+        say(b"restart server", out)?;
+        Ok(())
+    }
+
+    /// Gives the server's disk back.
+    pub(crate) fn into_disk(self) -> D
+        requires { HasDisk self.server }
+        ensures { disk_of self.server ≡ Some result }
+    {
+        self.server.into_disk()
+    }
+}
+
+/// The label of a transaction whose script was run with the whole budget, for which `keep` found nothing.
+fn label_of(alloc: Global, client: u64, number: u64, script: Name) -> Label
+    requires { client ≤ 7 }
+    ensures value { result ≡ label_in client number script }
+    ensures fits { IsLabel result }
+{
+    // A `Name` is always one, as its bytes say.
+    let _ = script.as_bytes();
+    Label {
+        client,
+        tid: number,
+        script,
+        budget: BUDGET,
+        way: Way::Certified,
+        kept: Files::new(alloc),
     }
 }

@@ -1,21 +1,22 @@
-use Rattle.std.proofs.Common.{◌≡◌, ◌≤◌, ◌⊎◌, ℕ, List, [], true, sym, subst, ◌∙◌, inl, inr, length, arith}
+use Rattle.std.proofs.Common.{◌≡◌, ◌≤◌, ◌⊎◌, ℕ, List, [], true, refl, sym, subst, ◌∙◌, inl, inr, length, arith}
 use Rattle.std.specs.FinMap.{empty}
 use Rattle.iot_lang.specs.Code.{Code}
 use Rattle.iot_exec.specs.Commands.{kept_files}
 use Rattle.iot_exec.specs.Places.{is_over}
 use Rattle.iot_exec.specs.Execs.{place, act_count, IsRunning}
-use Rattle.iot_app.proofs.Running.{begins, goes_on, ran_acts, ran_tree}
+use Rattle.iot_app.proofs.Running.{begins, goes_on, ran_acts, ran_tree, have_made}
 use Rattle.iot_app.proofs.perform.perform.Goals as goal
 use Rattle.iot_app.proofs.perform.perform.Goals.{then-acts-test+else-not-at_end, else-acts-test}
 
 pub acts-init : goal.acts-init
 acts-init c =
     let start : IsRunning c.args.script.now empty c.args.tree.now 0 [] c.new-exec.result c.args.tree.now =
-    subst (λ (code : Code). IsRunning code empty c.args.tree.now 0 [] c.new-exec.result c.args.tree.now) c.in_ok-shared.ensures
+    subst (λ (code : Code). IsRunning code empty c.args.tree.now 0 [] c.new-exec.result c.args.tree.now) c.in_ok-shared.ensures.value
     (subst (λ (files : List (List (List ℕ) × List ℕ)). IsRunning c.in_ok-shared.field-0.value (kept_files files) c.args.tree.now 0 [] c.new-exec.result c.args.tree.now) c.new.ensures (c.new-exec.ensures c.args.tree.now)) in
     record {
       running = begins c.args.script.now empty c.args.tree.now c.new-acts.result c.new-exec.result c.new-acts.ensures start;
       within = omega (arith, start.counted);
+      made = rw c.new-acts.ensures (record { hold = tt; made = refl });
     }
 
 pub acts-preserved : goal.acts-preserved
@@ -24,6 +25,7 @@ acts-preserved c =
     record {
       running = goes_on c.args.script.now empty c.args.tree.now c.act.new.t c.acts.acts c.push.new.self c.in_ok-act.field-0 c.act.new.self c.in_ok-push.ensures.ok more;
       within = omega (arith, more.counted, c.acts.invariant.running.counted, c.acts-test.true, c.acts-in-acts.ensures);
+      made = have_made c.args.tree.now c.acts.acts c.push.new.self c.in_ok-act.field-0 c.acts.tree c.act.new.t c.in_ok-push.ensures.ok c.acts.invariant.made c.in_ok-act.ensures.holds c.in_ok-act.ensures.makes;
     }
 
 pub acts-smaller : goal.acts-smaller
@@ -46,3 +48,9 @@ returns-clause-tree c =
       | else-acts-test w ↦ inr (omega (arith, w.acts-test.false, c.acts-in-acts.ensures))
     ] in
     ran_tree c.args.script.now empty c.args.tree.now c.acts.acts c.acts.exec c.acts.tree c.acts.invariant.running c.acts.invariant.within stops
+
+pub returns-clause-hold : goal.returns-clause-hold
+returns-clause-hold c = c.acts.invariant.made.hold
+
+pub returns-clause-made : goal.returns-clause-made
+returns-clause-made c = c.acts.invariant.made.made

@@ -1,34 +1,25 @@
-use Rattle.std.proofs.Common.{ℕ, List, ◌<◌, length, take, ◌∙◌, subst}
-use Rattle.std.proofs.lemmas.Result.{err_from_is_err_and}
-use Rattle.std.specs.Io.KnownBytes.{Appends}
-use Rattle.iot_app.specs.Steps.{event_part}
-use Rattle.iot_app.specs.World.{Refines}
-use Rattle.iot_app.proofs.Playing.{plays_more, plays_front, plays_first, next_allowed}
+use Rattle.iot_app.proofs.Playing.{ok_holds, err_holds, holds_list, some_first, none_played, world_counts, world_sink, whole_arms, whole_counts}
 use Rattle.iot_app.proofs.play.play.Goals as goal
 
-pub returns-in_err-apply-clause-some : goal.returns-in_err-apply-clause-some
-returns-in_err-apply-clause-some g c =
-    let p = err_from_is_err_and c.from_residual-in_err-apply.result c.from_residual-in_err-apply.ensures.1 in
-    rw (p.1, p.2) (plays_first _ _ _ _ _ c.events.invariant.plays)
+pub returns-in-Ok-clause-all : goal.returns-in-Ok-clause-all
+returns-in-Ok-clause-all g c =
+    ok_holds _ _ _ _ (λ commits keeps. holds_list g.D.Disk.reads g.D.Disk.may_leave c.play_on-ended.new.world.server c.into_disk.result commits c.into_disk.ensures keeps) c.play_on-ended.result c.play_on-ended.ensures.all
 
-pub returns-in_err-write_all-clause-some : goal.returns-in_err-write_all-clause-some
-returns-in_err-write_all-clause-some g c =
-    let p = err_from_is_err_and c.from_residual-in_err-write_all.result c.from_residual-in_err-write_all.ensures.1 in
-    let prefix = c.in_err-write_all.ensures.prefix in
-    let out = c.as_bytes.ensures in
-    rw (p.1, p.2)
-    (plays_front _ _ c.args.events.now c.events.world c.apply.new.self c.events.event-index c.event-item.result c.apply.new.out c.events.invariant.plays c.events-test.true c.event-item.is (subst (λ (t : List ℕ). Refines (event_part c.event-item.result) c.events.world c.apply.new.self t c.apply.new.out) c.clear.ensures c.in_ok-apply.ensures.step) _ prefix.0
-    (subst (λ (t : List ℕ). prefix.0 < length t) out prefix.1)
-    (subst (λ (t : List ℕ). Appends (g.K.Sink.written c.events.sink) (g.K.Sink.written c.write_all.new.sink) (take prefix.0 t)) out prefix.2))
+pub returns-in-Ok-clause-some : goal.returns-in-Ok-clause-some
+returns-in-Ok-clause-some g c =
+    err_holds _ _ _ _ (λ commits keeps. holds_list g.D.Disk.reads g.D.Disk.may_leave c.play_on-ended.new.world.server c.into_disk.result commits c.into_disk.ensures keeps) c.play_on-ended.result c.play_on-ended.ensures.some
 
-pub apply-requires-clause-allowed : goal.apply-requires-clause-allowed
-apply-requires-clause-allowed g c = next_allowed _ _ c.args.events.now c.events.world c.events.event-index c.event-item.result c.events.invariant.plays c.events-test.true c.event-item.is
+pub returns-in-Ok-clause-disk : goal.returns-in-Ok-clause-disk
+returns-in-Ok-clause-disk g c = whole_counts g.D.Disk.arms g.D.Disk.faults c.args.disk c.into_disk.result _ _ _ c.in-Ok.ensures.opens.starts c.play_on-ended.ensures.disk c.into_disk.ensures
 
-pub events-preserved : goal.events-preserved
-events-preserved g c = record {
-  plays = plays_more _ _ c.args.events.now c.events.world c.apply.new.self c.events.event-index c.event-item.result c.apply.new.out c.events.invariant.plays c.events-test.true c.event-item.is (subst (λ (t : List ℕ). Refines (event_part c.event-item.result) c.events.world c.apply.new.self t c.apply.new.out) c.clear.ensures c.in_ok-apply.ensures.step) _
-      c.in_ok-apply.ensures.declared c.in_ok-apply.ensures.counts
-      (subst (λ (t : List ℕ). Appends (g.K.Sink.written c.events.sink) (g.K.Sink.written c.write_all.new.sink) t) c.as_bytes.ensures c.in_ok-write_all.ensures.ok);
-  faults = c.in_ok-write_all.ensures.steady ∙ c.events.invariant.faults;
-  empties = c.in_ok-write_all.ensures.none_empty ∙ c.events.invariant.empties;
-}
+pub returns-in-Ok-clause-arms : goal.returns-in-Ok-clause-arms
+returns-in-Ok-clause-arms g c = whole_arms g.D.Disk.arms g.D.Disk.faults c.args.disk c.into_disk.result _ _ _ c.in-Ok.ensures.opens.starts c.play_on-ended.ensures.disk c.into_disk.ensures
+
+pub returns-in-Err-clause-some : goal.returns-in-Err-clause-some
+returns-in-Err-clause-some g c = rw c.from.ensures (some_first _ _ _ c.in-Err.fault (none_played _ _))
+
+pub returns-in-Err-clause-disk : goal.returns-in-Err-clause-disk
+returns-in-Err-clause-disk g c = rw c.from.ensures (world_counts c.in-Err.fault _ _ c.in-Err.ensures.refused.faults)
+
+pub returns-in-Err-clause-counts : goal.returns-in-Err-clause-counts
+returns-in-Err-clause-counts g c = rw c.from.ensures (world_sink c.in-Err.fault _ _)

@@ -1,0 +1,30 @@
+-- Faults of a store as faults of the world, and these as faults of doing all events.
+use Rattle.iot_disk.specs.declared.faults.StartFault.{StartFault}
+use Rattle.iot_disk.specs.declared.faults.StartFault.TheVariants as start
+use Rattle.iot_disk.specs.declared.faults.JournalFault.{JournalFault}
+use Rattle.iot_disk.specs.declared.faults.JournalFault.TheVariants as append
+use Rattle.iot_store.specs.Causes as store
+use Rattle.iot_app.specs.declared.fault.WorldFault.{WorldFault}
+use Rattle.iot_app.specs.declared.fault.WorldFault.TheVariants.{NoMemory, DiskFailed}
+use Rattle.iot_app.specs.declared.play.PlayFault.{PlayFault}
+use Rattle.iot_app.specs.declared.play.PlayFault.TheVariants as play
+
+-- the bytes of the disk are not refused
+abbrev pub TakesBytes : StartFault → Type 0
+TakesBytes fault = store.TakesBytes fault
+
+-- a refusal of the bytes comes to nothing here
+abbrev pub of_start : StartFault → WorldFault
+of_start start.NoMemory = NoMemory
+of_start start.Stopped = DiskFailed
+of_start start.Foreign = NoMemory
+of_start (start.Damaged at) = NoMemory
+
+abbrev pub of_append : JournalFault → WorldFault
+of_append append.NoMemory = NoMemory
+of_append append.Stopped = DiskFailed
+
+-- a fault of the world, as one of doing all events
+abbrev pub of_world : WorldFault → PlayFault
+of_world NoMemory = play.NoMemory
+of_world DiskFailed = play.DiskFailed

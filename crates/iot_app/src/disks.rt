@@ -1,0 +1,21 @@
+//! Disks for a run.
+ghost use Rattle.std.specs.Prelude.{IfOk};
+ghost use Rattle.iot_app.specs.Disks.{AreEmptyDisks};
+
+use iot_disk::MemDisk;
+use iot_text::NoMemory;
+use std::alloc::Global;
+
+/// How many disks a run takes.
+const COUNT: usize = 9;
+
+/// Nine empty disks in memory, as a run takes them.
+pub fn empty_disks(alloc: Global) -> Result<Vec<MemDisk>, NoMemory>
+    ensures { IfOk result (λ disks. AreEmptyDisks disks.items) }
+{
+    let mut disks = Vec::with_capacity(alloc, COUNT)?;
+    'disks: for _ in 0..COUNT {
+        disks.push(MemDisk::new(alloc))?;
+    }
+    Ok(disks)
+}
