@@ -8,12 +8,11 @@ use Rattle.std.proofs.KnownBytes.{Appends-trans}
 use Rattle.iot_app.specs.Parts.{Part, InTurn}
 use Rattle.iot_app.specs.Machine.{Machine, opening}
 use Rattle.iot_app.specs.Steps.{Transcript, event_part}
-use Rattle.iot_store.specs.Store as store
 use Rattle.iot_app.specs.Machine.{Commit}
 use Rattle.iot_app.specs.Records.{Holds, records_of, state_of}
 use Rattle.iot_disk.specs.Disk.{Arms}
 use Rattle.iot_app.specs.Faults.{of_world}
-use Rattle.iot_app.specs.Servers.{is_up, disk_of, IsImage, AreImages, CountsFault, Starts, SameDisk}
+use Rattle.iot_app.specs.Servers.{is_up, disk_of, CountsFault, Starts, SameDisk}
 use Rattle.iot_app.specs.declared.fault.WorldFault.{WorldFault}
 use Rattle.iot_app.specs.declared.fault.WorldFault.TheVariants as world
 use Rattle.iot_app.specs.World.{StandsFor, Refines, CountsAtMost, DeclaredOn, IsOpened, KeepsList}
@@ -185,17 +184,9 @@ module _ {D : Type 0} (reads : D → List ℕ) (may_leave : D → List ℕ → T
 -- ---- what is said of a server that keeps a list is said of its disk
 
 pub holds_list : {D : Type 0} (reads : D → List ℕ) (may_leave : D → List ℕ → Type 0) (server : Server D) (disk : D) (commits : List Commit) → disk_of server ≡ Some disk → KeepsList reads may_leave server commits → Holds (may_leave disk) commits
-holds_list {D = D} reads may_leave (Up it) disk commits has keeps = record {
-  each = λ image here.
-      let images : AreImages (records_of commits) (state_of commits) (may_leave (store.disk_of it)) = store_images reads may_leave it (records_of commits) (state_of commits) keeps in
-      let is : IsImage (records_of commits) (state_of commits) image = images.each image (subst (λ (d : D). may_leave d image) (sym (one_disk _ _ has)) here) in
-      record { records = is.has_records; follow = is.leads };
-}
-holds_list {D = D} reads may_leave (Down it) disk commits has keeps = record {
-  each = λ image here.
-      let is : IsImage (records_of commits) (state_of commits) image = keeps.each image (subst (λ (d : D). may_leave d image) (sym (one_disk _ _ has)) here) in
-      record { records = is.has_records; follow = is.leads };
-}
+holds_list {D = D} reads may_leave (Up it) disk commits has keeps =
+    subst (λ (d : D). Holds (may_leave d) commits) (one_disk _ _ has) (store_images reads may_leave it (records_of commits) (state_of commits) keeps)
+holds_list {D = D} reads may_leave (Down it) disk commits has keeps = subst (λ (d : D). Holds (may_leave d) commits) (one_disk _ _ has) keeps
 holds_list reads may_leave Between disk commits has keeps = absurd keeps
 
 module _ (events : List Event) (writes : List ℕ → Type 0) (one other : List Commit → Type 0) (follows : (commits : List Commit) → one commits → other commits) where

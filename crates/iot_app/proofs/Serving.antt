@@ -13,7 +13,8 @@ use Rattle.iot_store.specs.Causes.{HasCause, TakesBytes}
 use Rattle.iot_store.specs.Store as store
 use Rattle.iot_store.specs.declared.store.Store.{Store}
 use Rattle.iot_app.specs.Faults.{of_start, of_append}
-use Rattle.iot_app.specs.Servers.{disk_of, Keeps, KeepsSome, IsStore, IsImage, AreImages, Carries, CountsFault, Steady, SameDisk, HasDisk}
+use Rattle.iot_app.specs.Records.{IsImage, AreImages}
+use Rattle.iot_app.specs.Servers.{disk_of, Keeps, KeepsSome, IsStore, Carries, CountsFault, Steady, SameDisk, HasDisk}
 use Rattle.iot_app.specs.declared.server.Server.{Server}
 use Rattle.iot_app.specs.declared.server.Server.TheVariants.{Up, Down, Between}
 

@@ -3,15 +3,10 @@ use Rattle.iot_disk.specs.declared.faults.StartFault.{StartFault}
 use Rattle.iot_disk.specs.declared.faults.StartFault.TheVariants as start
 use Rattle.iot_disk.specs.declared.faults.JournalFault.{JournalFault}
 use Rattle.iot_disk.specs.declared.faults.JournalFault.TheVariants as append
-use Rattle.iot_store.specs.Causes as store
 use Rattle.iot_app.specs.declared.fault.WorldFault.{WorldFault}
 use Rattle.iot_app.specs.declared.fault.WorldFault.TheVariants.{NoMemory, DiskFailed}
 use Rattle.iot_app.specs.declared.play.PlayFault.{PlayFault}
 use Rattle.iot_app.specs.declared.play.PlayFault.TheVariants as play
-
--- the bytes of the disk are not refused
-abbrev pub TakesBytes : StartFault → Type 0
-TakesBytes fault = store.TakesBytes fault
 
 -- a refusal of the bytes comes to nothing here
 abbrev pub of_start : StartFault → WorldFault

@@ -35,11 +35,15 @@ records_of commits = records_from commits (root_alone Dir)
 abbrev pub state_of : List Commit → State
 state_of commits = record { tree = serial_tree (entries_of commits); labels = map label_of commits }
 
--- the bytes are a journal of the records of this list, each of which can follow the ones before it
-pub record IsImageOf (bytes : List ℕ) (commits : List Commit) : Type 0 where
-  pub records : reading bytes ≡ Stands (records_of commits)
-  pub follow : Leads (records_of commits) opening (state_of commits)
+-- the bytes are a journal of these records, each of which can follow the ones before it, and they lead to this state
+pub record IsImage (records : List (List ℕ)) (state : State) (bytes : List ℕ) : Type 0 where
+  pub has_records : reading bytes ≡ Stands records
+  pub leads : Leads records opening state
 
 -- so is each image that a crash may leave
-pub record Holds (images : List ℕ → Type 0) (commits : List Commit) : Type 0 where
-  pub each : (image : List ℕ) → images image → IsImageOf image commits
+pub record AreImages (records : List (List ℕ)) (state : State) (images : List ℕ → Type 0) : Type 0 where
+  pub each : (image : List ℕ) → images image → IsImage records state image
+
+-- each of the images has the records of this list, which lead to its tree and its labels
+abbrev pub Holds : (List ℕ → Type 0) → List Commit → Type 0
+Holds images commits = AreImages (records_of commits) (state_of commits) images

@@ -5,11 +5,10 @@ use Rattle.iot_tree.specs.declared.acts.Act.{Act}
 use Rattle.iot_tree.specs.declared.labels.Label.{Label}
 use Rattle.iot_disk.specs.Disk.{Arms, Rose}
 use Rattle.iot_codec.specs.Rules.{IsLabel, AreActs}
-use Rattle.iot_journal.specs.Reading.{Stands, reading}
-use Rattle.iot_store.specs.States.{State, opening, CanFollow}
-use Rattle.iot_store.specs.Standing.{Leads}
+use Rattle.iot_store.specs.States.{State, CanFollow}
 use Rattle.iot_store.specs.Store as store
 use Rattle.iot_store.specs.declared.store.Store.{Store}
+use Rattle.iot_app.specs.Records.{AreImages}
 use Rattle.iot_app.specs.declared.server.Server.{Server}
 use Rattle.iot_app.specs.declared.server.Server.TheVariants.{Up, Down, Between}
 use Rattle.iot_app.specs.declared.fault.WorldFault.{WorldFault}
@@ -43,14 +42,6 @@ pub record IsStore {D : Type 0} (reads : D → List ℕ) (may_leave : D → List
   pub settled : store.IsSettled reads may_leave it
   pub has_records : store.bodies_on reads it ≡ records
   pub has_state : store.state_of it ≡ state
-
--- the bytes are a journal of these records, which lead to this state
-pub record IsImage (records : List (List ℕ)) (state : State) (bytes : List ℕ) : Type 0 where
-  pub has_records : reading bytes ≡ Stands records
-  pub leads : Leads records opening state
-
-pub record AreImages (records : List (List ℕ)) (state : State) (images : List ℕ → Type 0) : Type 0 where
-  pub each : (image : List ℕ) → images image → IsImage records state image
 
 -- the server keeps these records and this state: in its store where it is alive, and in each image of its disk where it is down
 abbrev pub Keeps : {D : Type 0} → (D → List ℕ) → (D → List ℕ → Type 0) → List (List ℕ) → State → Server D → Type 0

@@ -1,6 +1,7 @@
 //! Why an event was not done.
 ghost use Rattle.std.specs.Prelude.{◌≡◌};
-ghost use Rattle.iot_app.specs.Faults.{of_append, of_start, TakesBytes};
+ghost use Rattle.iot_app.specs.Faults.{of_start};
+ghost use Rattle.iot_store.specs.Causes.{TakesBytes};
 
 use iot_store::{JournalFault, StartFault};
 use iot_text::NoMemory;

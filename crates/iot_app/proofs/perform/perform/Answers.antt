@@ -1,10 +1,12 @@
-use Rattle.std.proofs.Common.{◌≡◌, ◌≤◌, ◌⊎◌, ℕ, List, [], true, refl, sym, subst, ◌∙◌, inl, inr, length, arith}
+use Rattle.std.proofs.Common.{◌≡◌, ◌≤◌, ◌⊎◌, ℕ, List, [], true, refl, sym, ap, subst, ◌∙◌, inl, inr, length, arith}
 use Rattle.std.specs.FinMap.{empty}
 use Rattle.iot_lang.specs.Code.{Code}
 use Rattle.iot_exec.specs.Commands.{kept_files}
 use Rattle.iot_exec.specs.Places.{is_over}
 use Rattle.iot_exec.specs.Execs.{place, act_count, IsRunning}
-use Rattle.iot_app.proofs.Running.{begins, goes_on, ran_acts, ran_tree, have_made}
+use Rattle.iot_exec.specs.declared.ran.Ran.{Ran}
+use Rattle.iot_exec.proofs.RunLaws.{begins, goes_on, ran_is}
+use Rattle.iot_app.proofs.Running.{have_made}
 use Rattle.iot_app.proofs.perform.perform.Goals as goal
 use Rattle.iot_app.proofs.perform.perform.Goals.{then-acts-test+else-not-at_end, else-acts-test}
 
@@ -14,7 +16,7 @@ acts-init c =
     subst (λ (code : Code). IsRunning code empty c.args.tree.now 0 [] c.new-exec.result c.args.tree.now) c.in_ok-shared.ensures.value
     (subst (λ (files : List (List (List ℕ) × List ℕ)). IsRunning c.in_ok-shared.field-0.value (kept_files files) c.args.tree.now 0 [] c.new-exec.result c.args.tree.now) c.new.ensures (c.new-exec.ensures c.args.tree.now)) in
     record {
-      running = begins c.args.script.now empty c.args.tree.now c.new-acts.result c.new-exec.result c.new-acts.ensures start;
+      running = begins c.args.script.now empty c.args.tree.now c.args.tree.now c.new-acts.result c.new-exec.result refl c.new-acts.ensures start;
       within = omega (arith, start.counted);
       made = rw c.new-acts.ensures (record { hold = tt; made = refl });
     }
@@ -39,7 +41,7 @@ returns-clause-acts c =
       | then-acts-test+else-not-at_end w ↦ inl (sym w.at_end.ensures ∙ w.if-not-at_end.false)
       | else-acts-test w ↦ inr (omega (arith, w.acts-test.false, c.acts-in-acts.ensures))
     ] in
-    ran_acts c.args.script.now empty c.args.tree.now c.acts.acts c.acts.exec c.acts.tree c.acts.invariant.running c.acts.invariant.within stops
+    ap (λ (r : Ran). r.acts) (ran_is c.args.script.now empty c.args.tree.now c.acts.acts c.acts.exec c.acts.tree 4096 (is_over (place c.acts.exec)) c.acts.invariant.running c.acts.invariant.within refl stops)
 
 pub returns-clause-tree : goal.returns-clause-tree
 returns-clause-tree c =
@@ -47,7 +49,7 @@ returns-clause-tree c =
       | then-acts-test+else-not-at_end w ↦ inl (sym w.at_end.ensures ∙ w.if-not-at_end.false)
       | else-acts-test w ↦ inr (omega (arith, w.acts-test.false, c.acts-in-acts.ensures))
     ] in
-    ran_tree c.args.script.now empty c.args.tree.now c.acts.acts c.acts.exec c.acts.tree c.acts.invariant.running c.acts.invariant.within stops
+    ap (λ (r : Ran). r.tree) (ran_is c.args.script.now empty c.args.tree.now c.acts.acts c.acts.exec c.acts.tree 4096 (is_over (place c.acts.exec)) c.acts.invariant.running c.acts.invariant.within refl stops)
 
 pub returns-clause-hold : goal.returns-clause-hold
 returns-clause-hold c = c.acts.invariant.made.hold
