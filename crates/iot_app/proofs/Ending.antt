@@ -55,7 +55,8 @@ module _ (words : ℕ) (reads writes : List ℕ → Type 0) (at_end : Type 0) (h
         input = gives.input;
         text = played.text;
         read = gives.read;
-        said = inr (record { events = events; script = gives.script; done = played.done; first = played.transcript });
+        whole = gives.whole;
+        first = record { events = events; script = gives.script; done = played.done; first = played.transcript };
         written = played.written;
       })
   events_end events status w e d none gives (part is played failed disk) =

@@ -143,6 +143,16 @@ module _ (words : ℕ) (reads writes : List ℕ → Type 0) (at_end : Type 0) (h
     pub said : (text ≡ []) ⊎ IsTranscriptOfFirst input text whatever
     pub written : writes text
 
+  -- the input was read to its end and is an event script, and a transcript of its first events was written
+  pub record WroteFirst : Type 0 where
+    pub no_words : words ≡ 0
+    pub input : List ℕ
+    pub text : List ℕ
+    pub read : reads input
+    pub whole : at_end
+    pub first : IsTranscriptOfFirst input text whatever
+    pub written : writes text
+
   abbrev pub EndsWith : Status → Type 0
   EndsWith statuses.Done = WroteAll
   EndsWith statuses.Refused = WroteRefusal
@@ -150,7 +160,7 @@ module _ (words : ℕ) (reads writes : List ℕ → Type 0) (at_end : Type 0) (h
   EndsWith statuses.ReadFailed = ReadNotAll
   EndsWith statuses.WriteFailed = WroteFront
   EndsWith statuses.NoMemory = WroteSome
-  EndsWith statuses.DiskFailed = WroteSome
+  EndsWith statuses.DiskFailed = WroteFirst
 
   -- by the number of the status; there is no other
   abbrev pub Ends : ℕ → Type 0
@@ -161,7 +171,7 @@ module _ (words : ℕ) (reads writes : List ℕ → Type 0) (at_end : Type 0) (h
   Ends (suc (suc (suc (suc zero)))) = WroteFront
   Ends (suc (suc (suc (suc (suc zero))))) = WroteSome
   Ends (suc (suc (suc (suc (suc (suc zero)))))) = ⊥
-  Ends (suc (suc (suc (suc (suc (suc (suc zero))))))) = WroteSome
+  Ends (suc (suc (suc (suc (suc (suc (suc zero))))))) = WroteFirst
   Ends (suc (suc (suc (suc (suc (suc (suc (suc n)))))))) = ⊥
 
 -- ---- the causes

@@ -44,7 +44,7 @@ pub struct Outcome<D> {
 /// - 3: a read failed. Nothing was written.
 /// - 4: a write failed, or took nothing. A front of what there was to say was written.
 /// - 5: there was no memory. Nothing was written, or what the first events say.
-/// - 7: the server's disk failed. Nothing was written, or what the first events say.
+/// - 7: the server's disk failed. Nothing was written of an event script, or what its first events say.
 ///
 /// With the statuses 0 and 4 the first disk holds the commits of the events that were done, whatever of its images a
 /// crash leaves. With the statuses 1, 2 and 3 the disks are as they were.
