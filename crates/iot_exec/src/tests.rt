@@ -177,6 +177,46 @@ write: too large
 end
 ";
 
+/// On a tree of which nothing but the root is known.
+const FAR: &[u8] = b"read x /a
+cat /a
+ls /a
+mkdir /a
+write /a w
+append /a w
+copy /a /b
+concat /c /a /b
+rm /a
+rmdir /a
+mv /a /b
+if file /a {
+echo no
+}
+if dir /a {
+echo no
+}
+if same /a /b {
+echo no
+}
+for name in /a {
+echo no
+}
+";
+
+const FAR_PRINTED: &[u8] = b"read: /a: not cached
+cat: /a: not cached
+ls: /a: not cached
+mkdir: /a: not cached
+write: /a: not cached
+append: /a: not cached
+copy: /a: not cached
+concat: /a: not cached
+rm: /a: not cached
+rmdir: /a: not cached
+mv: /a: not cached
+for: /a: not cached
+";
+
 const LOOP: &[u8] = b"for x in /d {
 if same /d/$x /d/a {
 echo $x
@@ -230,6 +270,8 @@ fn each_outcome_prints_its_line(rt: HostRuntime) -> Result<(), NoMemory> {
     let after = ran(&rt, alloc, &before.tree, OUTCOMES, 4096)?;
     assert_eq!(rt; printed(alloc, &after)?.as_bytes(), PRINTED);
     assert!(rt; after.ended);
+    let far = ran(&rt, alloc, &Tree::far_root(alloc)?, FAR, 4096)?;
+    assert_eq!(rt; printed(alloc, &far)?.as_bytes(), FAR_PRINTED);
     Ok(())
 }
 
