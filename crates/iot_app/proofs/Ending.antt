@@ -65,8 +65,8 @@ module _ (words : ℕ) (reads writes : List ℕ → Type 0) (at_end : Type 0) (h
         text = played.text;
         count = played.count;
         read = gives.read;
-        said = transcript (record { events = events; script = gives.script; done = played.done; first = played.transcript });
-        cut = played.cut;
+        said = transcript (record { events = events; script = gives.script; place = played.place });
+        cut = played.place.cut;
         written = played.written;
       })
 

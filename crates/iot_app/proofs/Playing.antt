@@ -109,7 +109,7 @@ module _ {D : Type 0} (reads : D → List ℕ) (may_leave : D → List ℕ → T
 
   record Next : Type 0 where
     machine : Machine
-    transcript : Transcript (take (done + 1) events) opening (plays.text ++ out) machine
+    last : event_part event plays.machine out machine
     stands : StandsFor reads may_leave new machine
 
   next : Next
@@ -117,10 +117,7 @@ module _ {D : Type 0} (reads : D → List ℕ) (may_leave : D → List ℕ → T
       let step = refines.step plays.machine plays.stands in
       record {
         machine = step.1;
-        transcript =
-            subst (λ (es : List Event). Transcript es opening (plays.text ++ out) step.1) (sym front)
-            (one_more event_part (take done events) event opening plays.machine step.1 plays.text out plays.transcript
-            (subst (λ (t : List ℕ). event_part event plays.machine t step.1) (sym step.2) step.3));
+        last = subst (λ (t : List ℕ). event_part event plays.machine t step.1) (sym step.2) step.3;
         stands = step.4;
       }
 
@@ -133,7 +130,9 @@ module _ {D : Type 0} (reads : D → List ℕ) (may_leave : D → List ℕ → T
   plays_more after declares counts appends = record {
     text = plays.text ++ out;
     machine = next.machine;
-    transcript = next.transcript;
+    transcript =
+        subst (λ (es : List Event). Transcript es opening (plays.text ++ out) next.machine) (sym front)
+        (one_more event_part (take done events) event opening plays.machine next.machine plays.text out plays.transcript next.last);
     stands = next.stands;
     written = Appends-trans before mid after plays.text out plays.written appends;
     declared = declares (drop (done + 1) events) (subst (λ (es : List Event). DeclaredOn es old) rest plays.declared);
@@ -143,11 +142,23 @@ module _ {D : Type 0} (reads : D → List ℕ) (may_leave : D → List ℕ → T
   -- it is done, and only a front of what it says is written
   pub plays_front : (after : Option (List ℕ)) (count : ℕ) → count < length out → Appends mid after (take count out) → PlayedFront events (Appends before after) (KeepsList reads may_leave new.server)
   plays_front after count cut appends = record {
-    done = done + 1;
     text = plays.text ++ out;
     count = length plays.text + count;
-    transcript = record { machine = next.machine; transcript = next.transcript; kept = next.stands.server };
-    cut = omega (arith, length-append plays.text out);
+    place = record {
+      done = done;
+      event = event;
+      next = front;
+      front = plays.text;
+      says = out;
+      mid = plays.machine;
+      machine = next.machine;
+      before = plays.transcript;
+      last = next.last;
+      whole = refl;
+      from = omega arith;
+      cut = omega (arith, length-append plays.text out);
+      kept = next.stands.server;
+    };
     written =
         subst (λ (t : List ℕ). Appends before after t) (sym (take-append-add plays.text out count))
         (Appends-trans before mid after plays.text (take count out) plays.written appends);
@@ -201,11 +212,23 @@ module _ (events : List Event) (writes : List ℕ → Type 0) (one other : List 
   some_holds play.NoMemory played = played
   some_holds play.DiskFailed played = played
   some_holds play.Sink played = record {
-    done = played.done;
     text = played.text;
     count = played.count;
-    transcript = record { machine = played.transcript.machine; transcript = played.transcript.transcript; kept = follows played.transcript.machine.commits played.transcript.kept };
-    cut = played.cut;
+    place = record {
+      done = played.place.done;
+      event = played.place.event;
+      next = played.place.next;
+      front = played.place.front;
+      says = played.place.says;
+      mid = played.place.mid;
+      machine = played.place.machine;
+      before = played.place.before;
+      last = played.place.last;
+      whole = played.place.whole;
+      from = played.place.from;
+      cut = played.place.cut;
+      kept = follows played.place.machine.commits played.place.kept;
+    };
     written = played.written;
   }
 

@@ -1,12 +1,12 @@
 -- What a run of the program has read and written, by the status that it ends with. `reads bytes` says that these bytes were
 -- taken from the source, `at_end` that nothing is left there, and `writes bytes` that these were written to the sink.
-use Rattle.std.specs.Prelude.{◌≡◌, ◌⊎◌, ℕ, zero, suc, ◌<◌, ◌≤◌, List, [], ◌++◌, length, take, codes, decimal}
+use Rattle.std.specs.Prelude.{◌≡◌, ◌⊎◌, ℕ, zero, suc, ◌<◌, ◌≤◌, List, [], ◌++◌, length, take, codes, decimal, ◌+◌, ◌∷◌}
 use Rattle.iot_io.specs.Count.{Rose}
 use Rattle.iot_event.specs.Events.{IsRead, Events, Fault}
 use Rattle.iot_event.specs.declared.fault.EventFault.{EventFault}
 use Rattle.iot_event.specs.declared.fault.EventFault.TheVariants as faults
 use Rattle.iot_app.specs.Machine.{Machine, Commit, opening}
-use Rattle.iot_app.specs.Steps.{Transcript}
+use Rattle.iot_app.specs.Steps.{Transcript, event_part}
 use Rattle.iot_app.specs.Texts.{line}
 use Rattle.iot_event.specs.declared.event.Event.{Event}
 use Rattle.iot_app.specs.declared.status.Status.{Status}
@@ -75,18 +75,42 @@ pub record IsTranscript (input text : List ℕ) (holds : List Commit → Type 0)
   pub whole : HasTranscript events text holds
 
 -- a transcript of the first so many events that the input is
-pub record IsTranscriptOfFirst (input text : List ℕ) (holds : List Commit → Type 0) : Type 0 where
+pub record IsTranscriptOfFirst (input text : List ℕ) : Type 0 where
   pub events : List Event
   pub script : IsScript input events
   pub done : ℕ
-  pub first : HasTranscript (take done events) text holds
+  pub first : HasTranscript (take done events) text whatever
 
--- what the program has to say: with words the usage line, else why the input is refused, or a transcript
-pub data IsSaid (words : ℕ) (input text : List ℕ) (holds : List Commit → Type 0) : Type 0 where
-  usage : 0 < words → text ≡ usage_line → IsSaid words input text holds
-  too_long : IsTooLong input text → IsSaid words input text holds
-  no_script : IsNoScript input text → IsSaid words input text holds
-  transcript : IsTranscriptOfFirst input text holds → IsSaid words input text holds
+-- The text is a transcript of the first so many events and of the next one, in whose own text the place of the cut lies: what
+-- those before it say stands in front of that place, and none behind it was done.
+pub record IsCutAt (events : List Event) (text : List ℕ) (count : ℕ) (holds : List Commit → Type 0) : Type 0 where
+  pub done : ℕ
+  pub event : Event
+  pub next : take (done + 1) events ≡ take done events ++ event ∷ []
+  pub front : List ℕ
+  pub says : List ℕ
+  pub mid : Machine
+  pub machine : Machine
+  pub before : Transcript (take done events) opening front mid
+  pub last : event_part event mid says machine
+  pub whole : text ≡ front ++ says
+  pub from : length front ≤ count
+  pub cut : count < length text
+  pub kept : holds machine.commits
+
+-- a transcript of the events that the input is, cut there
+pub record IsCutTranscript (input text : List ℕ) (count : ℕ) (holds : List Commit → Type 0) : Type 0 where
+  pub events : List Event
+  pub script : IsScript input events
+  pub place : IsCutAt events text count holds
+
+-- what the program has to say where it is cut at this place: with words the usage line, else why the input is refused, or a
+-- transcript
+pub data IsSaid (words : ℕ) (input text : List ℕ) (count : ℕ) (holds : List Commit → Type 0) : Type 0 where
+  usage : 0 < words → text ≡ usage_line → IsSaid words input text count holds
+  too_long : IsTooLong input text → IsSaid words input text count holds
+  no_script : IsNoScript input text → IsSaid words input text count holds
+  transcript : IsCutTranscript input text count holds → IsSaid words input text count holds
 
 -- ---- the endings
 
@@ -124,13 +148,13 @@ module _ (words : ℕ) (reads writes : List ℕ → Type 0) (at_end : Type 0) (h
     pub within : length input ≤ input_limit
     pub written : writes []
 
-  -- only a part of what there was to say was written; no event was done behind the one whose text was cut
+  -- only a front of what there was to say was written
   pub record WroteFront : Type 0 where
     pub input : List ℕ
     pub text : List ℕ
     pub count : ℕ
     pub read : reads input
-    pub said : IsSaid words input text holds
+    pub said : IsSaid words input text count holds
     pub cut : count < length text
     pub written : writes (take count text)
 
@@ -140,7 +164,7 @@ module _ (words : ℕ) (reads writes : List ℕ → Type 0) (at_end : Type 0) (h
     pub input : List ℕ
     pub text : List ℕ
     pub read : reads input
-    pub said : (text ≡ []) ⊎ IsTranscriptOfFirst input text whatever
+    pub said : (text ≡ []) ⊎ IsTranscriptOfFirst input text
     pub written : writes text
 
   -- the input was read to its end and is an event script, and a transcript of its first events was written
@@ -150,7 +174,7 @@ module _ (words : ℕ) (reads writes : List ℕ → Type 0) (at_end : Type 0) (h
     pub text : List ℕ
     pub read : reads input
     pub whole : at_end
-    pub first : IsTranscriptOfFirst input text whatever
+    pub first : IsTranscriptOfFirst input text
     pub written : writes text
 
   abbrev pub EndsWith : Status → Type 0

@@ -5,6 +5,8 @@ use Rattle.iot_disk.specs.declared.faults.JournalFault.{JournalFault}
 use Rattle.iot_disk.specs.declared.faults.JournalFault.TheVariants as append
 use Rattle.iot_app.specs.declared.fault.WorldFault.{WorldFault}
 use Rattle.iot_app.specs.declared.fault.WorldFault.TheVariants.{NoMemory, DiskFailed}
+use Rattle.iot_app.specs.declared.status.Status.{Status}
+use Rattle.iot_app.specs.declared.status.Status.TheVariants as status
 use Rattle.iot_app.specs.declared.play.PlayFault.{PlayFault}
 use Rattle.iot_app.specs.declared.play.PlayFault.TheVariants as play
 
@@ -23,3 +25,9 @@ of_append append.Stopped = DiskFailed
 abbrev pub of_world : WorldFault → PlayFault
 of_world NoMemory = play.NoMemory
 of_world DiskFailed = play.DiskFailed
+
+-- how a run ends that ends by such a fault
+abbrev pub ended_by : PlayFault → Status
+ended_by play.NoMemory = status.NoMemory
+ended_by play.DiskFailed = status.DiskFailed
+ended_by play.Sink = status.WriteFailed

@@ -1,9 +1,9 @@
 -- What was written of the events, by how doing them ended. `writes bytes` says that these bytes were written to the sink, and
 -- `holds commits` that the server's disk holds this list.
-use Rattle.std.specs.Prelude.{◌≡◌, ◌⊎◌, ℕ, ◌<◌, List, length, take, Result, Ok, Err, ⊤}
+use Rattle.std.specs.Prelude.{◌≡◌, ◌⊎◌, ℕ, List, take, Result, Ok, Err, ⊤}
 use Rattle.iot_io.specs.Count.{Rose}
 use Rattle.iot_app.specs.Machine.{Commit}
-use Rattle.iot_app.specs.Endings.{HasTranscript, whatever}
+use Rattle.iot_app.specs.Endings.{HasTranscript, IsCutAt, whatever}
 use Rattle.iot_event.specs.declared.event.Event.{Event}
 use Rattle.iot_app.specs.declared.play.PlayFault.{PlayFault}
 use Rattle.iot_app.specs.declared.play.PlayFault.TheVariants as faults
@@ -21,13 +21,11 @@ pub record PlayedFirst (events : List Event) (writes : List ℕ → Type 0) : Ty
   pub transcript : HasTranscript (take done events) text whatever
   pub written : writes text
 
--- a front of a transcript of the first events, whose last is the one that was cut
+-- a front of a transcript, cut in what the last event says that was done
 pub record PlayedFront (events : List Event) (writes : List ℕ → Type 0) (holds : List Commit → Type 0) : Type 0 where
-  pub done : ℕ
   pub text : List ℕ
   pub count : ℕ
-  pub transcript : HasTranscript (take done events) text holds
-  pub cut : count < length text
+  pub place : IsCutAt events text count holds
   pub written : writes (take count text)
 
 abbrev pub PlayedSome : PlayFault → List Event → (List ℕ → Type 0) → (List Commit → Type 0) → Type 0

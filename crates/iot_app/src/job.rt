@@ -10,7 +10,7 @@ ghost use Rattle.iot_app.specs.Job.{PlayEnds, LineEnds, RefusalEnds};
 ghost use Rattle.iot_app.specs.Status.{code_of};
 
 use crate::input::{InputFault, read_events};
-use crate::play::{PlayFault, play};
+use crate::play::play;
 use crate::status::Status;
 use iot_disk::Disk;
 use iot_event::{Event, EventFault};
@@ -146,9 +146,7 @@ fn do_events<K: Sink, D: Disk>(
     put_first(disks, disk);
     match ended {
         Ok(()) => Status::Done,
-        Err(PlayFault::NoMemory) => Status::NoMemory,
-        Err(PlayFault::DiskFailed) => Status::DiskFailed,
-        Err(PlayFault::Sink) => Status::WriteFailed,
+        Err(fault) => fault.status(),
     }
 }
 

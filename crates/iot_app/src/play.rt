@@ -9,6 +9,7 @@ ghost use Rattle.iot_app.specs.Servers.{SameDisk};
 ghost use Rattle.iot_app.specs.World.{IsOpened, KeepsList};
 
 use crate::fault::WorldFault;
+use crate::status::Status;
 use crate::world::World;
 use iot_disk::Disk;
 use iot_event::Event;
@@ -27,6 +28,21 @@ pub(crate) enum PlayFault {
 
     /// A write failed, or took nothing.
     Sink,
+}
+
+impl PlayFault {
+    ghost use Rattle.iot_app.specs.Faults.{ended_by};
+
+    /// How a run ends that ends by it.
+    pub(crate) fn status(self) -> Status
+        ensures { result ≡ ended_by self }
+    {
+        match self {
+            PlayFault::NoMemory => Status::NoMemory,
+            PlayFault::DiskFailed => Status::DiskFailed,
+            PlayFault::Sink => Status::WriteFailed,
+        }
+    }
 }
 
 impl From<WorldFault> for PlayFault {
