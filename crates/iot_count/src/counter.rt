@@ -1,5 +1,5 @@
 //! A count that never falls.
-ghost use Rattle.std.specs.Prelude.{◌≡◌};
+ghost use Rattle.std.specs.Prelude.{◌≡◌, ◌≤◌};
 ghost use Rattle.iot_count.specs.Counts.{one_more};
 
 use std::marker::Model;
@@ -26,7 +26,8 @@ impl Count {
 
     /// Counts one more.
     pub fn rise(&mut self)
-        ensures { self.new ≡ one_more self.old }
+        ensures one_more { self.new ≡ one_more self.old }
+        ensures never_falls { self.old ≤ self.new }
     {
         self.value = self.value.saturating_add(1);
     }
