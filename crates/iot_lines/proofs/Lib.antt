@@ -1,2 +1,3 @@
-pub mod FirstLine
-pub mod FirstWord
+pub mod FrontsLaws
+pub mod LinesLaws
+pub mod WordsLaws

@@ -1,7 +1,7 @@
 -- The lines of a text.
-use Rattle.std.specs.Prelude.{ℕ, ◌==◌, List, [], ◌∷◌, if◌then◌else◌}
+use Rattle.std.specs.Prelude.{ℕ, ◌≡◌, ◌⊎◌, ◌==◌, List, [], ◌∷◌, ◌++◌, if◌then◌else◌}
 
--- a byte at the front of the first line, or a line of its own where there is none
+-- a byte before the first line, or a line of its own if there is none
 abbrev pub onto_line : ℕ → List (List ℕ) → List (List ℕ)
 onto_line b [] = (b ∷ []) ∷ []
 onto_line b (line ∷ later) = (b ∷ line) ∷ later
@@ -10,3 +10,7 @@ onto_line b (line ∷ later) = (b ∷ line) ∷ later
 abbrev pub lines : List ℕ → List (List ℕ)
 lines [] = []
 lines (b ∷ bs) = if b == 10 then [] ∷ lines bs else onto_line b (lines bs)
+
+-- the text is the line, its newline and the rest; or the line alone, with nothing after it
+abbrev pub IsJoined : (text line rest : List ℕ) → Type 0
+IsJoined text line rest = (text ≡ line ++ 10 ∷ rest) ⊎ ((text ≡ line) × (rest ≡ []))

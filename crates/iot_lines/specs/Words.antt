@@ -1,36 +1,41 @@
 -- The words of a line.
-use Rattle.std.specs.Prelude.{ℕ, ◌==◌, ◌||◌, not, Bool, true, false, List, [], ◌∷◌, if◌then◌else◌}
+use Rattle.std.specs.Prelude.{ℕ, ◌==◌, ◌||◌, not, Bool, true, List, [], ◌∷◌, if◌then◌else◌}
+use Rattle.iot_lines.specs.Fronts.{front, after, begins}
 
 -- spaces and tabs
 abbrev pub is_blank : ℕ → Bool
 is_blank b = b == 32 || b == 9
 
--- the bytes begin with one that is not blank
-abbrev pub begins_word : List ℕ → Bool
-begins_word [] = false
-begins_word (b ∷ bs) = not (is_blank b)
+-- the other bytes
+abbrev pub is_solid : ℕ → Bool
+is_solid b = not (is_blank b)
 
--- a byte at the front of the word that stands right behind it, or a word of its own
+-- a byte before the word that comes right after it, or a word of its own
 abbrev pub onto_word : ℕ → Bool → List (List ℕ) → List (List ℕ)
 onto_word b true (word ∷ later) = (b ∷ word) ∷ later
 onto_word b adjacent later = (b ∷ []) ∷ later
 
--- the pieces between blanks; there is no empty one
+-- the pieces between blanks; none of them is empty
 abbrev pub words : List ℕ → List (List ℕ)
 words [] = []
-words (b ∷ bs) = if is_blank b then words bs else onto_word b (begins_word bs) (words bs)
+words (b ∷ bs) = if is_blank b then words bs else onto_word b (begins is_solid bs) (words bs)
 
 -- the line from its first byte on that is not blank
 abbrev pub without_blanks : List ℕ → List ℕ
-without_blanks [] = []
-without_blanks (b ∷ bs) = if is_blank b then without_blanks bs else b ∷ bs
+without_blanks line = after is_blank line
 
--- the bytes up to the first blank
+-- the bytes up to the first blank, and those from it on
 abbrev pub front_word : List ℕ → List ℕ
-front_word [] = []
-front_word (b ∷ bs) = if is_blank b then [] else b ∷ front_word bs
+front_word line = front is_solid line
 
--- the bytes from the first blank on
-abbrev pub behind_word : List ℕ → List ℕ
-behind_word [] = []
-behind_word (b ∷ bs) = if is_blank b then b ∷ bs else behind_word bs
+abbrev pub after_word : List ℕ → List ℕ
+after_word line = after is_solid line
+
+-- whether the text is empty or begins with `#`
+abbrev pub is_comment : List ℕ → Bool
+is_comment [] = true
+is_comment (b ∷ bs) = b == 35
+
+-- whether a line says nothing: it has blanks alone, or its first byte after blanks is `#`
+abbrev pub is_skipped : List ℕ → Bool
+is_skipped line = is_comment (without_blanks line)

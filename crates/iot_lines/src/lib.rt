@@ -4,8 +4,10 @@
 mod lines;
 mod words;
 
-pub use lines::split_line;
-pub use words::{front_word, is_blank, next_word, without_blanks};
+pub use lines::{SplitLines, split_line, split_lines};
+pub use words::{
+    SplitWords, front_word, is_blank, is_skipped, next_word, split_words, without_blanks,
+};
 
 #[cfg(test)]
 mod tests {
@@ -16,11 +18,10 @@ mod tests {
     fn a_text_by_lines(rt: HostRuntime) -> Result<(), Fail> {
         let (first, later) = split_line(b"one\n\ntwo").ok_or("a first line")?;
         assert_eq!(rt; first, b"one".as_slice());
-        let (second, last) = split_line(later).ok_or("an empty line")?;
-        assert_eq!(rt; second, b"".as_slice());
-        let (third, end) = split_line(last).ok_or("a last line")?;
-        assert_eq!(rt; third, b"two".as_slice());
-        assert!(rt; split_line(end).is_none());
+        let mut lines = split_lines(later);
+        assert_eq!(rt; lines.next(), Some(b"".as_slice()));
+        assert_eq!(rt; lines.next(), Some(b"two".as_slice()));
+        assert!(rt; lines.next().is_none());
         Ok(())
     }
 
@@ -28,9 +29,10 @@ mod tests {
     fn a_line_by_words(rt: HostRuntime) -> Result<(), Fail> {
         let (first, later) = next_word(b" \tmkdir\t/a ").ok_or("a first word")?;
         assert_eq!(rt; first, b"mkdir".as_slice());
-        let (second, end) = next_word(later).ok_or("a second word")?;
-        assert_eq!(rt; second, b"/a".as_slice());
-        assert!(rt; next_word(end).is_none());
+        let mut words = split_words(later);
+        assert_eq!(rt; words.next(), Some(b"/a".as_slice()));
+        assert!(rt; words.next().is_none());
+        assert!(rt; is_skipped(b" \t# one") && is_skipped(b"\t") && !is_skipped(b"one"));
         Ok(())
     }
 }
