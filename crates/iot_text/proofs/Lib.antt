@@ -1,8 +1,5 @@
-pub mod Appended
-pub mod Below
-pub mod NameLaws
-pub mod Numbers
-pub mod Parsing
-pub mod PathLaws
-pub mod QuoteSteps
-pub mod Spelled
+pub mod NamesLaws
+pub mod PathTextsLaws
+pub mod PathsLaws
+pub mod QuotesLaws
+pub mod TextsLaws

@@ -1,5 +1,6 @@
 -- Paths as lists of names, and their texts.
-use Rattle.std.specs.Prelude.{ℕ, ◌≡◌, ◌<◌, ◌≤◌, ◌==◌, Bool, IsTrue, List, [], ◌∷◌, ◌++◌, length, take, map, ⊤, Option, Some, None, ◌-◌, ◌&&◌, nat_lt, bytes_eq, slice_get, if◌then◌else◌}
+use Rattle.std.specs.Prelude.{ℕ, ◌≡◌, ◌<◌, ◌≤◌, ◌==◌, Bool, IsTrue, List, [], ◌∷◌, ◌++◌, length, take, map, ⊤, Option, Some, None, ◌-◌}
+use Rattle.std.specs.Prelude.{◌&&◌, nat_lt, bytes_eq, slice_get, if◌then◌else◌}
 use Rattle.std.specs.List.{list_all, flat_map, starts_with}
 use Rattle.std.specs.Cmp.Lexicographic.{slice_cmp}
 use Rattle.std.specs.Ordering.{nat_cmp}
@@ -8,7 +9,7 @@ use Rattle.iot_text.specs.Names.{is_name}
 use Rattle.iot_text.specs.declared.faults.TextFault.{TextFault}
 use Rattle.iot_text.specs.declared.faults.TextFault.TheVariants.{NoMemory, BadName, BadPath}
 
--- whether the byte stands in front of a name
+-- whether the byte comes before a name
 abbrev pub is_slash : ℕ → Bool
 is_slash b = b == 47
 
@@ -34,7 +35,7 @@ pub record IsPathText (text : List ℕ) (path : List (List ℕ)) : Type 0 where
 abbrev pub IsNoPathText : List ℕ → Type 0
 IsNoPathText text = (path : List (List ℕ)) → ¬ IsPathText text path
 
--- puts a byte in front of the first part
+-- a byte before the first part
 abbrev pub extended : ℕ → List (List ℕ) → List (List ℕ)
 extended b [] = (b ∷ []) ∷ []
 extended b (part ∷ parts) = (b ∷ part) ∷ parts
@@ -44,7 +45,7 @@ abbrev pub slash_parts : List ℕ → List (List ℕ)
 slash_parts [] = [] ∷ []
 slash_parts (b ∷ bs) = if is_slash b then [] ∷ slash_parts bs else extended b (slash_parts bs)
 
--- the path that has this text behind its first slash
+-- the path that has this text after its first slash
 abbrev pub names_of : List ℕ → Option (List (List ℕ))
 names_of [] = Some []
 names_of (b ∷ bs) = if list_all is_name (slash_parts (b ∷ bs)) then Some (slash_parts (b ∷ bs)) else None
@@ -64,7 +65,7 @@ pub record LongestBeginning (text : List ℕ) (at : ℕ) : Type 0 where
   pub begins : BeginsPath (take at text)
   pub longest : (n : ℕ) → at < n → n ≤ length text → ¬ BeginsPath (take n text)
 
--- why the text is not read as a path; want of memory needs no reason
+-- why the text is not parsed as a path; running out of memory needs no reason
 abbrev pub RefusesPath : List ℕ → TextFault → Type 0
 RefusesPath text NoMemory = ⊤
 RefusesPath text BadName = ⊥

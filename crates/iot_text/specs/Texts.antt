@@ -9,7 +9,7 @@ pub record AppendsPart (old new added : List ℕ) : Type 0 where
   pub appended : new ≡ old ++ part
   pub beginning : part ++ rest ≡ added
 
--- the decimal digits of a number; a leading zero stands alone
+-- the decimal digits of a number; zero alone begins with 0
 pub record IsDecimal (number : ℕ) (text : List ℕ) : Type 0 where
   pub digits : IsNumeral 10 text
   pub value : digits_value 10 text ≡ number

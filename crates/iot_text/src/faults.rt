@@ -4,10 +4,10 @@ ghost use Rattle.std.specs.Prelude.{◌≡◌};
 use std::alloc::{AllocError, AllocFailed};
 use thiserror::Error;
 
-/// Why a text was not read.
+/// Why a text was not parsed.
 #[derive(Debug, Drop, Error)]
 pub enum TextFault {
-    /// There was no memory for the value. No clause says when this comes.
+    /// There was no memory for the value. Running out of memory is always allowed.
     #[error("out of memory")]
     NoMemory,
 

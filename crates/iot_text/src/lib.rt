@@ -8,7 +8,7 @@ mod quoting;
 mod texts;
 
 pub use faults::TextFault;
-pub use names::Name;
+pub use names::{NAME_LIMIT, Name};
 pub use paths::Path;
 pub use quoting::quote;
 pub use std::alloc::AllocError as NoMemory;

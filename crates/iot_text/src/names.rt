@@ -16,19 +16,20 @@ use std::hash::{Hash, Hasher};
 use std::marker::Model;
 
 /// How many bytes a name has at most.
-const LIMIT: usize = 32;
+pub const NAME_LIMIT: usize = 32;
 
 /// A name: 1 to 32 letters, digits, `_`, `-` and `.`, but neither `.` nor `..`.
 /// Contracts see it as the list of its bytes.
 #[derive(Clone, Copy, Debug)]
 pub struct Name {
     len: u8,
-    bytes: [u8; LIMIT],
+    bytes: [u8; NAME_LIMIT],
 }
 
 impl Model for Name {
     ghost use Rattle.std.specs.Prelude.{ℕ, List, ◌-◌, ◌++◌, length, take, replicate};
     ghost use Rattle.iot_text.specs.NameArrays.{IsStored, unpadded};
+    ghost use Rattle.iot_text.specs.declared.names.TheConstants.{NAME_LIMIT};
 
     ghost Value = { List ℕ };
 
@@ -36,7 +37,7 @@ impl Model for Name {
 
     ghost invariant = { λ n. IsStored n.len n.bytes };
 
-    ghost inverse = { λ name. record { len = length name; bytes = name ++ replicate (32 - length name) 0 } };
+    ghost inverse = { λ name. record { len = length name; bytes = name ++ replicate (NAME_LIMIT - length name) 0 } };
 
     ghost inverse_ok = { λ n stored i. record { len = stored.len_is i; bytes = unpadded n.len n.bytes stored i } };
 }
@@ -72,7 +73,7 @@ fn name_bytes_len(text: &[u8]) -> usize
 pub(crate) fn beginning_len(text: &[u8]) -> usize
     ensures { result ≡ beginning_len text.now }
 {
-    name_bytes_len(text).min(LIMIT)
+    name_bytes_len(text).min(NAME_LIMIT)
 }
 
 /// Whether the text is `.` or `..`, which other systems give a meaning of their own.
@@ -87,15 +88,15 @@ fn is_dots(text: &[u8]) -> bool
 fn is_name(text: &[u8]) -> bool
     ensures { result ≡ is_name text.now }
 {
-    !text.is_empty() && text.len() <= LIMIT && !is_dots(text) && are_name_bytes(text)
+    !text.is_empty() && text.len() <= NAME_LIMIT && !is_dots(text) && are_name_bytes(text)
 }
 
 impl Name {
-    /// Reads a name. Takes no memory.
+    /// Parses a name. Does not allocate.
     ///
     /// # Errors
     ///
-    /// `BadName`, exactly where the text is no name.
+    /// `BadName`, exactly if the text is no name.
     pub fn parse(text: &[u8]) -> Result<Name, TextFault>
         ensures ok { OkIff result (IsName text.now) text.now }
         ensures bad { IfErr result (λ fault. fault ≡ TextFault.BadName) }
@@ -103,7 +104,7 @@ impl Name {
         if !is_name(text) {
             return Err(TextFault::BadName);
         }
-        let mut bytes = [0; LIMIT];
+        let mut bytes = [0; NAME_LIMIT];
         bytes[..text.len()].copy_from_slice(text);
         Ok(Name {
             len: text.len() as u8,

@@ -1,9 +1,12 @@
 //! Paths: lists of names.
-ghost use Rattle.std.specs.Prelude.{ℕ, List, [], ◌∷◌, ◌++◌, ◌≡◌, ◌≢◌, ◌↔◌, IsTrue, IfOk, IfErr, OnOk, OnErr, IfSome, option_copied, Some, None, refl, nat_eq};
+ghost use Rattle.std.specs.Prelude.{ℕ, List, [], ◌∷◌, ◌++◌, ◌≡◌, ◌≢◌, ◌↔◌, IsTrue, IfOk, IfErr, OnOk, OnErr, IfSome, option_copied, Some};
+ghost use Rattle.std.specs.Prelude.{None, refl, nat_eq};
 ghost use Rattle.std.specs.Ordering.{nat_cmp};
 ghost use Rattle.std.specs.Cmp.{partial_equiv_from_equiv, po};
-ghost use Rattle.std.specs.Cmp.Lexicographic.{pointwise, slice_cmp, nat_list_eq_equiv, nat_list_cmp_total, texts_ties, lists_equiv, lists_total, lists_ties};
-ghost use Rattle.iot_text.specs.Paths.{IsPath, IsPathText, RefusesPath, is_slash, path_of, path_text, last_of, parent_of, IsBelow, is_below, path_cmp};
+ghost use Rattle.std.specs.Cmp.Lexicographic.{pointwise, slice_cmp, nat_list_eq_equiv, nat_list_cmp_total, texts_ties, lists_equiv};
+ghost use Rattle.std.specs.Cmp.Lexicographic.{lists_total, lists_ties};
+ghost use Rattle.iot_text.specs.Paths.{IsPath, IsPathText, RefusesPath, is_slash, path_of, path_text, last_of, parent_of, IsBelow};
+ghost use Rattle.iot_text.specs.Paths.{is_below, path_cmp};
 ghost use Rattle.iot_text.specs.Texts.{AppendsPart};
 ghost use Rattle.std.specs.List.{position_or_len};
 
@@ -31,7 +34,7 @@ impl Model for Path {
     ghost invariant = { λ path. IsPath path.names.items };
 }
 
-/// How many bytes stand before the first `/`, or in all where there is none.
+/// How many bytes come before the first `/`, or in all if there is none.
 fn part_len(text: &[u8]) -> usize
     ensures { result ≡ position_or_len is_slash text.now }
 {
@@ -53,17 +56,17 @@ fn append_name(name: &Name, out: &mut Text) -> Result<(), NoMemory>
 }
 
 impl Path {
-    /// Reads the text of a path.
+    /// Parses the text of a path.
     ///
     /// # Errors
     ///
-    /// `BadPath`, exactly where the text is that of no path: its first `at` bytes begin the text of
-    /// some path, and no more of them do. `NoMemory` where there is none for the names.
+    /// `BadPath`, exactly if the text is that of no path: its first `at` bytes begin the text of
+    /// some path, and no more of them do. `NoMemory` if memory runs out.
     pub fn parse(alloc: Global, text: &[u8]) -> Result<Path, TextFault>
         ensures ok { IfOk result (IsPathText text.now) }
         ensures refused { IfErr result (RefusesPath text.now) }
 
-        // The same by the function that reads a path.
+        // The same by the function that parses a path.
         ensures found { IfOk result (λ path. path_of text.now ≡ Some path) }
         ensures none { IfErr result (λ fault.
             fault ≢ TextFault.NoMemory → path_of text.now ≡ None) }
@@ -92,7 +95,7 @@ impl Path {
         }
     }
 
-    /// The path of the root. Takes no memory.
+    /// The path of the root. Does not allocate.
     pub fn root(alloc: Global) -> Path
         ensures { result ≡ [] }
     {
@@ -101,7 +104,7 @@ impl Path {
         }
     }
 
-    /// A path of these names. Takes no memory.
+    /// A path of these names. Does not allocate.
     pub fn from_names(names: Vec<Name>) -> Path
         requires { IsPath names.items }
         ensures { result ≡ names.items }
@@ -125,7 +128,7 @@ impl Path {
         self.names().last()
     }
 
-    /// Whether the path lies below the other: has all its names in front, and more.
+    /// Whether the path lies below the other: it begins with all names of the other, and has more.
     pub fn is_below(&self, other: &Path) -> bool
         ensures value { result ≡ is_below self.now other.now }
         ensures means { IsTrue result ↔ IsBelow self.now other.now }
@@ -133,7 +136,7 @@ impl Path {
         other.names().len() < self.names().len() && self.names().starts_with(other.names())
     }
 
-    /// The names of the parent's path, or `None` exactly at the root. Takes no memory.
+    /// The names of the parent's path, or `None` exactly at the root. Does not allocate.
     pub fn parent_names(&self) -> Option<&[Name]>
         ensures value { option_copied result ≡ parent_of self.now }
         ensures valid { IfSome result (λ names. IsPath names.now) }

@@ -7,7 +7,7 @@ use crate::{NoMemory, Text};
 
 const BACKSLASH: u8 = b'\\';
 
-/// The letter that stands behind a backslash in place of this byte, if the byte needs one.
+/// The letter that is written after a backslash for this byte, if the byte needs an escape.
 fn escape(byte: u8) -> Option<u8>
     ensures plain { IfNone result (quoted_byte byte ≡ byte ∷ []) }
     ensures escaped { IfSome result (λ letter. quoted_byte byte ≡ BACKSLASH ∷ letter ∷ []) }
@@ -19,7 +19,7 @@ fn escape(byte: u8) -> Option<u8>
     }
 }
 
-/// Appends bytes that stand for themselves, and an escaped byte behind them.
+/// Appends bytes that need no escape, and an escaped byte after them.
 fn append_run(run: &[u8], letter: u8, out: &mut Text) -> Result<(), NoMemory>
     ensures ok { OnOk result (out.new ≡ out.old ++ (run.now ++ BACKSLASH ∷ letter ∷ [])) }
     ensures err { OnErr result (AppendsPart out.old out.new (run.now ++ BACKSLASH ∷ letter ∷ [])) }

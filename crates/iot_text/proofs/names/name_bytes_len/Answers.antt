@@ -11,4 +11,6 @@ returns-then-not-is_name_byte c =
 pub returns : goal.returns
 returns c =
     let all : c.bytes.len ≡ length c.args.text.now = omega arith in
-    sym (prefix_len_is is_name_byte c.args.text.now (length c.args.text.now) 0 (omega arith) (λ k h. c.bytes.invariant k (omega arith)) (λ h. absurd (omega arith)))
+    sym
+    (prefix_len_is is_name_byte c.args.text.now (length c.args.text.now) 0 (omega arith) (λ k h. c.bytes.invariant k (omega arith))
+    (λ h. absurd (omega arith)))

@@ -11,4 +11,6 @@ returns-then-byte-eq47 c =
 pub returns : goal.returns
 returns c =
     let all : c.bytes.len ≡ length c.args.text.now = omega arith in
-    sym (position_or_len_is is_slash c.args.text.now (length c.args.text.now) 0 (omega arith) (λ k h. c.bytes.invariant k (omega arith)) (λ h. absurd (omega arith)))
+    sym
+    (position_or_len_is is_slash c.args.text.now (length c.args.text.now) 0 (omega arith) (λ k h. c.bytes.invariant k (omega arith))
+    (λ h. absurd (omega arith)))

@@ -2,8 +2,8 @@ use Rattle.std.proofs.Common.{List, ℕ, [], ◌+◌, ◌-◌, ◌∷◌, ◌++�
 use Rattle.std.specs.List.{flat_map}
 use Rattle.iot_text.specs.Quotes.{quoted_byte, quoted}
 use Rattle.iot_text.specs.Texts.{AppendsPart}
-use Rattle.iot_text.proofs.Appended.{on_err, part_after}
-use Rattle.iot_text.proofs.QuoteSteps.{plain_byte, escaped_byte, at_escape, at_end_of_bytes}
+use Rattle.iot_text.proofs.TextsLaws.{on_err, part_after}
+use Rattle.iot_text.proofs.QuotesLaws.{plain_byte, escaped_byte, at_escape, at_end_of_bytes}
 use Rattle.iot_text.proofs.quoting.quote.Goals as goal
 use Rattle.iot_text.proofs.quoting.quote.Goals.{in-Some+in_ok-append_run, in_default}
 
@@ -18,7 +18,8 @@ returns-in_err-append_run-clause-err c =
 pub bytes-preserved : goal.bytes-preserved
 bytes-preserved c = elim c.match-escape.branch [
   | in-Some+in_ok-append_run w ↦ rw (w.out-is, w.done-is)
-      (escaped_byte _ c.bytes.out _ _ (92 ∷ w.in-Some.letter ∷ []) _ _ c.bytes.invariant c.bytes-test.true w.in-Some.ensures.escaped w.in_ok-append_run.ensures.ok)
+      (escaped_byte _ c.bytes.out _ _ (92 ∷ w.in-Some.letter ∷ []) _ _ c.bytes.invariant c.bytes-test.true w.in-Some.ensures.escaped
+      w.in_ok-append_run.ensures.ok)
   | in_default w ↦ rw (w.out-is, w.done-is) (plain_byte _ _ _ _ _ c.bytes.invariant c.bytes-test.true (search rules))
 ]
 

@@ -1,4 +1,4 @@
-use Rattle.iot_text.proofs.QuoteSteps.{Quoting}
+use Rattle.iot_text.proofs.QuotesLaws.{Quoting}
 use Rattle.iot_text.proofs.quoting.quote.Given as goal
 
 abbrev pub invariant-bytes : goal.invariant-bytes

@@ -1,6 +1,6 @@
 use Rattle.std.proofs.Common.{length, replicate, sym, length-take-le}
 use Rattle.iot_text.specs.Names.{IsName}
-use Rattle.iot_text.proofs.NameLaws.{name_parts, stored}
+use Rattle.iot_text.proofs.NamesLaws.{name_parts, stored}
 use Rattle.iot_text.proofs.names.Name.parse.Goals as goal
 
 pub slice_bounds-bytes-end : goal.slice_bounds-bytes-end

@@ -1,6 +1,6 @@
 use Rattle.std.proofs.Common.{◌≡◌, ◌∙◌, sym, rules}
 use Rattle.iot_text.specs.Paths.{is_below}
-use Rattle.iot_text.proofs.Below.{is_below-tells, is_below-of}
+use Rattle.iot_text.proofs.PathsLaws.{is_below-tells, is_below-of}
 use Rattle.iot_text.proofs.paths.Path.is_below.Goals as goal
 
 pub returns-then-names-clause-means : goal.returns-then-names-clause-means

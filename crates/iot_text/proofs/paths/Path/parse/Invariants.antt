@@ -1,6 +1,6 @@
 use Rattle.std.proofs.Common.{◌+◌, ◌-◌, ◌<◌, length}
 use Rattle.iot_text.specs.Paths.{IsPath}
-use Rattle.iot_text.proofs.Parsing.{Stepped}
+use Rattle.iot_text.proofs.PathTextsLaws.{Stepped}
 use Rattle.iot_text.proofs.paths.Path.parse.Given as goal
 
 abbrev pub invariant-parts : goal.invariant-parts

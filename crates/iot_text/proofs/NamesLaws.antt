@@ -1,4 +1,4 @@
--- Laws of names that callers cite, and the array of a name.
+-- Laws of names, and of the array that holds one.
 use Rattle.std.proofs.Common.{ℕ, ◌≡◌, ◌<◌, ◌≤◌, true, false, List, ◌++◌, length, take, drop, replicate, refl, arith}
 use Rattle.std.specs.List.{list_all}
 use Rattle.std.proofs.lemmas.List.{take_at, drop-replicate}
@@ -26,7 +26,7 @@ pub name_from_parts : (bytes : List ℕ) → NameParts bytes → IsName bytes
 unfolding is_name
 name_from_parts bytes parts = grind (arith, nat_tests, parts.not_empty, parts.within_limit, parts.not_dots, parts.name_bytes)
 
--- the array that a name is put into at its front
+-- the array that begins with a name
 pub stored : (name : List ℕ) → IsName name → IsStored (length name) (name ++ drop (length name) (replicate 32 0))
 stored name is =
     let parts : NameParts name = name_parts name is in
