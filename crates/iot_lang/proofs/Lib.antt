@@ -1,11 +1,8 @@
-pub mod Fronts
-pub mod Steps
-pub mod ByteLaws
-pub mod WordLaws
-pub mod LineLaws
-pub mod ScriptLaws
-pub mod BlockLaws
+pub mod BytesLaws
+pub mod ParsingLaws
+pub mod StatementsLaws
+pub mod ScriptsLaws
+pub mod BlocksLaws
+pub mod OpenBlocksLaws
 pub mod NestingLaws
-pub mod NestingSteps
-pub mod PrintSteps
 pub mod PrintLaws

@@ -1,231 +1,183 @@
--- Lines leave blocks open within a limit exactly where they begin a script within it.
-use Rattle.std.proofs.Common.{◌≡◌, ◌⊎◌, inl, inr, ◌+◌, ◌<◌, ◌≤◌, ◌++◌, ℕ, suc, Bool, true, false, cond, ltb, List, [], ◌∷◌, length, replicate, Option, Some, None, refl, sym, ap, subst, ◌∙◌, append_assoc, arith}
+-- What a line does to the lines so far and to the open blocks.
+use Rattle.std.proofs.Common.{◌≡◌, ◌+◌, ◌<◌, ◌≤◌, ◌++◌, ℕ, Bool, true, false, cond, ltb, List, [], ◌∷◌, length, Some, None, refl, sym, ap}
+use Rattle.std.proofs.Common.{subst, ◌∙◌, append_assoc, arith}
+use Rattle.iot_lines.specs.Words.{is_skipped}
+use Rattle.iot_lang.specs.OpenBlocks.{open_after}
+use Rattle.std.specs.List.{flat_map}
 use Rattle.std.proofs.lemmas.List.{append-nil}
 use Rattle.std.proofs.lemmas.Bool.Decides.{nat_tests}
-use Rattle.iot_lang.specs.Code.{Code, End, Plain, Halt, If, IfElse, For, script_lines, depth}
-use Rattle.iot_lang.specs.Nesting.{open_after}
+use Rattle.iot_lang.specs.Code.{Code, script_lines}
+use Rattle.iot_lang.specs.Blocks.{code_of_statements}
+use Rattle.iot_lang.specs.Print.{lines_in, statement_lines}
+use Rattle.iot_lang.proofs.BlocksLaws.{lines_in-push}
+use Rattle.iot_lang.specs.Nesting.{closed_by, head_lines, may_turn, open_lines, lines_so_far, stack_on, stack_of, HasTaken, Adds, Opens}
+use Rattle.iot_lang.specs.Nesting.{Moves, IsFull}
+use Rattle.iot_lang.specs.Scripts.{said, Spell, Begin, BeginWithin, IsOpen, IsScript}
+use Rattle.iot_lang.proofs.ScriptsLaws.{AreTaken, Says, taken_line, taken_skipped, bad_line, deep_line, taken_begins, taken_open}
+use Rattle.iot_lang.proofs.ScriptsLaws.{taken_script, spelled_lines}
+use Rattle.iot_lang.specs.declared.words.Piece.{Piece}
 use Rattle.iot_lang.specs.declared.words.Cond.{Cond}
+use Rattle.iot_lang.specs.declared.words.Command.{Command}
 use Rattle.iot_lang.specs.declared.lines.Line.{Line}
 use Rattle.iot_lang.specs.declared.lines.Line.TheVariants as says
+use Rattle.iot_lang.specs.declared.blocks.Stmt.{Stmt}
+use Rattle.iot_lang.specs.declared.blocks.Stmt.TheVariants as statements
+use Rattle.iot_lang.specs.declared.nesting.Head.{Head}
+use Rattle.iot_lang.specs.declared.nesting.Head.TheVariants as heads
+use Rattle.iot_lang.specs.declared.nesting.Open.{Open}
+use Rattle.iot_lang.specs.declared.nesting.Nesting.{Nesting}
+use Rattle.iot_lang.specs.declared.nesting.TheConstants.{DEPTH_LIMIT}
 
--- ---- one part of the lines after another
+pub flat_map-push : (os : List Open) (o : Open) → flat_map open_lines (os ++ o ∷ []) ≡ flat_map open_lines os ++ open_lines o
+flat_map-push [] o = append-nil (open_lines o)
+flat_map-push (p ∷ os) o =
+    ap (λ ls. open_lines p ++ ls) (flat_map-push os o) ∙ sym (append_assoc (open_lines p) (flat_map open_lines os) (open_lines o))
 
-abbrev then_lines : ℕ → Option (List Bool) → List Line → Option (List Bool)
-then_lines limit None lines = None
-then_lines limit (Some st) lines = open_after limit st lines
+stack_on-push : (below : List Bool) (os : List Open) (o : Open) → stack_on below (os ++ o ∷ []) ≡ may_turn o.head ∷ stack_on below os
+stack_on-push below [] o = refl
+stack_on-push below (p ∷ os) o = stack_on-push (may_turn p.head ∷ below) os o
 
-chosen : (t : Bool) (limit : ℕ) (x y : Option (List Bool)) (lines : List Line) → x ≡ then_lines limit y lines → cond t x None ≡ then_lines limit (cond t y None) lines
-chosen true limit x y lines h = h
-chosen false limit x y lines h = refl
+pub length-stack_on : (below : List Bool) (os : List Open) → length (stack_on below os) ≡ length os + length below
+length-stack_on below [] = omega arith
+length-stack_on below (o ∷ os) = omega (arith, length-stack_on (may_turn o.head ∷ below) os)
 
-pub open_after-append : (limit : ℕ) (st : List Bool) (xs ys : List Line) → open_after limit st (xs ++ ys) ≡ then_lines limit (open_after limit st xs) ys
-open_after-append limit st [] ys = refl
-open_after-append limit st (says.Do command ∷ xs) ys = open_after-append limit st xs ys
-open_after-append limit st (says.Stop ∷ xs) ys = open_after-append limit st xs ys
-open_after-append limit st (says.If condition ∷ xs) ys = chosen (ltb (length st) limit) limit _ _ ys (open_after-append limit (true ∷ st) xs ys)
-open_after-append limit st (says.For x p ∷ xs) ys = chosen (ltb (length st) limit) limit _ _ ys (open_after-append limit (false ∷ st) xs ys)
-open_after-append limit [] (says.Else ∷ xs) ys = refl
-open_after-append limit (true ∷ st) (says.Else ∷ xs) ys = open_after-append limit (false ∷ st) xs ys
-open_after-append limit (false ∷ st) (says.Else ∷ xs) ys = refl
-open_after-append limit [] (says.Close ∷ xs) ys = refl
-open_after-append limit (b ∷ st) (says.Close ∷ xs) ys = open_after-append limit st xs ys
+-- ---- each step
 
-pub through : (limit : ℕ) (st st' : List Bool) (xs ys : List Line) → open_after limit st xs ≡ Some st' → open_after limit st (xs ++ ys) ≡ open_after limit st' ys
-through limit st st' xs ys h = open_after-append limit st xs ys ∙ ap (λ o. then_lines limit o ys) h
+pub adds_do : (old new : Nesting) (command : Command) → Adds old (statements.Do command) new → Moves old (says.Do command) new
+adds_do old new command h = record {
+  lines =
+      rw (h.same_open, h.added, lines_in-push old.statements.items (statements.Do command))
+      (sym (append_assoc (flat_map open_lines old.open.items) (lines_in old.statements.items) (says.Do command ∷ [])));
+  stack = rw h.same_open refl;
+}
 
--- ---- whole statements leave the blocks as they were
+pub adds_stop : (old new : Nesting) → Adds old statements.Stop new → Moves old says.Stop new
+adds_stop old new h = record {
+  lines =
+      rw (h.same_open, h.added, lines_in-push old.statements.items statements.Stop)
+      (sym (append_assoc (flat_map open_lines old.open.items) (lines_in old.statements.items) (says.Stop ∷ [])));
+  stack = rw h.same_open refl;
+}
 
-below : (limit n : ℕ) (x : Option (List Bool)) → n < limit → cond (ltb n limit) x None ≡ x
-below limit n x h = let t : ltb n limit ≡ true = grind (arith, nat_tests) in rw t refl
+opened_if : (st st' : List Bool) (b : Bool) → length st < DEPTH_LIMIT → st' ≡ b ∷ st
+    → cond (ltb (length st) DEPTH_LIMIT) (Some (b ∷ st)) None ≡ Some st'
+opened_if st st' b room e = let t : ltb (length st) DEPTH_LIMIT ≡ true = grind (arith, nat_tests) in rw (t, e) refl
 
-pub whole : (c : Code) (limit : ℕ) (st : List Bool) → length st + depth c ≤ limit → open_after limit st (script_lines c) ≡ Some st
-whole End limit st h = refl
-whole (Plain command rest) limit st h = whole rest limit st h
-whole (Halt rest) limit st h = whole rest limit st h
-whole (If condition body rest) limit st h =
-    below limit (length st) _ (omega arith)
-    ∙ through limit (true ∷ st) (true ∷ st) (script_lines body) (says.Close ∷ script_lines rest) (whole body limit (true ∷ st) (omega arith))
-    ∙ whole rest limit st (omega arith)
-whole (IfElse condition body other rest) limit st h =
-    below limit (length st) _ (omega arith)
-    ∙ ap (open_after limit (true ∷ st)) (append_assoc (script_lines body) (says.Else ∷ script_lines other) (says.Close ∷ script_lines rest))
-    ∙ through limit (true ∷ st) (true ∷ st) (script_lines body) (says.Else ∷ (script_lines other ++ says.Close ∷ script_lines rest)) (whole body limit (true ∷ st) (omega arith))
-    ∙ through limit (false ∷ st) (false ∷ st) (script_lines other) (says.Close ∷ script_lines rest) (whole other limit (false ∷ st) (omega arith))
-    ∙ whole rest limit st (omega arith)
-whole (For x p body rest) limit st h =
-    below limit (length st) _ (omega arith)
-    ∙ through limit (false ∷ st) (false ∷ st) (script_lines body) (says.Close ∷ script_lines rest) (whole body limit (false ∷ st) (omega arith))
-    ∙ whole rest limit st (omega arith)
+pub opens_if : (old new : Nesting) (condition : Cond) → Opens old (heads.If condition) new → Moves old (says.If condition) new
+opens_if old new condition h = record { lines = h.lines; stack = opened_if (stack_of old) (stack_of new) true h.room h.stack }
 
--- ---- and are within the limit
+pub opens_for : (old new : Nesting) (x : List ℕ) (p : List Piece) → Opens old (heads.For x p) new → Moves old (says.For x p) new
+opens_for old new x p h = record { lines = h.lines; stack = opened_if (stack_of old) (stack_of new) false h.room h.stack }
 
-room : (n limit : ℕ) (x : Option (List Bool)) (st : List Bool) → cond (ltb n limit) x None ≡ Some st → (n < limit) × (x ≡ Some st)
-room n limit x st h = by_test (ltb n limit) refl h
+pub opens_at : (old new : Nesting) (o : Open) (head : Head) → new.open.items ≡ old.open.items ++ o ∷ []
+    → o.before.items ≡ old.statements.items → o.head ≡ head → new.statements.items ≡ [] → length old.open.items < DEPTH_LIMIT
+    → Opens old head new
+opens_at old new o head open_ before same none room =
+    let outer : List Line = flat_map open_lines old.open.items in
+    record {
+      lines = rw (open_, flat_map-push old.open.items o, before, same, none)
+          (append-nil (outer ++ (lines_in old.statements.items ++ head_lines head))
+          ∙ sym (append_assoc outer (lines_in old.statements.items) (head_lines head)));
+      stack = rw (open_, stack_on-push [] old.open.items o, same) refl;
+      room = omega (arith, length-stack_on [] old.open.items);
+    }
+
+pub is_full : (old : Nesting) → DEPTH_LIMIT ≤ length old.open.items → DEPTH_LIMIT ≤ length (stack_of old)
+is_full old h = omega (arith, length-stack_on [] old.open.items)
+
+pub turns_at : (old new : Nesting) (popped : List Open) (o o' : Open) (condition : Cond) (first : Code) → old.open.items ≡ popped ++ o ∷ []
+    → o.head ≡ heads.If condition
+    → new.open.items ≡ popped ++ o' ∷ [] → o'.before.items ≡ o.before.items → o'.head ≡ heads.Else condition first
+    → first ≡ code_of_statements old.statements.items → new.statements.items ≡ [] → Moves old says.Else new
+turns_at old new popped o o' condition first was is_if now before is_else body none = record {
+  lines =
+      rw (was, now, flat_map-push popped o, flat_map-push popped o', is_if, is_else, before, none, body) (simp (append_assoc, append-nil));
+  stack = rw (was, now, stack_on-push [] popped o, stack_on-push [] popped o', is_if, is_else) refl;
+}
+
+pub cannot_turn : (old : Nesting) (popped : List Open) (o : Open) → old.open.items ≡ popped ++ o ∷ [] → may_turn o.head ≡ false
+    → open_after (DEPTH_LIMIT + 1) (stack_of old) (says.Else ∷ []) ≡ None
+cannot_turn old popped o was not = rw (was, stack_on-push [] popped o, not) refl
+
+statement_lines-closed_by : (head : Head) (body : Code)
+    → statement_lines (closed_by head body) ≡ head_lines head ++ (script_lines body ++ says.Close ∷ [])
+statement_lines-closed_by (heads.If condition) body = refl
+statement_lines-closed_by (heads.Else condition first) body = simp append_assoc
+statement_lines-closed_by (heads.For x p) body = refl
+
+pub closes_at : (old new : Nesting) (popped : List Open) (o : Open) (s : Stmt) → old.open.items ≡ popped ++ o ∷ [] → new.open.items ≡ popped
+    → new.statements.items ≡ o.before.items ++ s ∷ []
+    → s ≡ closed_by o.head (code_of_statements old.statements.items) → Moves old says.Close new
+closes_at old new popped o s was now added closed = record {
+  lines =
+      rw (
+        was,
+        now,
+        flat_map-push popped o,
+        added,
+        lines_in-push o.before.items s,
+        closed,
+        statement_lines-closed_by o.head (code_of_statements old.statements.items),
+      )
+      (simp append_assoc);
+  stack = rw (was, now, stack_on-push [] popped o) refl;
+}
+
+pub may_turn-other : (head : Head) → ((condition : Cond) → head ≡ heads.If condition → ⊥) → may_turn head ≡ false
+may_turn-other (heads.If condition) other = absurd (other condition refl)
+may_turn-other (heads.Else condition first) other = refl
+may_turn-other (heads.For x p) other = refl
+
+-- ---- the texts that have been taken
+
+are_taken : (n : Nesting) (texts : List (List ℕ)) → HasTaken n texts → AreTaken texts (lines_so_far n) (stack_of n)
+are_taken n texts h = record { spelled = h.spelled; sound = h.sound }
+
+pub moved : (old new : Nesting) (text : List ℕ) (line : Line) (texts : List (List ℕ)) → Says text line → Moves old line new
+    → HasTaken old texts → HasTaken new (texts ++ text ∷ [])
+moved old new text line texts says m h =
+    let r = taken_line texts text (lines_so_far old) (stack_of old) (stack_of new) line says m.stack (are_taken old texts h) in
+    record { sound = rw m.lines r.sound; spelled = rw m.lines r.spelled }
+
+pub passed : (n : Nesting) (text : List ℕ) (texts : List (List ℕ)) → is_skipped text ≡ true → HasTaken n texts
+    → HasTaken n (texts ++ text ∷ [])
+passed n text texts skipped h =
+    let r = taken_skipped texts text (lines_so_far n) (stack_of n) skipped (are_taken n texts h) in
+    record { sound = r.sound; spelled = r.spelled }
+
+pub stuck : (n : Nesting) (text : List ℕ) (line : Line) (texts : List (List ℕ)) → Says text line
+    → open_after (DEPTH_LIMIT + 1) (stack_of n) (line ∷ []) ≡ None → HasTaken n texts → BeginWithin (DEPTH_LIMIT + 1) (texts ++ text ∷ [])
+    → ⊥
+stuck n text line texts says none h = bad_line texts text (lines_so_far n) (stack_of n) line says none (are_taken n texts h)
+
+pub too_deep : (n : Nesting) (text : List ℕ) (line : Line) (texts : List (List ℕ)) → Says text line → IsFull n line → HasTaken n texts
+    → (Begin (texts ++ text ∷ []) → ⊥) × BeginWithin (DEPTH_LIMIT + 1) (texts ++ text ∷ [])
+too_deep n text line texts says f h = deep_line texts text (lines_so_far n) (stack_of n) line says f.opening f.full (are_taken n texts h)
+
+pub left_open : (n : Nesting) (texts : List (List ℕ)) → (length n.open.items ≡ 0 → ⊥) → HasTaken n texts → IsOpen texts (length texts)
+left_open n texts some h = by_stack (stack_of n) refl
   where
-    by_test : (t : Bool) → ltb n limit ≡ t → cond t x None ≡ Some st → (n < limit) × (x ≡ Some st)
-    by_test true e h = (grind (arith, nat_tests), h)
-    by_test false e h = cc
+    by_stack : (st : List Bool) → stack_of n ≡ st → IsOpen texts (length texts)
+    by_stack [] e = absurd (some (omega (arith, length-stack_on [] n.open.items, ap length e)))
+    by_stack (b ∷ st) e =
+        let r = are_taken n texts h in
+        let s : AreTaken texts (lines_so_far n) (b ∷ st) = subst (λ st. AreTaken texts (lines_so_far n) st) e r in
+        record {
+          after = refl;
+          good = taken_begins texts (lines_so_far n) (stack_of n) r;
+          open_ = λ script spelled. taken_open texts (lines_so_far n) b st script s spelled;
+        }
 
-pub within : (c : Code) (limit : ℕ) (st st' : List Bool) (ys : List Line) → length st ≤ limit → open_after limit st (script_lines c ++ ys) ≡ Some st' → length st + depth c ≤ limit
-within End limit st st' ys l h = omega arith
-within (Plain command rest) limit st st' ys l h = within rest limit st st' ys l h
-within (Halt rest) limit st st' ys l h = within rest limit st st' ys l h
-within (If condition body rest) limit st st' ys l h =
-    let r = room (length st) limit _ st' h in
-    let tail : List Line = says.Close ∷ (script_lines rest ++ ys) in
-    let e : open_after limit (true ∷ st) (script_lines body ++ tail) ≡ Some st' = ap (open_after limit (true ∷ st)) (sym (append_assoc (script_lines body) (says.Close ∷ script_lines rest) ys)) ∙ r.1 in
-    let b : suc (length st) + depth body ≤ limit = within body limit (true ∷ st) st' tail (omega (arith, r.0)) e in
-    let f = sym (through limit (true ∷ st) (true ∷ st) (script_lines body) tail (whole body limit (true ∷ st) b)) ∙ e in
-    let t : length st + depth rest ≤ limit = within rest limit st st' ys l f in
-    omega (arith, b, t)
-within (IfElse condition body other rest) limit st st' ys l h =
-    let r = room (length st) limit _ st' h in
-    let tail : List Line = says.Close ∷ (script_lines rest ++ ys) in
-    let turn : List Line = says.Else ∷ (script_lines other ++ tail) in
-    let regroup : script_lines body ++ turn ≡ ((script_lines body ++ says.Else ∷ script_lines other) ++ says.Close ∷ script_lines rest) ++ ys = simp append_assoc in
-    let e : open_after limit (true ∷ st) (script_lines body ++ turn) ≡ Some st' = ap (open_after limit (true ∷ st)) regroup ∙ r.1 in
-    let b : suc (length st) + depth body ≤ limit = within body limit (true ∷ st) st' turn (omega (arith, r.0)) e in
-    let f : open_after limit (false ∷ st) (script_lines other ++ tail) ≡ Some st' = sym (through limit (true ∷ st) (true ∷ st) (script_lines body) turn (whole body limit (true ∷ st) b)) ∙ e in
-    let o : suc (length st) + depth other ≤ limit = within other limit (false ∷ st) st' tail (omega (arith, r.0)) f in
-    let g = sym (through limit (false ∷ st) (false ∷ st) (script_lines other) tail (whole other limit (false ∷ st) o)) ∙ f in
-    let t : length st + depth rest ≤ limit = within rest limit st st' ys l g in
-    omega (arith, b, o, t)
-within (For x p body rest) limit st st' ys l h =
-    let r = room (length st) limit _ st' h in
-    let tail : List Line = says.Close ∷ (script_lines rest ++ ys) in
-    let e : open_after limit (false ∷ st) (script_lines body ++ tail) ≡ Some st' = ap (open_after limit (false ∷ st)) (sym (append_assoc (script_lines body) (says.Close ∷ script_lines rest) ys)) ∙ r.1 in
-    let b : suc (length st) + depth body ≤ limit = within body limit (false ∷ st) st' tail (omega (arith, r.0)) e in
-    let f = sym (through limit (false ∷ st) (false ∷ st) (script_lines body) tail (whole body limit (false ∷ st) b)) ∙ e in
-    let t : length st + depth rest ≤ limit = within rest limit st st' ys l f in
-    omega (arith, b, t)
+pub all_closed : (n : Nesting) (texts : List (List ℕ)) → n.open.items ≡ [] → HasTaken n texts
+    → Spell texts (code_of_statements n.statements.items)
+all_closed n texts none h =
+    let lines : lines_so_far n ≡ lines_in n.statements.items = rw none refl in
+    let stack : stack_of n ≡ [] = rw none refl in
+    taken_script texts (code_of_statements n.statements.items)
+    (record { spelled = rw (← lines) h.spelled; sound = rw (← lines) (h.sound ∙ ap Some stack) })
 
--- ---- lines that leave blocks open can be completed, by closing all of them
+pub is_script : (texts : List (List ℕ)) (script : Code) → Spell texts script → IsScript script
+is_script texts script h = record { deep = h.deep; lines = spelled_lines (said texts) (script_lines script) h.spelled }
 
-abbrev pub closes : ℕ → List Line
-closes n = replicate n says.Close
-
--- the lines are statements, a `}`, and what may stand behind it
-abbrev Closing : (List Line → Type 0) → List Line → Type 0
-Closing After lines = (c : Code) × (more : List Line) × (lines ≡ script_lines c ++ says.Close ∷ more) × After more
-
--- the lines complete a script in which these blocks are open
-abbrev Completes : List Bool → List Line → Type 0
-Completes [] lines = (c : Code) × (lines ≡ script_lines c)
-Completes (false ∷ st) lines = Closing (λ more. Completes st more) lines
-Completes (true ∷ st) lines = Closing (λ more. Completes st more) lines ⊎ ((c : Code) × (more : List Line) × (lines ≡ script_lines c ++ says.Else ∷ more) × Closing (λ more. Completes st more) more)
-
-closing_front : (front lines : List Line) (make : Code → Code) (After : List Line → Type 0) → ((c : Code) → script_lines (make c) ≡ front ++ script_lines c) → Closing After lines → Closing After (front ++ lines)
-closing_front front lines make After h (c, more, e, after) =
-    (make c, more, ap (λ ls. front ++ ls) e ∙ sym (append_assoc front (script_lines c) (says.Close ∷ more)) ∙ ap (λ ls. ls ++ says.Close ∷ more) (sym (h c)), after)
-
--- one statement more
-front_of : (st : List Bool) (front lines : List Line) (make : Code → Code) → ((c : Code) → script_lines (make c) ≡ front ++ script_lines c) → Completes st lines → Completes st (front ++ lines)
-front_of [] front lines make h (c, e) = (make c, ap (λ ls. front ++ ls) e ∙ sym (h c))
-front_of (false ∷ st) front lines make h k = closing_front front lines make (λ more. Completes st more) h k
-front_of (true ∷ st) front lines make h (inl k) = inl (closing_front front lines make (λ more. Completes st more) h k)
-front_of (true ∷ st) front lines make h (inr (c, more, e, k)) =
-    inr (make c, more, ap (λ ls. front ++ ls) e ∙ sym (append_assoc front (script_lines c) (says.Else ∷ more)) ∙ ap (λ ls. ls ++ says.Else ∷ more) (sym (h c)), k)
-
-all_closed : (st : List Bool) → Completes st (closes (length st))
-all_closed [] = (End, refl)
-all_closed (false ∷ st) = (End, closes (length st), refl, all_closed st)
-all_closed (true ∷ st) = inl (End, closes (length st), refl, all_closed st)
-
--- a block's first line, behind which the block and what is behind it are complete
-closed_for : (st : List Bool) (lines : List Line) (line : Line) (make : Code → Code → Code) → ((body c : Code) → script_lines (make body c) ≡ line ∷ script_lines body ++ says.Close ∷ script_lines c)
-    → Closing (λ more. Completes st more) lines → Completes st (line ∷ lines)
-closed_for st lines line make h (body, more, e, after) =
-    let front : List Line = line ∷ script_lines body ++ says.Close ∷ [] in
-    let regroup : front ++ more ≡ line ∷ lines = ap (λ ls. line ∷ ls) (append_assoc (script_lines body) (says.Close ∷ []) more ∙ sym e) in
-    let P : List Line → Type 0 = λ ls. Completes st ls in
-    subst P regroup (front_of st front more (make body) (λ c. h body c ∙ ap (λ ls. line ∷ ls) (sym (append_assoc (script_lines body) (says.Close ∷ []) (script_lines c)))) after)
-
--- the same for an `if`, whose body may have an else block behind it
-closed_if : (st : List Bool) (lines : List Line) (condition : Cond) → Completes (true ∷ st) lines → Completes st (says.If condition ∷ lines)
-closed_if st lines condition (inl k) = closed_for st lines (says.If condition) (λ body c. If condition body c) (λ body c. refl) k
-closed_if st lines condition (inr (body, more, e, (other, more', e', after))) =
-    let front : List Line = says.If condition ∷ script_lines body ++ says.Else ∷ script_lines other ++ says.Close ∷ [] in
-    let first : script_lines body ++ (says.Else ∷ (script_lines other ++ says.Close ∷ more')) ≡ lines = ap (λ ls. script_lines body ++ says.Else ∷ ls) (sym e') ∙ sym e in
-    let regroup : front ++ more' ≡ says.If condition ∷ lines = rw (← first) (simp append_assoc) in
-    let P : List Line → Type 0 = λ ls. Completes st ls in
-    subst P regroup (front_of st front more' (λ c. IfElse condition body other c) (λ c. simp append_assoc) after)
-
-pub complete : (limit : ℕ) (st st' : List Bool) (xs : List Line) → open_after limit st xs ≡ Some st' → Completes st (xs ++ closes (length st'))
-complete limit st st' [] h = let e : st ≡ st' = cc in rw (← e) (all_closed st)
-complete limit st st' (says.Do command ∷ xs) h = front_of st (says.Do command ∷ []) (xs ++ closes (length st')) (λ c. Plain command c) (λ c. refl) (complete limit st st' xs h)
-complete limit st st' (says.Stop ∷ xs) h = front_of st (says.Stop ∷ []) (xs ++ closes (length st')) Halt (λ c. refl) (complete limit st st' xs h)
-complete limit st st' (says.If condition ∷ xs) h = closed_if st (xs ++ closes (length st')) condition (complete limit (true ∷ st) st' xs (room (length st) limit _ st' h).1)
-complete limit st st' (says.For x p ∷ xs) h = closed_for st (xs ++ closes (length st')) (says.For x p) (λ body c. For x p body c) (λ body c. refl) (complete limit (false ∷ st) st' xs (room (length st) limit _ st' h).1)
-complete limit [] st' (says.Else ∷ xs) h = absurd cc
-complete limit (false ∷ st) st' (says.Else ∷ xs) h = absurd cc
-complete limit (true ∷ st) st' (says.Else ∷ xs) h = inr (End, xs ++ closes (length st'), refl, complete limit (false ∷ st) st' xs h)
-complete limit [] st' (says.Close ∷ xs) h = absurd cc
-complete limit (false ∷ st) st' (says.Close ∷ xs) h = (End, xs ++ closes (length st'), refl, complete limit st st' xs h)
-complete limit (true ∷ st) st' (says.Close ∷ xs) h = inl (End, xs ++ closes (length st'), refl, complete limit st st' xs h)
-
-pub open_after-closes : (limit : ℕ) (st : List Bool) → open_after limit st (closes (length st)) ≡ Some []
-open_after-closes limit [] = refl
-open_after-closes limit (b ∷ st) = open_after-closes limit st
-
--- ---- the law
-
--- the lines, and a `}` for each block that they leave open, are those of a script within the limit
-pub record Completed (limit : ℕ) (lines : List Line) (st : List Bool) : Type 0 where
-  pub script : Code
-  pub deep : depth script ≤ limit
-  pub whole_lines : lines ++ closes (length st) ≡ script_lines script
-
-pub completed : (limit : ℕ) (st : List Bool) (lines : List Line) → open_after limit [] lines ≡ Some st → Completed limit lines st
-completed limit st lines h =
-    let k = complete limit [] st lines h in
-    let e : open_after limit [] (script_lines k.0 ++ []) ≡ Some [] = rw (append-nil, ← k.1) (through limit [] st lines (closes (length st)) h ∙ open_after-closes limit st) in
-    let d : 0 + depth k.0 ≤ limit = within k.0 limit [] [] [] (omega arith) e in
-    record { script = k.0; deep = omega (arith, d); whole_lines = k.1 }
-
--- lines that can't stand there begin no script within the limit
-pub not_begun : (limit : ℕ) (lines more : List Line) (script : Code) → open_after limit [] lines ≡ None → depth script ≤ limit → lines ++ more ≡ script_lines script → ⊥
-not_begun limit lines more script none deep e =
-    let all : open_after limit [] (script_lines script) ≡ Some [] = whole script limit [] (omega arith) in
-    let cut : open_after limit [] (lines ++ more) ≡ None = open_after-append limit [] lines more ∙ ap (λ o. then_lines limit o more) none in
-    let same : open_after limit [] (script_lines script) ≡ None = ap (open_after limit []) (sym e) ∙ cut in
-    cc
-
--- lines that leave blocks open are no whole script
-pub not_whole : (limit : ℕ) (script : Code) (b : Bool) (st : List Bool) → open_after limit [] (script_lines script) ≡ Some (b ∷ st) → depth script ≤ limit → ⊥
-not_whole limit script b st h deep =
-    let all : open_after limit [] (script_lines script) ≡ Some [] = whole script limit [] (omega arith) in
-    cc
-
--- a higher limit changes nothing
-pub raised : (limit : ℕ) (st st' : List Bool) (lines : List Line) → open_after limit st lines ≡ Some st' → open_after (suc limit) st lines ≡ Some st'
-raised limit st st' [] h = h
-raised limit st st' (says.Do command ∷ lines) h = raised limit st st' lines h
-raised limit st st' (says.Stop ∷ lines) h = raised limit st st' lines h
-raised limit st st' (says.If condition ∷ lines) h =
-    let r = room (length st) limit _ st' h in
-    below (suc limit) (length st) _ (omega (arith, r.0)) ∙ raised limit (true ∷ st) st' lines r.1
-raised limit st st' (says.For x p ∷ lines) h =
-    let r = room (length st) limit _ st' h in
-    below (suc limit) (length st) _ (omega (arith, r.0)) ∙ raised limit (false ∷ st) st' lines r.1
-raised limit [] st' (says.Else ∷ lines) h = absurd cc
-raised limit (true ∷ st) st' (says.Else ∷ lines) h = raised limit (false ∷ st) st' lines h
-raised limit (false ∷ st) st' (says.Else ∷ lines) h = absurd cc
-raised limit [] st' (says.Close ∷ lines) h = absurd cc
-raised limit (b ∷ st) st' (says.Close ∷ lines) h = raised limit st st' lines h
-
--- no more blocks are open than the limit
-pub shallow : (limit : ℕ) (st st' : List Bool) (lines : List Line) → length st ≤ limit → open_after limit st lines ≡ Some st' → length st' ≤ limit
-shallow limit st st' [] l h = let e : st ≡ st' = cc in rw (← e) l
-shallow limit st st' (says.Do command ∷ lines) l h = shallow limit st st' lines l h
-shallow limit st st' (says.Stop ∷ lines) l h = shallow limit st st' lines l h
-shallow limit st st' (says.If condition ∷ lines) l h =
-    let r = room (length st) limit _ st' h in
-    shallow limit (true ∷ st) st' lines (omega (arith, r.0)) r.1
-shallow limit st st' (says.For x p ∷ lines) l h =
-    let r = room (length st) limit _ st' h in
-    shallow limit (false ∷ st) st' lines (omega (arith, r.0)) r.1
-shallow limit [] st' (says.Else ∷ lines) l h = absurd cc
-shallow limit (true ∷ st) st' (says.Else ∷ lines) l h = shallow limit (false ∷ st) st' lines l h
-shallow limit (false ∷ st) st' (says.Else ∷ lines) l h = absurd cc
-shallow limit [] st' (says.Close ∷ lines) l h = absurd cc
-shallow limit (b ∷ st) st' (says.Close ∷ lines) l h = shallow limit st st' lines (omega arith) h
+pub begun : (n : Nesting) (texts : List (List ℕ)) → HasTaken n texts → Begin texts
+begun n texts h = taken_begins texts (lines_so_far n) (stack_of n) (are_taken n texts h)

@@ -4,7 +4,7 @@ use Rattle.iot_lang.specs.Code.{Code, End, Plain, Halt, If, IfElse, For}
 use Rattle.iot_lang.specs.declared.blocks.Stmt.{Stmt}
 use Rattle.iot_lang.specs.declared.blocks.Stmt.TheVariants as statements
 
--- a statement in front of others
+-- a statement before others
 abbrev pub with_statement : Stmt → Code → Code
 with_statement (statements.Do command) rest = Plain command rest
 with_statement statements.Stop rest = Halt rest

@@ -5,9 +5,10 @@ pub mod Code
 pub mod Scripts
 pub mod Blocks
 pub mod Falls
-pub mod Reading
-pub mod Names
+pub mod Parsing
+pub mod Keywords
 pub mod Statements
+pub mod OpenBlocks
 pub mod Nesting
 pub mod Faults
 pub mod Print

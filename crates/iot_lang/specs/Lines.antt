@@ -1,7 +1,7 @@
--- The lines of a text, and what one line of a script says.
-use Rattle.std.specs.Prelude.{ℕ, ◌≡◌, Bool, true, ◌&&◌, not, ◌==◌, List, [], ◌∷◌, ◌++◌, IsTrue, codes, if◌then◌else◌}
+-- What one line of a script says.
+use Rattle.std.specs.Prelude.{ℕ, ◌≡◌, Bool, true, ◌&&◌, List, [], ◌∷◌, ◌++◌, IsTrue, codes}
 use Rattle.std.specs.List.{list_all}
-use Rattle.iot_lang.specs.Bytes.{is_blank}
+use Rattle.iot_lines.specs.Words.{is_blank}
 use Rattle.iot_lang.specs.Words.{word_text, is_word, is_variable}
 use Rattle.iot_lang.specs.declared.words.Command.{Command}
 use Rattle.iot_lang.specs.declared.words.Command.TheVariants as commands
@@ -9,29 +9,6 @@ use Rattle.iot_lang.specs.declared.words.Cond.{Cond}
 use Rattle.iot_lang.specs.declared.words.Cond.TheVariants as conditions
 use Rattle.iot_lang.specs.declared.lines.Line.{Line}
 use Rattle.iot_lang.specs.declared.lines.Line.TheVariants as says
-
--- ---- the lines of a text
-
--- a byte in front of a list of lines, on the first of them
-abbrev pub on_first : ℕ → List (List ℕ) → List (List ℕ)
-on_first b [] = (b ∷ []) ∷ []
-on_first b (line ∷ lines) = (b ∷ line) ∷ lines
-
--- the pieces between newlines; a newline at the very end begins no further piece
-abbrev pub lines_of : List ℕ → List (List ℕ)
-lines_of [] = []
-lines_of (b ∷ bs) = if b == 10 then [] ∷ lines_of bs else on_first b (lines_of bs)
-
--- a byte inside a line
-abbrev pub is_inside : ℕ → Bool
-is_inside b = not (b == 10)
-
--- ---- one line
-
--- whether a line is skipped: it has blanks alone, or its first byte after blanks is `#`
-abbrev pub is_skipped : List ℕ → Bool
-is_skipped [] = true
-is_skipped (b ∷ bs) = if is_blank b then is_skipped bs else b == 35
 
 -- the words of a condition
 abbrev pub condition_words : Cond → List (List ℕ)
@@ -90,7 +67,7 @@ is_command (commands.Cat p) = is_word p
 is_command (commands.List p) = is_word p
 is_command (commands.Keep p q) = is_word p && is_word q
 
--- whether the operands of a line are what they have to be
+-- whether the operands of a line are words and names as they should be
 abbrev pub is_line : Line → Bool
 is_line (says.Do command) = is_command command
 is_line says.Stop = true
@@ -107,7 +84,9 @@ is_end (b ∷ bs) = is_blank b
 -- the text is these words, with blanks between them; there may be blanks at both ends
 abbrev pub IsSpaced : List ℕ → List (List ℕ) → Type 0
 IsSpaced text [] = IsTrue (list_all is_blank text)
-IsSpaced text (word ∷ words) = (blanks rest : List ℕ) × IsTrue (list_all is_blank blanks) × (text ≡ blanks ++ word ++ rest) × IsTrue (is_end rest) × IsSpaced rest words
+IsSpaced text (word ∷ words) =
+    (blanks rest : List ℕ) × IsTrue (list_all is_blank blanks) × (text ≡ blanks ++ word ++ rest) × IsTrue (is_end rest)
+    × IsSpaced rest words
 
 -- the text spells the line
 abbrev pub SpellsLine : List ℕ → Line → Type 0

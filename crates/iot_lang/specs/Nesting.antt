@@ -1,9 +1,11 @@
--- The lines so far, and the blocks that they leave open.
-use Rattle.std.specs.Prelude.{ℕ, ◌≡◌, Bool, true, false, nat_lt, List, [], ◌∷◌, ◌++◌, length, Option, None, Some, IsTrue, ◌<◌, ◌≤◌, if◌then◌else◌}
+-- What is kept of the lines so far: the blocks that are open, and the statements in them.
+use Rattle.std.specs.Prelude.{ℕ, ◌≡◌, Bool, true, false, List, [], ◌∷◌, ◌++◌, length, None, Some, IsTrue, ◌<◌, ◌≤◌}
 use Rattle.std.specs.List.{flat_map}
 use Rattle.iot_lang.specs.Code.{Code, script_lines}
 use Rattle.iot_lang.specs.Scripts.{SpellEach, said}
 use Rattle.iot_lang.specs.Blocks.{code_of_statements}
+use Rattle.iot_lang.specs.OpenBlocks.{open_after, opens_block}
+use Rattle.iot_lang.specs.declared.nesting.TheConstants.{DEPTH_LIMIT}
 use Rattle.iot_lang.specs.declared.blocks.Stmt.{Stmt}
 use Rattle.iot_lang.specs.declared.blocks.Stmt.TheVariants as statements
 use Rattle.iot_lang.specs.declared.lines.Line.{Line}
@@ -12,22 +14,6 @@ use Rattle.iot_lang.specs.declared.nesting.Head.{Head}
 use Rattle.iot_lang.specs.declared.nesting.Head.TheVariants as heads
 use Rattle.iot_lang.specs.declared.nesting.Open.{Open}
 use Rattle.iot_lang.specs.declared.nesting.Nesting.{Nesting}
-
--- The blocks that lines leave open, innermost first, behind blocks that are open before them: for each
--- whether an else block may follow it. Nothing where a line can't stand where it does, or opens a block too many.
-abbrev pub open_after : ℕ → List Bool → List Line → Option (List Bool)
-open_after limit open_ [] = Some open_
-open_after limit open_ (says.Do command ∷ lines) = open_after limit open_ lines
-open_after limit open_ (says.Stop ∷ lines) = open_after limit open_ lines
-open_after limit open_ (says.If condition ∷ lines) = if nat_lt (length open_) limit then open_after limit (true ∷ open_) lines else None
-open_after limit open_ (says.For variable path ∷ lines) = if nat_lt (length open_) limit then open_after limit (false ∷ open_) lines else None
-open_after limit [] (says.Else ∷ lines) = None
-open_after limit (false ∷ open_) (says.Else ∷ lines) = None
-open_after limit (true ∷ open_) (says.Else ∷ lines) = open_after limit (false ∷ open_) lines
-open_after limit [] (says.Close ∷ lines) = None
-open_after limit (b ∷ open_) (says.Close ∷ lines) = open_after limit open_ lines
-
--- ---- what the reader keeps
 
 abbrev pub closed_by : Head → Code → Stmt
 closed_by (heads.If condition) body = statements.If condition body None
@@ -62,10 +48,10 @@ stack_of n = stack_on [] n.open.items
 
 -- the open blocks are those of the lines
 abbrev pub IsSound : Nesting → Type 0
-IsSound n = open_after 16 [] (lines_so_far n) ≡ Some (stack_of n)
+IsSound n = open_after DEPTH_LIMIT [] (lines_so_far n) ≡ Some (stack_of n)
 
--- these texts have been read
-pub record HasRead (n : Nesting) (texts : List (List ℕ)) : Type 0 where
+-- these texts have been taken
+pub record HasTaken (n : Nesting) (texts : List (List ℕ)) : Type 0 where
   pub sound : IsSound n
   pub spelled : SpellEach (said texts) (lines_so_far n)
 
@@ -78,20 +64,14 @@ pub record Adds (old : Nesting) (statement : Stmt) (new : Nesting) : Type 0 wher
 pub record Opens (old : Nesting) (head : Head) (new : Nesting) : Type 0 where
   pub lines : lines_so_far new ≡ lines_so_far old ++ head_lines head
   pub stack : stack_of new ≡ may_turn head ∷ stack_of old
-  pub room : length (stack_of old) < 16
+  pub room : length (stack_of old) < DEPTH_LIMIT
 
 -- a line has been taken
 pub record Moves (old : Nesting) (line : Line) (new : Nesting) : Type 0 where
   pub lines : lines_so_far new ≡ lines_so_far old ++ line ∷ []
-  pub stack : open_after 16 (stack_of old) (line ∷ []) ≡ Some (stack_of new)
-
--- whether the line opens a block
-abbrev pub opens_block : Line → Bool
-opens_block (says.If condition) = true
-opens_block (says.For variable path) = true
-opens_block _ = false
+  pub stack : open_after DEPTH_LIMIT (stack_of old) (line ∷ []) ≡ Some (stack_of new)
 
 -- the line opens a block, and 16 are open
 pub record IsFull (n : Nesting) (line : Line) : Type 0 where
   pub opening : IsTrue (opens_block line)
-  pub full : 16 ≤ length (stack_of n)
+  pub full : DEPTH_LIMIT ≤ length (stack_of n)

@@ -8,14 +8,14 @@ use Rattle.iot_lang.specs.declared.lines.Line.{Line}
 use Rattle.iot_lang.specs.declared.lines.Line.TheVariants as says
 use Rattle.iot_lang.specs.declared.blocks.Stmt.{Stmt}
 
--- each word behind a space
-abbrev pub behind_spaces : List (List ℕ) → List ℕ
-behind_spaces words = flat_map (λ word. 32 ∷ word) words
+-- each word after a space
+abbrev pub after_spaces : List (List ℕ) → List ℕ
+after_spaces words = flat_map (λ word. 32 ∷ word) words
 
 -- words with one space between them
 abbrev pub joined : List (List ℕ) → List ℕ
 joined [] = []
-joined (word ∷ words) = word ++ behind_spaces words
+joined (word ∷ words) = word ++ after_spaces words
 
 -- lines, each with its newline
 abbrev pub printed : List Line → List ℕ

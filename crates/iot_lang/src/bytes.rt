@@ -1,23 +1,18 @@
-//! Which bytes stand where, and how far bytes of a kind go.
-#![tactic(auto, using(crate::proofs::Fronts::fronts))]
+//! Which bytes may be where, and how many of them a text begins with.
+#![tactic(auto, using(iot_lines::proofs::FrontsLaws::fronts))]
 
 ghost use Rattle.std.specs.Prelude.{◌≡◌, ◌≤◌, length};
 ghost use Rattle.std.specs.List.{list_all, prefix_len};
 ghost use Rattle.iot_lang.specs.Words.{is_variable};
-ghost use Rattle.iot_lang.specs.Bytes.{is_blank, is_plain_byte, is_quoted_byte, is_variable_byte};
+ghost use Rattle.iot_lines.specs.Words.{is_blank};
+ghost use Rattle.iot_lang.specs.Bytes.{is_plain_byte, is_quoted_byte, is_variable_byte};
 ghost use Rattle.iot_lang.specs.Lines.{is_end};
-ghost use Rattle.iot_lang.specs.Reading.{front, behind, is_solid, name_len};
+ghost use Rattle.iot_lang.specs.Parsing.{name_len};
+
+use iot_lines::is_blank;
 
 /// How many bytes a variable's name has at most.
-const NAME_LIMIT: usize = 32;
-
-/// Whether the byte is a space or a tab.
-#[inline]
-pub(crate) fn is_blank(byte: u8) -> bool
-    ensures { result ≡ is_blank byte }
-{
-    byte == b' ' || byte == b'\t'
-}
+pub const VARIABLE_LIMIT: usize = 32;
 
 /// Whether the byte is a letter, a digit or `_`.
 #[inline]
@@ -27,7 +22,7 @@ pub(crate) fn is_variable_byte(byte: u8) -> bool
     byte.is_ascii_alphanumeric() || byte == b'_'
 }
 
-/// Whether the byte stands for itself outside quotes.
+/// Whether the byte means itself outside quotes.
 #[inline]
 pub(crate) fn is_plain_byte(byte: u8) -> bool
     ensures { result ≡ is_plain_byte byte }
@@ -35,7 +30,7 @@ pub(crate) fn is_plain_byte(byte: u8) -> bool
     (b'!'..=b'~').contains(&byte) && !matches!(byte, b'"' | b'$' | b'\\' | b'{' | b'}')
 }
 
-/// Whether the byte stands for itself in quotes.
+/// Whether the byte means itself in quotes.
 #[inline]
 pub(crate) fn is_quoted_byte(byte: u8) -> bool
     ensures { result ≡ is_quoted_byte byte }
@@ -54,23 +49,7 @@ pub(crate) fn is_end(text: &[u8]) -> bool
     }
 }
 
-/// How many blanks the text begins with.
-fn blank_len(text: &[u8]) -> usize
-    ensures len { result ≡ prefix_len is_blank text.now }
-    ensures within { result ≤ length text.now }
-{
-    text.iter().take_while(|byte| is_blank(**byte)).count()
-}
-
-/// How many bytes come before the first blank.
-fn solid_len(text: &[u8]) -> usize
-    ensures len { result ≡ prefix_len is_solid text.now }
-    ensures within { result ≤ length text.now }
-{
-    text.iter().take_while(|byte| !is_blank(**byte)).count()
-}
-
-/// How many bytes that stand for themselves the text begins with.
+/// How many bytes that mean themselves the text begins with.
 pub(crate) fn plain_len(text: &[u8]) -> usize
     ensures len { result ≡ prefix_len is_plain_byte text.now }
     ensures within { result ≤ length text.now }
@@ -88,27 +67,12 @@ fn variable_len(text: &[u8]) -> usize
         .count()
 }
 
-/// How many bytes the longest variable's name at the front of the text has.
+/// How long the longest variable's name is that the text begins with.
 pub(crate) fn name_len(text: &[u8]) -> usize
     ensures len { result ≡ name_len text.now }
     ensures within { result ≤ length text.now }
 {
-    variable_len(text).min(NAME_LIMIT)
-}
-
-/// The text without the blanks at its front.
-pub(crate) fn skip_blanks(text: &[u8]) -> &[u8]
-    ensures { result.now ≡ behind is_blank text.now }
-{
-    &text[blank_len(text)..]
-}
-
-/// The bytes up to the first blank, and the rest.
-pub(crate) fn split_run(text: &[u8]) -> (&[u8], &[u8])
-    ensures run { result.0.now ≡ front is_solid text.now }
-    ensures rest { result.1.now ≡ behind is_solid text.now }
-{
-    text.split_at(solid_len(text))
+    variable_len(text).min(VARIABLE_LIMIT)
 }
 
 /// Whether there are blanks alone.
@@ -129,5 +93,5 @@ fn are_variable_bytes(text: &[u8]) -> bool
 pub(crate) fn is_variable(text: &[u8]) -> bool
     ensures { result ≡ is_variable text.now }
 {
-    !text.is_empty() && text.len() <= NAME_LIMIT && are_variable_bytes(text)
+    !text.is_empty() && text.len() <= VARIABLE_LIMIT && are_variable_bytes(text)
 }

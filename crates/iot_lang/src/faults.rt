@@ -3,26 +3,26 @@ use crate::NoMemory;
 use std::alloc::AllocFailed;
 use thiserror::Error;
 
-/// Why a text was not read as a script. Lines count from 0.
+/// Why a text was not parsed as a script. Lines count from 0.
 ///
-/// `line` is the first one such that the lines up to and with it begin no script. Where each line is
-/// good, but a block is open behind the last one, it is the number of lines.
+/// `line` is the first one such that the lines up to and with it begin no script. If each line is
+/// good, but a block is open after the last one, it is the number of lines.
 #[derive(Debug, Drop, Error)]
 pub enum LangFault {
-    /// There was no memory for the script. No clause says when this comes.
+    /// There was no memory for the script. Running out of memory is always allowed.
     #[error("out of memory")]
     NoMemory,
 
-    /// The line is no statement, or none that can stand there.
+    /// The line is no statement, or none that is allowed there.
     #[error("line {line} is no statement")]
     BadStatement { line: u64 },
 
-    /// The line opens a 17th block.
+    /// The line opens a block inside 16 others.
     #[error("line {line} opens a block too many")]
     TooDeep { line: u64 },
 }
 
-/// Why a part of a line was not read.
+/// Why a part of a line was not parsed.
 #[derive(Drop)]
 pub(crate) enum PartFault {
     NoMemory,

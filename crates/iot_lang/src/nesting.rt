@@ -1,7 +1,8 @@
-//! The blocks that are open while lines are read.
-ghost use Rattle.std.specs.Prelude.{◌≡◌, ◌≢◌, ◌≤◌, ◌∷◌, [], None, Err, OnOk, IfSome, IfNone, IsOkUnless, ℕ, List, length};
+//! The blocks that are open while the lines of a script are taken.
+ghost use Rattle.std.specs.Prelude.{◌≡◌, ◌≢◌, ◌≤◌, ◌+◌, ◌∷◌, [], None, Err, OnOk, IfSome, IfNone, IsOkUnless, ℕ, List, length};
 ghost use Rattle.iot_lang.specs.Scripts.{Spell, IsOpen};
-ghost use Rattle.iot_lang.specs.Nesting.{HasRead, closed_by, open_after, stack_of, lines_so_far, IsSound, Adds, Opens, Moves, IsFull};
+ghost use Rattle.iot_lang.specs.Nesting.{HasTaken, closed_by, stack_of, lines_so_far, IsSound, Adds, Opens, Moves, IsFull};
+ghost use Rattle.iot_lang.specs.OpenBlocks.{open_after};
 ghost use Rattle.iot_lang.specs.declared.lines.Line.TheVariants as says;
 
 use crate::blocks::{Block, Stmt};
@@ -13,8 +14,8 @@ use iot_text::Text;
 use std::alloc::Global;
 use std::mem;
 
-/// How many blocks may stand in one another.
-const DEPTH_LIMIT: usize = 16;
+/// How deep blocks nest at most.
+pub const DEPTH_LIMIT: usize = 16;
 
 /// How the statement of an open block begins.
 #[derive(Drop)]
@@ -24,7 +25,7 @@ pub(crate) enum Head {
     For(Text, Word),
 }
 
-/// An open block: the statements before the one that it belongs to, and that one's beginning.
+/// An open block: the statements before the one that it belongs to, and how that one begins.
 #[derive(Drop)]
 pub(crate) struct Open {
     before: Vec<Stmt>,
@@ -75,10 +76,10 @@ impl Nesting {
         }
     }
 
-    /// Takes the next line. After an `Err` nothing is known of what was read.
+    /// Takes the next line. After an `Err` do not use the lines so far.
     pub(crate) fn take(&mut self, alloc: Global, line: Line) -> Result<(), LineFault>
         ensures moves { OnOk result (Moves self.old line self.new) }
-        ensures bad { result ≡ Err LineFault.BadStatement → open_after 17 (stack_of self.old) (line ∷ []) ≡ None }
+        ensures bad { result ≡ Err LineFault.BadStatement → open_after (DEPTH_LIMIT + 1) (stack_of self.old) (line ∷ []) ≡ None }
         ensures deep { result ≡ Err LineFault.TooDeep → IsFull self.old line }
     {
         match line {
@@ -104,7 +105,7 @@ impl Nesting {
     fn open(&mut self, alloc: Global, head: Head) -> Result<(), LineFault>
         ensures opens { OnOk result (Opens self.old head self.new) }
         ensures not_bad { result ≢ Err LineFault.BadStatement }
-        ensures deep { result ≡ Err LineFault.TooDeep → 16 ≤ length (stack_of self.old) }
+        ensures deep { result ≡ Err LineFault.TooDeep → DEPTH_LIMIT ≤ length (stack_of self.old) }
     {
         if self.open.len() >= DEPTH_LIMIT {
             return Err(LineFault::TooDeep);
@@ -117,7 +118,7 @@ impl Nesting {
     /// Ends the first block of an `if` and opens its else block.
     fn turn(&mut self, alloc: Global) -> Result<(), LineFault>
         ensures moves { OnOk result (Moves self.old says.Else self.new) }
-        ensures bad { result ≡ Err LineFault.BadStatement → open_after 17 (stack_of self.old) (says.Else ∷ []) ≡ None }
+        ensures bad { result ≡ Err LineFault.BadStatement → open_after (DEPTH_LIMIT + 1) (stack_of self.old) (says.Else ∷ []) ≡ None }
         ensures not_deep { result ≢ Err LineFault.TooDeep }
     {
         let Some(Open { before, head }) = self.open.pop() else {
@@ -135,7 +136,7 @@ impl Nesting {
     /// Ends the innermost block.
     fn close(&mut self) -> Result<(), LineFault>
         ensures moves { OnOk result (Moves self.old says.Close self.new) }
-        ensures bad { result ≡ Err LineFault.BadStatement → open_after 17 (stack_of self.old) (says.Close ∷ []) ≡ None }
+        ensures bad { result ≡ Err LineFault.BadStatement → open_after (DEPTH_LIMIT + 1) (stack_of self.old) (says.Close ∷ []) ≡ None }
         ensures not_deep { result ≢ Err LineFault.TooDeep }
     {
         let Some(Open { before, head }) = self.open.pop() else {
@@ -148,9 +149,9 @@ impl Nesting {
 
     /// The script, if no block is open.
     pub(crate) fn finish(self) -> Option<Script>
-        requires { (texts : List (List ℕ)) × HasRead self texts }
-        ensures found { IfSome result (λ script. (texts : List (List ℕ)) → HasRead self texts → Spell texts script) }
-        ensures none { IfNone result ((texts : List (List ℕ)) → HasRead self texts → IsOpen texts (length texts)) }
+        requires { (texts : List (List ℕ)) × HasTaken self texts }
+        ensures found { IfSome result (λ script. (texts : List (List ℕ)) → HasTaken self texts → Spell texts script) }
+        ensures none { IfNone result ((texts : List (List ℕ)) → HasTaken self texts → IsOpen texts (length texts)) }
     {
         let Nesting { open, statements } = self;
         if !open.is_empty() {

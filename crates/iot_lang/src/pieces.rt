@@ -1,10 +1,11 @@
-//! Reading words, piece by piece.
+//! Parsing words, piece by piece.
 ghost use Rattle.std.specs.Prelude.{◌≡◌, ◌<◌, ◌≤◌, IfOk, length};
-ghost use Rattle.iot_lang.specs.Reading.{Gives, escaped, quoted_byte_at, quoted_at, plain_at, variable_at, piece_at, word_at};
+ghost use Rattle.iot_lang.specs.Parsing.{Parses, escaped, quoted_byte_at, quoted_at, plain_at, variable_at, piece_at, word_at};
 
-use crate::bytes::{is_end, is_quoted_byte, name_len, plain_len, skip_blanks};
+use crate::bytes::{is_end, is_quoted_byte, name_len, plain_len};
 use crate::faults::PartFault;
 use crate::words::{Piece, Word};
+use iot_lines::without_blanks;
 use iot_text::Text;
 use std::alloc::{AllocError, Global};
 
@@ -15,7 +16,7 @@ pub(crate) fn text_of(alloc: Global, bytes: &[u8]) -> Result<Text, AllocError>
     Ok(Text::from(Vec::from_slice(alloc, bytes)?))
 }
 
-/// What the byte behind a backslash stands for.
+/// What the byte after a backslash means.
 fn escaped(byte: u8) -> Option<u8>
     ensures { result ≡ escaped byte }
 {
@@ -26,92 +27,92 @@ fn escaped(byte: u8) -> Option<u8>
     }
 }
 
-/// What `byte`, the next byte of a quoted text and not its end, stands for, and what is behind it.
-fn quoted_byte(byte: u8, behind: &[u8]) -> Result<(u8, &[u8]), PartFault>
-    ensures gives { Gives (λ part. (part.0, part.1.now)) result (quoted_byte_at byte behind.now) }
-    ensures shorter { IfOk result (λ part. length part.1.now ≤ length behind.now) }
+/// What `byte`, the next byte of a quoted text and not its end, means, and what comes after it.
+fn quoted_byte(byte: u8, after: &[u8]) -> Result<(u8, &[u8]), PartFault>
+    ensures parses { Parses (λ part. (part.0, part.1.now)) result (quoted_byte_at byte after.now) }
+    ensures shorter { IfOk result (λ part. length part.1.now ≤ length after.now) }
 {
     if byte == b'\\' {
-        let (code, behind) = behind.split_first().ok_or(PartFault::Malformed)?;
+        let (code, after) = after.split_first().ok_or(PartFault::Malformed)?;
         let byte = escaped(*code).ok_or(PartFault::Malformed)?;
-        return Ok((byte, behind));
+        return Ok((byte, after));
     }
     if is_quoted_byte(byte) {
-        return Ok((byte, behind));
+        return Ok((byte, after));
     }
     Err(PartFault::Malformed)
 }
 
-/// A quoted text whose first quote has been read.
+/// A quoted text after its first quote.
 fn quoted(alloc: Global, text: &[u8]) -> Result<(Text, &[u8]), PartFault>
-    ensures gives { Gives (λ part. (part.0, part.1.now)) result (quoted_at text.now) }
+    ensures parses { Parses (λ part. (part.0, part.1.now)) result (quoted_at text.now) }
     ensures shorter { IfOk result (λ part. length part.1.now < length text.now) }
 {
     let mut bytes = Vec::new(alloc);
     let mut rest = text;
-    'bytes: while let Some((byte, behind)) = rest.split_first() {
+    'bytes: while let Some((byte, after)) = rest.split_first() {
         if *byte == b'"' {
-            return Ok((Text::from(bytes), behind));
+            return Ok((Text::from(bytes), after));
         }
-        let (byte, behind) = quoted_byte(*byte, behind)?;
+        let (byte, after) = quoted_byte(*byte, after)?;
         bytes.push(byte)?;
-        rest = behind;
+        rest = after;
     }
     Err(PartFault::Malformed)
 }
 
-/// A run of bytes that stand for themselves.
+/// A run of bytes that mean themselves.
 fn plain(alloc: Global, text: &[u8]) -> Result<(Piece, &[u8]), PartFault>
-    ensures gives { Gives (λ part. (part.0, part.1.now)) result (plain_at text.now) }
+    ensures parses { Parses (λ part. (part.0, part.1.now)) result (plain_at text.now) }
     ensures shorter { IfOk result (λ part. length part.1.now < length text.now) }
 {
     let len = plain_len(text);
     if len == 0 {
         return Err(PartFault::Malformed);
     }
-    let (run, behind) = text.split_at(len);
-    Ok((Piece::Plain(text_of(alloc, run)?), behind))
+    let (run, after) = text.split_at(len);
+    Ok((Piece::Plain(text_of(alloc, run)?), after))
 }
 
-/// A variable whose `$` has been read.
+/// A variable, after its `$`.
 fn variable(alloc: Global, text: &[u8]) -> Result<(Piece, &[u8]), PartFault>
-    ensures gives { Gives (λ part. (part.0, part.1.now)) result (variable_at text.now) }
+    ensures parses { Parses (λ part. (part.0, part.1.now)) result (variable_at text.now) }
     ensures shorter { IfOk result (λ part. length part.1.now < length text.now) }
 {
     let len = name_len(text);
     if len == 0 {
         return Err(PartFault::Malformed);
     }
-    let (name, behind) = text.split_at(len);
-    Ok((Piece::Var(text_of(alloc, name)?), behind))
+    let (name, after) = text.split_at(len);
+    Ok((Piece::Var(text_of(alloc, name)?), after))
 }
 
-/// The piece at the front of the text, and what is behind it.
+/// The piece that the text begins with, and what comes after it.
 fn piece(alloc: Global, text: &[u8]) -> Result<(Piece, &[u8]), PartFault>
-    ensures gives { Gives (λ part. (part.0, part.1.now)) result (piece_at text.now) }
+    ensures parses { Parses (λ part. (part.0, part.1.now)) result (piece_at text.now) }
     ensures shorter { IfOk result (λ part. length part.1.now < length text.now) }
 {
-    let (first, behind) = text.split_first().ok_or(PartFault::Malformed)?;
+    let (first, after) = text.split_first().ok_or(PartFault::Malformed)?;
     match *first {
         b'"' => {
-            let (bytes, behind) = quoted(alloc, behind)?;
-            Ok((Piece::Quoted(bytes), behind))
+            let (bytes, after) = quoted(alloc, after)?;
+            Ok((Piece::Quoted(bytes), after))
         }
-        b'$' => variable(alloc, behind),
+        b'$' => variable(alloc, after),
         _ => plain(alloc, text),
     }
 }
 
-/// The word behind blanks at the front of the text, and what is behind it.
+/// The word that the text begins with after blanks, and what comes after it.
 pub(crate) fn word(alloc: Global, text: &[u8]) -> Result<(Word, &[u8]), PartFault>
-    ensures { Gives (λ part. (part.0, part.1.now)) result (word_at text.now) }
+    ensures { Parses (λ part. (part.0, part.1.now)) result (word_at text.now) }
 {
     let mut pieces = Vec::new(alloc);
-    let mut rest = skip_blanks(text);
+    let mut rest = without_blanks(text);
     'pieces: while !is_end(rest) {
-        let (piece, behind) = piece(alloc, rest)?;
+        let (piece, after) = piece(alloc, rest)?;
         pieces.push(piece)?;
-        rest = behind;
+        rest = after;
     }
     if pieces.is_empty() {
         return Err(PartFault::Malformed);

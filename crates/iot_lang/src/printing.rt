@@ -1,10 +1,11 @@
 //! Printing scripts.
 ghost use Rattle.std.specs.Prelude.{◌≡◌, [], ◌∷◌, ◌++◌, OnOk, IfOk};
+ghost use Rattle.iot_lines.specs.Lines.{lines};
 ghost use Rattle.iot_lang.specs.Words.{piece_text, word_text};
-ghost use Rattle.iot_lang.specs.Lines.{lines_of, command_words, condition_words};
+ghost use Rattle.iot_lang.specs.Lines.{command_words, condition_words};
 ghost use Rattle.iot_lang.specs.Code.{script_lines};
 ghost use Rattle.iot_lang.specs.Scripts.{Spell};
-ghost use Rattle.iot_lang.specs.Print.{behind_spaces, joined, printed, otherwise_lines, statement_lines};
+ghost use Rattle.iot_lang.specs.Print.{after_spaces, joined, printed, otherwise_lines, statement_lines};
 ghost use Rattle.iot_lang.specs.declared.lines.Line.TheVariants as says;
 
 use crate::NoMemory;
@@ -30,7 +31,7 @@ fn put_piece(piece: &Piece, out: &mut Text) -> Result<(), NoMemory>
 
 /// Appends a space and a word.
 fn put_word(word: &Word, out: &mut Text) -> Result<(), NoMemory>
-    ensures { OnOk result (out.new ≡ out.old ++ behind_spaces (word_text word.now ∷ [])) }
+    ensures { OnOk result (out.new ≡ out.old ++ after_spaces (word_text word.now ∷ [])) }
 {
     out.push(b' ')?;
     'pieces: for piece in word.pieces() {
@@ -181,7 +182,7 @@ fn put_block(block: &Block, out: &mut Text) -> Result<(), NoMemory>
 
 /// The text of a script: lines that spell it, each ended by a newline.
 pub fn print(alloc: Global, script: &Script) -> Result<Text, NoMemory>
-    ensures { IfOk result (λ text. Spell (lines_of text) script.now) }
+    ensures { IfOk result (λ text. Spell (lines text) script.now) }
 {
     let mut out = Text::new(alloc);
     put_block(script.block(), &mut out)?;

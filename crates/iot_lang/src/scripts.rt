@@ -2,7 +2,7 @@
 use crate::blocks::Block;
 use std::marker::Model;
 
-/// A script, which some lines spell: its blocks stand in one another at most 16 deep, and its
+/// A script, which some lines spell: its blocks nest at most 16 deep, and its
 /// words and names are well-formed. Contracts see it as its `Code`.
 #[derive(Debug, Drop)]
 pub struct Script {

@@ -10,13 +10,18 @@ append /d/a 2\ncopy /d/a /d/b\nconcat /c /a /b\nmv /a /b\ncat /a\nls /\nkeep /a 
 if file /a {\nif dir /b {\nif same /a /b {\nstop\n}\n} else {\n}\n} else {\nif ok {\n} else {\necho no\n}\n}\n\
 for x in /d {\necho $x\n}\n";
 
+/// Seventeen blocks in one another, with an empty line before the last one's first.
+const TOO_DEEP: &[u8] =
+    b"if ok {\nif ok {\nif ok {\nif ok {\nif ok {\nif ok {\nif ok {\nif ok {\nif ok {\nif ok {\n\
+if ok {\nif ok {\nif ok {\nif ok {\nif ok {\nif ok {\n\nif ok {\n";
+
 /// The printed text of the script that a text spells.
 fn reprinted(rt: &HostRuntime, text: &[u8]) -> Result<Vec<u8>, Fail> {
     let script = parse(rt.alloc(), text)?;
     Ok(print(rt.alloc(), &script)?.into_bytes())
 }
 
-/// The kind and the line of the fault of a text: 1 for a bad statement, 2 for a block too deep.
+/// Which fault a text has, and its line of a text: 1 for a bad statement, 2 for a block too deep.
 fn fault(rt: &HostRuntime, text: &[u8]) -> (u8, u64) {
     match parse(rt.alloc(), text) {
         Ok(_) | Err(LangFault::NoMemory) => (0, 0),
@@ -40,11 +45,5 @@ fn names_the_first_bad_line(rt: HostRuntime) {
     assert_eq!(rt; fault(&rt, b"if ok {\n} else {\n} else {\n}"), (1, 2));
     assert_eq!(rt; fault(&rt, b"if ok {\necho a\n"), (1, 2));
     assert_eq!(rt; fault(&rt, b"echo \"a\\t\""), (1, 0));
-    assert_eq!(rt;
-        fault(
-            &rt,
-            b"if ok {\nif ok {\nif ok {\nif ok {\nif ok {\nif ok {\nif ok {\nif ok {\nif ok {\nif ok {\nif ok {\nif ok {\nif ok {\nif ok {\nif ok {\nif ok {\n\nif ok {\n"
-        ),
-        (2, 17)
-    );
+    assert_eq!(rt; fault(&rt, TOO_DEEP), (2, 17));
 }

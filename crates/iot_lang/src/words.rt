@@ -5,10 +5,10 @@ use std::marker::Model;
 /// A part of a word.
 #[derive(Debug, Drop)]
 pub enum Piece {
-    /// Bytes that stand for themselves.
+    /// Bytes that mean themselves.
     Plain(Text),
 
-    /// The bytes for which a quoted text stands.
+    /// The bytes that a quoted text means.
     Quoted(Text),
 
     /// The name of a variable, without its `$`.

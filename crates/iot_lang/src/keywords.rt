@@ -1,6 +1,6 @@
 //! The first words of lines, and the words of conditions.
 ghost use Rattle.std.specs.Prelude.{◌≡◌};
-ghost use Rattle.iot_lang.specs.Names.{name_at, kind_at, with_one, with_two, with_variable};
+ghost use Rattle.iot_lang.specs.Keywords.{keyword_at, test_at, with_one, with_two, with_variable};
 
 use crate::words::{Command, Word};
 use iot_text::Text;
@@ -35,7 +35,7 @@ pub(crate) enum Named {
 
 /// What the first word of a line names.
 #[derive(Clone, Copy)]
-pub(crate) enum Name {
+pub(crate) enum Keyword {
     One(One),
     Two(Two),
     Named(Named),
@@ -48,7 +48,7 @@ pub(crate) enum Name {
 
 /// What the first word of a condition names.
 #[derive(Clone, Copy)]
-pub(crate) enum Kind {
+pub(crate) enum Test {
     File,
     Dir,
     Same,
@@ -99,41 +99,41 @@ impl Named {
 }
 
 /// What the first word of a line names, if anything.
-pub(crate) fn name_of(word: &[u8]) -> Option<Name>
-    ensures { result ≡ name_at word.now }
+pub(crate) fn keyword_of(word: &[u8]) -> Option<Keyword>
+    ensures { result ≡ keyword_at word.now }
 {
     match word {
-        b"echo" => Some(Name::One(One::Echo)),
-        b"mkdir" => Some(Name::One(One::MakeDir)),
-        b"rmdir" => Some(Name::One(One::RemoveDir)),
-        b"rm" => Some(Name::One(One::Remove)),
-        b"cat" => Some(Name::One(One::Cat)),
-        b"ls" => Some(Name::One(One::List)),
-        b"write" => Some(Name::Two(Two::Write)),
-        b"append" => Some(Name::Two(Two::Append)),
-        b"copy" => Some(Name::Two(Two::Copy)),
-        b"mv" => Some(Name::Two(Two::Move)),
-        b"keep" => Some(Name::Two(Two::Keep)),
-        b"set" => Some(Name::Named(Named::Set)),
-        b"read" => Some(Name::Named(Named::Read)),
-        b"concat" => Some(Name::Concat),
-        b"if" => Some(Name::If),
-        b"for" => Some(Name::For),
-        b"stop" => Some(Name::Stop),
-        b"}" => Some(Name::Close),
+        b"echo" => Some(Keyword::One(One::Echo)),
+        b"mkdir" => Some(Keyword::One(One::MakeDir)),
+        b"rmdir" => Some(Keyword::One(One::RemoveDir)),
+        b"rm" => Some(Keyword::One(One::Remove)),
+        b"cat" => Some(Keyword::One(One::Cat)),
+        b"ls" => Some(Keyword::One(One::List)),
+        b"write" => Some(Keyword::Two(Two::Write)),
+        b"append" => Some(Keyword::Two(Two::Append)),
+        b"copy" => Some(Keyword::Two(Two::Copy)),
+        b"mv" => Some(Keyword::Two(Two::Move)),
+        b"keep" => Some(Keyword::Two(Two::Keep)),
+        b"set" => Some(Keyword::Named(Named::Set)),
+        b"read" => Some(Keyword::Named(Named::Read)),
+        b"concat" => Some(Keyword::Concat),
+        b"if" => Some(Keyword::If),
+        b"for" => Some(Keyword::For),
+        b"stop" => Some(Keyword::Stop),
+        b"}" => Some(Keyword::Close),
         _ => None,
     }
 }
 
 /// What the first word of a condition names, if anything.
-pub(crate) fn kind_of(word: &[u8]) -> Option<Kind>
-    ensures { result ≡ kind_at word.now }
+pub(crate) fn test_of(word: &[u8]) -> Option<Test>
+    ensures { result ≡ test_at word.now }
 {
     match word {
-        b"file" => Some(Kind::File),
-        b"dir" => Some(Kind::Dir),
-        b"same" => Some(Kind::Same),
-        b"ok" => Some(Kind::Ok),
+        b"file" => Some(Test::File),
+        b"dir" => Some(Test::Dir),
+        b"same" => Some(Test::Same),
+        b"ok" => Some(Test::Ok),
         _ => None,
     }
 }

@@ -1,8 +1,8 @@
 -- Which kinds of bytes exclude which.
 use Rattle.std.proofs.Common.{◌≡◌, ◌⊎◌, inl, inr, ℕ, Bool, true, false, ◌||◌, eqb, refl, arith}
+use Rattle.iot_lines.specs.Words.{is_blank, is_solid}
 use Rattle.std.proofs.lemmas.Bool.Decides.{nat_tests}
-use Rattle.iot_lang.specs.Bytes.{is_blank, is_plain_byte, is_variable_byte, is_quoted_byte}
-use Rattle.iot_lang.specs.Reading.{is_solid}
+use Rattle.iot_lang.specs.Bytes.{is_plain_byte, is_variable_byte, is_quoted_byte}
 
 pub either : (a b : Bool) → (a || b) ≡ true → (a ≡ true) ⊎ (b ≡ true)
 either true b h = inl refl

@@ -1,14 +1,17 @@
 -- Texts, the lines that they spell, and the scripts that they begin.
-use Rattle.std.proofs.Common.{◌≡◌, ◌⊎◌, inl, inr, ◌+◌, ◌<◌, ◌≤◌, ◌++◌, ℕ, zero, suc, Bool, true, false, not, List, [], ◌∷◌, length, take, drop, replicate, Option, Some, None, refl, sym, ap, subst, ⊎_elim, ◌∙◌, append_assoc, arith, codes, add-one, Result, Ok, Err, IfOk, IfErr}
+use Rattle.std.proofs.Common.{◌≡◌, ◌⊎◌, inl, inr, ◌+◌, ◌<◌, ◌≤◌, ◌++◌, ℕ, zero, suc, Bool, true, false, not, List, [], ◌∷◌, length, take}
+use Rattle.std.proofs.Common.{drop, replicate, Option, Some, None, refl, sym, ap, subst, ⊎_elim, ◌∙◌, append_assoc, arith, codes, add-one}
+use Rattle.std.proofs.Common.{Result, Ok, Err, IfOk, IfErr}
+use Rattle.iot_lang.specs.OpenBlocks.{open_after, opens_block}
+use Rattle.iot_lines.specs.Words.{is_skipped}
 use Rattle.std.specs.List.{list_all}
 use Rattle.std.proofs.lemmas.List.{append-nil, take-append-drop, take-take, drop-drop, length-take-le}
 use Rattle.std.proofs.lemmas.List.Elements.{filter-append}
-use Rattle.iot_lang.specs.Lines.{is_skipped, SpellsLine, is_line}
+use Rattle.iot_lang.specs.Lines.{SpellsLine, is_line}
 use Rattle.iot_lang.specs.Code.{Code, script_lines, depth, same_code}
 use Rattle.iot_lang.specs.Scripts.{SpellEach, said, SpellWithin, Spell, BeginWithin, Begin, IsFirstBad, IsTooDeep, IsBadStatement, IsOpen}
 use Rattle.iot_lang.specs.Statements.{line_of, said_by, if_said}
-use Rattle.iot_lang.specs.Nesting.{open_after, opens_block}
-use Rattle.iot_lang.specs.Reading.{Fails}
+use Rattle.iot_lang.specs.Parsing.{Fails}
 use Rattle.iot_lang.specs.Faults.{HasFault, UnlessMemory, fault_at, line_fault}
 use Rattle.iot_lang.specs.declared.faults.LangFault.{LangFault}
 use Rattle.iot_lang.specs.declared.faults.LangFault.TheVariants as faults
@@ -18,9 +21,10 @@ use Rattle.iot_lang.specs.declared.faults.PartFault.{PartFault}
 use Rattle.iot_lang.specs.declared.faults.PartFault.TheVariants as part_faults
 use Rattle.iot_lang.specs.declared.lines.Line.{Line}
 use Rattle.iot_lang.specs.declared.lines.Line.TheVariants as says
-use Rattle.iot_lang.proofs.Fronts.{both}
-use Rattle.iot_lang.proofs.LineLaws.{line_of-is, line_of-spelled}
-use Rattle.iot_lang.proofs.NestingLaws.{closes, completed, not_begun, not_whole, raised, shallow, through, within}
+use Rattle.iot_lines.proofs.FrontsLaws.{both_so}
+use Rattle.iot_lang.proofs.StatementsLaws.{line_of-is, line_of-spelled}
+use Rattle.iot_lang.proofs.OpenBlocksLaws.{closes, completed, not_begun, not_whole, raised, shallow, through, within}
+use Rattle.iot_lang.specs.declared.nesting.TheConstants.{DEPTH_LIMIT}
 
 -- ---- texts, one after another
 
@@ -45,7 +49,13 @@ spell_split [] ys lines h = record { front = []; rest = lines; whole_ = refl; fr
 spell_split (x ∷ xs) ys [] h = absurd h
 spell_split (x ∷ xs) ys (l ∷ lines) h =
     let s = spell_split xs ys lines h.1 in
-    record { front = l ∷ s.front; rest = s.rest; whole_ = ap (λ ls. l ∷ ls) s.whole_; front_spelled = (h.0, s.front_spelled); rest_spelled = s.rest_spelled }
+    record {
+      front = l ∷ s.front;
+      rest = s.rest;
+      whole_ = ap (λ ls. l ∷ ls) s.whole_;
+      front_spelled = (h.0, s.front_spelled);
+      rest_spelled = s.rest_spelled;
+    }
 
 pub spell_same : (xs : List (List ℕ)) (v w : List Line) → SpellEach xs v → SpellEach xs w → v ≡ w
 spell_same [] [] [] h k = refl
@@ -63,7 +73,7 @@ pub spelled_lines : (xs : List (List ℕ)) (v : List Line) → SpellEach xs v �
 spelled_lines [] [] h = refl
 spelled_lines [] (l ∷ v) h = absurd h
 spelled_lines (x ∷ xs) [] h = absurd h
-spelled_lines (x ∷ xs) (l ∷ v) h = both (is_line l) (list_all is_line v) h.0.0 (spelled_lines xs v h.1)
+spelled_lines (x ∷ xs) (l ∷ v) h = both_so (is_line l) (list_all is_line v) h.0.0 (spelled_lines xs v h.1)
 
 -- ---- lines that leave blocks open begin a script
 
@@ -74,31 +84,43 @@ closes_spelled : (n : ℕ) → SpellEach (said (replicate n (codes "}"))) (close
 closes_spelled zero = tt
 closes_spelled (suc n) = (brace_closes, closes_spelled n)
 
-pub begins_script : (limit : ℕ) (st : List Bool) (texts : List (List ℕ)) (v : List Line) → SpellEach (said texts) v → open_after limit [] v ≡ Some st → BeginWithin limit texts
+pub begins_script : (limit : ℕ) (st : List Bool) (texts : List (List ℕ)) (v : List Line) → SpellEach (said texts) v
+    → open_after limit [] v ≡ Some st → BeginWithin limit texts
 begins_script limit st texts v h open_ =
     let c = completed limit st v open_ in
     let more : List (List ℕ) = replicate (length st) (codes "}") in
-    let all : SpellEach (said texts ++ said more) (v ++ closes (length st)) = spell_append (said texts) (said more) v (closes (length st)) h (closes_spelled (length st)) in
+    let all : SpellEach (said texts ++ said more) (v ++ closes (length st)) =
+    spell_append (said texts) (said more) v (closes (length st)) h (closes_spelled (length st)) in
     (more, c.script, record { deep = c.deep; spelled = rw (said-append texts more, ← c.whole_lines) all })
 
-pub begins_none : (limit : ℕ) (texts : List (List ℕ)) (v : List Line) → SpellEach (said texts) v → open_after limit [] v ≡ None → BeginWithin limit texts → ⊥
+pub begins_none : (limit : ℕ) (texts : List (List ℕ)) (v : List Line) → SpellEach (said texts) v → open_after limit [] v ≡ None
+    → BeginWithin limit texts → ⊥
 begins_none limit texts v h none (more, script, spelled) =
-    let s = spell_split (said texts) (said more) (script_lines script) (subst (λ ts. SpellEach ts (script_lines script)) (said-append texts more) spelled.spelled) in
+    let s =
+    spell_split (said texts) (said more) (script_lines script)
+    (subst (λ ts. SpellEach ts (script_lines script)) (said-append texts more) spelled.spelled) in
     let same : v ≡ s.front = spell_same (said texts) v s.front h s.front_spelled in
     not_begun limit v s.rest script none spelled.deep (ap (λ ls. ls ++ s.rest) same ∙ sym s.whole_)
 
 -- ---- a part of a beginning is one too
 
 pub begins_part : (limit : ℕ) (xs ys : List (List ℕ)) → BeginWithin limit (xs ++ ys) → BeginWithin limit xs
-begins_part limit xs ys (more, script, spelled) = (ys ++ more, script, record { deep = spelled.deep; spelled = subst (λ ts. SpellEach (said ts) (script_lines script)) (append_assoc xs ys more) spelled.spelled })
+begins_part limit xs ys (more, script, spelled) = (
+  ys ++ more,
+  script,
+  record {
+    deep = spelled.deep;
+    spelled = subst (λ ts. SpellEach (said ts) (script_lines script)) (append_assoc xs ys more) spelled.spelled;
+  },
+)
 
 pub begins_whole : (limit : ℕ) (texts : List (List ℕ)) (script : Code) → SpellWithin limit texts script → BeginWithin limit texts
 begins_whole limit texts script spelled = ([], script, record { deep = spelled.deep; spelled = rw (append-nil texts) spelled.spelled })
 
 pub begins_take : (n : ℕ) (texts : List (List ℕ)) → Begin texts → Begin (take n texts)
-begins_take n texts h = begins_part 16 (take n texts) (drop n texts) (rw (take-append-drop n texts) h)
+begins_take n texts h = begins_part DEPTH_LIMIT (take n texts) (drop n texts) (rw (take-append-drop n texts) h)
 
-pub begins_more : (texts : List (List ℕ)) → Begin texts → BeginWithin 17 texts
+pub begins_more : (texts : List (List ℕ)) → Begin texts → BeginWithin (DEPTH_LIMIT + 1) texts
 begins_more texts (more, script, spelled) = (more, script, record { deep = omega (arith, spelled.deep); spelled = spelled.spelled })
 
 -- ---- the answers exclude one another
@@ -111,7 +133,8 @@ earlier : (n m : ℕ) (texts : List (List ℕ)) → n < m → IsFirstBad texts n
 earlier n m texts l one two = one.bad (subst Begin (take-take (n + 1) m texts (omega arith)) (begins_take (n + 1) (take m texts) two.good))
 
 pub same_bad : (n m : ℕ) (texts : List (List ℕ)) → IsFirstBad texts n → IsFirstBad texts m → n ≡ m
-same_bad n m texts one two = ⊎_elim (λ l. absurd (earlier n m texts l one two)) (λ k. ⊎_elim (λ e. e) (λ l. absurd (earlier m n texts l two one)) k) (compared n m)
+same_bad n m texts one two =
+    ⊎_elim (λ l. absurd (earlier n m texts l one two)) (λ k. ⊎_elim (λ e. e) (λ l. absurd (earlier m n texts l two one)) k) (compared n m)
   where
     compared : (n m : ℕ) → (n < m) ⊎ ((n ≡ m) ⊎ (m < n))
     compared n m = grind arith
@@ -119,25 +142,29 @@ same_bad n m texts one two = ⊎_elim (λ l. absurd (earlier n m texts l one two
 pub same_script : (texts : List (List ℕ)) (c d : Code) → Spell texts c → Spell texts d → c ≡ d
 same_script texts c d one two = same_code c d (spell_same (said texts) (script_lines c) (script_lines d) one.spelled two.spelled)
 
--- ---- one line more
+-- ---- one more line
 
--- these texts have been read as these lines, which leave these blocks open
-pub record AreRead (texts : List (List ℕ)) (v : List Line) (st : List Bool) : Type 0 where
+-- these texts have been taken as these lines, which leave these blocks open
+pub record AreTaken (texts : List (List ℕ)) (v : List Line) (st : List Bool) : Type 0 where
   pub spelled : SpellEach (said texts) v
-  pub sound : open_after 16 [] v ≡ Some st
+  pub sound : open_after DEPTH_LIMIT [] v ≡ Some st
 
 -- what a text says
 pub record Says (text : List ℕ) (line : Line) : Type 0 where
   pub kept : is_skipped text ≡ false
   pub spells : SpellsLine text line
 
-said_is : (skipped : Bool) (line : Option Line) (found : Option Line) → if_said skipped line ≡ Some found → ((skipped ≡ true) × (found ≡ None)) ⊎ ((l : Line) × (skipped ≡ false) × (line ≡ Some l) × (found ≡ Some l))
+said_is : (skipped : Bool) (line : Option Line) (found : Option Line) → if_said skipped line ≡ Some found
+    → ((skipped ≡ true) × (found ≡ None)) ⊎ ((l : Line) × (skipped ≡ false) × (line ≡ Some l) × (found ≡ Some l))
 said_is true line found h = inl (refl, cc)
 said_is false None found h = absurd cc
 said_is false (Some l) found h = inr (l, refl, refl, cc)
 
 pub says_line : (text : List ℕ) (line : Line) → said_by text ≡ Some (Some line) → Says text line
-says_line text line h = ⊎_elim (λ k. absurd cc) (λ (l, kept, is, same). let e : l ≡ line = cc in record { kept = kept; spells = line_of-is text line (is ∙ ap Some e) }) (said_is (is_skipped text) (line_of text) (Some line) h)
+says_line text line h =
+    ⊎_elim (λ k. absurd cc)
+    (λ (l, kept, is, same). let e : l ≡ line = cc in record { kept = kept; spells = line_of-is text line (is ∙ ap Some e) })
+    (said_is (is_skipped text) (line_of text) (Some line) h)
 
 pub says_nothing : (text : List ℕ) → said_by text ≡ Some None → is_skipped text ≡ true
 says_nothing text h = ⊎_elim (λ k. k.0) (λ (l, kept, is, same). absurd cc) (said_is (is_skipped text) (line_of text) None h)
@@ -160,20 +187,28 @@ said_one texts text kept = said-append texts (text ∷ []) ∙ (rw kept refl)
 said_none : (texts : List (List ℕ)) (text : List ℕ) → is_skipped text ≡ true → said (texts ++ text ∷ []) ≡ said texts
 said_none texts text skipped = said-append texts (text ∷ []) ∙ (rw (skipped, append-nil) refl)
 
-pub read_skipped : (texts : List (List ℕ)) (text : List ℕ) (v : List Line) (st : List Bool) → is_skipped text ≡ true → AreRead texts v st → AreRead (texts ++ text ∷ []) v st
-read_skipped texts text v st skipped r = record { spelled = rw (said_none texts text skipped) r.spelled; sound = r.sound }
+pub taken_skipped : (texts : List (List ℕ)) (text : List ℕ) (v : List Line) (st : List Bool) → is_skipped text ≡ true → AreTaken texts v st
+    → AreTaken (texts ++ text ∷ []) v st
+taken_skipped texts text v st skipped r = record { spelled = rw (said_none texts text skipped) r.spelled; sound = r.sound }
 
-spelled_more : (texts : List (List ℕ)) (text : List ℕ) (v : List Line) (line : Line) → Says text line → SpellEach (said texts) v → SpellEach (said (texts ++ text ∷ [])) (v ++ line ∷ [])
+spelled_more : (texts : List (List ℕ)) (text : List ℕ) (v : List Line) (line : Line) → Says text line → SpellEach (said texts) v
+    → SpellEach (said (texts ++ text ∷ [])) (v ++ line ∷ [])
 spelled_more texts text v line s h = rw (said_one texts text s.kept) (spell_append (said texts) (text ∷ []) v (line ∷ []) h (s.spells, tt))
 
-pub read_line : (texts : List (List ℕ)) (text : List ℕ) (v : List Line) (st st' : List Bool) (line : Line) → Says text line → open_after 16 st (line ∷ []) ≡ Some st' → AreRead texts v st → AreRead (texts ++ text ∷ []) (v ++ line ∷ []) st'
-read_line texts text v st st' line s moved r = record { spelled = spelled_more texts text v line s r.spelled; sound = through 16 [] st v (line ∷ []) r.sound ∙ moved }
+pub taken_line : (texts : List (List ℕ)) (text : List ℕ) (v : List Line) (st st' : List Bool) (line : Line) → Says text line
+    → open_after DEPTH_LIMIT st (line ∷ []) ≡ Some st' → AreTaken texts v st → AreTaken (texts ++ text ∷ []) (v ++ line ∷ []) st'
+taken_line texts text v st st' line s moved r =
+    record { spelled = spelled_more texts text v line s r.spelled; sound = through DEPTH_LIMIT [] st v (line ∷ []) r.sound ∙ moved }
 
--- a line that can't stand there
-pub bad_line : (texts : List (List ℕ)) (text : List ℕ) (v : List Line) (st : List Bool) (line : Line) → Says text line → open_after 17 st (line ∷ []) ≡ None → AreRead texts v st → BeginWithin 17 (texts ++ text ∷ []) → ⊥
-bad_line texts text v st line s none r = begins_none 17 (texts ++ text ∷ []) (v ++ line ∷ []) (spelled_more texts text v line s r.spelled) (through 17 [] st v (line ∷ []) (raised 16 [] st v r.sound) ∙ none)
+-- a line that is not allowed there
+pub bad_line : (texts : List (List ℕ)) (text : List ℕ) (v : List Line) (st : List Bool) (line : Line) → Says text line
+    → open_after (DEPTH_LIMIT + 1) st (line ∷ []) ≡ None → AreTaken texts v st → BeginWithin (DEPTH_LIMIT + 1) (texts ++ text ∷ []) → ⊥
+bad_line texts text v st line s none r =
+    begins_none (DEPTH_LIMIT + 1) (texts ++ text ∷ []) (v ++ line ∷ []) (spelled_more texts text v line s r.spelled)
+    (through (DEPTH_LIMIT + 1) [] st v (line ∷ []) (raised DEPTH_LIMIT [] st v r.sound) ∙ none)
 
-full : (st : List Bool) (line : Line) → opens_block line ≡ true → length st ≡ 16 → (open_after 16 st (line ∷ []) ≡ None) × ((st' : List Bool) × (open_after 17 st (line ∷ []) ≡ Some st'))
+full : (st : List Bool) (line : Line) → opens_block line ≡ true → length st ≡ DEPTH_LIMIT
+    → (open_after DEPTH_LIMIT st (line ∷ []) ≡ None) × ((st' : List Bool) × (open_after (DEPTH_LIMIT + 1) st (line ∷ []) ≡ Some st'))
 full st (says.If condition) o l = rw l (refl, (true ∷ st, refl))
 full st (says.For x p) o l = rw l (refl, (false ∷ st, refl))
 full st (says.Do command) o l = absurd cc
@@ -181,21 +216,26 @@ full st says.Stop o l = absurd cc
 full st says.Else o l = absurd cc
 full st says.Close o l = absurd cc
 
--- a line that opens a 17th block
-pub deep_line : (texts : List (List ℕ)) (text : List ℕ) (v : List Line) (st : List Bool) (line : Line) → Says text line → opens_block line ≡ true → 16 ≤ length st → AreRead texts v st
-    → (Begin (texts ++ text ∷ []) → ⊥) × BeginWithin 17 (texts ++ text ∷ [])
+-- a line that opens a block too many
+pub deep_line : (texts : List (List ℕ)) (text : List ℕ) (v : List Line) (st : List Bool) (line : Line) → Says text line
+    → opens_block line ≡ true → DEPTH_LIMIT ≤ length st → AreTaken texts v st
+    → (Begin (texts ++ text ∷ []) → ⊥) × BeginWithin (DEPTH_LIMIT + 1) (texts ++ text ∷ [])
 deep_line texts text v st line s opening much r =
-    let f = full st line opening (omega (arith, shallow 16 [] st v (omega arith) r.sound)) in
+    let f = full st line opening (omega (arith, shallow DEPTH_LIMIT [] st v (omega arith) r.sound)) in
     let more = spelled_more texts text v line s r.spelled in (
-      begins_none 16 (texts ++ text ∷ []) (v ++ line ∷ []) more (through 16 [] st v (line ∷ []) r.sound ∙ f.0),
-      begins_script 17 f.1.0 (texts ++ text ∷ []) (v ++ line ∷ []) more (through 17 [] st v (line ∷ []) (raised 16 [] st v r.sound) ∙ f.1.1),
+      begins_none DEPTH_LIMIT (texts ++ text ∷ []) (v ++ line ∷ []) more (through DEPTH_LIMIT [] st v (line ∷ []) r.sound ∙ f.0),
+      begins_script (DEPTH_LIMIT + 1) f.1.0 (texts ++ text ∷ []) (v ++ line ∷ []) more
+          (through (DEPTH_LIMIT + 1) [] st v (line ∷ []) (raised DEPTH_LIMIT [] st v r.sound) ∙ f.1.1),
     )
 
 -- a text that is no line
 pub no_line : (limit : ℕ) (texts : List (List ℕ)) (text : List ℕ) → SaysBad text → BeginWithin limit (texts ++ text ∷ []) → ⊥
 no_line limit texts text bad (more, script, spelled) =
-    let regroup : said ((texts ++ text ∷ []) ++ more) ≡ said texts ++ (text ∷ said more) = said-append (texts ++ text ∷ []) more ∙ ap (λ ts. ts ++ said more) (said_one texts text bad.kept) ∙ append_assoc (said texts) (text ∷ []) (said more) in
-    let s = spell_split (said texts) (text ∷ said more) (script_lines script) (subst (λ ts. SpellEach ts (script_lines script)) regroup spelled.spelled) in
+    let regroup : said ((texts ++ text ∷ []) ++ more) ≡ said texts ++ (text ∷ said more) = said-append (texts ++ text ∷ []) more
+    ∙ ap (λ ts. ts ++ said more) (said_one texts text bad.kept) ∙ append_assoc (said texts) (text ∷ []) (said more) in
+    let s =
+    spell_split (said texts) (text ∷ said more) (script_lines script)
+    (subst (λ ts. SpellEach ts (script_lines script)) regroup spelled.spelled) in
     by_line s.rest s.rest_spelled
   where
     by_line : (rest : List Line) → SpellEach (text ∷ said more) rest → ⊥
@@ -204,54 +244,71 @@ no_line limit texts text bad (more, script, spelled) =
 
 -- ---- the end
 
-pub read_script : (texts : List (List ℕ)) (script : Code) → AreRead texts (script_lines script) [] → Spell texts script
-read_script texts script r =
-    let d : 0 + depth script ≤ 16 = within script 16 [] [] [] (omega arith) (rw append-nil r.sound) in
+pub taken_script : (texts : List (List ℕ)) (script : Code) → AreTaken texts (script_lines script) [] → Spell texts script
+taken_script texts script r =
+    let d : 0 + depth script ≤ DEPTH_LIMIT = within script DEPTH_LIMIT [] [] [] (omega arith) (rw append-nil r.sound) in
     record { deep = omega (arith, d); spelled = r.spelled }
 
-pub read_open : (texts : List (List ℕ)) (v : List Line) (b : Bool) (st : List Bool) (script : Code) → AreRead texts v (b ∷ st) → Spell texts script → ⊥
-read_open texts v b st script r spelled =
+pub taken_open : (texts : List (List ℕ)) (v : List Line) (b : Bool) (st : List Bool) (script : Code) → AreTaken texts v (b ∷ st)
+    → Spell texts script → ⊥
+taken_open texts v b st script r spelled =
     let same = spell_same (said texts) v (script_lines script) r.spelled spelled.spelled in
-    not_whole 16 script b st (ap (open_after 16 []) (sym same) ∙ r.sound) spelled.deep
+    not_whole DEPTH_LIMIT script b st (ap (open_after DEPTH_LIMIT []) (sym same) ∙ r.sound) spelled.deep
 
-pub read_begins : (texts : List (List ℕ)) (v : List Line) (st : List Bool) → AreRead texts v st → Begin texts
-read_begins texts v st r = begins_script 16 st texts v r.spelled r.sound
+pub taken_begins : (texts : List (List ℕ)) (v : List Line) (st : List Bool) → AreTaken texts v st → Begin texts
+taken_begins texts v st r = begins_script DEPTH_LIMIT st texts v r.spelled r.sound
 
--- a line whose reading was refused
-pub refused_line : (fault : PartFault) (texts : List (List ℕ)) (text : List ℕ) → line_fault fault ≡ line_faults.BadStatement → Fails fault (said_by text) → BeginWithin 17 (texts ++ text ∷ []) → ⊥
+-- a line that was refused
+pub refused_line : (fault : PartFault) (texts : List (List ℕ)) (text : List ℕ) → line_fault fault ≡ line_faults.BadStatement
+    → Fails fault (said_by text) → BeginWithin (DEPTH_LIMIT + 1) (texts ++ text ∷ []) → ⊥
 refused_line part_faults.NoMemory texts text e h = absurd cc
-refused_line part_faults.Malformed texts text e h = no_line 17 texts text (says_bad text h)
+refused_line part_faults.Malformed texts text e h = no_line (DEPTH_LIMIT + 1) texts text (says_bad text h)
 
 -- ---- all answers
 
 -- what is answered, if memory does not run out
-pub only_script : (texts : List (List ℕ)) (result : Result Code LangFault) (script : Code) → IfOk result (λ s. Spell texts s) → IfErr result (λ f. HasFault texts f) → Spell texts script → UnlessMemory result (Ok script)
+pub only_script : (texts : List (List ℕ)) (result : Result Code LangFault) (script : Code) → IfOk result (λ s. Spell texts s)
+    → IfErr result (λ f. HasFault texts f) → Spell texts script → UnlessMemory result (Ok script)
 only_script texts (Ok s) script ok err h = inl (ap Ok (same_script texts s script ok h))
 only_script texts (Err faults.NoMemory) script ok err h = inr refl
-only_script texts (Err (faults.BadStatement n)) script ok err h = absurd (⊎_elim (λ b. not_bad n texts (begins_whole 16 texts script h) b.first) (λ o. o.open_ script h) err)
-only_script texts (Err (faults.TooDeep n)) script ok err h = absurd (not_bad n texts (begins_whole 16 texts script h) err.first)
+only_script texts (Err (faults.BadStatement n)) script ok err h =
+    absurd (⊎_elim (λ b. not_bad n texts (begins_whole DEPTH_LIMIT texts script h) b.first) (λ o. o.open_ script h) err)
+only_script texts (Err (faults.TooDeep n)) script ok err h = absurd (not_bad n texts (begins_whole DEPTH_LIMIT texts script h) err.first)
 
-pub only_bad : (texts : List (List ℕ)) (result : Result Code LangFault) (n : ℕ) → IfOk result (λ s. Spell texts s) → IfErr result (λ f. HasFault texts f) → IsBadStatement texts n → UnlessMemory result (Err (faults.BadStatement n))
-only_bad texts (Ok s) n ok err h = absurd (not_bad n texts (begins_whole 16 texts s ok) h.first)
+pub only_bad : (texts : List (List ℕ)) (result : Result Code LangFault) (n : ℕ) → IfOk result (λ s. Spell texts s)
+    → IfErr result (λ f. HasFault texts f) → IsBadStatement texts n → UnlessMemory result (Err (faults.BadStatement n))
+only_bad texts (Ok s) n ok err h = absurd (not_bad n texts (begins_whole DEPTH_LIMIT texts s ok) h.first)
 only_bad texts (Err faults.NoMemory) n ok err h = inr refl
-only_bad texts (Err (faults.BadStatement m)) n ok err h = inl (⊎_elim (λ b. ap (λ k. Err (faults.BadStatement k)) (same_bad m n texts b.first h.first)) (λ o. absurd (not_bad n texts o.good h.first)) err)
-only_bad texts (Err (faults.TooDeep m)) n ok err h = absurd (h.not_deeper (subst (λ k. BeginWithin 17 (take (k + 1) texts)) (same_bad m n texts err.first h.first) err.deeper))
+only_bad texts (Err (faults.BadStatement m)) n ok err h =
+    inl
+    (⊎_elim (λ b. ap (λ k. Err (faults.BadStatement k)) (same_bad m n texts b.first h.first))
+    (λ o. absurd (not_bad n texts o.good h.first)) err)
+only_bad texts (Err (faults.TooDeep m)) n ok err h =
+    absurd
+    (h.not_deeper (subst (λ k. BeginWithin (DEPTH_LIMIT + 1) (take (k + 1) texts)) (same_bad m n texts err.first h.first) err.deeper))
 
-pub only_deep : (texts : List (List ℕ)) (result : Result Code LangFault) (n : ℕ) → IfOk result (λ s. Spell texts s) → IfErr result (λ f. HasFault texts f) → IsTooDeep texts n → UnlessMemory result (Err (faults.TooDeep n))
-only_deep texts (Ok s) n ok err h = absurd (not_bad n texts (begins_whole 16 texts s ok) h.first)
+pub only_deep : (texts : List (List ℕ)) (result : Result Code LangFault) (n : ℕ) → IfOk result (λ s. Spell texts s)
+    → IfErr result (λ f. HasFault texts f) → IsTooDeep texts n → UnlessMemory result (Err (faults.TooDeep n))
+only_deep texts (Ok s) n ok err h = absurd (not_bad n texts (begins_whole DEPTH_LIMIT texts s ok) h.first)
 only_deep texts (Err faults.NoMemory) n ok err h = inr refl
-only_deep texts (Err (faults.BadStatement m)) n ok err h = absurd (⊎_elim (λ b. b.not_deeper (subst (λ k. BeginWithin 17 (take (k + 1) texts)) (same_bad n m texts h.first b.first) h.deeper)) (λ o. not_bad n texts o.good h.first) err)
+only_deep texts (Err (faults.BadStatement m)) n ok err h =
+    absurd
+    (⊎_elim
+    (λ b. b.not_deeper (subst (λ k. BeginWithin (DEPTH_LIMIT + 1) (take (k + 1) texts)) (same_bad n m texts h.first b.first) h.deeper))
+    (λ o. not_bad n texts o.good h.first) err)
 only_deep texts (Err (faults.TooDeep m)) n ok err h = inl (ap (λ k. Err (faults.TooDeep k)) (same_bad m n texts err.first h.first))
 
-pub only_open : (texts : List (List ℕ)) (result : Result Code LangFault) (n : ℕ) → IfOk result (λ s. Spell texts s) → IfErr result (λ f. HasFault texts f) → IsOpen texts n → UnlessMemory result (Err (faults.BadStatement n))
+pub only_open : (texts : List (List ℕ)) (result : Result Code LangFault) (n : ℕ) → IfOk result (λ s. Spell texts s)
+    → IfErr result (λ f. HasFault texts f) → IsOpen texts n → UnlessMemory result (Err (faults.BadStatement n))
 only_open texts (Ok s) n ok err h = absurd (h.open_ s ok)
 only_open texts (Err faults.NoMemory) n ok err h = inr refl
-only_open texts (Err (faults.BadStatement m)) n ok err h = inl (⊎_elim (λ b. absurd (not_bad m texts h.good b.first)) (λ o. ap (λ k. Err (faults.BadStatement k)) (o.behind ∙ sym h.behind)) err)
+only_open texts (Err (faults.BadStatement m)) n ok err h =
+    inl (⊎_elim (λ b. absurd (not_bad m texts h.good b.first)) (λ o. ap (λ k. Err (faults.BadStatement k)) (o.after ∙ sym h.after)) err)
 only_open texts (Err (faults.TooDeep m)) n ok err h = absurd (not_bad m texts h.good err.first)
 
 -- ---- the loop over the lines
 
--- line n of the texts, and those behind it
+-- line n of the texts, and those after it
 pub record At (texts : List (List ℕ)) (n : ℕ) (text : List ℕ) (rest : List (List ℕ)) : Type 0 where
   pub there : n < length texts
   pub taken : take (n + 1) texts ≡ take n texts ++ text ∷ []
@@ -270,24 +327,27 @@ at_line texts n text rest h = record {
     length_of (t ∷ texts) zero text rest h = omega arith
     length_of (t ∷ texts) (suc n) text rest h = omega (arith, length_of texts n text rest h)
 
-    taken_at : (texts : List (List ℕ)) (n : ℕ) (text : List ℕ) (rest : List (List ℕ)) → drop n texts ≡ text ∷ rest → take (suc n) texts ≡ take n texts ++ text ∷ []
+    taken_at : (texts : List (List ℕ)) (n : ℕ) (text : List ℕ) (rest : List (List ℕ)) → drop n texts ≡ text ∷ rest
+        → take (suc n) texts ≡ take n texts ++ text ∷ []
     taken_at [] zero text rest h = absurd cc
     taken_at [] (suc n) text rest h = absurd cc
     taken_at (t ∷ texts) zero text rest h = let e : t ≡ text = cc in rw e refl
     taken_at (t ∷ texts) (suc n) text rest h = ap (λ ts. t ∷ ts) (taken_at texts n text rest h)
 
-first_bad : (texts : List (List ℕ)) (n : ℕ) (text : List ℕ) (rest : List (List ℕ)) → At texts n text rest → Begin (take n texts) → (Begin (take n texts ++ text ∷ []) → ⊥) → IsFirstBad texts n
+first_bad : (texts : List (List ℕ)) (n : ℕ) (text : List ℕ) (rest : List (List ℕ)) → At texts n text rest → Begin (take n texts)
+    → (Begin (take n texts ++ text ∷ []) → ⊥) → IsFirstBad texts n
 first_bad texts n text rest at good bad = record { there = at.there; good = good; bad = λ b. bad (subst Begin at.taken b) }
 
 -- the fault of the first line that is refused
-pub fault_found : (fault : LineFault) (texts : List (List ℕ)) (n : ℕ) (text : List ℕ) (rest : List (List ℕ)) → At texts n text rest → Begin (take n texts)
-    → (fault ≡ line_faults.BadStatement → BeginWithin 17 (take n texts ++ text ∷ []) → ⊥)
-    → (fault ≡ line_faults.TooDeep → (Begin (take n texts ++ text ∷ []) → ⊥) × BeginWithin 17 (take n texts ++ text ∷ []))
+pub fault_found : (fault : LineFault) (texts : List (List ℕ)) (n : ℕ) (text : List ℕ) (rest : List (List ℕ)) → At texts n text rest
+    → Begin (take n texts)
+    → (fault ≡ line_faults.BadStatement → BeginWithin (DEPTH_LIMIT + 1) (take n texts ++ text ∷ []) → ⊥)
+    → (fault ≡ line_faults.TooDeep → (Begin (take n texts ++ text ∷ []) → ⊥) × BeginWithin (DEPTH_LIMIT + 1) (take n texts ++ text ∷ []))
     → HasFault texts (fault_at fault n)
 fault_found line_faults.NoMemory texts n text rest at good bad deep = tt
 fault_found line_faults.BadStatement texts n text rest at good bad deep = inl (record {
   first = first_bad texts n text rest at good (λ b. bad refl (begins_more (take n texts ++ text ∷ []) b));
-  not_deeper = λ b. bad refl (subst (BeginWithin 17) at.taken b);
+  not_deeper = λ b. bad refl (subst (BeginWithin (DEPTH_LIMIT + 1)) at.taken b);
 })
 fault_found line_faults.TooDeep texts n text rest at good bad deep = record {
   first = first_bad texts n text rest at good (deep refl).0;
