@@ -1,5 +1,4 @@
-mod BodiesLemmas
-mod Images
-mod Lists
-mod Sound
-mod Spans
+mod BodiesLaws
+pub mod DiskLaws
+mod MemoryLaws
+mod UnsyncedLaws

@@ -1,3 +1,4 @@
+-- The bodies of records as lists of bytes.
 use Rattle.std.specs.Prelude.{ℕ, List, [], ◌∷◌, Vec}
 use Rattle.std.specs.declared.alloc.Global.{Global}
 

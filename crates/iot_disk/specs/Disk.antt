@@ -1,5 +1,7 @@
 -- What the calls of a disk do to its bytes, to the images that a crash may leave, and to its counts.
-use Rattle.std.specs.Prelude.{◌≡◌, ◌≤◌, ◌<◌, ◌⊎◌, ℕ, ◌+◌, ◌-◌, ◌%◌, ◌^◌, min, max, List, ◌++◌, length, take, drop, slice_index, Option, Some, None, Result, Ok, Err}
+use Rattle.std.specs.Prelude.{◌≡◌, ◌≤◌, ◌<◌, ◌⊎◌, ℕ, ◌+◌, ◌%◌, ◌^◌, max, List, ◌++◌, length, take, drop, slice_index}
+use Rattle.std.specs.Prelude.{Option, Some, None, Result, Ok, Err}
+use Rattle.iot_count.specs.Counts.{Rose, Stayed}
 use Rattle.iot_disk.specs.declared.disk.Arm.{Arm}
 use Rattle.iot_disk.specs.declared.disk.Pick.{Pick}
 use Rattle.iot_disk.specs.declared.disk.DiskFault.{DiskFault}
@@ -18,15 +20,11 @@ never_armed = record { count = 0; last = None }
 abbrev pub armed_with : Arms → ℕ → Pick → Arms
 armed_with arms calls pick = record { count = (arms.count + 1) % 2 ^ 64; last = Some (record { calls = calls; pick = pick }) }
 
--- A count of faults rose. The counter stays at its last value, which counts as risen by any number.
-abbrev pub Rose : ℕ → ℕ → Type 0
-Rose before now = min (before + 1) (2 ^ 64 - 1) ≤ now
-
 -- the count of faults, before and after a device call with this answer: it rises with `Failed` and with no other
-abbrev pub Counts : {T : Type 0} → Result T DiskFault → ℕ → ℕ → Type 0
-Counts (Ok _) before now = now ≡ before
-Counts (Err NoMemory) before now = now ≡ before
-Counts (Err Failed) before now = Rose before now
+abbrev pub CountsFault : {T : Type 0} → Result T DiskFault → ℕ → ℕ → Type 0
+CountsFault (Ok _) before now = Stayed before now
+CountsFault (Err NoMemory) before now = Stayed before now
+CountsFault (Err Failed) before now = Rose before now
 
 -- these bytes with others written over them from a place on, at most at their end
 abbrev pub overwritten : {X : Type 0} → List X → ℕ → List X → List X

@@ -1,5 +1,6 @@
 -- When the calls of a disk in memory fail.
-use Rattle.std.specs.Prelude.{ℕ, ◌+◌, ◌-◌, ◌%◌, ◌^◌, min, Bool, true, false, cond, ◌==◌, Option, Some, None, Result, Ok, Err}
+use Rattle.std.specs.Prelude.{ℕ, ◌+◌, ◌-◌, ◌%◌, ◌^◌, Bool, true, false, cond, ◌==◌, Option, Some, None, Result, Ok, Err}
+use Rattle.iot_count.specs.Counts.{one_more}
 use Rattle.iot_disk.specs.Disk.{Arms}
 use Rattle.iot_disk.specs.declared.disk.Arm.{Arm}
 use Rattle.iot_disk.specs.declared.disk.Pick.{Pick}
@@ -17,7 +18,7 @@ arms_of f = record { count = f.count; last = f.last }
 
 -- one fault more
 abbrev pub after_fault : Failures → Failures
-after_fault f = record f { faults = min (f.faults + 1) (2 ^ 64 - 1) }
+after_fault f = record f { faults = one_more f.faults }
 
 -- the next device call fails: an armed call came since the last restart, or the next one is it
 abbrev pub fails : Option Pick → Option Arm → Bool

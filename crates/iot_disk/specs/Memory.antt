@@ -1,5 +1,6 @@
 -- A disk in memory: what it holds, what each call makes of it, and what a crash may leave of it.
-use Rattle.std.specs.Prelude.{◌≡◌, ◌≤◌, ◌<◌, ℕ, ◌^◌, min, Bool, true, false, cond, List, [], ◌∷◌, length, replicate, slice_index, Option, Some, None, refl}
+use Rattle.std.specs.Prelude.{◌≡◌, ◌≤◌, ◌<◌, ℕ, ◌^◌, min, Bool, true, false, cond, List, [], ◌∷◌, length, replicate, slice_index}
+use Rattle.std.specs.Prelude.{Option, Some, None, refl}
 use Rattle.std.proofs.Math.Nat.{min-le_right, le_refl}
 use Rattle.iot_disk.specs.Disk.{overwritten}
 use Rattle.iot_disk.specs.Failures.{fails, after_call, after_fault, after_restart}
@@ -17,8 +18,13 @@ pub record Memory : Type 0 where
   pub failures : Failures
 
 -- a disk of these bytes, all of them synced
-abbrev pub settled : List ℕ → Failures → Memory
-settled bytes failures = record { written = bytes; synced = bytes; unsynced = replicate (length bytes) false; failures = failures }
+abbrev pub all_synced : List ℕ → Failures → Memory
+all_synced bytes failures = record {
+  written = bytes;
+  synced = bytes;
+  unsynced = replicate (length bytes) false;
+  failures = failures;
+}
 
 -- after a read
 abbrev pub after_read : Memory → Memory
@@ -37,9 +43,9 @@ after_write at bytes m = record {
 abbrev pub after_refusal : Memory → Memory
 after_refusal m = record m { failures = after_fault m.failures }
 
--- after a sync, which changes no bytes where it fails
+-- after a sync, which changes no bytes if it fails
 abbrev pub after_sync : Memory → Memory
-after_sync m = cond (fails m.failures.failed m.failures.armed) (after_read m) (settled m.written (after_call m.failures))
+after_sync m = cond (fails m.failures.failed m.failures.armed) (after_read m) (all_synced m.written (after_call m.failures))
 
 -- this byte in the place of each that is marked
 abbrev pub filled : ℕ → List Bool → List ℕ → List ℕ
@@ -56,7 +62,7 @@ picked (Some (Fill byte)) written synced unsynced = filled byte unsynced written
 
 -- after a restart
 abbrev pub restarted : Memory → Memory
-restarted m = settled (picked m.failures.failed m.written m.synced m.unsynced) (after_restart m.failures)
+restarted m = all_synced (picked m.failures.failed m.written m.synced m.unsynced) (after_restart m.failures)
 
 -- An image: what a read gives, with any byte in the place of one that is marked, and cut at most down to the length
 -- of the last sync.
@@ -70,14 +76,18 @@ abbrev pub images_of : Memory → List ℕ → Type 0
 images_of m = IsImage m.written m.synced m.unsynced
 
 -- what is true of each disk in memory: there is a mark for each byte, a byte without a mark is as it was synced, and
--- each behind the last sync has a mark
+-- each that was not there at the last sync has a mark
 pub record IsSound (written synced : List ℕ) (unsynced : List Bool) : Type 0 where
   pub marks : length unsynced ≡ length written
   pub limit : length written ≤ 2 ^ 62
   pub grown : length synced ≤ length written
   pub alike : (k : ℕ) → k < length synced → is_marked unsynced k ≡ false → slice_index synced k ≡ slice_index written k
-  pub behind : (k : ℕ) → length synced ≤ k → k < length written → is_marked unsynced k ≡ true
+  pub past : (k : ℕ) → length synced ≤ k → k < length written → is_marked unsynced k ≡ true
 
 -- a disk as it reads is one of its images
 pub reads_is_image : (written synced : List ℕ) (unsynced : List Bool) → IsImage written synced unsynced written
-reads_is_image written synced unsynced = record { no_shorter = min-le_right (length synced) (length written); no_longer = le_refl (length written); kept = λ k below clean. refl }
+reads_is_image written synced unsynced = record {
+  no_shorter = min-le_right (length synced) (length written);
+  no_longer = le_refl (length written);
+  kept = λ k below clean. refl;
+}

@@ -1,4 +1,4 @@
-// The bodies of a journal's records.
+//! The bodies of a journal's records.
 ghost use Rattle.std.specs.Prelude.{◌≡◌, ◌++◌, ◌∷◌, [], List, ℕ, length, IsTrue, ◌↔◌, OnOk, OnErr};
 
 use std::alloc::{AllocError, Global};
@@ -23,7 +23,7 @@ impl Model for Bodies {
 impl Bodies {
     ghost use Rattle.iot_disk.specs.Bodies.{bodies_of};
 
-    /// No bodies. It takes no memory.
+    /// No bodies. Does not allocate.
     pub fn new(alloc: Global) -> Self
         ensures { result ≡ [] }
     {
@@ -46,7 +46,7 @@ impl Bodies {
         self.len() == 0
     }
 
-    /// Adds a body behind the others.
+    /// Adds a body after the others.
     pub fn push(&mut self, body: Vec<u8>) -> Result<(), AllocError>
         ensures ok { OnOk result (self.new ≡ self.old ++ body.items ∷ []) }
         ensures err { OnErr result (self.new ≡ self.old) }
@@ -62,7 +62,7 @@ impl Bodies {
         &self.list
     }
 
-    /// The bodies, given back without memory.
+    /// Gives the bodies back. Does not allocate.
     pub fn into_vec(self) -> Vec<Vec<u8>>
         ensures { bodies_of result.items ≡ self }
     {

@@ -1,4 +1,4 @@
-// Vectors that change within the room that they have.
+//! Vectors that change within the room that they have.
 ghost use Rattle.std.specs.Prelude.{◌≡◌, ◌≤◌, ◌+◌, ◌++◌, length, vec_len, vec_capacity};
 ghost use Rattle.iot_disk.specs.Disk.{overwritten};
 ghost use Rattle.iot_disk.specs.Memory.{picked, filled};
@@ -35,7 +35,7 @@ pub fn overwrite(to: &mut Vec<u8>, at: usize, bytes: &[u8])
     append(to, &bytes[inside..]);
 }
 
-/// Makes of a disk's bytes what a restart leaves.
+/// Turns a disk's bytes into what a restart leaves.
 pub fn leave(pick: Option<Pick>, written: &mut Vec<u8>, synced: &[u8], marks: &[bool])
     requires marks { length marks.now ≡ length written.old.items }
     requires grown { length synced.now ≤ length written.old.items }

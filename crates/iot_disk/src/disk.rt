@@ -1,6 +1,6 @@
-// The disk that the layers above stand on: six calls, each of which may fail.
+//! The disk that the layers above stand on: its device calls may fail.
 ghost use Rattle.std.specs.Prelude.{◌≡◌, ◌<◌, ◌≤◌, ◌+◌, ◌^◌, List, ℕ, length, slice_range, OnOk, OnErr, IsErrOf};
-ghost use Rattle.iot_disk.specs.Disk.{Arms, armed_with, Counts, overwritten, IsTornFrom, Only, SameImages};
+ghost use Rattle.iot_disk.specs.Disk.{Arms, armed_with, CountsFault, overwritten, IsTornFrom, Only, SameImages};
 ghost use Rattle.iot_disk.specs.declared.disk.DiskFault.TheVariants.{NoMemory};
 
 use std::alloc::AllocError;
@@ -47,6 +47,18 @@ impl From<AllocError> for DiskFault {
 /// A disk: a list of bytes that grows, of which a crash leaves one of several images.
 ///
 /// `read_at`, `write_at` and `sync` are its device calls, each of which may fail. No call shortens a disk.
+///
+/// # A crash inside a call
+///
+/// The trait has no clock: a contract speaks only of the moment at which a call returns. It covers a crash inside a
+/// function all the same. Every device call may fail, and a function that returns right after a failed call shows that
+/// moment: `may_leave` has each image that a crash there leaves. A write that fails may have done any part of its work,
+/// or none: any bytes in its range, and any length from the old one up to its end. A sync that fails changes no image.
+/// So the images after a failed call include those of a crash inside that call, and of one just before it.
+///
+/// A contract over every `Disk` holds for a disk that fails at its first, second or any other device call. What it says
+/// of each image, however the function returns, is therefore true of a crash at every moment inside the function,
+/// provided that the function makes no device call after a failed one.
 pub trait Disk {
     /// The bytes that a read gives.
     ghost reads: { Self → List ℕ };
@@ -73,18 +85,18 @@ pub trait Disk {
         ensures reads { OnOk result (reads self.new ≡ reads self.old) }
         ensures images { SameImages (may_leave self.old) (may_leave self.new) }
         ensures no_memory { IsErrOf result DiskFault.NoMemory → ⊥ }
-        ensures faults { Counts result (faults self.old) (faults self.new) }
+        ensures faults { CountsFault result (faults self.old) (faults self.new) }
         ensures arms { arms self.new ≡ arms self.old };
 
     /// Writes bytes over those that are there, and past the end. Until a sync a crash may leave any bytes in the
-    /// range that was written, also where the call failed. It writes nothing where the range ends past `LIMIT`.
+    /// range that was written, also if the call failed. It writes nothing if the range ends past `LIMIT`.
     fn write_at(&mut self, at: u64, bytes: &[u8]) -> Result<(), DiskFault>
         requires { at ≤ length (reads self.old) }
         ensures written { OnOk result (reads self.new ≡ overwritten (reads self.old) at bytes.now) }
         ensures images { IsTornFrom at (at + length bytes.now)
             (may_leave self.old) (may_leave self.new) }
 
-        // Only a write that makes the disk longer takes memory, and for want of it changes nothing.
+        // Only a write that makes the disk longer takes memory, and without memory it changes nothing.
         ensures longer { IsErrOf result DiskFault.NoMemory
             → length (reads self.old) < at + length bytes.now }
         ensures no_memory_reads { IsErrOf result DiskFault.NoMemory
@@ -98,7 +110,7 @@ pub trait Disk {
         ensures limit_images { 2 ^ 62 < at + length bytes.now
             → SameImages (may_leave self.old) (may_leave self.new) }
 
-        ensures faults { Counts result (faults self.old) (faults self.new) }
+        ensures faults { CountsFault result (faults self.old) (faults self.new) }
         ensures arms { arms self.new ≡ arms self.old };
 
     /// Makes what was written durable: after it a crash leaves what a read gives.
@@ -107,7 +119,7 @@ pub trait Disk {
         ensures reads { OnOk result (reads self.new ≡ reads self.old) }
         ensures images { OnErr result (SameImages (may_leave self.old) (may_leave self.new)) }
         ensures no_memory { IsErrOf result DiskFault.NoMemory → ⊥ }
-        ensures faults { Counts result (faults self.old) (faults self.new) }
+        ensures faults { CountsFault result (faults self.old) (faults self.new) }
         ensures arms { arms self.new ≡ arms self.old };
 
     /// Makes a later device call fail: the one with this number, counted from 1. How a real disk takes it is its own

@@ -1,14 +1,15 @@
-// When the calls of a disk in memory fail.
+//! When the calls of a disk in memory fail.
 ghost use Rattle.std.specs.Prelude.{◌≡◌};
 ghost use Rattle.iot_disk.specs.Failures.{answer, after_call, after_fault, after_arm, after_restart};
 
 use crate::{Arm, DiskFault, Pick};
+use iot_count::Count;
 
 /// Which call of a disk in memory is to fail, whether one has failed, and how often.
 #[derive(Clone, Copy, Debug, PartialEq, Eq)]
 pub struct Failures {
-    /// How many device calls have failed, up to the counter's last value.
-    pub faults: u64,
+    /// How many device calls have failed.
+    pub faults: Count,
     /// How often the disk was armed, modulo 2^64.
     pub count: u64,
     /// With what it was armed the last time.
@@ -22,7 +23,7 @@ pub struct Failures {
 impl Failures {
     /// Never armed, and without a fault.
     pub const NONE: Failures = Failures {
-        faults: 0,
+        faults: Count::NONE,
         count: 0,
         last: None,
         armed: None,
@@ -60,7 +61,7 @@ impl Failures {
     pub fn fault(&mut self)
         ensures { self.new ≡ after_fault self.old }
     {
-        self.faults = self.faults.saturating_add(1);
+        self.faults.rise();
     }
 
     /// Makes a later call fail, in place of an armed one that has not come.

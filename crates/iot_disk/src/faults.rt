@@ -1,4 +1,4 @@
-// How the start and the append of a journal end where they do not succeed.
+//! How the start and the append of a journal end if they do not succeed.
 ghost use Rattle.std.specs.Prelude.{◌≡◌};
 ghost use Rattle.iot_disk.specs.Faults.{start_fault_of, journal_fault_of};
 ghost use Rattle.iot_disk.specs.declared.faults.StartFault.TheVariants.{NoMemory as StartNoMemory};

@@ -4,6 +4,7 @@
 mod bodies;
 mod bytes;
 mod disk;
+mod durable;
 mod failures;
 mod faults;
 mod memory;
@@ -11,6 +12,7 @@ mod unsynced;
 
 pub use bodies::Bodies;
 pub use disk::{Arm, Disk, DiskFault, LIMIT, Pick};
+pub use durable::keep;
 pub use faults::{JournalFault, StartFault};
 pub use memory::MemDisk;
 

@@ -1,5 +1,6 @@
-// A disk in memory.
-ghost use Rattle.std.specs.Prelude.{◌≡◌, ◌≤◌, ◌<◌, ◌⊎◌, ◌+◌, ◌-◌, ◌^◌, [], ◌++◌, false, length, replicate, slice_range, vec_capacity, IfOk, OnOk, OnErr, IsErrOf};
+//! A disk in memory.
+ghost use Rattle.std.specs.Prelude.{◌≡◌, ◌≤◌, ◌<◌, ◌⊎◌, ◌+◌, ◌-◌, ◌^◌, [], ◌++◌, false, length, replicate};
+ghost use Rattle.std.specs.Prelude.{slice_range, vec_capacity, IfOk, OnOk, OnErr, IsErrOf};
 ghost use Rattle.iot_disk.specs.Disk.{Only};
 
 use crate::bytes::{append, copy_over, leave, overwrite};
@@ -9,7 +10,7 @@ use crate::{Disk, DiskFault, LIMIT, Pick};
 use std::alloc::{AllocError, Global};
 use std::marker::Model;
 
-/// A disk in memory, whose device calls fail where it was armed.
+/// A disk in memory, whose device calls fail when it was armed.
 ///
 /// It fails at its armed call and at all later ones until the restart; the bytes of a write that fails count as
 /// written. An armed call that has not come stays armed over a restart, and a later `arm` takes its place. A disk that
@@ -30,18 +31,24 @@ impl Model for MemDisk {
 
     ghost Value = { Memory };
 
-    ghost view = { λ d. record { written = d.written.items; synced = d.synced.items; unsynced = d.unsynced; failures = d.failures } };
+    ghost view = { λ d. record {
+      written = d.written.items;
+      synced = d.synced.items;
+      unsynced = d.unsynced;
+      failures = d.failures;
+    } };
 
-    ghost invariant = { λ d. IsSound d.written.items d.synced.items d.unsynced × (length d.written.items ≤ vec_capacity d.synced) };
+    ghost invariant = { λ d. IsSound d.written.items d.synced.items d.unsynced
+        × (length d.written.items ≤ vec_capacity d.synced) };
 }
 
 impl MemDisk {
-    ghost use Rattle.iot_disk.specs.Memory.{settled, after_read, after_write, after_refusal, after_sync, restarted, images_of};
+    ghost use Rattle.iot_disk.specs.Memory.{all_synced, after_read, after_write, after_refusal, after_sync, restarted, images_of};
     ghost use Rattle.iot_disk.specs.Failures.{answer, after_arm, no_failures};
 
-    /// An empty disk. It takes no memory.
+    /// An empty disk. Does not allocate.
     pub fn new(alloc: Global) -> Self
-        ensures state { result ≡ settled [] no_failures }
+        ensures state { result ≡ all_synced [] no_failures }
         ensures only { Only [] (images_of result) }
     {
         MemDisk {
@@ -52,9 +59,9 @@ impl MemDisk {
         }
     }
 
-    /// A disk that reads as these bytes, which are its only image. More than `LIMIT` bytes find no memory.
+    /// A disk that reads as these bytes, which are its only image. There is no memory for more than `LIMIT` bytes.
     pub fn of(alloc: Global, bytes: Vec<u8>) -> Result<Self, AllocError>
-        ensures state { IfOk result (λ disk. disk ≡ settled bytes.items no_failures) }
+        ensures state { IfOk result (λ disk. disk ≡ all_synced bytes.items no_failures) }
         ensures only { IfOk result (λ disk. Only bytes.items (images_of disk)) }
     {
         if bytes.len() as u64 > LIMIT {
@@ -101,7 +108,7 @@ impl MemDisk {
         Ok(())
     }
 
-    /// Writes bytes over those that are there, and past the end. It costs as much as it writes.
+    /// Writes bytes over those that are there, and past the end. Costs as much as it writes.
     pub fn write_at(&mut self, at: u64, bytes: &[u8]) -> Result<(), DiskFault>
         requires { at ≤ length self.old.written }
         ensures limit { 2 ^ 62 < at + length bytes.now
@@ -134,7 +141,7 @@ impl MemDisk {
         self.failures.call()
     }
 
-    /// Makes the bytes that were written those of the last sync. It costs as much as was written since the one before.
+    /// Makes the bytes that were written those of the last sync. Costs as much as was written since the one before.
     pub fn sync(&mut self) -> Result<(), DiskFault>
         ensures answer { result ≡ answer self.old.failures }
         ensures state { self.new ≡ after_sync self.old }
@@ -143,7 +150,7 @@ impl MemDisk {
         if answer.is_ok() {
             let known = self.synced.len();
             append(&mut self.synced, &self.written[known..]);
-            self.unsynced.settle(&self.written, &mut self.synced);
+            self.unsynced.sync(&self.written, &mut self.synced);
         }
         answer
     }
@@ -156,8 +163,8 @@ impl MemDisk {
     }
 
     /// Ends a failure, and leaves what the pick of the armed call that came says: the bytes of the last sync, those that
-    /// were written, or the written length with one byte wherever a write since the last sync went. Where none came
-    /// it leaves what was written.
+    /// were written, or the written length with one byte wherever a write since the last sync went. If none came, it
+    /// leaves what was written.
     pub fn restart(&mut self)
         ensures state { self.new ≡ restarted self.old }
         ensures only { Only self.new.written (images_of self.new) }
@@ -169,7 +176,7 @@ impl MemDisk {
     }
 }
 
-// Makes room for a write up to this end, or leaves everything as it was.
+/// Makes room for a write up to this end, or leaves everything as it was.
 fn make_room(
     written: &mut Vec<u8>,
     synced: &mut Vec<u8>,

@@ -2,7 +2,7 @@ use super::*;
 use std::process::Abort;
 use std::test::Fail;
 
-// What a call answers is none of a test's own faults.
+/// What a call answers is none of a test's own faults.
 fn write<D: Disk>(rt: &impl Abort, disk: &mut D, at: u64, bytes: &[u8]) -> Result<(), DiskFault> {
     assert!(rt; at <= disk.len());
     disk.write_at(at, bytes)
@@ -13,7 +13,7 @@ fn read<D: Disk>(rt: &impl Abort, disk: &mut D, buf: &mut [u8]) -> Result<(), Di
     disk.read_at(0, buf)
 }
 
-// "abc" is on the disk, and "XY" is written from its last byte on.
+/// "abc" is on the disk, and "XY" is written from its last byte on.
 const SYNCED: [u8; 3] = *b"abc";
 
 const WRITTEN: [u8; 4] = *b"abXY";

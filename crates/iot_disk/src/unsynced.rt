@@ -1,4 +1,4 @@
-// Which bytes a write since the last sync covered.
+//! Which bytes a write since the last sync covered.
 ghost use Rattle.std.specs.Prelude.{◌≡◌, ◌≤◌, ◌-◌, ◌++◌, [], ℕ, List, Bool, true, false, length, replicate, IfOk, OnOk, OnErr};
 ghost use Rattle.iot_disk.specs.Disk.{overwritten};
 ghost use Rattle.iot_disk.specs.Unsynced.{Hold, IsIn, TakeIn, AreAlike, Clears};
@@ -19,7 +19,7 @@ impl Span {
 
 /// A mark for each byte of a disk, in a form whose use costs as much as was marked.
 ///
-/// Each mark lies in a span that was covered. Where memory for one more span was wanting, `rest` takes it in.
+/// Each mark lies in a span that was covered. If there is no memory for one more span, `rest` takes it in.
 #[derive(Debug, Drop)]
 pub struct Unsynced {
     marks: Vec<bool>,
@@ -40,7 +40,7 @@ impl Model for Unsynced {
 }
 
 impl Unsynced {
-    /// For an empty disk. It takes no memory.
+    /// For an empty disk. Does not allocate.
     pub fn new(alloc: Global) -> Self
         ensures { result ≡ [] }
     {
@@ -60,7 +60,7 @@ impl Unsynced {
         self.marks.resize(count, false)
     }
 
-    /// Marks a span. It takes memory where there is some, and does without where there is none.
+    /// Marks a span. It takes memory if there is some, and does without if there is none.
     pub fn cover(&mut self, span: Span)
         requires ordered { span.start ≤ span.end }
         requires inside { span.end ≤ length self.old }
@@ -79,14 +79,14 @@ impl Unsynced {
     }
 
     /// Copies the bytes that are marked, and takes the marks away.
-    pub fn settle(&mut self, written: &[u8], synced: &mut [u8])
+    pub fn sync(&mut self, written: &[u8], synced: &mut [u8])
         requires written { length written.now ≡ length self.old }
         requires synced { length synced.old ≡ length self.old }
         requires alike { AreAlike self.old synced.old written.now }
         ensures synced { synced.new ≡ written.now }
         ensures marks { self.new ≡ replicate (length self.old) false }
     {
-        settle_spans(&self.spans, self.rest, written, synced, &mut self.marks);
+        sync_spans(&self.spans, self.rest, written, synced, &mut self.marks);
         self.spans.clear();
         self.rest = Span::EMPTY;
     }
@@ -103,7 +103,7 @@ impl Unsynced {
     }
 }
 
-// Sets the marks of a span.
+/// Sets the marks of a span.
 fn mark(marks: &mut Vec<bool>, span: Span)
     requires ordered { span.start ≤ span.end }
     requires inside { span.end ≤ length marks.old.items }
@@ -113,7 +113,7 @@ fn mark(marks: &mut Vec<bool>, span: Span)
     marks[span.start..span.end].fill(true);
 }
 
-// Takes a span in, by itself or, where memory for it is wanting, in the rest.
+/// Takes a span in, by itself or, if there is no memory for it, in the rest.
 fn note(spans: &mut Vec<Span>, rest: &mut Span, span: Span)
     ensures { TakeIn span spans.old.items rest.old spans.new.items rest.new }
 {
@@ -123,7 +123,7 @@ fn note(spans: &mut Vec<Span>, rest: &mut Span, span: Span)
     }
 }
 
-// The span from the start of the first of the two to the end of the last.
+/// The span from the start of the first of the two to the end of the last.
 fn joined(one: Span, other: Span) -> Span
     ensures one { (k : ℕ) → IsIn one k → IsIn result k }
     ensures other { (k : ℕ) → IsIn other k → IsIn result k }
@@ -137,8 +137,8 @@ fn joined(one: Span, other: Span) -> Span
     }
 }
 
-// Settles one span after another, and the rest.
-fn settle_spans(spans: &[Span], rest: Span, written: &[u8], synced: &mut [u8], marks: &mut [bool])
+/// Syncs one span after another, and the rest.
+fn sync_spans(spans: &[Span], rest: Span, written: &[u8], synced: &mut [u8], marks: &mut [bool])
     requires written { length written.now ≡ length marks.old }
     requires synced { length synced.old ≡ length marks.old }
     requires alike { AreAlike marks.old synced.old written.now }
@@ -147,13 +147,13 @@ fn settle_spans(spans: &[Span], rest: Span, written: &[u8], synced: &mut [u8], m
     ensures marks { marks.new ≡ replicate (length marks.old) false }
 {
     for span in spans {
-        settle_span(*span, written, synced, marks);
+        sync_span(*span, written, synced, marks);
     }
-    settle_span(rest, written, synced, marks);
+    sync_span(rest, written, synced, marks);
 }
 
-// Copies the bytes of a span, and takes its marks away.
-fn settle_span(span: Span, written: &[u8], synced: &mut [u8], marks: &mut [bool])
+/// Copies the bytes of a span, and takes its marks away.
+fn sync_span(span: Span, written: &[u8], synced: &mut [u8], marks: &mut [bool])
     requires written { length written.now ≡ length marks.old }
     requires synced { length synced.old ≡ length marks.old }
     requires alike { AreAlike marks.old synced.old written.now }

@@ -1,5 +1,5 @@
 use Rattle.std.proofs.Common.{arith}
-use Rattle.iot_disk.proofs.BodiesLemmas.{length-bodies_of}
+use Rattle.iot_disk.proofs.BodiesLaws.{length-bodies_of}
 use Rattle.iot_disk.proofs.bodies.Bodies.len.Goals as goal
 
 pub returns : goal.returns

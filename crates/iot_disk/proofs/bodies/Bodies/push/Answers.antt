@@ -1,5 +1,5 @@
 use Rattle.std.proofs.Common.{[], ◌∷◌}
-use Rattle.iot_disk.proofs.BodiesLemmas.{bodies_of-append}
+use Rattle.iot_disk.proofs.BodiesLaws.{bodies_of-append}
 use Rattle.iot_disk.proofs.bodies.Bodies.push.Goals as goal
 
 pub returns-clause-ok : goal.returns-clause-ok

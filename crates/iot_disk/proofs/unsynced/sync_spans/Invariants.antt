@@ -1,8 +1,8 @@
 use Rattle.std.proofs.Common.{◌≡◌, length, drop}
 use Rattle.iot_disk.specs.Unsynced.{Hold, AreAlike}
-use Rattle.iot_disk.proofs.unsynced.settle_spans.Given as goal
+use Rattle.iot_disk.proofs.unsynced.sync_spans.Given as goal
 
--- what is left to settle lies in the spans that are left
+-- the marks that are left lie in the spans that are left
 abbrev pub invariant-loop-span : goal.invariant-loop-span
 invariant-loop-span l = record {
   marks : length l.marks ≡ length l.fn.marks;
