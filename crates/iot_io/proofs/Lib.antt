@@ -1,3 +1,3 @@
-pub mod Listed
-pub mod Taking
-pub mod Written
+pub mod ReadAllLaws
+pub mod WriteAllLaws
+pub mod MemSinkLaws

@@ -1,4 +1,3 @@
-pub mod Count
 pub mod ReadAll
 pub mod WriteAll
 pub mod MemSource

@@ -1,6 +1,6 @@
 -- A sink in memory, as its contracts see it.
 use Rattle.std.specs.Prelude.{ℕ, ◌-◌, Bool, ◌&&◌, ◌==◌, nat_lt, List, ◌++◌, length, take, if◌then◌else◌}
-use Rattle.iot_io.specs.Count.{one_more}
+use Rattle.iot_count.specs.Counts.{one_more}
 
 -- What was written, for how many bytes more there is room, which calls fail and which take nothing, and
 -- how many calls, faults and empty writes came.

@@ -1,6 +1,6 @@
 -- A source in memory, as its contracts see it.
 use Rattle.std.specs.Prelude.{ℕ, ◌+◌, List, drop}
-use Rattle.iot_io.specs.Count.{one_more}
+use Rattle.iot_count.specs.Counts.{one_more}
 
 -- the bytes that are left, how many were taken, which calls fail, and how many calls and faults came
 pub record MemInput : Type 0 where

@@ -1,9 +1,9 @@
-//! Reading input and writing output, where each fault has a cause that can be seen.
+//! Reading input and writing output, in which each fault has a cause that can be seen.
 //!
-//! A [`Source`] and a [`Sink`] count their faults. A call answers `Failed` only where the count rose,
-//! so a program that says "the input could not be read" can be held to it. [`read_all`] and
-//! [`write_all`] are the two loops over them, `MemSource` and `MemSink` stand in memory and fail at
-//! chosen calls, and `StdSource` and `StdSink` are standard input and output.
+//! A [`Source`] and a [`Sink`] count their faults. A call answers `Failed` only if the count rose, so a program that says
+//! "the input could not be read" can be held to it. [`read_all`] and [`write_all`] are the two loops over them.
+//! `MemSource` and `MemSink` are in memory and fail at chosen calls; `StdSource` and `StdSink` are standard input and
+//! output.
 #![tactic(auto)]
 
 mod faults;

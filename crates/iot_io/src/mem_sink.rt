@@ -2,6 +2,7 @@
 use super::faults::Failed;
 use super::numbers::is_next_among;
 use super::traits::Sink;
+use iot_count::Count;
 use std::alloc::{AllocError, Global};
 use std::marker::Model;
 
@@ -13,9 +14,9 @@ pub struct MemSink {
     room: usize,
     fails: Vec<u64>,
     nothing: Vec<u64>,
-    calls: u64,
-    faults: u64,
-    empties: u64,
+    calls: Count,
+    faults: Count,
+    empties: Count,
 }
 
 impl Model for MemSink {
@@ -63,9 +64,9 @@ impl MemSink {
             room,
             fails,
             nothing,
-            calls: 0,
-            faults: 0,
-            empties: 0,
+            calls: Count::NONE,
+            faults: Count::NONE,
+            empties: Count::NONE,
         })
     }
 
@@ -76,7 +77,7 @@ impl MemSink {
         &self.bytes
     }
 
-    /// For how many bytes the next call has room: for none where it is to take nothing.
+    /// How many bytes the next call has room for: none if it is to take nothing.
     fn next_room(&self) -> usize
         ensures nothing { Contains self.now.nothing (self.now.calls + 1) → result ≡ 0 }
         ensures room { ¬ Contains self.now.nothing (self.now.calls + 1) → result ≡ self.now.room }
@@ -113,16 +114,16 @@ impl Sink for MemSink {
     {
         let fails = is_next_among(&self.fails, self.calls);
         let room = self.next_room();
-        self.calls = self.calls.saturating_add(1);
+        self.calls.rise();
         if fails {
-            self.faults = self.faults.saturating_add(1);
+            self.faults.rise();
             return Err(Failed);
         }
         let count = piece.len().min(room);
         self.bytes.extend_from_slice(&piece[..count]).unwrap();
         self.room -= count;
         if count == 0 && !piece.is_empty() {
-            self.empties = self.empties.saturating_add(1);
+            self.empties.rise();
         }
         Ok(count)
     }

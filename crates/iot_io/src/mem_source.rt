@@ -2,6 +2,7 @@
 use super::faults::Failed;
 use super::numbers::is_next_among;
 use super::traits::Source;
+use iot_count::Count;
 use std::marker::Model;
 
 /// Gives its bytes in order, as many in each call as are wanted and left. Its calls are numbered from
@@ -11,8 +12,8 @@ pub struct MemSource {
     bytes: Vec<u8>,
     taken: usize,
     fails: Vec<u64>,
-    calls: u64,
-    faults: u64,
+    calls: Count,
+    faults: Count,
 }
 
 impl Model for MemSource {
@@ -49,8 +50,8 @@ impl MemSource {
             bytes,
             taken: 0,
             fails,
-            calls: 0,
-            faults: 0,
+            calls: Count::NONE,
+            faults: Count::NONE,
         }
     }
 }
@@ -74,9 +75,9 @@ impl Source for MemSource {
         ensures never_falls { self.old.faults ≤ self.new.faults }
     {
         let fails = is_next_among(&self.fails, self.calls);
-        self.calls = self.calls.saturating_add(1);
+        self.calls.rise();
         if fails {
-            self.faults = self.faults.saturating_add(1);
+            self.faults.rise();
             return Err(Failed);
         }
         let rest = &self.bytes[self.taken..];

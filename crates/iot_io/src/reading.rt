@@ -1,7 +1,8 @@
 //! Reading a source to its end.
-ghost use Rattle.std.specs.Prelude.{◌≡◌, ℕ, ◌≤◌, ◌<◌, List, [], length, take, vec_len, IfSome, IfOk, IfErr, OnOk, OnErr, IsErrOf, MatchResult};
+ghost use Rattle.std.specs.Prelude.{◌≡◌, ℕ, ◌≤◌, ◌<◌, List, [], length, take, vec_len, IfSome, IfOk, IfErr, OnOk, OnErr, IsErrOf};
+ghost use Rattle.std.specs.Prelude.{MatchResult};
 ghost use Rattle.std.specs.Io.KnownBytes.{IsAtEnd};
-ghost use Rattle.iot_io.specs.Count.{Rose};
+ghost use Rattle.iot_count.specs.Counts.{Rose};
 ghost use Rattle.iot_io.specs.ReadAll.{Took, IsTakenBefore, CountsReadFault};
 
 use super::faults::{Failed, ReadFault};
@@ -26,8 +27,8 @@ pub fn read_all<S: Source>(
     ensures within { IfOk result (λ bytes. vec_len bytes ≤ limit) }
     ensures steady { OnOk result (S.faults source.new ≡ S.faults source.old) }
 
-    // A fault comes behind a prefix, which is longer than the limit exactly at `TooLong`, and the
-    // count of faults rose exactly at `Failed`.
+    // A fault comes after a prefix, which is longer than the limit exactly at `TooLong`, and the count of faults rose
+    // exactly at `Failed`.
     ensures too_long { IsErrOf result ReadFault.TooLong
         → IfSome (S.left source.old) (λ left. limit < length left) }
     ensures prefix { IfErr result (λ fault. (bytes : List ℕ)

@@ -1,6 +1,7 @@
 //! Standard input and output. They tell nothing of content.
 use super::faults::Failed;
 use super::traits::{Sink, Source};
+use iot_count::Count;
 use std::io::{Read, Stdin, Stdout, Write};
 use std::marker::Model;
 
@@ -11,7 +12,7 @@ use std::marker::Model;
 pub struct StdSource {
     input: Stdin,
     taken: u64,
-    faults: u64,
+    faults: Count,
 }
 
 impl Model for StdSource {
@@ -32,7 +33,7 @@ impl StdSource {
         StdSource {
             input,
             taken: 0,
-            faults: 0,
+            faults: Count::NONE,
         }
     }
 }
@@ -48,7 +49,7 @@ impl Source for StdSource {
             self.taken += count as u64;
             return Ok(count);
         }
-        self.faults = self.faults.saturating_add(1);
+        self.faults.rise();
         Err(Failed)
     }
 }
@@ -57,8 +58,8 @@ impl Source for StdSource {
 #[derive(Drop)]
 pub struct StdSink {
     output: Stdout,
-    faults: u64,
-    empties: u64,
+    faults: Count,
+    empties: Count,
 }
 
 impl Model for StdSink {
@@ -78,8 +79,8 @@ impl StdSink {
     {
         StdSink {
             output,
-            faults: 0,
-            empties: 0,
+            faults: Count::NONE,
+            empties: Count::NONE,
         }
     }
 }
@@ -93,12 +94,12 @@ impl Sink for StdSink {
         match self.output.write(piece) {
             Ok(count) => {
                 if count == 0 && !piece.is_empty() {
-                    self.empties = self.empties.saturating_add(1);
+                    self.empties.rise();
                 }
                 Ok(count)
             }
             Err(_) => {
-                self.faults = self.faults.saturating_add(1);
+                self.faults.rise();
                 Err(Failed)
             }
         }

@@ -1,13 +1,13 @@
 //! The outside, as far as the program reads and writes it.
 ghost use Rattle.std.specs.Prelude.{◌≡◌, ℕ, ◌+◌, ◌<◌, ◌≤◌, List, Option, None, length, IfOk, OnOk, OnErr, MatchResult};
 ghost use Rattle.std.specs.Io.KnownBytes.{ReadConsumes, WriteAppends};
-ghost use Rattle.iot_io.specs.Count.{Rose};
+ghost use Rattle.iot_count.specs.Counts.{Rose};
 
 use super::faults::Failed;
 
 /// Where input comes from.
 pub trait Source {
-    /// The bytes that are left, where the source tells them.
+    /// The bytes that are left, if the source tells them.
     ghost left: { Self → Option (List ℕ) } = { λ _. None };
 
     /// How many bytes were taken so far.
@@ -32,7 +32,7 @@ pub trait Source {
 
 /// Where output goes to.
 pub trait Sink {
-    /// What was written so far, where the sink tells it.
+    /// What was written so far, if the sink tells it.
     ghost written: { Self → Option (List ℕ) } = { λ _. None };
 
     /// How many calls failed so far, up to the last value of the counter.

@@ -6,7 +6,7 @@ ghost use Rattle.iot_io.specs.WriteAll.{CountsSinkFault, CountsEmptyWrite};
 use super::faults::SinkFault;
 use super::traits::Sink;
 
-/// Writes all the bytes, in as many writes as the sink needs. It takes no memory.
+/// Writes all the bytes, in as many writes as the sink needs. Does not allocate.
 ///
 /// It ends at the first write that fails or takes nothing. A prefix is written then.
 pub fn write_all<K: Sink>(sink: &mut K, bytes: &[u8]) -> Result<(), SinkFault>
@@ -14,7 +14,7 @@ pub fn write_all<K: Sink>(sink: &mut K, bytes: &[u8]) -> Result<(), SinkFault>
     ensures steady { OnOk result (K.faults sink.new ≡ K.faults sink.old) }
     ensures none_empty { OnOk result (K.empties sink.new ≡ K.empties sink.old) }
 
-    // A fault comes behind a prefix, and each of the two counts rose exactly at its own fault.
+    // A fault comes after a prefix, and each of the two counts rose exactly at its own fault.
     ensures prefix { OnErr result ((n : ℕ) × (n < length bytes.now)
         × Appends (K.written sink.old) (K.written sink.new) (take n bytes.now)) }
     ensures cause { IfErr result (λ fault.

@@ -1,6 +1,6 @@
 use Rattle.std.proofs.Common.{◌++◌, ◌∙◌, ap, length, take, arith}
 use Rattle.std.proofs.lemmas.Result.{err_from_is_err_and}
-use Rattle.iot_io.proofs.Taking.{Took-more, length-with_front}
+use Rattle.iot_io.proofs.ReadAllLaws.{Took-more, length-with_front}
 use Rattle.iot_io.proofs.reading.read_all.Goals as goal
 
 pub returns-then-count-room-clause-prefix : goal.returns-then-count-room-clause-prefix

@@ -1,5 +1,5 @@
 use Rattle.std.proofs.Common.{◌∙◌, arith}
-use Rattle.iot_io.proofs.Written.{written_more}
+use Rattle.iot_io.proofs.WriteAllLaws.{written_more}
 use Rattle.iot_io.proofs.writing.write_all.Goals as goal
 
 pub loop-done-preserved : goal.loop-done-preserved

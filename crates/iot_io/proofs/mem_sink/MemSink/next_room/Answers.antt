@@ -1,6 +1,6 @@
 use Rattle.std.proofs.Common.{ap, refl, ◌∙◌}
 use Rattle.iot_io.specs.MemSink.{MemOutput}
-use Rattle.iot_io.proofs.Listed.{listed_same}
+use Rattle.iot_io.proofs.MemSinkLaws.{listed_same}
 use Rattle.iot_io.proofs.mem_sink.MemSink.next_room.Goals as goal
 
 pub returns-then-is_next_among-clause-room : goal.returns-then-is_next_among-clause-room

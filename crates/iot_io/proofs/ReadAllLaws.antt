@@ -1,9 +1,10 @@
 -- What was taken from a source by several calls.
-use Rattle.std.proofs.Common.{◌≡◌, ℕ, ◌+◌, ◌≤◌, List, ◌++◌, Option, sym, ap, ◌∙◌, length, take, length-append, length-take, add_assoc, arith}
+use Rattle.std.proofs.Common.{◌≡◌, ℕ, ◌+◌, ◌≤◌, List, ◌++◌, Option, sym, ap, ◌∙◌, length, take, length-append, length-take, add_assoc}
+use Rattle.std.proofs.Common.{arith}
 use Rattle.std.proofs.KnownBytes.{Consumes-trans}
 use Rattle.iot_io.specs.ReadAll.{Took}
 
--- one call behind others
+-- one call after others
 pub Took-more : {S : Type 0} (left : S → Option (List ℕ)) (taken : S → ℕ) (old mid new : S) (bytes more : List ℕ)
     → Took left taken old mid bytes → Took left taken mid new more → Took left taken old new (bytes ++ more)
 Took-more left taken old mid new bytes more first second = record {
