@@ -1,5 +1,2 @@
-mod Appends
-mod Found
-mod Readings
-mod Starting
-mod Writes
+pub mod DecodingLaws
+pub mod ImagesLaws

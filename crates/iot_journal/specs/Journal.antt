@@ -1,8 +1,8 @@
 -- A journal over its disk.
 use Rattle.std.specs.Prelude.{◌≡◌, ◌≤◌, ℕ, ◌+◌, ◌^◌, List, [], ◌∷◌, ◌++◌, length}
 use Rattle.iot_disk.specs.Disk.{Only, overwritten}
-use Rattle.iot_journal.specs.Reading.{Stands, reading, bodies_in, records, spelled}
-use Rattle.iot_journal.specs.Keep.{IsLaidOut}
+use Rattle.iot_journal.specs.Decoding.{Encodes, decoded, bodies_in, records, spelled}
+use Rattle.iot_journal.specs.Images.{IsLaidOut}
 use Rattle.iot_journal.specs.declared.journal.Journal.{Journal}
 
 -- the disk under a journal
@@ -13,19 +13,19 @@ disk_of journal = journal.disk
 abbrev pub count_of : {D : Type 0} → Journal D → ℕ
 count_of journal = journal.count
 
--- the bodies for which its disk stands
+-- the bodies that its disk encodes
 abbrev pub bodies_on : {D : Type 0} → (D → List ℕ) → Journal D → List (List ℕ)
 bodies_on reads journal = bodies_in (reads journal.disk)
 
--- nothing is under way: the disk has one image, and it stands for as many bodies as were counted
-pub record IsSettled {D : Type 0} (reads : D → List ℕ) (may_leave : D → List ℕ → Type 0) (journal : Journal D) : Type 0 where
+-- nothing is under way: the disk has one image, and it encodes as many bodies as were counted
+pub record IsSynced {D : Type 0} (reads : D → List ℕ) (may_leave : D → List ℕ → Type 0) (journal : Journal D) : Type 0 where
   pub only : Only (reads journal.disk) (may_leave journal.disk)
-  pub stands : reading (reads journal.disk) ≡ Stands (bodies_on reads journal)
+  pub encodes : decoded (reads journal.disk) ≡ Encodes (bodies_on reads journal)
   pub layout : IsLaidOut (reads journal.disk) (bodies_on reads journal) journal.gate
   pub limit : length (reads journal.disk) ≤ 2 ^ 62
   pub count : journal.count ≡ length (bodies_on reads journal)
 
--- the bytes with one more record behind these bodies: first the record and the next gate behind the closed one, then the gate
+-- the bytes with one more record after those of these bodies: first the record and the next gate after the closed one, then the gate
 abbrev pub with_record : List (List ℕ) → List ℕ → List ℕ → List ℕ
 with_record bodies body bytes =
     let gate = 9 + length (records bodies) in

@@ -1,4 +1,4 @@
+pub mod Decoding
+pub mod Images
 pub mod Journal
-pub mod Keep
-pub mod Reading
 pub mod Start

@@ -1,15 +1,14 @@
-// The journal itself.
+//! The journal itself.
 ghost use Rattle.std.specs.Prelude.{◌≡◌, ◌+◌, ◌++◌, [], ◌∷◌, length, IfOk, IfErr, OnOk, IsErrOf, MatchResult};
 ghost use Rattle.iot_disk.specs.Disk.{armed_with, Only, SameImages};
-ghost use Rattle.iot_disk.specs.Faults.{JournalCounts};
-ghost use Rattle.iot_journal.specs.Reading.{Stands, reading};
-ghost use Rattle.iot_journal.specs.Keep.{EachReads, EachReadsEither};
+ghost use Rattle.iot_disk.specs.Faults.{CountsJournalFault};
+ghost use Rattle.iot_journal.specs.Decoding.{Encodes, decoded};
+ghost use Rattle.iot_journal.specs.Images.{EachDecodes, EachDecodesEither};
 ghost use Rattle.iot_journal.specs.Start.{HasCause, ChangesNothing, after_start};
 
-use crate::keep::keep;
-use crate::records::{OPEN, spell};
 use crate::start::open;
-use iot_disk::{Bodies, Disk, JournalFault, Pick, StartFault};
+use iot_disk::{Bodies, Disk, JournalFault, Pick, StartFault, keep};
+use iot_records::{OPEN, spell_record};
 use std::alloc::Global;
 
 /// A list of bodies on a disk, to which bodies are appended.
@@ -18,7 +17,7 @@ use std::alloc::Global;
 #[derive(Drop)]
 pub struct Journal<D: Disk> {
     pub(crate) disk: D,
-    /// The place of the closed gate behind the records.
+    /// The place of the closed gate after the records.
     pub(crate) gate: u64,
     pub(crate) count: u64,
     /// The spelling of the last record, whose memory serves the next one.
@@ -26,25 +25,25 @@ pub struct Journal<D: Disk> {
 }
 
 impl<D: Disk> Journal<D> {
-    ghost use Rattle.iot_journal.specs.Journal.{disk_of, count_of, bodies_on, IsSettled, with_record};
+    ghost use Rattle.iot_journal.specs.Journal.{disk_of, count_of, bodies_on, IsSynced, with_record};
 
     /// Starts a journal from its disk, which no one else writes, and gives the bodies that are on it. A disk on
-    /// which none was started becomes a journal with no records. The disk comes back where this gives no journal.
+    /// which none was started becomes a journal with no records. The disk comes back if this gives no journal.
     pub fn start(alloc: Global, mut disk: D) -> Result<(Journal<D>, Bodies), (D, StartFault)>
         requires { Only (D.reads disk) (D.may_leave disk) }
-        ensures bodies { IfOk result (λ made. reading (D.reads disk) ≡ Stands made.1) }
+        ensures bodies { IfOk result (λ made. decoded (D.reads disk) ≡ Encodes made.1) }
         ensures same { IfOk result (λ made. bodies_on D.reads made.0 ≡ made.1) }
-        ensures settled { IfOk result (λ made. IsSettled D.reads D.may_leave made.0) }
+        ensures synced { IfOk result (λ made. IsSynced D.reads D.may_leave made.0) }
         ensures bytes { IfOk result (λ made. D.reads (disk_of made.0) ≡ after_start (D.reads disk)) }
 
-        // In no image, whichever device call failed, does the disk stand for anything else than before.
+        // However this returns, every image encodes what the disk encoded before.
         ensures images { MatchResult result
-            (λ made. EachReads (D.may_leave (disk_of made.0)) (reading (D.reads disk)))
-            (λ refused. EachReads (D.may_leave refused.0) (reading (D.reads disk))) }
+            (λ made. EachDecodes (D.may_leave (disk_of made.0)) (decoded (D.reads disk)))
+            (λ refused. EachDecodes (D.may_leave refused.0) (decoded (D.reads disk))) }
 
         ensures steady { IfOk result (λ made. D.faults (disk_of made.0) ≡ D.faults disk) }
         ensures cause { IfErr result (λ refused.
-            HasCause refused.1 (reading (D.reads disk)) (D.faults disk) (D.faults refused.0)) }
+            HasCause refused.1 (decoded (D.reads disk)) (D.faults disk) (D.faults refused.0)) }
 
         // A refusal of the bytes changes nothing.
         ensures refused_reads { IfErr result (λ refused.
@@ -70,32 +69,32 @@ impl<D: Disk> Journal<D> {
         }
     }
 
-    /// Appends a body: it is on the disk when this answers Ok. It makes four device calls, a write and a sync for the
-    /// record, and a write and a sync for its gate, and costs as much as the body is long.
+    /// Appends a body: it is on the disk when this answers Ok. Makes four device calls, a write and a sync for the record,
+    /// and a write and a sync for its gate. Costs as much as the body is long.
     pub fn append(&mut self, body: &[u8]) -> Result<(), JournalFault>
-        requires { IsSettled D.reads D.may_leave self.old }
+        requires { IsSynced D.reads D.may_leave self.old }
 
-        // In each image, whichever device call failed, the journal stands for the bodies before or for those
-        // with the new one. After want of memory each stands for the former, and after Ok each for the latter.
-        ensures images { EachReadsEither (D.may_leave (disk_of self.new))
-            (Stands (bodies_on D.reads self.old))
-            (Stands (bodies_on D.reads self.old ++ body.now ∷ [])) }
+        // However this returns, every image encodes the bodies before or those with the new one: without memory the
+        // former, and after Ok the latter.
+        ensures images { EachDecodesEither (D.may_leave (disk_of self.new))
+            (Encodes (bodies_on D.reads self.old))
+            (Encodes (bodies_on D.reads self.old ++ body.now ∷ [])) }
         ensures no_memory { IsErrOf result JournalFault.NoMemory
-            → EachReads (D.may_leave (disk_of self.new)) (Stands (bodies_on D.reads self.old)) }
-        ensures appended { OnOk result (EachReads (D.may_leave (disk_of self.new))
-            (Stands (bodies_on D.reads self.old ++ body.now ∷ []))) }
+            → EachDecodes (D.may_leave (disk_of self.new)) (Encodes (bodies_on D.reads self.old)) }
+        ensures appended { OnOk result (EachDecodes (D.may_leave (disk_of self.new))
+            (Encodes (bodies_on D.reads self.old ++ body.now ∷ []))) }
 
         ensures bodies { OnOk result
             (bodies_on D.reads self.new ≡ bodies_on D.reads self.old ++ body.now ∷ []) }
-        ensures settled { OnOk result (IsSettled D.reads D.may_leave self.new) }
+        ensures synced { OnOk result (IsSynced D.reads D.may_leave self.new) }
         ensures bytes { OnOk result (D.reads (disk_of self.new)
             ≡ with_record (bodies_on D.reads self.old) body.now (D.reads (disk_of self.old))) }
 
-        ensures faults { JournalCounts result
+        ensures faults { CountsJournalFault result
             (D.faults (disk_of self.old)) (D.faults (disk_of self.new)) }
         ensures arms { D.arms (disk_of self.new) ≡ D.arms (disk_of self.old) }
     {
-        spell(&mut self.buffer, body)?;
+        spell_record(&mut self.buffer, body)?;
         keep(&mut self.disk, self.gate + 1, &self.buffer)?;
         keep(&mut self.disk, self.gate, &[OPEN])?;
         self.gate += self.buffer.len() as u64;
@@ -119,8 +118,8 @@ impl<D: Disk> Journal<D> {
             (D.may_leave (disk_of self.old)) (D.may_leave (disk_of self.new)) }
         ensures faults { D.faults (disk_of self.new) ≡ D.faults (disk_of self.old) }
         ensures count { count_of self.new ≡ count_of self.old }
-        ensures settled { IsSettled D.reads D.may_leave self.old
-            → IsSettled D.reads D.may_leave self.new }
+        ensures synced { IsSynced D.reads D.may_leave self.old
+            → IsSynced D.reads D.may_leave self.new }
     {
         self.disk.arm(calls, pick);
     }

@@ -1,37 +1,37 @@
-// The start of a journal from its disk.
+//! The start of a journal from its disk.
 ghost use Rattle.std.specs.Prelude.{◌≡◌, ◌≤◌, ◌^◌, [], ◌∷◌, true, false, drop, length, IfOk, IfErr, OnOk};
-ghost use Rattle.iot_disk.specs.Disk.{Counts, Only, SameImages};
-ghost use Rattle.iot_journal.specs.Reading.{Stands, reading, is_closed, is_started, started};
-ghost use Rattle.iot_journal.specs.Keep.{EachReads, IsLaidOut};
+ghost use Rattle.iot_disk.specs.Disk.{CountsFault, Only, SameImages};
+ghost use Rattle.iot_journal.specs.Decoding.{Encodes, decoded, is_closed, is_started, started};
+ghost use Rattle.iot_journal.specs.Images.{EachDecodes, IsLaidOut};
 ghost use Rattle.iot_journal.specs.Start.{HasCause, ChangesNothing, after_start};
 
-use crate::keep::keep;
-use crate::records::{CLOSED, FIRST_GATE, Found, HEADER, OPEN, has_closed_gate, has_start, read};
-use iot_disk::{Bodies, Disk, DiskFault, StartFault};
+use crate::records::{FIRST_GATE, HEADER, has_start, read};
+use iot_disk::{Bodies, Disk, DiskFault, StartFault, keep};
+use iot_records::{CLOSED, Found, OPEN, has_closed_gate, read_disk};
 use std::alloc::Global;
 
-/// Reads the disk, and makes it a journal with no records where none was started on it.
+/// Reads the disk, and makes it a journal with no records if none was started on it.
 pub fn open<D: Disk>(alloc: Global, disk: &mut D) -> Result<Found, StartFault>
     requires { Only (D.reads disk.old) (D.may_leave disk.old) }
-    ensures bodies { IfOk result (λ found. reading (D.reads disk.old) ≡ Stands found.bodies) }
+    ensures bodies { IfOk result (λ found. decoded (D.reads disk.old) ≡ Encodes found.bodies) }
     ensures layout { IfOk result (λ found. IsLaidOut (D.reads disk.new) found.bodies found.gate) }
     ensures durable { OnOk result (Only (D.reads disk.new) (D.may_leave disk.new)) }
     ensures limit { OnOk result (length (D.reads disk.new) ≤ 2 ^ 62) }
     ensures bytes { OnOk result (D.reads disk.new ≡ after_start (D.reads disk.old)) }
 
-    // In no image, whichever device call failed, does the disk stand for anything else than before.
-    ensures images { EachReads (D.may_leave disk.new) (reading (D.reads disk.old)) }
+    // However this returns, every image encodes what the disk encoded before.
+    ensures images { EachDecodes (D.may_leave disk.new) (decoded (D.reads disk.old)) }
 
     ensures steady { OnOk result (D.faults disk.new ≡ D.faults disk.old) }
     ensures cause { IfErr result (λ fault.
-        HasCause fault (reading (D.reads disk.old)) (D.faults disk.old) (D.faults disk.new)) }
+        HasCause fault (decoded (D.reads disk.old)) (D.faults disk.old) (D.faults disk.new)) }
     ensures refused_reads { IfErr result (λ fault.
         ChangesNothing fault (D.reads disk.new ≡ D.reads disk.old)) }
     ensures refused_images { IfErr result (λ fault.
         ChangesNothing fault (SameImages (D.may_leave disk.old) (D.may_leave disk.new))) }
     ensures arms { D.arms disk.new ≡ D.arms disk.old }
 {
-    let bytes = read_all(alloc, disk)?;
+    let bytes = read_disk(alloc, disk)?;
     if has_start(&bytes) {
         return read(alloc, &bytes);
     }
@@ -42,23 +42,7 @@ pub fn open<D: Disk>(alloc: Global, disk: &mut D) -> Result<Found, StartFault>
     })
 }
 
-// Where the disk has bytes, one call reads all of them.
-fn read_all<D: Disk>(alloc: Global, disk: &mut D) -> Result<Vec<u8>, DiskFault>
-    ensures bytes { IfOk result (λ bytes. bytes.items ≡ D.reads disk.old) }
-    ensures limit { OnOk result (length (D.reads disk.old) ≤ 2 ^ 62) }
-    ensures reads { OnOk result (D.reads disk.new ≡ D.reads disk.old) }
-    ensures images { SameImages (D.may_leave disk.old) (D.may_leave disk.new) }
-    ensures faults { Counts result (D.faults disk.old) (D.faults disk.new) }
-    ensures arms { D.arms disk.new ≡ D.arms disk.old }
-{
-    let mut bytes = vec![in alloc; 0; disk.len() as usize]?;
-    if !bytes.is_empty() {
-        disk.read_at(0, &mut bytes)?;
-    }
-    Ok(bytes)
-}
-
-// Makes a journal with no records of a disk on which none was started, and which reads as these bytes.
+/// Makes a disk on which no journal was started, and which reads as these bytes, a journal with no records.
 fn begin<D: Disk>(disk: &mut D, bytes: &[u8]) -> Result<(), DiskFault>
     requires bytes { bytes.now ≡ D.reads disk.old }
     requires not_started { is_started (D.reads disk.old) ≡ false }
@@ -67,15 +51,15 @@ fn begin<D: Disk>(disk: &mut D, bytes: &[u8]) -> Result<(), DiskFault>
     ensures bytes { OnOk result (D.reads disk.new ≡ started (0 ∷ drop 10 (D.reads disk.old))) }
     ensures limit { OnOk result (length (D.reads disk.new) ≤ 2 ^ 62) }
     ensures durable { OnOk result (Only (D.reads disk.new) (D.may_leave disk.new)) }
-    ensures images { EachReads (D.may_leave disk.new) (Stands []) }
-    ensures faults { Counts result (D.faults disk.old) (D.faults disk.new) }
+    ensures images { EachDecodes (D.may_leave disk.new) (Encodes []) }
+    ensures faults { CountsFault result (D.faults disk.old) (D.faults disk.new) }
     ensures arms { D.arms disk.new ≡ D.arms disk.old }
 {
     close_first(disk, bytes)?;
     put_header(disk)
 }
 
-// Makes the first byte a closed gate, where it is not one.
+/// Makes the first byte a closed gate, unless it is one.
 fn close_first<D: Disk>(disk: &mut D, bytes: &[u8]) -> Result<(), DiskFault>
     requires bytes { bytes.now ≡ D.reads disk.old }
     requires not_started { is_started (D.reads disk.old) ≡ false }
@@ -85,8 +69,8 @@ fn close_first<D: Disk>(disk: &mut D, bytes: &[u8]) -> Result<(), DiskFault>
     ensures rest { OnOk result (drop 1 (D.reads disk.new) ≡ drop 1 (D.reads disk.old)) }
     ensures limit { OnOk result (length (D.reads disk.new) ≤ 2 ^ 62) }
     ensures durable { OnOk result (Only (D.reads disk.new) (D.may_leave disk.new)) }
-    ensures images { EachReads (D.may_leave disk.new) (Stands []) }
-    ensures faults { Counts result (D.faults disk.old) (D.faults disk.new) }
+    ensures images { EachDecodes (D.may_leave disk.new) (Encodes []) }
+    ensures faults { CountsFault result (D.faults disk.old) (D.faults disk.new) }
     ensures arms { D.arms disk.new ≡ D.arms disk.old }
 {
     if has_closed_gate(bytes) {
@@ -95,7 +79,7 @@ fn close_first<D: Disk>(disk: &mut D, bytes: &[u8]) -> Result<(), DiskFault>
     keep(disk, 0, &[CLOSED])
 }
 
-// Writes the header and the first record's gate behind the closed gate, and then opens that.
+/// Writes the header and the first record's gate after the closed gate, and then opens that.
 fn put_header<D: Disk>(disk: &mut D) -> Result<(), DiskFault>
     requires closed { is_closed (D.reads disk.old) ≡ true }
     requires limit { length (D.reads disk.old) ≤ 2 ^ 62 }
@@ -103,8 +87,8 @@ fn put_header<D: Disk>(disk: &mut D) -> Result<(), DiskFault>
     ensures bytes { OnOk result (D.reads disk.new ≡ started (0 ∷ drop 10 (D.reads disk.old))) }
     ensures limit { OnOk result (length (D.reads disk.new) ≤ 2 ^ 62) }
     ensures durable { OnOk result (Only (D.reads disk.new) (D.may_leave disk.new)) }
-    ensures images { EachReads (D.may_leave disk.new) (Stands []) }
-    ensures faults { Counts result (D.faults disk.old) (D.faults disk.new) }
+    ensures images { EachDecodes (D.may_leave disk.new) (Encodes []) }
+    ensures faults { CountsFault result (D.faults disk.old) (D.faults disk.new) }
     ensures arms { D.arms disk.new ≡ D.arms disk.old }
 {
     let mut opening = [CLOSED; 9];

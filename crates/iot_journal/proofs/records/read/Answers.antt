@@ -1,30 +1,69 @@
-use Rattle.std.proofs.Common.{◌≡◌, ◌<◌, ℕ, ◌+◌, ◌-◌, List, [], ◌∷◌, ◌++◌, length, take, drop, ◌∙◌, sym, ap, subst, rules, arith, length-drop}
+use Rattle.std.proofs.Common.{◌≡◌, ◌<◌, ℕ, ◌-◌, true, false, List, ◌∷◌, length, get_or, take, drop, refl, ◌∙◌, sym, ap}
+use Rattle.std.proofs.Common.{arith}
 use Rattle.std.specs.Prelude.{nat_eq}
 use Rattle.std.specs.List.{starts_with}
-use Rattle.std.proofs.lemmas.List.{take_rest}
-use Rattle.iot_journal.specs.Reading.{header, records, started}
-use Rattle.iot_journal.proofs.Readings.{no_header}
-use Rattle.iot_journal.proofs.Found.{damaged_here, next_split}
+use Rattle.std.proofs.lemmas.Bool.Decides.{nat_tests, Decides-eqb}
+use Rattle.std.proofs.lemmas.List.{take_rest, drop_more, drop-drop}
+use Rattle.std.proofs.lemmas.Result.{IfOk-weaker, IfErr-weaker}
+use Rattle.std.proofs.lemmas.Slice.Eq.{starts_is}
+use Rattle.iot_disk.specs.declared.faults.StartFault.{StartFault}
+use Rattle.iot_disk.specs.declared.faults.StartFault.TheVariants as fault
+use Rattle.iot_records.specs.Records.{IsSeries, IsCutReason, series_in}
+use Rattle.iot_journal.specs.Decoding.{decoded, header, is_started, started, with_records}
+use Rattle.iot_journal.specs.Images.{IsLaidOut}
+use Rattle.iot_journal.specs.Start.{IsReason}
+use Rattle.iot_journal.proofs.DecodingLaws.{by_header}
 use Rattle.iot_journal.proofs.records.read.Goals as goal
+
+module _ (bytes : List ℕ) (begun : is_started bytes ≡ true) (has : starts_with nat_eq (drop 1 bytes) header ≡ true) where
+  -- the bytes are those of a started journal
+  started_is : bytes ≡ started (drop 9 bytes)
+  started_is =
+      let more : 0 < length bytes = grind (arith, nat_tests) in
+      let first : get_or bytes 0 0 ≡ 165 = grind (arith, nat_tests) in
+      let after = (starts_is Decides-eqb (drop 1 bytes) header (starts_with nat_eq (drop 1 bytes) header) refl).0 has in
+      drop_more bytes 0 0 more
+      ∙ ap (λ (g : ℕ). g ∷ drop 1 bytes) first
+      ∙ ap (λ (l : List ℕ). 165 ∷ l) after
+      ∙ ap (λ (l : List ℕ). started l) (drop-drop 8 1 bytes)
+
+  -- records that are cut short
+  reason : (why : StartFault) (rest : List ℕ) → rest ≡ drop 9 bytes → IsCutReason why (series_in 9 rest) → IsReason why (decoded bytes)
+  reason fault.NoMemory rest is cut = tt
+  reason fault.Stopped rest is cut = cut
+  reason fault.Foreign rest is cut = absurd cut
+  reason (fault.Damaged at) rest is cut =
+      by_header bytes true begun has ∙ ap (λ (l : List ℕ). with_records (series_in 9 l)) (sym is) ∙ ap with_records cut
+
+  laid_out : (rest : List ℕ) (bodies : List (List ℕ)) (gate : ℕ) → rest ≡ drop 9 bytes → IsSeries rest 9 bodies gate
+      → IsLaidOut bytes bodies gate
+  laid_out rest bodies gate is series = record {
+    byte = series.byte;
+    rest = series.rest;
+    is = started_is ∙ ap started (sym is ∙ series.is);
+    shut = series.shut;
+    place = series.place;
+  }
 
 pub returns-then-not-starts_with-clause-err : goal.returns-then-not-starts_with-clause-err
 returns-then-not-starts_with-clause-err c =
-    no_header c.args.bytes.now c.requires.started (ap (λ (l : List ℕ). starts_with nat_eq l header) (sym (take_rest c.args.bytes.now 1)) ∙ sym c.starts_with.ensures.value ∙ c.if-not-starts_with.true)
+    let same = ap (λ (l : List ℕ). starts_with nat_eq l header) (sym (take_rest c.args.bytes.now 1)) in
+    by_header c.args.bytes.now false c.requires.started (same ∙ sym c.starts_with.ensures.value ∙ c.if-not-starts_with.true)
 
-pub returns-in_default-clause-err : goal.returns-in_default-clause-err
-returns-in_default-clause-err c =
-    let so_far = c.loop-rest.invariant in
-    damaged_here c.args.bytes.now c.loop-rest.rest.now c.loop-rest.bodies so_far.split so_far.gate c.loop-rest-test.true (omega (arith, c.requires.limit)) c.in_default.ensures.none
+pub returns-clause-ok : goal.returns-clause-ok
+returns-clause-ok c =
+    let bytes = c.args.bytes.now in
+    let same = ap (λ (l : List ℕ). starts_with nat_eq l header) (sym (take_rest bytes 1)) in
+    let has = same ∙ sym c.starts_with.ensures.value ∙ c.if-not-starts_with.false in
+    IfOk-weaker c.read_records.result _ _ (λ found h.
+    laid_out bytes c.requires.started has (take (length bytes - 9) (drop 9 bytes)) found.bodies found.gate (take_rest bytes 9) h)
+    c.read_records.ensures.ok
 
-pub loop-rest-preserved : goal.loop-rest-preserved
-loop-rest-preserved c =
-    let so_far = c.loop-rest.invariant in
-    let rest = c.loop-rest.rest.now in
-    let body = c.in-Some.body.now in
-    let copied : c.in_ok-to_vec.field-0.items ≡ body = search rules in
-    let pushed : c.push.new.self ≡ c.loop-rest.bodies ++ body ∷ [] = c.in_ok-push.ensures.ok ∙ ap (λ (l : List ℕ). c.loop-rest.bodies ++ l ∷ []) copied in
-    record {
-      split = next_split c.args.bytes.now rest c.loop-rest.bodies so_far.split so_far.gate body (take (length rest - (9 + length body)) (drop (9 + length body) rest)) c.loop-rest-test.true c.in-Some.ensures.body (take_rest rest (9 + length body))
-          ∙ ap (λ (bs : List (List ℕ)). started (records bs ++ take (length rest - (9 + length body)) (drop (9 + length body) rest))) (sym pushed);
-      gate = subst (λ (l : List ℕ). 0 < length l) (sym (take_rest rest (9 + length body))) (omega (arith, length-drop (9 + length body) rest, c.in-Some.ensures.gate, ap length (take_rest rest 1), length-drop 1 rest));
-    }
+pub returns-clause-err : goal.returns-clause-err
+returns-clause-err c =
+    let bytes = c.args.bytes.now in
+    let same = ap (λ (l : List ℕ). starts_with nat_eq l header) (sym (take_rest bytes 1)) in
+    let has = same ∙ sym c.starts_with.ensures.value ∙ c.if-not-starts_with.false in
+    IfErr-weaker c.read_records.result _ _ (λ why h.
+    reason bytes c.requires.started has why (take (length bytes - 9) (drop 9 bytes)) (take_rest bytes 9) h)
+    c.read_records.ensures.err

@@ -1,11 +1,11 @@
 use Rattle.std.proofs.Common.{◌≡◌, ◌<◌, ◌++◌, length}
-use Rattle.iot_journal.specs.Reading.{started, records}
-use Rattle.iot_journal.proofs.records.read.Given as goal
+use Rattle.iot_records.specs.Records.{records}
+use Rattle.iot_records.proofs.records.read_records.Given as goal
 
 -- the records so far, and behind them what is left from the next gate on
 abbrev pub invariant-loop-rest : goal.invariant-loop-rest
 invariant-loop-rest l = record {
-  split : l.bytes ≡ started (records l.bodies ++ l.rest);
+  split : l.bytes ≡ records l.bodies ++ l.rest;
   gate : 0 < length l.rest;
 }
 

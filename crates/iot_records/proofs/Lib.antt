@@ -1,0 +1,3 @@
+pub mod BytesLaws
+pub mod ImagesLaws
+pub mod RecordsLaws
