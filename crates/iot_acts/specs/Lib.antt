@@ -1,1 +1,5 @@
 pub mod Traces
+pub mod Paths
+pub mod Guards
+pub mod Turns
+pub mod Fitting

@@ -5,3 +5,4 @@ pub mod Updates
 pub mod Rows
 pub mod Place
 pub mod Follows
+pub mod Snapshots

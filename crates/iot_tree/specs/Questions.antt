@@ -4,7 +4,7 @@ use Rattle.std.specs.FinMap.{get, entries}
 use Rattle.std.specs.List.{list_any, filter_map, starts_with}
 use Rattle.iot_text.specs.Paths.{last_of}
 use Rattle.iot_tree.specs.Ancestors.{proper_prefixes}
-use Rattle.iot_tree.specs.Tree.{Nodes}
+use Rattle.iot_tree.specs.Tree.{Nodes, Path, Row}
 use Rattle.iot_tree.specs.declared.nodes.Node.{Node}
 use Rattle.iot_tree.specs.declared.nodes.Node.TheVariants.{Dir, File, FarDir, FarFile}
 use Rattle.iot_tree.specs.declared.kinds.Kind.{Kind}
@@ -37,7 +37,7 @@ is_far_dir (Some FarFile) = false
 is_far_dir None = false
 
 -- whether a path above p is a far directory
-abbrev pub is_far_above : Nodes → List (List ℕ) → Bool
+abbrev pub is_far_above : Nodes → Path → Bool
 is_far_above t p = list_any (λ above. is_far_dir (get t above)) (proper_prefixes p)
 
 -- the kind of an object, whether its inside is known or not
@@ -54,7 +54,7 @@ kind_at None true = kinds.Away
 kind_at None false = kinds.Absent
 
 -- what is at the path
-abbrev pub kind_of : Nodes → List (List ℕ) → Kind
+abbrev pub kind_of : Nodes → Path → Kind
 kind_of t p = kind_at (get t p) (is_far_above t p)
 
 -- the contents that a path's row shows
@@ -65,8 +65,8 @@ content_at (Some FarDir) = None
 content_at (Some FarFile) = None
 content_at None = None
 
--- the contents of the file at the path, where they are known
-abbrev pub content_of : Nodes → List (List ℕ) → Option (List ℕ)
+-- the contents of the file at the path, if they are known
+abbrev pub content_of : Nodes → Path → Option (List ℕ)
 content_of t p = content_at (get t p)
 
 -- a kind as an answer
@@ -76,7 +76,7 @@ kind_answer kinds.Absent = Absent
 kind_answer kinds.IsDir = IsDir
 kind_answer kinds.IsFile = IsFile
 
--- what is answered where there is no such thing: away below a far directory, else absent
+-- what is answered if there is no such thing: away below a far directory, else absent
 abbrev pub no_content : Bool → Answer
 no_content true = Away
 no_content false = Absent
@@ -90,19 +90,19 @@ content_answer (Some FarDir) far = no_content far
 content_answer None far = no_content far
 
 -- whether the row is at or below p
-abbrev pub is_within : List (List ℕ) → List (List ℕ) × Node → Bool
+abbrev pub is_within : Path → Row → Bool
 is_within p row = starts_with bytes_eq row.0 p
 
 -- whether the path is p with one name more
-abbrev pub is_child : List (List ℕ) → List (List ℕ) → Bool
+abbrev pub is_child : Path → Path → Bool
 is_child p path = (length path == length p + 1) && starts_with bytes_eq path p
 
 -- the name of a row in the directory p, with the kind of its object; nothing of any other row
-abbrev pub child_of : List (List ℕ) → List (List ℕ) × Node → Option (List ℕ × Kind)
+abbrev pub child_of : Path → Row → Option (List ℕ × Kind)
 child_of p row = if is_child p row.0 then option_map (λ name. (name, node_kind row.1)) (last_of row.0) else None
 
 -- the names in the directory p with their kinds, in order of name
-abbrev pub children_of : Nodes → List (List ℕ) → List (List ℕ × Kind)
+abbrev pub children_of : Nodes → Path → List (List ℕ × Kind)
 children_of t p = filter_map (child_of p) (entries t)
 
 -- the names that a path's row shows, as an answer

@@ -1,38 +1,37 @@
--- Where an update fits a tree, and the tree after it.
-use Rattle.std.specs.Prelude.{◌≡◌, ◌≢◌, ℕ, List, [], ◌++◌, map, drop, length, bytes_eq, if◌then◌else◌, IsSome, Some, None}
+-- When an update fits a tree, and the tree after it.
+use Rattle.std.specs.Prelude.{◌≡◌, ◌≢◌, [], ◌++◌, map, drop, length, bytes_eq, if◌then◌else◌, IsSome, Some, None}
 use Rattle.std.specs.List.{starts_with}
 use Rattle.std.specs.FinMap.{get, insert, remove, entries, from_entries}
 use Rattle.iot_text.specs.Paths.{IsBelow}
-use Rattle.iot_tree.specs.Tree.{Nodes, parent_node}
-use Rattle.iot_tree.specs.declared.nodes.Node.{Node}
+use Rattle.iot_tree.specs.Tree.{Nodes, parent_node, Path, Row}
 use Rattle.iot_tree.specs.declared.nodes.Node.TheVariants.{Dir, File, FarDir}
 use Rattle.iot_tree.specs.declared.updates.Update.{Update}
 use Rattle.iot_tree.specs.declared.updates.Update.TheVariants.{Put, MakeDir, Remove, Move}
 
 -- a file can be put at p: p is not the root, its parent is a known directory, and p is no directory
-pub record FitsPut (t : Nodes) (p : List (List ℕ)) : Type 0 where
+pub record FitsPut (t : Nodes) (p : Path) : Type 0 where
   pub parent : parent_node t p ≡ Some Dir
   pub no_dir : get t p ≢ Some Dir
   pub no_far_dir : get t p ≢ Some FarDir
 
 -- a directory can be made at p: nothing is there, and its parent is a known directory
-pub record FitsMakeDir (t : Nodes) (p : List (List ℕ)) : Type 0 where
+pub record FitsMakeDir (t : Nodes) (p : Path) : Type 0 where
   pub absent : get t p ≡ None
   pub parent : parent_node t p ≡ Some Dir
 
 -- no row lies below p
-abbrev pub IsLeaf : Nodes → List (List ℕ) → Type 0
-IsLeaf t p = (path : List (List ℕ)) → IsBelow path p → get t path ≡ None
+abbrev pub IsLeaf : Nodes → Path → Type 0
+IsLeaf t p = (path : Path) → IsBelow path p → get t path ≡ None
 
 -- p's row can go: it is there, is not the root's, and no row lies below it
-pub record FitsRemove (t : Nodes) (p : List (List ℕ)) : Type 0 where
+pub record FitsRemove (t : Nodes) (p : Path) : Type 0 where
   pub mapped : IsSome (get t p)
   pub below_root : p ≢ []
   pub leaf : IsLeaf t p
 
 -- p can be moved to q: it is there, neither is the root, neither is at or below the other, q's parent
 -- is a known directory, and no row lies below q
-pub record FitsMove (t : Nodes) (p q : List (List ℕ)) : Type 0 where
+pub record FitsMove (t : Nodes) (p q : Path) : Type 0 where
   pub mapped : IsSome (get t p)
   pub from_below_root : p ≢ []
   pub to_below_root : q ≢ []
@@ -50,15 +49,15 @@ Fits t (Remove p) = FitsRemove t p
 Fits t (Move p q) = FitsMove t p q
 
 -- a path at or below p gets p replaced by q; any other path stays
-abbrev pub renamed : List (List ℕ) → List (List ℕ) → List (List ℕ) → List (List ℕ)
+abbrev pub renamed : Path → Path → Path → Path
 renamed p q path = if starts_with bytes_eq path p then q ++ drop (length p) path else path
 
 -- a row with its path renamed
-abbrev pub renamed_row : List (List ℕ) → List (List ℕ) → List (List ℕ) × Node → List (List ℕ) × Node
+abbrev pub renamed_row : Path → Path → Row → Row
 renamed_row p q row = (renamed p q row.0, row.1)
 
 -- q's row goes if there is one, then every row at or below p gets p replaced by q
-abbrev pub moved : Nodes → List (List ℕ) → List (List ℕ) → Nodes
+abbrev pub moved : Nodes → Path → Path → Nodes
 moved t p q = from_entries (map (renamed_row p q) (entries (remove t q)))
 
 -- the tree after the update, in which every other row is as it was

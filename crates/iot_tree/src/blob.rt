@@ -18,14 +18,14 @@ impl Model for Blob {
 }
 
 impl Blob {
-    /// Takes these bytes, and no memory.
+    /// Takes these bytes. Does not allocate.
     pub fn from_vec(bytes: Vec<u8>) -> Blob
         ensures { result ≡ bytes.items }
     {
         Blob { bytes }
     }
 
-    /// Gives the bytes back, and takes no memory.
+    /// Gives the bytes back. Does not allocate.
     pub fn into_vec(self) -> Vec<u8>
         ensures { result.items ≡ self }
     {

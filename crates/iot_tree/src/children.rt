@@ -1,9 +1,9 @@
 //! The names in a directory, and the rows at or below a path.
-ghost use Rattle.std.specs.Prelude.{◌≡◌, nat_lt, IfOk};
+ghost use Rattle.std.specs.Prelude.{◌≡◌, ◌↔◌, nat_lt, IfOk, IsTrue};
 ghost use Rattle.std.specs.List.{filter_map, prefix_len};
 ghost use Rattle.iot_tree.specs.Questions.{is_within, is_child, child_of};
 
-use crate::{Children, Kind, Node};
+use crate::{Answer, Children, Kind, Node};
 use iot_text::{Name, NoMemory, Path};
 use std::alloc::Global;
 
@@ -71,4 +71,40 @@ pub(crate) fn children_of(
         }
     }
     Ok(children)
+}
+
+/// Whether the names in the directory among these rows, with their kinds, are these. Does not allocate.
+pub(crate) fn are_children(rows: &[(Path, Node)], names: &[Name], children: &[(Name, Kind)]) -> bool
+    ensures { IsTrue result ↔ (filter_map (child_of names.now) rows.now ≡ children.now) }
+{
+    let mut left = children;
+    'rows: for row in rows {
+        if let Some(child) = child_of(row, names) {
+            let Some((first, rest)) = left.split_first() else {
+                return false;
+            };
+            if !is_same_child(first, &child) {
+                return false;
+            }
+            left = rest;
+        }
+    }
+    left.is_empty()
+}
+
+/// Whether the names in the directory among these rows, with their kinds, are this answer.
+pub(crate) fn is_names(rows: &[(Path, Node)], names: &[Name], answer: &Answer) -> bool
+    ensures { IsTrue result ↔ (Answer.Names (filter_map (child_of names.now) rows.now) ≡ answer.now) }
+{
+    match answer {
+        Answer::Names(children) => are_children(rows, names, children.as_slice()),
+        _ => false,
+    }
+}
+
+/// Whether two names in a directory are equal, and their kinds too.
+fn is_same_child(a: &(Name, Kind), b: &(Name, Kind)) -> bool
+    ensures { IsTrue result ↔ (a.now ≡ b.now) }
+{
+    a.0 == b.0 && a.1 == b.1
 }

@@ -9,7 +9,7 @@ pub enum RowFault {
     NoMemory,
 
     /// The rows are no tree, or not in the order of their paths. `at` is the place, counted from 0,
-    /// of the first row that does not go with the rows before it; 0 where there is no row at all.
+    /// of the first row that does not go with the rows before it; 0 if there is no row at all.
     #[error("not a tree, from row {at} on")]
     NoTree { at: u64 },
 }

@@ -1,5 +1,5 @@
 //! Kinds of objects.
-ghost use Rattle.std.specs.Prelude.{◌≡◌};
+ghost use Rattle.std.specs.Prelude.{◌≡◌, ◌↔◌, IsTrue};
 
 use crate::Answer;
 
@@ -28,6 +28,19 @@ impl Kind {
             Kind::Absent => Answer::Absent,
             Kind::IsDir => Answer::IsDir,
             Kind::IsFile => Answer::IsFile,
+        }
+    }
+
+    /// Whether the kind as an answer is this one.
+    pub(crate) fn is_answer(self, answer: &Answer) -> bool
+        ensures { IsTrue result ↔ (kind_answer self ≡ answer.now) }
+    {
+        match answer {
+            Answer::Away => matches!(self, Kind::Away),
+            Answer::Absent => matches!(self, Kind::Absent),
+            Answer::IsDir => matches!(self, Kind::IsDir),
+            Answer::IsFile => matches!(self, Kind::IsFile),
+            Answer::Bytes(_) | Answer::Names(_) => false,
         }
     }
 }

@@ -29,7 +29,7 @@ pub enum OnConflict {
 /// Files with their contents, by their paths.
 pub type Files = Sequence<(Path, Blob)>;
 
-/// A committed transaction: whose it is, and the run that it stands for.
+/// A committed transaction: whose it is, and the run that made it.
 #[derive(Drop)]
 pub struct Label {
     /// The place of the client, from 0.

@@ -1,5 +1,5 @@
 //! Nodes: what a tree has at its paths.
-ghost use Rattle.std.specs.Prelude.{◌≡◌, Some, IfOk, false};
+ghost use Rattle.std.specs.Prelude.{◌≡◌, ◌↔◌, Some, IfOk, IsTrue, false};
 ghost use Rattle.std.specs.Option.{option_copied};
 
 use crate::{Answer, Blob, Duplicate, Kind, Sequence};
@@ -46,7 +46,7 @@ impl Node {
         matches!(self, Node::Dir)
     }
 
-    /// The contents, where this is a file with its contents.
+    /// The contents, if this is a file whose contents are known.
     pub fn content(&self) -> Option<&[u8]>
         ensures { option_copied result ≡ content_at (Some self.now) }
     {
@@ -65,6 +65,20 @@ impl Node {
             Node::FarFile => Answer::Away,
             Node::Dir | Node::FarDir => Answer::Absent,
         })
+    }
+
+    /// Whether this is the object's answer to the question for a file's contents.
+    pub(crate) fn has_content(&self, answer: &Answer) -> bool
+        ensures { IsTrue result ↔ (content_answer (Some self.now) false ≡ answer.now) }
+    {
+        match self {
+            Node::File(bytes) => match answer {
+                Answer::Bytes(others) => bytes == others,
+                _ => false,
+            },
+            Node::FarFile => matches!(answer, Answer::Away),
+            Node::Dir | Node::FarDir => matches!(answer, Answer::Absent),
+        }
     }
 
     /// Whether this is a directory whose names are not known.

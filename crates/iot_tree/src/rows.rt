@@ -6,7 +6,7 @@ ghost use Rattle.iot_tree.specs.Follows.{HasDir, Follows};
 use crate::Node;
 use iot_text::{Name, Path};
 
-/// The place of the first row that does not go with the rows before it, or 0 where there is no row.
+/// The place of the first row that does not go with the rows before it, or 0 if there is no row.
 /// One pass: a row's parent can only be the row before it, or above that row.
 pub(crate) fn first_bad_row(rows: &[(Path, Node)]) -> Option<usize>
     ensures { MatchOption result (AreTreeRows rows.now) (IsFirstBadRow rows.now) }

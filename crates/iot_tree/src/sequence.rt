@@ -1,5 +1,6 @@
 //! Lists of one kind of value.
-ghost use Rattle.std.specs.Prelude.{◌≡◌, ◌==◌, ◌<◌, ◌≤◌, ◌+◌, ◌++◌, ◌∷◌, [], List, length, map, take, drop, insert, slice_set, slice_index_or, OnOk, OnErr};
+ghost use Rattle.std.specs.Prelude.{◌≡◌, ◌==◌, ◌<◌, ◌≤◌, ◌+◌, ◌++◌, ◌∷◌, [], List, length, map, take, drop, insert, slice_set};
+ghost use Rattle.std.specs.Prelude.{slice_index_or, OnOk, OnErr};
 
 use iot_text::NoMemory;
 use std::alloc::Global;
@@ -23,7 +24,7 @@ impl<T> Model for Sequence<T> {
 }
 
 impl<T> Sequence<T> {
-    /// The empty list. Takes no memory.
+    /// The empty list. Does not allocate.
     pub fn new(alloc: Global) -> Sequence<T>
         ensures { result ≡ [] }
     {
@@ -32,14 +33,14 @@ impl<T> Sequence<T> {
         }
     }
 
-    /// Takes these items, and no memory.
+    /// Takes these items. Does not allocate.
     pub fn from_vec(items: Vec<T>) -> Sequence<T>
         ensures { result ≡ items.items }
     {
         Sequence { items }
     }
 
-    /// Gives the items back, and takes no memory.
+    /// Gives the items back. Does not allocate.
     pub fn into_vec(self) -> Vec<T>
         ensures { result.items ≡ self }
     {
@@ -72,7 +73,7 @@ impl<T> Sequence<T> {
 }
 
 impl<T: Drop> Sequence<T> {
-    /// Puts an item behind the others. After an error the list is as it was.
+    /// Puts an item after the others. After an error the list is as it was.
     pub fn push(&mut self, item: T) -> Result<(), NoMemory>
         ensures ok { OnOk result (self.new ≡ self.old ++ item ∷ []) }
         ensures err { OnErr result (self.new ≡ self.old) }
@@ -103,7 +104,7 @@ impl<T: Drop> Sequence<T> {
 }
 
 impl<T> Sequence<T> {
-    /// Puts the `count` items from a place on behind all others. Takes no memory.
+    /// Puts the `count` items from a place on after all others. Does not allocate.
     pub fn rotate(&mut self, at: usize, count: usize)
         requires { at + count ≤ length self.old }
         ensures { (a b c : List T) → self.old ≡ a ++ (b ++ c) → length a ≡ at → length b ≡ count → self.new ≡ a ++ (c ++ b) }
@@ -124,7 +125,8 @@ impl<K: Drop, V: Drop> Sequence<(K, V)> {
     /// Gives the items from a place on other keys, one for each key.
     pub fn set_keys(&mut self, at: usize, mut keys: Vec<K>)
         requires { at + length keys.items ≤ length self.old }
-        ensures { (f : K → K) (a b c : List (K × V)) → self.old ≡ a ++ (b ++ c) → length a ≡ at → keys.items ≡ map (λ item. f item.0) b → self.new ≡ a ++ (map (λ item. (f item.0, item.1)) b ++ c) }
+        ensures { (f : K → K) (a b c : List (K × V)) → self.old ≡ a ++ (b ++ c) → length a ≡ at → keys.items ≡ map (λ item. f item.0) b
+            → self.new ≡ a ++ (map (λ item. (f item.0, item.1)) b ++ c) }
     {
         'keys: while let Some(key) = keys.pop() {
             self.items[at + keys.len()].0 = key;

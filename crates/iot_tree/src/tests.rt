@@ -63,24 +63,13 @@ fn contents_are_lent_and_answered(rt: HostRuntime) -> Result<(), NoMemory> {
     let change = put(&rt, rt.alloc(), "/src/a", b"two\n")?;
     apply(&rt, rt.alloc(), &mut tree, &change)?;
     assert!(rt; tree.rows().len() == 3 && !tree.rows().is_empty());
-    match tree.answer(rt.alloc(), &Question::Content(file))? {
+    let question = Question::Content(file);
+    let answer = tree.answer(rt.alloc(), &question)?;
+    match &answer {
         Answer::Bytes(bytes) => assert_eq!(rt; bytes.as_slice(), b"two\n".as_slice()),
         _ => assert!(rt; false, "contents"),
     }
-    Ok(())
-}
-
-#[test]
-fn some_updates_do_not_fit(rt: HostRuntime) -> Result<(), NoMemory> {
-    let tree = day(&rt, rt.alloc())?;
-    for text in ["/", "/src", "/src/a/b", "/lib/a"] {
-        let update = put(&rt, rt.alloc(), text, b"")?;
-        assert!(rt; !tree.fits(&update), "{text}");
-    }
-    for text in ["/", "/src", "/src/a", "/src/a/b"] {
-        let update = Update::MakeDir(path(&rt, rt.alloc(), text));
-        assert!(rt; !tree.fits(&update), "{text}");
-    }
+    assert!(rt; tree.answers(&Read { question, answer }));
     Ok(())
 }
 
@@ -121,16 +110,6 @@ fn bad_row(rt: &impl Abort, alloc: Global, spelled: &[(&str, &Node)]) -> Option<
 }
 
 #[test]
-fn rows_begin_with_a_root(rt: HostRuntime) {
-    let alloc = rt.alloc();
-    let (dir, far, file) = (&Node::Dir, &Node::FarDir, &Node::FarFile);
-    assert_eq!(rt; bad_row(&rt, alloc, &[]), Some(0));
-    assert_eq!(rt; bad_row(&rt, alloc, &[("/a", dir)]), Some(0));
-    assert_eq!(rt; bad_row(&rt, alloc, &[("/", file)]), Some(0));
-    assert_eq!(rt; bad_row(&rt, alloc, &[("/", far)]), None);
-}
-
-#[test]
 fn rows_rise(rt: HostRuntime) {
     let alloc = rt.alloc();
     let dir = &Node::Dir;
@@ -143,19 +122,6 @@ fn rows_rise(rt: HostRuntime) {
         bad_row(&rt, alloc, &[("/", dir), ("/a", dir), ("/a/b", dir)]),
         None
     );
-}
-
-fn bad_row_below(rt: &impl Abort, alloc: Global, above: Node) -> Option<u64> {
-    let (root, file) = (Node::Dir, Node::FarFile);
-    bad_row(rt, alloc, &[("/", &root), ("/a", &above), ("/a/b", &file)])
-}
-
-#[test]
-fn rows_stand_in_known_directories(rt: HostRuntime) {
-    let alloc = rt.alloc();
-    assert_eq!(rt; bad_row_below(&rt, alloc, Node::Dir), None);
-    assert_eq!(rt; bad_row_below(&rt, alloc, Node::FarDir), Some(2));
-    assert_eq!(rt; bad_row_below(&rt, alloc, Node::FarFile), Some(2));
 }
 
 #[test]
@@ -211,24 +177,6 @@ fn names_stand_in_order_with_their_kinds(rt: HostRuntime) -> Result<(), NoMemory
     Ok(())
 }
 
-#[test]
-fn what_is_empty_can_be_removed(rt: HostRuntime) -> Result<(), NoMemory> {
-    let mut tree = day(&rt, rt.alloc())?;
-    for text in ["/", "/src", "/lib"] {
-        let update = Update::Remove(path(&rt, rt.alloc(), text));
-        assert!(rt; !tree.fits(&update), "{text}");
-    }
-    for text in ["/src/a", "/src"] {
-        let update = Update::Remove(path(&rt, rt.alloc(), text)).copy(rt.alloc())?;
-        apply(&rt, rt.alloc(), &mut tree, &update)?;
-        assert!(rt;
-            tree.kind(&path(&rt, rt.alloc(), text)) == Kind::Absent,
-            "{text}"
-        );
-    }
-    Ok(())
-}
-
 fn mv(rt: &impl Abort, alloc: Global, from: &str, to: &str) -> Update {
     Update::Move(path(rt, alloc, from), path(rt, alloc, to))
 }
@@ -238,6 +186,8 @@ fn a_directory_moves_with_what_is_in_it(rt: HostRuntime) -> Result<(), NoMemory>
     let mut tree = day(&rt, rt.alloc())?;
     let file = put(&rt, rt.alloc(), "/lib", b"old")?;
     apply(&rt, rt.alloc(), &mut tree, &file)?;
+    let away = Update::Remove(path(&rt, rt.alloc(), "/lib/a"));
+    assert!(rt; !tree.fits(&away));
     let update = mv(&rt, rt.alloc(), "/src", "/lib").copy(rt.alloc())?;
     apply(&rt, rt.alloc(), &mut tree, &update)?;
     for (text, kind) in [
@@ -247,23 +197,6 @@ fn a_directory_moves_with_what_is_in_it(rt: HostRuntime) -> Result<(), NoMemory>
         ("/lib/a", Kind::IsFile),
     ] {
         assert!(rt; tree.kind(&path(&rt, rt.alloc(), text)) == kind, "{text}");
-    }
-    Ok(())
-}
-
-#[test]
-fn some_moves_do_not_fit(rt: HostRuntime) -> Result<(), NoMemory> {
-    let tree = day(&rt, rt.alloc())?;
-    for (from, to) in [
-        ("/", "/lib"),
-        ("/src", "/"),
-        ("/src", "/src"),
-        ("/src", "/src/b"),
-        ("/src/a", "/src"),
-        ("/lib", "/b"),
-        ("/src/a", "/lib/a"),
-    ] {
-        assert!(rt; !tree.fits(&mv(&rt, rt.alloc(), from, to)), "{from} {to}");
     }
     Ok(())
 }

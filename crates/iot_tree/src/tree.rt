@@ -7,17 +7,17 @@ ghost use Rattle.iot_tree.specs.Updates.{FitsPut, FitsMakeDir, FitsRemove, FitsM
 ghost use Rattle.iot_tree.specs.Rows.{AreTreeRows, RefusesRows};
 ghost use Rattle.iot_tree.specs.Questions.{is_dir, kind_of, content_of, answer_of, content_answer, names_answer, children_of, is_far_above};
 
-use crate::children::{begins_within, children_of, count_within};
+use crate::children::{begins_within, children_of, count_within, is_names};
 use crate::moves::{put_last, renamed_paths};
 use crate::places::{kind_in_gap, node_at, place_of};
 use crate::rows::first_bad_row;
-use crate::{Answer, Duplicate, Kind, Node, Question, RowFault, Rows, Update};
+use crate::{Answer, Duplicate, Kind, Node, Question, Read, RowFault, Rows, Update};
 use iot_text::{Name, NoMemory, Path};
 use std::alloc::Global;
 use std::marker::Model;
 
 /// A tree of files and directories: a node at each path that has one. Contracts see it as this map.
-/// The root is a directory, and each other path stands in a directory whose names are known.
+/// The root is a directory, and each other path is in a directory whose names are known.
 ///
 /// Look-ups are binary searches.
 #[derive(Drop)]
@@ -68,12 +68,12 @@ impl Tree {
         Ok(Tree { rows })
     }
 
-    /// The tree of these rows. Takes no memory.
+    /// The tree of these rows. Does not allocate.
     ///
     /// # Errors
     ///
-    /// `NoTree`, exactly where the rows are no tree or not in the order of their paths: the rows
-    /// before the place `at` make a tree, where there are any, and with the row there they make none.
+    /// `NoTree`, exactly if the rows are no tree or not in the order of their paths: the rows before
+    /// the place `at` make a tree, if there are any, and with the row there they make none.
     pub fn from_rows(rows: Rows) -> Result<Tree, RowFault>
         ensures ok { IfOk result (λ tree. (map.entries tree ≡ rows) × AreTreeRows rows) }
         ensures refused { IfErr result (RefusesRows rows) }
@@ -84,11 +84,20 @@ impl Tree {
         }
     }
 
+    /// The tree of these rows, which make one: they are not looked at. Does not allocate.
+    pub fn of_rows(rows: Rows) -> Tree
+        requires { AreTreeRows rows }
+        ensures { map.entries result ≡ rows }
+    {
+        Tree { rows }
+    }
+
     /// The rows in the order of their paths.
     #[inline]
     pub fn rows(&self) -> &Rows
         ensures rows { result.now ≡ map.entries self.now }
         ensures tree { IsTree self.now }
+        ensures valid { AreTreeRows result.now }
     {
         &self.rows
     }
@@ -101,7 +110,7 @@ impl Tree {
         Ok(Tree { rows })
     }
 
-    /// What is at the path. Takes no memory.
+    /// What is at the path. Does not allocate.
     pub fn kind(&self, path: &Path) -> Kind
         ensures kind { result ≡ kind_of self.now path.now }
         ensures tree { IsTree self.now }
@@ -113,7 +122,8 @@ impl Tree {
         }
     }
 
-    /// The contents of the file at the path, lent: Some exactly where a file with its contents is there.
+    /// The contents of the file at the path, lent: Some exactly if a file is there whose contents are
+    /// known.
     pub fn content(&self, path: &Path) -> Option<&[u8]>
         ensures content { option_copied result ≡ content_of self.now path.now }
         ensures tree { IsTree self.now }
@@ -124,7 +134,7 @@ impl Tree {
         }
     }
 
-    /// The answer to the question. Takes memory for contents and names alone. The question for names
+    /// The answer to the question. Allocates for contents and names alone. The question for names
     /// takes time for each row below the directory.
     pub fn answer(&self, alloc: Global, question: &Question) -> Result<Answer, NoMemory>
         ensures answer { IfOk result (λ answer. answer ≡ answer_of self.now question.now) }
@@ -137,7 +147,20 @@ impl Tree {
         }
     }
 
-    /// Whether the update fits the tree. Takes no memory.
+    /// Whether the tree answers the question as it was answered in this read. Does not allocate. The
+    /// question for names takes time for each row below the directory.
+    pub fn answers(&self, read: &Read) -> bool
+        ensures answers { IsTrue result ↔ (answer_of self.now read.now.question ≡ read.now.answer) }
+        ensures tree { IsTree self.now }
+    {
+        match &read.question {
+            Question::Kind(path) => self.kind(path).is_answer(&read.answer),
+            Question::Content(path) => self.has_content(path, &read.answer),
+            Question::Names(path) => self.has_names(path, &read.answer),
+        }
+    }
+
+    /// Whether the update fits the tree. Does not allocate.
     pub fn fits(&self, update: &Update) -> bool
         ensures { IsTrue result ↔ Fits self.now update.now }
     {
@@ -202,8 +225,8 @@ impl Tree {
         }
     }
 
-    /// The node at the path of these names.
-    fn node(&self, names: &[Name]) -> Option<&Node>
+    /// The node at the path of these names. Does not allocate.
+    pub fn node(&self, names: &[Name]) -> Option<&Node>
         ensures { option_copied result ≡ map.get self.now names.now }
     {
         node_at(self.rows.as_slice(), names)
@@ -242,7 +265,8 @@ impl Tree {
 
     /// The answer to the question for the names in a directory.
     fn names_answer(&self, alloc: Global, path: &Path) -> Result<Answer, NoMemory>
-        ensures answer { IfOk result (λ answer. answer ≡ names_answer (map.get self.now path.now) (is_far_above self.now path.now) (children_of self.now path.now)) }
+        ensures answer { IfOk result
+            (λ answer. answer ≡ names_answer (map.get self.now path.now) (is_far_above self.now path.now) (children_of self.now path.now)) }
         ensures tree { IsTree self.now }
     {
         let rows = self.rows.as_slice();
@@ -257,6 +281,39 @@ impl Tree {
                 Node::File(_) | Node::FarFile => Ok(Answer::Absent),
             },
             Err(gap) => Ok(kind_in_gap(rows, gap, path.names()).into_answer()),
+        }
+    }
+
+    /// Whether this is the answer to the question for a file's contents.
+    fn has_content(&self, path: &Path, answer: &Answer) -> bool
+        ensures answers { IsTrue result ↔ (content_answer (map.get self.now path.now) (is_far_above self.now path.now) ≡ answer.now) }
+        ensures tree { IsTree self.now }
+    {
+        let rows = self.rows.as_slice();
+        match place_of(rows, path.names()) {
+            Ok(at) => rows[at].1.has_content(answer),
+            Err(gap) => kind_in_gap(rows, gap, path.names()).is_answer(answer),
+        }
+    }
+
+    /// Whether this is the answer to the question for the names in a directory.
+    fn has_names(&self, path: &Path, answer: &Answer) -> bool
+        ensures answers { IsTrue result
+            ↔ (names_answer (map.get self.now path.now) (is_far_above self.now path.now) (children_of self.now path.now) ≡ answer.now) }
+        ensures tree { IsTree self.now }
+    {
+        let rows = self.rows.as_slice();
+        match place_of(rows, path.names()) {
+            Ok(at) => match &rows[at].1 {
+                Node::Dir => {
+                    let below = &rows[at + 1..];
+                    let count = count_within(below, path.names());
+                    is_names(&below[..count], path.names(), answer)
+                }
+                Node::FarDir => Kind::Away.is_answer(answer),
+                Node::File(_) | Node::FarFile => Kind::Absent.is_answer(answer),
+            },
+            Err(gap) => kind_in_gap(rows, gap, path.names()).is_answer(answer),
         }
     }
 
@@ -323,7 +380,7 @@ impl Tree {
     }
 
     /// Moves the rows at or below the first path to the second, in place of the row that is there:
-    /// behind all others, and then from there into their place. After an error the tree is as it was.
+    /// after all others, and then from there into their place. After an error the tree is as it was.
     fn move_to(&mut self, alloc: Global, from: &Path, to: &Path) -> Result<(), NoMemory>
         requires { FitsMove self.old from.now to.now }
         ensures ok { OnOk result (self.new ≡ moved self.old from.now to.now) }

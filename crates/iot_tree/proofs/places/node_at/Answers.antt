@@ -1,11 +1,11 @@
 use Rattle.std.proofs.Common.{sym}
-use Rattle.iot_tree.specs.Place.{StandsAt, IsGap}
+use Rattle.iot_tree.specs.Place.{IsRowAt, IsGap}
 use Rattle.iot_tree.proofs.RowLaws.{find_in_gap, find_here}
 use Rattle.iot_tree.proofs.places.node_at.Goals as goal
 
 pub returns-in-Ok : goal.returns-in-Ok
 returns-in-Ok c =
-    let stands : StandsAt c.args.rows.now c.args.names.now c.in-Ok.at = rw c.in-Ok.is at c.place_of.ensures in
+    let stands : IsRowAt c.args.rows.now c.args.names.now c.in-Ok.at = rw c.in-Ok.is at c.place_of.ensures in
     sym (find_here c.args.rows.now c.requires c.args.names.now c.in-Ok.at stands c.index-rows-at.result)
 
 pub returns-in-Err : goal.returns-in-Err

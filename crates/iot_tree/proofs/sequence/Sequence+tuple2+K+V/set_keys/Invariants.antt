@@ -1,5 +1,5 @@
 use Rattle.std.proofs.Common.{◌≤◌, ◌+◌, length}
-use Rattle.iot_tree.proofs.Keys.{IsStage}
+use Rattle.iot_tree.proofs.KeyLaws.{IsStage}
 use Rattle.iot_tree.proofs.sequence.Sequence+tuple2+K+V.set_keys.Given as goal
 
 abbrev pub invariant-keys : goal.invariant-keys

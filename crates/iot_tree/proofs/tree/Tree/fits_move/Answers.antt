@@ -1,5 +1,5 @@
-use Rattle.std.proofs.Common.{◌∙◌, IsTrue, Bool, true, false, not, ◌≡◌, sym, ap, refl}
-use Rattle.iot_tree.proofs.Leaves.{no_move_up, no_move_down, moves}
+use Rattle.std.proofs.Common.{◌∙◌, IsTrue, Bool, true, false, not, ◌≡◌, sym, refl}
+use Rattle.iot_tree.proofs.UpdateLaws.{no_move_up, no_move_down, moves}
 use Rattle.iot_tree.proofs.tree.Tree.fits_move.Goals as goal
 
 is_false : (b : Bool) → IsTrue (not b) → b ≡ false
@@ -25,6 +25,7 @@ returns c =
     let up = rw (c.names.ensures.value, c.names-2.ensures.value) at c.starts_with.ensures.value in
     let down = rw (c.names-3.ensures.value, c.names-4.ensures.value) at c.starts_with-2.ensures.value in (
       λ is. moves c.args.self.now c.args.from.now c.args.to.now (sym up ∙ c.if-starts_with.false) (sym down ∙ c.if-starts_with-2.false)
-          (c.has_row.ensures.0 c.if-not-has_row.false) (c.is_in_known_dir.ensures.0 c.if-not-is_in_known_dir.false) (c.has_below.ensures.0 (is_false c.has_below.result is)),
+          (c.has_row.ensures.0 c.if-not-has_row.false) (c.is_in_known_dir.ensures.0 c.if-not-is_in_known_dir.false)
+          (c.has_below.ensures.0 (is_false c.has_below.result is)),
       λ fits. is_not c.has_below.result (c.has_below.ensures.1 fits.leaf),
     )
