@@ -20,11 +20,13 @@ pub own_reads : {R : Type 0} (plan : Plan R) (t : Nodes) → ReadsHold t (perfor
 own_reads (Done result) t = tt
 own_reads (Ask question next) t = (refl, own_reads (next (answer_of t question)) t)
 
--- where the reads of a plan hold, it does the same
+-- if the reads of a plan hold, it does the same
 pub same_answers : {R : Type 0} (plan : Plan R) (t u : Nodes) → ReadsHold u (perform t plan).reads → perform u plan ≡ perform t plan
 same_answers (Done result) t u hold = refl
 same_answers (Ask question next) t u hold =
-    rw (hold.0) (ap (with_read (record { question = question; answer = answer_of t question })) (same_answers (next (answer_of t question)) t u hold.1))
+    rw (hold.0)
+    (ap (with_read (record { question = question; answer = answer_of t question }))
+    (same_answers (next (answer_of t question)) t u hold.1))
 
 -- two lists of reads that begin with those of a plan on two trees
 pub record SameStart {R : Type 0} (plan : Plan R) (t u : Nodes) (xs ys : List Read) : Type 0 where
@@ -37,8 +39,9 @@ same_heads x y xs ys e = cc
 same_tails : (x y : Read) (xs ys : List Read) → x ∷ xs ≡ y ∷ ys → xs ≡ ys
 same_tails x y xs ys e = cc
 
--- where two lists that begin with the reads of a plan on two trees are equal, it does the same on both
-pub same_reads : {R : Type 0} (plan : Plan R) (t u : Nodes) (xs ys : List Read) → (perform t plan).reads ++ xs ≡ (perform u plan).reads ++ ys → SameStart plan t u xs ys
+-- if two lists that begin with the reads of a plan on two trees are equal, it does the same on both
+pub same_reads : {R : Type 0} (plan : Plan R) (t u : Nodes) (xs ys : List Read)
+    → (perform t plan).reads ++ xs ≡ (perform u plan).reads ++ ys → SameStart plan t u xs ys
 same_reads (Done result) t u xs ys e = record { same = refl; rest = e }
 same_reads {R = R} (Ask question next) t u xs ys e =
     let answers : answer_of t question ≡ answer_of u question = ap (λ (read : Read). read.answer) (same_heads _ _ _ _ e) in

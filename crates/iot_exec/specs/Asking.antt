@@ -1,9 +1,12 @@
 -- How far a plan has come on a tree.
-use Rattle.std.specs.Prelude.{◌≡◌, ℕ, List, [], ◌∷◌, ◌++◌, Result, Ok, Err, ⊤}
+use Rattle.std.specs.Prelude.{◌≡◌, ℕ, ◌-◌, List, [], ◌∷◌, ◌++◌, length, slice_get, Option, Some, None, Result, Ok, Err, ⊤}
 use denote.Ref.{Bor}
 use Rattle.iot_tree.specs.Questions.{answer_of}
 use Rattle.iot_tree.specs.declared.questions.Question.{Question}
 use Rattle.iot_tree.specs.declared.questions.Answer.{Answer}
+use Rattle.iot_tree.specs.declared.questions.Answer.TheVariants.{Names}
+use Rattle.iot_tree.specs.declared.acts.Read.{Read}
+use Rattle.iot_tree.specs.declared.kinds.Kind.{Kind}
 use Rattle.iot_exec.specs.Plans.{Plan, Done, Performed, perform}
 use Rattle.iot_exec.specs.Commands.{Ending}
 use Rattle.iot_exec.specs.declared.asking.Asking.{Asking}
@@ -52,8 +55,27 @@ abbrev pub lent : Result (Bor (List ℕ)) Stop → Result (List ℕ) Stop
 lent (Ok bytes) = Ok bytes.now
 lent (Err stop) = Err stop
 
+-- the names of an answer
+abbrev pub names_in : Answer → List (List ℕ × Kind)
+names_in (Names names) = names
+names_in other = []
+
+abbrev pub names_if : Option Read → List (List ℕ × Kind)
+names_if None = []
+names_if (Some read) = names_in read.answer
+
+-- the names that were answered last
+abbrev pub last_names : List Read → List (List ℕ × Kind)
+last_names reads = names_if (slice_get reads (length reads - 1))
+
+-- they are what a call gives that has asked for them
+abbrev pub with_names : List Read → Result (Unit {0}) Stop → Result (List (List ℕ × Kind)) Stop
+with_names reads (Ok done) = Ok (last_names reads)
+with_names reads (Err stop) = Err stop
+
 -- a question was asked, and what the call gives is made of the answer
 abbrev pub Answered : {A : Type 0} → Asking → Question → Asking → Result A Stop → (Answer → Result A Refusal) → Type 0
 Answered before question after (Ok value) made = (after ≡ asked before question) × (made (answer_of before.tree.now question) ≡ Ok value)
-Answered before question after (Err (Refused refusal)) made = (after ≡ asked before question) × (made (answer_of before.tree.now question) ≡ Err refusal)
+Answered before question after (Err (Refused refusal)) made =
+    (after ≡ asked before question) × (made (answer_of before.tree.now question) ≡ Err refusal)
 Answered before question after (Err NoMemory) made = ⊤

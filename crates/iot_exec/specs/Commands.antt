@@ -1,9 +1,11 @@
 -- What each command, condition and loop does, whatever the tree.
-use Rattle.std.specs.Prelude.{ℕ, ◌+◌, ◌==◌, Bool, true, false, List, [], ◌∷◌, ◌++◌, length, map, Option, Some, None, Result, Ok, Err, codes, bytes_eq, if◌then◌else◌}
+use Rattle.std.specs.Prelude.{ℕ, ◌+◌, ◌==◌, Bool, true, false, List, [], ◌∷◌, ◌++◌, length, map, Option, Some, None, Result, Ok, Err}
+use Rattle.std.specs.Prelude.{codes, bytes_eq, if◌then◌else◌}
 use Rattle.std.specs.Result.{result_ok}
 use Rattle.std.specs.FinMap.{FinMap, get, from_entries}
 use Rattle.iot_lines.specs.Lines.{lines}
 use Rattle.iot_text.specs.Paths.{path_cmp}
+use Rattle.iot_tree.specs.Tree.{Path}
 use Rattle.iot_tree.specs.declared.kinds.Kind.{Kind}
 use Rattle.iot_tree.specs.declared.kinds.Kind.TheVariants as kinds
 use Rattle.iot_tree.specs.declared.questions.Question.TheVariants as asks
@@ -13,10 +15,11 @@ use Rattle.iot_tree.specs.declared.updates.Update.{Update}
 use Rattle.iot_tree.specs.declared.updates.Update.TheVariants as updates
 use Rattle.iot_lang.specs.declared.words.Piece.{Piece}
 use Rattle.iot_lang.specs.declared.words.Command.{Command}
-use Rattle.iot_lang.specs.declared.words.Command.TheVariants.{Echo, Set, Read, MakeDir, RemoveDir, Remove, Write, Append, Copy, Concat, Move, Cat, List as Ls, Keep}
+use Rattle.iot_lang.specs.declared.words.Command.TheVariants.{Echo, Set, Read, MakeDir, RemoveDir, Remove, Write, Append, Copy, Concat}
+use Rattle.iot_lang.specs.declared.words.Command.TheVariants.{Move, Cat, List as Ls, Keep}
 use Rattle.iot_lang.specs.declared.words.Cond.{Cond}
 use Rattle.iot_lang.specs.declared.words.Cond.TheVariants as conditions
-use Rattle.iot_exec.specs.Paths.{parent_path, is_at_or_below}
+use Rattle.iot_acts.specs.Paths.{parent_path, is_at_or_below}
 use Rattle.iot_exec.specs.Plans.{Plan, Done, Ask, mapped, Effect, silent, going_on}
 use Rattle.iot_exec.specs.Values.{with_ok}
 use Rattle.iot_exec.specs.Operands.{is_too_large, word_operand, path_operand}
@@ -34,7 +37,7 @@ abbrev pub Kept : Type 0
 Kept = FinMap path_cmp (List ℕ)
 
 -- the first contents that a list has at each path
-abbrev pub kept_files : List (List (List ℕ) × List ℕ) → Kept
+abbrev pub kept_files : List (Path × List ℕ) → Kept
 kept_files files = from_entries files
 
 -- ---- how the table ends
@@ -53,7 +56,7 @@ abbrev pub sets : List ℕ → List ℕ → Plan Ending
 sets variable value = Done (Ok (Sets variable value))
 
 -- refused for a reason at a path
-abbrev pub fails : List (List ℕ) → Reason → Plan Ending
+abbrev pub fails : Path → Reason → Plan Ending
 fails path reason = Done (Err (At path reason))
 
 -- what is there is given to what comes next, or the refusal is the end
@@ -63,55 +66,49 @@ given (Ok value) next = next value
 
 -- ---- questions that several commands ask
 
--- where the parent is a directory
-abbrev pub in_parent : List (List ℕ) → Plan Ending → Answer → Plan Ending
+-- goes on if the parent is a directory
+abbrev pub in_parent : Path → Plan Ending → Answer → Plan Ending
 in_parent path good IsDir = good
 in_parent path good Away = fails path because.NotCached
-in_parent path good Absent = fails path because.NoDirectory
-in_parent path good IsFile = fails path because.NoDirectory
-in_parent path good (Bytes bytes) = fails path because.NoDirectory
-in_parent path good (Names names) = fails path because.NoDirectory
+in_parent path good other = fails path because.NoDirectory
 
 -- its refusal names the path, and not the parent
-abbrev pub ask_parent : List (List ℕ) → Plan Ending → Plan Ending
+abbrev pub ask_parent : Path → Plan Ending → Plan Ending
 ask_parent path good = Ask (asks.Kind (parent_path path)) (in_parent path good)
 
-abbrev pub at_target : List (List ℕ) → Plan Ending → Answer → Plan Ending
+abbrev pub at_target : Path → Plan Ending → Answer → Plan Ending
 at_target path good IsFile = good
 at_target path good IsDir = fails path because.IsDirectory
 at_target path good Absent = ask_parent path good
-at_target path good Away = fails path because.NotCached
-at_target path good (Bytes bytes) = fails path because.NotCached
-at_target path good (Names names) = fails path because.NotCached
+at_target path good other = fails path because.NotCached
 
 -- a path that a file can be put at: a file is there, or nothing is there and the parent is a directory
-abbrev pub target : List (List ℕ) → Plan Ending → Plan Ending
+abbrev pub target : Path → Plan Ending → Plan Ending
 target path good = Ask (asks.Kind path) (at_target path good)
 
 -- the contents that are answered
-abbrev pub contents_or : List (List ℕ) → Answer → Result (List ℕ) Refusal
+abbrev pub contents_or : Path → Answer → Result (List ℕ) Refusal
 contents_or path (Bytes bytes) = Ok bytes
 contents_or path Absent = Err (At path because.NoFile)
-contents_or path Away = Err (At path because.NotCached)
-contents_or path IsDir = Err (At path because.NotCached)
-contents_or path IsFile = Err (At path because.NotCached)
-contents_or path (Names names) = Err (At path because.NotCached)
+contents_or path other = Err (At path because.NotCached)
+
+-- why an answer without contents has none
+abbrev pub no_contents_reason : Answer → Reason
+no_contents_reason Absent = because.NoFile
+no_contents_reason other = because.NotCached
 
 -- the contents of a file
-abbrev pub contents : List (List ℕ) → (List ℕ → Plan Ending) → Plan Ending
+abbrev pub contents : Path → (List ℕ → Plan Ending) → Plan Ending
 contents path next = Ask (asks.Content path) (λ answer. given (contents_or path answer) next)
 
 -- the names that are answered
-abbrev pub names_or : List (List ℕ) → Answer → Result (List (List ℕ × Kind)) Refusal
+abbrev pub names_or : Path → Answer → Result (List (List ℕ × Kind)) Refusal
 names_or path (Names names) = Ok names
 names_or path Absent = Err (At path because.NoDirectory)
-names_or path Away = Err (At path because.NotCached)
-names_or path IsDir = Err (At path because.NotCached)
-names_or path IsFile = Err (At path because.NotCached)
-names_or path (Bytes bytes) = Err (At path because.NotCached)
+names_or path other = Err (At path because.NotCached)
 
 -- the names in a directory
-abbrev pub names : {A : Type 0} → List (List ℕ) → (List (List ℕ × Kind) → Plan (Result A Refusal)) → Plan (Result A Refusal)
+abbrev pub names : {A : Type 0} → Path → (List (List ℕ × Kind) → Plan (Result A Refusal)) → Plan (Result A Refusal)
 names path next = Ask (asks.Names path) (λ answer. given (names_or path answer) next)
 
 -- ---- the commands
@@ -121,11 +118,11 @@ abbrev pub echo : List ℕ → Plan Ending
 echo text = prints (lines (text ++ codes "\n"))
 
 -- `read X P`
-abbrev pub read : List ℕ → List (List ℕ) → Plan Ending
+abbrev pub read : List ℕ → Path → Plan Ending
 read variable path = contents path (sets variable)
 
 -- `cat P`
-abbrev pub cat : List (List ℕ) → Plan Ending
+abbrev pub cat : Path → Plan Ending
 cat path = contents path (λ bytes. prints (lines bytes))
 
 -- `ls P`: one line per name, with a `/` after a directory's
@@ -135,104 +132,96 @@ name_line (name, kinds.IsFile) = name
 name_line (name, kinds.Absent) = name
 name_line (name, kinds.Away) = name
 
-abbrev pub list_names : List (List ℕ) → Plan Ending
+abbrev pub list_names : Path → Plan Ending
 list_names path = names path (λ names. prints (map name_line names))
 
 -- `mkdir P`
-abbrev pub at_new_dir : List (List ℕ) → Plan Ending → Answer → Plan Ending
+abbrev pub at_new_dir : Path → Plan Ending → Answer → Plan Ending
+at_new_dir path good Absent = ask_parent path good
 at_new_dir path good IsDir = fails path because.Exists
 at_new_dir path good IsFile = fails path because.Exists
-at_new_dir path good Absent = ask_parent path good
-at_new_dir path good Away = fails path because.NotCached
-at_new_dir path good (Bytes bytes) = fails path because.NotCached
-at_new_dir path good (Names names) = fails path because.NotCached
+at_new_dir path good other = fails path because.NotCached
 
-abbrev pub new_dir : List (List ℕ) → Plan Ending → Plan Ending
+abbrev pub new_dir : Path → Plan Ending → Plan Ending
 new_dir path good = Ask (asks.Kind path) (at_new_dir path good)
 
-abbrev pub make_dir : List (List ℕ) → Plan Ending
+abbrev pub make_dir : Path → Plan Ending
 make_dir path = new_dir path (makes (updates.MakeDir path))
 
 -- `write P W`
-abbrev pub write : List (List ℕ) → List ℕ → Plan Ending
+abbrev pub write : Path → List ℕ → Plan Ending
 write path bytes = target path (makes (updates.Put path bytes))
 
 -- `append P W`
-abbrev pub with_more : List (List ℕ) → List ℕ → List ℕ → Plan Ending
+abbrev pub with_more : Path → List ℕ → List ℕ → Plan Ending
 with_more path more bytes =
     if is_too_large (length bytes + length more) then fails path because.TooLarge else makes (updates.Put path (bytes ++ more))
 
-abbrev pub append : List (List ℕ) → List ℕ → Plan Ending
+abbrev pub append : Path → List ℕ → Plan Ending
 append path more = contents path (with_more path more)
 
 -- `copy P Q`
-abbrev pub copy : List (List ℕ) → List (List ℕ) → Plan Ending
+abbrev pub copy : Path → Path → Plan Ending
 copy from to = contents from (λ bytes. write to bytes)
 
 -- `concat Q P1 P2`
-abbrev pub join : List (List ℕ) → List ℕ → List ℕ → Plan Ending
+abbrev pub join : Path → List ℕ → List ℕ → Plan Ending
 join to one two = if is_too_large (length one + length two) then fails to because.TooLarge else write to (one ++ two)
 
-abbrev pub concat : List (List ℕ) → List (List ℕ) → List (List ℕ) → Plan Ending
+abbrev pub concat : Path → Path → Path → Plan Ending
 concat to first second = contents first (λ one. contents second (λ two. join to one two))
 
 -- `rm P`
-abbrev pub at_file : List (List ℕ) → Answer → Plan Ending
+abbrev pub at_file : Path → Answer → Plan Ending
 at_file path IsFile = makes (updates.Remove path)
 at_file path IsDir = fails path because.IsDirectory
 at_file path Absent = fails path because.NoFile
-at_file path Away = fails path because.NotCached
-at_file path (Bytes bytes) = fails path because.NotCached
-at_file path (Names names) = fails path because.NotCached
+at_file path other = fails path because.NotCached
 
-abbrev pub remove_file : List (List ℕ) → Plan Ending
+abbrev pub remove_file : Path → Plan Ending
 remove_file path = Ask (asks.Kind path) (at_file path)
 
--- where a directory is empty
-abbrev pub when_empty : List (List ℕ) → Plan Ending → List (List ℕ × Kind) → Plan Ending
+-- goes on if the directory is empty
+abbrev pub when_empty : Path → Plan Ending → List (List ℕ × Kind) → Plan Ending
 when_empty path good [] = good
 when_empty path good (name ∷ names) = fails path because.NotEmpty
 
-abbrev pub empty_dir : List (List ℕ) → Plan Ending → Plan Ending
+abbrev pub empty_dir : Path → Plan Ending → Plan Ending
 empty_dir path good = names path (when_empty path good)
 
 -- `rmdir P`
-abbrev pub remove_dir : List (List ℕ) → Plan Ending
+abbrev pub remove_dir : Path → Plan Ending
 remove_dir path = if length path == 0 then fails path because.IsRoot else empty_dir path (makes (updates.Remove path))
 
 -- a path that a directory can be moved to: an empty directory is there, or nothing is there and the parent is a directory
-abbrev pub at_dir_target : List (List ℕ) → Plan Ending → Answer → Plan Ending
+abbrev pub at_dir_target : Path → Plan Ending → Answer → Plan Ending
 at_dir_target path good IsFile = fails path because.IsNoDirectory
 at_dir_target path good IsDir = empty_dir path good
 at_dir_target path good Absent = ask_parent path good
-at_dir_target path good Away = fails path because.NotCached
-at_dir_target path good (Bytes bytes) = fails path because.NotCached
-at_dir_target path good (Names names) = fails path because.NotCached
+at_dir_target path good other = fails path because.NotCached
 
-abbrev pub dir_target : List (List ℕ) → Plan Ending → Plan Ending
+abbrev pub dir_target : Path → Plan Ending → Plan Ending
 dir_target path good = Ask (asks.Kind path) (at_dir_target path good)
 
 -- `mv P Q`
-abbrev pub at_moved : List (List ℕ) → List (List ℕ) → Plan Ending → Answer → Plan Ending
+abbrev pub at_moved : Path → Path → Plan Ending → Answer → Plan Ending
 at_moved from to good IsFile = target to good
 at_moved from to good IsDir = dir_target to good
 at_moved from to good Absent = fails from because.NoSuchPath
-at_moved from to good Away = fails from because.NotCached
-at_moved from to good (Bytes bytes) = fails from because.NotCached
-at_moved from to good (Names names) = fails from because.NotCached
+at_moved from to good other = fails from because.NotCached
 
-abbrev pub move_target : List (List ℕ) → List (List ℕ) → Plan Ending → Plan Ending
+abbrev pub move_target : Path → Path → Plan Ending → Plan Ending
 move_target from to good = Ask (asks.Kind from) (at_moved from to good)
 
-abbrev pub move : List (List ℕ) → List (List ℕ) → Plan Ending
+abbrev pub move : Path → Path → Plan Ending
 move from to = if is_at_or_below to from then fails to because.IntoItself else move_target from to (makes (updates.Move from to))
 
 -- `keep P Q`
-abbrev pub at_kept : List (List ℕ) → List (List ℕ) → Option (List ℕ) → Plan Ending
+abbrev pub at_kept : Path → Path → Option (List ℕ) → Plan Ending
 at_kept from to None = fails from because.NothingKept
 at_kept from to (Some bytes) = write to bytes
 
-abbrev pub keep : Kept → List (List ℕ) → List (List ℕ) → Plan Ending
+abbrev pub keep : Kept → Path → Path → Plan Ending
 keep kept from to = at_kept from to (get kept from)
 
 -- operands from left to right, and then the command
@@ -246,7 +235,8 @@ table kept env (MakeDir p) = given (path_operand env p) make_dir
 table kept env (Write p w) = given (path_operand env p) (λ path. given (word_operand env w) (write path))
 table kept env (Append p w) = given (path_operand env p) (λ path. given (word_operand env w) (append path))
 table kept env (Copy p q) = given (path_operand env p) (λ from. given (path_operand env q) (copy from))
-table kept env (Concat q p1 p2) = given (path_operand env q) (λ to. given (path_operand env p1) (λ first. given (path_operand env p2) (concat to first)))
+table kept env (Concat q p1 p2) =
+    given (path_operand env q) (λ to. given (path_operand env p1) (λ first. given (path_operand env p2) (concat to first)))
 table kept env (Remove p) = given (path_operand env p) remove_file
 table kept env (RemoveDir p) = given (path_operand env p) remove_dir
 table kept env (Move p q) = given (path_operand env p) (λ from. given (path_operand env q) (move from))
@@ -275,44 +265,36 @@ plan_of_command kept env command = mapped (ending env (command_name command)) (t
 
 -- ---- conditions
 
--- where an operand is refused, the condition is false without a question
+-- if an operand is refused, the condition is false without a question
 abbrev pub when : {A : Type 0} → Option A → (A → Plan Bool) → Plan Bool
 when None next = Done false
 when (Some value) next = next value
 
 abbrev pub is_file : Answer → Bool
 is_file IsFile = true
-is_file IsDir = false
-is_file Absent = false
-is_file Away = false
-is_file (Bytes bytes) = false
-is_file (Names names) = false
+is_file other = false
 
 abbrev pub is_dir : Answer → Bool
 is_dir IsDir = true
-is_dir IsFile = false
-is_dir Absent = false
-is_dir Away = false
-is_dir (Bytes bytes) = false
-is_dir (Names names) = false
+is_dir other = false
 
 -- both are contents, and they are equal
 abbrev pub are_same : Answer → Answer → Bool
 are_same (Bytes one) (Bytes two) = bytes_eq one two
 are_same _ _ = false
 
-abbrev pub is_file_at : List (List ℕ) → Plan Bool
+abbrev pub is_file_at : Path → Plan Bool
 is_file_at path = Ask (asks.Kind path) (λ answer. Done (is_file answer))
 
-abbrev pub is_dir_at : List (List ℕ) → Plan Bool
+abbrev pub is_dir_at : Path → Plan Bool
 is_dir_at path = Ask (asks.Kind path) (λ answer. Done (is_dir answer))
 
 -- both are asked always
-abbrev pub are_same_at : List (List ℕ) → List (List ℕ) → Plan Bool
+abbrev pub are_same_at : Path → Path → Plan Bool
 are_same_at first second = Ask (asks.Content first) (λ one. Ask (asks.Content second) (λ two. Done (are_same one two)))
 
 -- the path whose text is the value of a word, if there is one
-abbrev pub path_if_any : Env → List Piece → Option (List (List ℕ))
+abbrev pub path_if_any : Env → List Piece → Option Path
 path_if_any env word = result_ok (path_operand env word)
 
 abbrev pub truth : Env → Cond → Plan Bool

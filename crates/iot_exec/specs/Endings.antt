@@ -26,7 +26,7 @@ reason_text reasons.IntoItself = codes "into itself"
 reason_text reasons.TooLarge = codes "too large"
 reason_text reasons.NothingKept = codes "nothing kept"
 
--- what is printed behind the command's name
+-- what is printed after the command's name
 abbrev pub refusal_text : Refusal → List ℕ
 refusal_text TooLarge = codes "too large"
 refusal_text BadPath = codes "bad path"
@@ -34,7 +34,8 @@ refusal_text (At path reason) = path_text path ++ codes ": " ++ reason_text reas
 
 -- a refused command prints one line, and clears `ok`
 abbrev pub refused : Env → List ℕ → Refusal → Effect Env
-refused env command refusal = record { update = None; lines = (command ++ codes ": " ++ refusal_text refusal) ∷ []; result = with_ok false env }
+refused env command refusal =
+    record { update = None; lines = (command ++ codes ": " ++ refusal_text refusal) ∷ []; result = with_ok false env }
 
 -- a command that is not refused sets `ok`
 abbrev pub done : Env → Success → Effect Env

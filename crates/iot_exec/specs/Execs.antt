@@ -1,5 +1,5 @@
 -- What an interpreter that stands in a script means.
-use Rattle.std.specs.Prelude.{◌≡◌, ℕ, List, Option, None}
+use Rattle.std.specs.Prelude.{◌≡◌, ℕ, ◌+◌, List, [], ◌∷◌, ◌++◌, Option, None}
 use Rattle.iot_tree.specs.Tree.{Nodes}
 use Rattle.iot_tree.specs.declared.acts.Act.{Act}
 use Rattle.iot_lang.specs.Code.{Code}
@@ -38,6 +38,12 @@ pub record IsRunning (script : Code) (kept : Kept) (t0 : Nodes) (n : ℕ) (acts 
   pub kept_same : kept_by exec ≡ kept
   pub counted : act_count exec ≡ n
   pub after : IsAfter script kept t0 n acts (place exec) t
+
+-- whatever script it has done so far, it has done this act besides
+abbrev pub RunsOn : Exec → Nodes → Act → Exec → Nodes → Type 0
+RunsOn before t act after u =
+    (script : Code) (kept : Kept) (t0 : Nodes) (n : ℕ) (acts : List Act) → IsRunning script kept t0 n acts before t
+    → IsRunning script kept t0 (n + 1) (acts ++ act ∷ []) after u
 
 -- the path of the next act's first question that is answered `Away`
 abbrev pub next_miss : Kept → Place → Nodes → Option (List (List ℕ))

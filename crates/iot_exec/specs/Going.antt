@@ -18,26 +18,28 @@ use Rattle.iot_exec.specs.declared.endings.Stop.{Stop}
 use Rattle.iot_exec.specs.declared.endings.Stop.TheVariants.{NoMemory, Refused}
 use Rattle.iot_exec.specs.Values.{with_ok, with_variable}
 use Rattle.iot_exec.specs.Commands.{Kept, Ending, truth, turns}
-use Rattle.iot_exec.specs.Places.{Frame, Rest, Again, Place, Over, settle, plan_at}
+use Rattle.iot_exec.specs.Places.{Frame, Rest, Again, Place, Over, reached, plan_at}
 use Rattle.iot_exec.specs.Positions.{rest_of, body_of, other_of, turn_of}
 use Rattle.iot_exec.specs.declared.env.Env.{Env}
 use Rattle.iot_exec.specs.declared.performing.Goes.{Goes}
 use Rattle.iot_exec.specs.declared.performing.Goes.TheVariants.{Does, Sets, Stops, Branches, Loops}
 use Rattle.iot_exec.specs.declared.performing.Done.{Done}
 
--- the place behind the act
+-- the place after the act
 abbrev pub goes_to : Code → List Frame → Env → Goes → Place
-goes_to code frames env (Does ok) = settle (Rest (rest_of code) ∷ frames) (with_ok ok env)
-goes_to code frames env (Sets variable value) = settle (Rest (rest_of code) ∷ frames) (with_variable variable value (with_ok true env))
+goes_to code frames env (Does ok) = reached (Rest (rest_of code) ∷ frames) (with_ok ok env)
+goes_to code frames env (Sets variable value) = reached (Rest (rest_of code) ∷ frames) (with_variable variable value (with_ok true env))
 goes_to code frames env Stops = Over
-goes_to code frames env (Branches true) = settle (Rest (body_of code) ∷ Rest (rest_of code) ∷ frames) env
-goes_to code frames env (Branches false) = settle (Rest (other_of code) ∷ Rest (rest_of code) ∷ frames) env
-goes_to code frames env (Loops variable names ok) = settle (Again variable names (turn_of code) ∷ Rest (rest_of code) ∷ frames) (with_ok ok env)
+goes_to code frames env (Branches true) = reached (Rest (body_of code) ∷ Rest (rest_of code) ∷ frames) env
+goes_to code frames env (Branches false) = reached (Rest (other_of code) ∷ Rest (rest_of code) ∷ frames) env
+goes_to code frames env (Loops variable names ok) =
+    reached (Again variable names (turn_of code) ∷ Rest (rest_of code) ∷ frames) (with_ok ok env)
 
--- what was done is the act of the statement in front of others, and the script goes on behind it
+-- what was done is the act of the statement before the others, and the script goes on after it
 pub record IsDone (kept : Kept) (t : Nodes) (statement : Stmt) (rest : Code) (frames : List Frame) (env : Env) (done : Done) : Type 0 where
   pub act : act_of (perform t (plan_at kept (with_statement statement rest) frames env)) ≡ done.act
-  pub place : (perform t (plan_at kept (with_statement statement rest) frames env)).result.result ≡ goes_to (with_statement statement rest) frames env done.goes
+  pub place : (perform t (plan_at kept (with_statement statement rest) frames env)).result.result
+      ≡ goes_to (with_statement statement rest) frames env done.goes
 
 -- an act that asks alone
 abbrev pub silent_act : List Read → Act

@@ -1,4 +1,3 @@
-pub mod Paths
 pub mod Plans
 pub mod Variables
 pub mod Values
@@ -11,7 +10,8 @@ pub mod Traces
 pub mod Serial
 pub mod Asking
 pub mod Positions
-pub mod Turns
+pub mod Passing
 pub mod Going
 pub mod Misses
 pub mod Execs
+pub mod Parting

@@ -3,7 +3,7 @@ use Rattle.std.specs.Prelude.{ℕ, Bool, true, false, List, [], ◌∷◌, Optio
 use Rattle.iot_tree.specs.declared.questions.Question.{Question}
 use Rattle.iot_tree.specs.declared.questions.Question.TheVariants as asks
 use Rattle.iot_tree.specs.declared.questions.Answer.{Answer}
-use Rattle.iot_tree.specs.declared.questions.Answer.TheVariants.{Away, Absent, IsDir, IsFile, Bytes, Names}
+use Rattle.iot_tree.specs.declared.questions.Answer.TheVariants.{Away}
 use Rattle.iot_tree.specs.declared.acts.Read.{Read}
 
 -- the path that a question is about
@@ -14,11 +14,7 @@ path_of_question (asks.Names p) = p
 
 abbrev pub is_away : Answer → Bool
 is_away Away = true
-is_away Absent = false
-is_away IsDir = false
-is_away IsFile = false
-is_away (Bytes bytes) = false
-is_away (Names names) = false
+is_away other = false
 
 -- the path of the first question that is answered `Away`
 abbrev pub first_away : List Read → Option (List (List ℕ))

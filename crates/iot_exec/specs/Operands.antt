@@ -2,6 +2,7 @@
 use Rattle.std.specs.Prelude.{◌≡◌, ℕ, nat_lt, Bool, List, length, Option, Some, None, Result, Ok, Err, ⊤, if◌then◌else◌}
 use Rattle.iot_lang.specs.declared.words.Piece.{Piece}
 use Rattle.iot_text.specs.Paths.{path_of}
+use Rattle.iot_tree.specs.declared.limits.TheConstants.{CONTENTS_LIMIT}
 use Rattle.iot_exec.specs.Values.{word_value}
 use Rattle.iot_exec.specs.declared.env.Env.{Env}
 use Rattle.iot_exec.specs.declared.endings.Refusal.{Refusal}
@@ -12,7 +13,7 @@ use Rattle.iot_exec.specs.declared.endings.Stop.TheVariants.{NoMemory, Refused}
 
 -- more bytes than a value may have
 abbrev pub is_too_large : ℕ → Bool
-is_too_large n = nat_lt 8192 n
+is_too_large n = nat_lt CONTENTS_LIMIT n
 
 -- the value of a word
 abbrev pub word_operand : Env → List Piece → Result (List ℕ) Refusal
@@ -31,10 +32,10 @@ abbrev pub path_operand : Env → List Piece → Result (List (List ℕ)) Refusa
 path_operand env word = read_path (word_operand env word)
 
 -- what a call gives is this, or there was no memory
-abbrev pub Gives : {A : Type 0} → Result A Stop → Result A Refusal → Type 0
-Gives (Ok value) given = given ≡ Ok value
-Gives (Err (Refused refusal)) given = given ≡ Err refusal
-Gives (Err NoMemory) given = ⊤
+abbrev pub OrNoMemory : {A : Type 0} → Result A Stop → Result A Refusal → Type 0
+OrNoMemory (Ok value) given = given ≡ Ok value
+OrNoMemory (Err (Refused refusal)) given = given ≡ Err refusal
+OrNoMemory (Err NoMemory) given = ⊤
 
 -- the refusal of this path for this reason, or there was no memory
 abbrev pub IsStopAt : Stop → List (List ℕ) → Reason → Type 0

@@ -23,32 +23,35 @@ pub data Place : Type 0 where
 
 -- turns of an empty body are passed over
 abbrev pub begin_turn : List ℕ → List (List ℕ) → Code → List Frame → (Env → Place) → Env → Place
-begin_turn variable [] body frames behind env = behind env
-begin_turn variable (name ∷ names) End frames behind env = begin_turn variable names End frames behind (with_variable variable name env)
-begin_turn variable (name ∷ names) body frames behind env = At body (Again variable names body ∷ frames) (with_variable variable name env)
+begin_turn variable [] body frames later env = later env
+begin_turn variable (name ∷ names) End frames later env = begin_turn variable names End frames later (with_variable variable name env)
+begin_turn variable (name ∷ names) body frames later env = At body (Again variable names body ∷ frames) (with_variable variable name env)
 
 -- the next statement; blocks without a statement left and loops without a turn left are passed over
-abbrev pub settle : List Frame → Env → Place
-settle [] env = Over
-settle (Rest End ∷ frames) env = settle frames env
-settle (Rest code ∷ frames) env = At code frames env
-settle (Again variable names body ∷ frames) env = begin_turn variable names body frames (λ env. settle frames env) env
+abbrev pub reached : List Frame → Env → Place
+reached [] env = Over
+reached (Rest End ∷ frames) env = reached frames env
+reached (Rest code ∷ frames) env = At code frames env
+reached (Again variable names body ∷ frames) env = begin_turn variable names body frames (λ env. reached frames env) env
 
--- where a script begins
+-- the place at which a script begins
 abbrev pub start : Code → Place
-start script = settle (Rest script ∷ []) fresh
+start script = reached (Rest script ∷ []) fresh
 
 -- the next act, and the place after it
 abbrev pub plan_at : Kept → Code → List Frame → Env → Plan (Effect Place)
 plan_at kept End frames env = Done (silent Over)
-plan_at kept (Plain command rest) frames env = mapped (going_on (λ env. settle (Rest rest ∷ frames) env)) (plan_of_command kept env command)
+plan_at kept (Plain command rest) frames env =
+    mapped (going_on (λ env. reached (Rest rest ∷ frames) env)) (plan_of_command kept env command)
 plan_at kept (Halt rest) frames env = Done (silent Over)
 plan_at kept (If condition body rest) frames env =
-    mapped (going_on (λ holds. settle (if holds then Rest body ∷ Rest rest ∷ frames else Rest rest ∷ frames) env)) (plan_of_condition env condition)
+    mapped (going_on (λ holds. reached (if holds then Rest body ∷ Rest rest ∷ frames else Rest rest ∷ frames) env))
+    (plan_of_condition env condition)
 plan_at kept (IfElse condition body other rest) frames env =
-    mapped (going_on (λ holds. settle (if holds then Rest body ∷ Rest rest ∷ frames else Rest other ∷ Rest rest ∷ frames) env)) (plan_of_condition env condition)
+    mapped (going_on (λ holds. reached (if holds then Rest body ∷ Rest rest ∷ frames else Rest other ∷ Rest rest ∷ frames) env))
+    (plan_of_condition env condition)
 plan_at kept (For variable path body rest) frames env =
-    mapped (going_on (λ turns. settle (Again variable turns.names body ∷ Rest rest ∷ frames) turns.env)) (plan_of_loop env path)
+    mapped (going_on (λ turns. reached (Again variable turns.names body ∷ Rest rest ∷ frames) turns.env)) (plan_of_loop env path)
 
 -- ---- so many acts from a place on
 

@@ -9,6 +9,7 @@ use Rattle.iot_exec.specs.Values.{fresh, with_variable}
 use Rattle.iot_exec.specs.declared.env.Env.{Env}
 use Rattle.iot_exec.specs.Commands.{Kept, plan_of_command, plan_of_condition, plan_of_loop}
 use Rattle.iot_exec.specs.declared.ran.Ran.{Ran}
+use Rattle.iot_exec.specs.declared.ran.Acted.{Acted}
 
 -- how statements in turn end, each time with their acts and the tree after them: no statement was left, and so many acts
 -- were; or a statement was reached when no act was left; or `stop` was done
@@ -23,7 +24,7 @@ with_acts before (Done acts t env left) = Done (before ++ acts) t env left
 with_acts before (Cut acts t) = Cut (before ++ acts) t
 with_acts before (Stopped acts t) = Stopped (before ++ acts) t
 
--- where the first statements are through, the next go on
+-- if the first statements are through, the next go on
 abbrev pub after : Outcome → (Nodes → Env → ℕ → Outcome) → Outcome
 after (Done acts t env left) next = with_acts acts (next t env left)
 after (Cut acts t) next = Cut acts t
@@ -59,13 +60,15 @@ run_code kept (If condition body rest) t env (suc left) =
 run_code kept (IfElse condition body other rest) t env zero = Cut [] t
 run_code kept (IfElse condition body other rest) t env (suc left) =
     act_then t (plan_of_condition env condition)
-    (λ t holds. after (if holds then run_code kept body t env left else run_code kept other t env left) (λ t env left. run_code kept rest t env left))
+    (λ t holds. after (if holds then run_code kept body t env left else run_code kept other t env left)
+    (λ t env left. run_code kept rest t env left))
 run_code kept (For variable path body rest) t env zero = Cut [] t
 run_code kept (For variable path body rest) t env (suc left) =
     act_then t (plan_of_loop env path)
-    (λ t turns. after (each_turn (λ t env left. run_code kept body t env left) variable turns.names t turns.env left) (λ t env left. run_code kept rest t env left))
+    (λ t turns. after (each_turn (λ t env left. run_code kept body t env left) variable turns.names t turns.env left)
+    (λ t env left. run_code kept rest t env left))
 
--- a run is ended where no statement was left or `stop` was done
+-- a run is ended if no statement was left or `stop` was done
 abbrev pub ran_of : Outcome → Ran
 ran_of (Done acts t env left) = record { acts = acts; tree = t; ended = true }
 ran_of (Cut acts t) = record { acts = acts; tree = t; ended = false }
@@ -74,3 +77,7 @@ ran_of (Stopped acts t) = record { acts = acts; tree = t; ended = true }
 -- the run of a script on a tree with a budget of acts
 abbrev pub run : Code → Kept → Nodes → ℕ → Ran
 run script kept t budget = ran_of (run_code kept script t fresh budget)
+
+-- what was done on a lent tree, with the tree that it left
+abbrev pub ran_on : Acted → Nodes → Ran
+ran_on acted t = record { acts = acted.acts; tree = t; ended = acted.ended }

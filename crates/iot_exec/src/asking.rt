@@ -3,7 +3,7 @@ ghost use Rattle.std.specs.Prelude.{◌≡◌, [], OnOk, IfOk};
 ghost use Rattle.iot_tree.specs.Questions.{kind_of, kind_answer, answer_of};
 ghost use Rattle.iot_exec.specs.Asking.{asked, Passes};
 ghost use Rattle.iot_exec.specs.Operands.{IsStopAt};
-ghost use Rattle.iot_exec.specs.Paths.{parent_path};
+ghost use Rattle.iot_acts.specs.Paths.{parent_path};
 ghost use Rattle.iot_exec.specs.Commands.{target, ask_parent};
 
 use crate::endings::{Reason, Refusal, Stop};
@@ -20,7 +20,7 @@ pub(crate) struct Asking<'t> {
 }
 
 impl<'t> Asking<'t> {
-    /// No question is asked yet. Takes no memory.
+    /// No question is asked yet. Does not allocate.
     pub(crate) fn new(alloc: Global, tree: &'t Tree) -> Asking<'t>
         ensures none { result.reads ≡ [] }
         ensures tree { result.tree.now ≡ tree.now }
@@ -72,7 +72,7 @@ impl<'t> Asking<'t> {
         }
     }
 
-    /// The path's parent; the root stands for its own.
+    /// The path's parent; the root is its own.
     fn parent(&self, path: &Path) -> Result<Path, NoMemory>
         ensures { IfOk result (λ parent. parent ≡ parent_path path.now) }
     {

@@ -2,15 +2,15 @@
 ghost use Rattle.std.specs.Prelude.{◌≡◌, ◌++◌, ◌+◌, length, IfOk};
 ghost use Rattle.iot_exec.specs.Asking.{Passes, Ends};
 ghost use Rattle.iot_exec.specs.Operands.{is_too_large};
-ghost use Rattle.iot_exec.specs.Paths.{is_at_or_below};
-ghost use Rattle.iot_exec.specs.Commands.{echo, cat, read, list_names, write, make_dir, append, copy, concat, remove_file, remove_dir, move, move_target, dir_target, new_dir};
+ghost use Rattle.iot_acts.specs.Paths.{is_at_or_below};
+ghost use Rattle.iot_exec.specs.Commands.{echo, cat, read, list_names, write, make_dir, append, copy, concat, remove_file, remove_dir};
+ghost use Rattle.iot_exec.specs.Commands.{move, move_target, dir_target, new_dir};
 
 use crate::asking::Asking;
 use crate::endings::{Reason, Stop, Success};
-use crate::env::LIMIT;
 use crate::lines::{lines_of, name_lines};
 use iot_text::{NoMemory, Path, Text};
-use iot_tree::{Blob, Kind, Update};
+use iot_tree::{Blob, CONTENTS_LIMIT, Kind, Update};
 use std::alloc::Global;
 
 /// Both contents joined.
@@ -27,7 +27,7 @@ fn joined(alloc: Global, one: &[u8], two: &[u8]) -> Result<Blob, NoMemory>
 fn are_too_large(one: &[u8], two: &[u8]) -> bool
     ensures { result ≡ is_too_large (length one.now + length two.now) }
 {
-    one.len() > LIMIT || two.len() > LIMIT - one.len()
+    one.len() > CONTENTS_LIMIT || two.len() > CONTENTS_LIMIT - one.len()
 }
 
 /// Whether the path is the other, or lies below it.
@@ -78,8 +78,8 @@ impl<'t> Asking<'t> {
     pub(crate) fn list_names(&mut self, path: &Path) -> Result<Success, Stop>
         ensures { Ends self.old (list_names path.now) self.new result }
     {
-        let names = self.names(path)?;
-        Ok(Success::Prints(name_lines(self.alloc, names.as_slice())?))
+        self.names(path)?;
+        Ok(Success::Prints(name_lines(self.alloc, self.listed())?))
     }
 
     /// `mkdir P`

@@ -83,10 +83,14 @@ impl<'t> Asking<'t> {
         ensures content { IfOk result (λ bytes. option_copied bytes ≡ content_of self.old.tree.now path.now) }
         ensures asked { OnOk result (self.new ≡ asked self.old (Question.Content path.now)) }
     {
-        let question = Question::Content(path.copy(self.alloc)?);
-        let answer = self.tree.answer(self.alloc, &question)?;
-        self.record(question, answer)?;
-        Ok(self.tree.content(path))
+        let bytes = self.tree.content(path);
+        match bytes {
+            Some(bytes) => self.record_contents(path, bytes)?,
+            None => {
+                self.no_contents(path)?;
+            }
+        }
+        Ok(bytes)
     }
 
     /// The names that a loop goes through.
@@ -94,8 +98,8 @@ impl<'t> Asking<'t> {
         ensures { Ends self.old (turns env.now path.now) self.new result }
     {
         let path = env.path(self.alloc, path)?;
-        let children = self.names(&path)?;
-        Ok(names_of(self.alloc, children.as_slice())?)
+        self.names(&path)?;
+        Ok(names_of(self.alloc, self.listed())?)
     }
 }
 

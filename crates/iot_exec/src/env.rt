@@ -2,16 +2,14 @@
 ghost use Rattle.std.specs.Prelude.{◌≡◌, ◌++◌, ◌≤◌, length, OnOk, IfOk};
 ghost use Rattle.iot_exec.specs.Values.{fresh, with_variable, piece_value, word_value};
 ghost use Rattle.iot_text.specs.Paths.{path_of};
-ghost use Rattle.iot_exec.specs.Operands.{Gives, word_operand, path_operand, path_or_bad};
+ghost use Rattle.iot_exec.specs.Operands.{OrNoMemory, word_operand, path_operand, path_or_bad};
 
 use crate::endings::{Refusal, Stop};
 use crate::variables::Variables;
 use iot_lang::{Piece, Word};
 use iot_text::{NoMemory, Path, Text, TextFault};
+use iot_tree::CONTENTS_LIMIT;
 use std::alloc::Global;
-
-/// How many bytes the value of a word and the contents of a file have at most.
-pub(crate) const LIMIT: usize = 8192;
 
 /// What a script keeps beside the tree: the variables that are set, and whether its last command or `for` succeeded.
 #[derive(Drop)]
@@ -21,7 +19,7 @@ pub struct Env {
 }
 
 impl Env {
-    /// No variable is set, and all is well. Takes no memory.
+    /// No variable is set, and all is well. Does not allocate.
     pub(crate) fn new(alloc: Global) -> Env
         ensures { result ≡ fresh }
     {
@@ -53,12 +51,12 @@ impl Env {
 
     /// The value of a word, or its refusal as too large.
     pub(crate) fn word(&self, alloc: Global, word: &Word) -> Result<Text, Stop>
-        ensures { Gives result (word_operand self.now word.now) }
+        ensures { OrNoMemory result (word_operand self.now word.now) }
     {
         let mut value = Text::new(alloc);
         'pieces: for piece in word.pieces() {
             self.append(piece, &mut value)?;
-            if value.len() > LIMIT {
+            if value.len() > CONTENTS_LIMIT {
                 return Err(Stop::Refused(Refusal::TooLarge));
             }
         }
@@ -67,7 +65,7 @@ impl Env {
 
     /// The path whose text is the value of a word, or the refusal of the word.
     pub(crate) fn path(&self, alloc: Global, word: &Word) -> Result<Path, Stop>
-        ensures { Gives result (path_operand self.now word.now) }
+        ensures { OrNoMemory result (path_operand self.now word.now) }
     {
         let text = self.word(alloc, word)?;
         parse_path(alloc, text.as_bytes())
@@ -76,7 +74,7 @@ impl Env {
 
 /// The path of the text, or its refusal.
 fn parse_path(alloc: Global, text: &[u8]) -> Result<Path, Stop>
-    ensures { Gives result (path_or_bad (path_of text.now)) }
+    ensures { OrNoMemory result (path_or_bad (path_of text.now)) }
 {
     match Path::parse(alloc, text) {
         Ok(path) => Ok(path),

@@ -1,11 +1,12 @@
 //! The interpreter, one act at a time.
-ghost use Rattle.std.specs.Prelude.{◌≡◌, ◌<◌, ◌≤◌, ◌+◌, ◌++◌, ◌∷◌, [], ◌↔◌, ℕ, List, IsTrue, IfOk, OnOk, false, ◌^◌};
+ghost use Rattle.std.specs.Prelude.{◌≡◌, ◌<◌, ◌≤◌, ◌+◌, ◌++◌, ◌∷◌, [], ◌↔◌, ℕ, List, IsTrue, IfOk, OnOk, IfSome, IfNone, true, false, ◌^◌};
 ghost use Rattle.iot_tree.specs.Tree.{Nodes};
 ghost use Rattle.iot_tree.specs.declared.acts.Act.{Act};
 ghost use Rattle.iot_lang.specs.Code.{Code};
 ghost use Rattle.iot_exec.specs.Commands.{Kept, kept_files};
 ghost use Rattle.iot_exec.specs.Places.{is_over};
-ghost use Rattle.iot_exec.specs.Traces.{IsGuarded};
+ghost use Rattle.iot_acts.specs.Guards.{IsGuarded};
+ghost use Rattle.iot_acts.specs.Fitting.{FitsByReads};
 ghost use Rattle.iot_acts.specs.Traces.{FitsIfAny, ActsHold, after_update};
 ghost use Rattle.iot_exec.specs.Misses.{first_away, path_of_question};
 
@@ -15,16 +16,13 @@ use crate::performing::perform;
 use crate::position::Position;
 use iot_lang::Script;
 use iot_text::{NoMemory, Path};
-use iot_tree::{Act, Answer, Files, Question, Read, Tree, Update};
+use iot_tree::{ACT_LIMIT, Act, Answer, Files, Question, Read, Tree, Update};
 use std::alloc::Global;
 use std::rc::Rc;
 
-/// How many acts a transaction has at most.
-const LIMIT: u64 = 4096;
-
 /// A script that is being done on a tree, one act at a time.
 ///
-/// After an act that answers `NoMemory` neither it nor the tree is to be used.
+/// After an act that answers `NoMemory` use neither it nor the tree.
 #[derive(Drop)]
 pub struct Exec {
     script: Rc<Script>,
@@ -67,9 +65,9 @@ fn apply(alloc: Global, t: &mut Tree, update: &Option<Update>) -> Result<(), NoM
 }
 
 impl Exec {
-    ghost use Rattle.iot_exec.specs.Execs.{place, kept_by, act_count, next_miss, IsNextAt, IsRunning};
+    ghost use Rattle.iot_exec.specs.Execs.{place, kept_by, act_count, next_miss, IsNextAt, IsRunning, RunsOn};
 
-    /// Stands before the first act of a script. `keep` reads the kept files. Takes no memory.
+    /// At the first act of a script. `keep` reads the kept files. Does not allocate.
     pub fn new(alloc: Global, script: Rc<Script>, kept: Files) -> Exec
         ensures { (t : Nodes) → IsRunning script.value (kept_files kept) t 0 [] result t }
     {
@@ -82,25 +80,25 @@ impl Exec {
         }
     }
 
-    /// How many acts were done. Takes no memory.
+    /// How many acts were done. Does not allocate.
     pub fn acts(&self) -> u64
         ensures { result ≡ act_count self.now }
     {
         self.acts
     }
 
-    /// Whether the script has ended: `stop` was done, or no statement is left. Takes no memory.
+    /// Whether the script has ended: `stop` was done, or no statement is left. Does not allocate.
     pub fn at_end(&self) -> bool
         ensures { result ≡ is_over (place self.now) }
     {
         self.position.statement(self.script.block()).is_none()
     }
 
-    /// Whether as many acts were done as a transaction may have. Takes no memory.
+    /// Whether as many acts were done as a transaction may have. Does not allocate.
     pub fn at_limit(&self) -> bool
-        ensures { IsTrue result ↔ (4096 ≤ act_count self.now) }
+        ensures { IsTrue result ↔ (ACT_LIMIT ≤ act_count self.now) }
     {
-        self.acts >= LIMIT
+        self.acts >= ACT_LIMIT
     }
 
     /// The path of the first question of the next act that the tree answers by `Away`, if there is one.
@@ -119,34 +117,51 @@ impl Exec {
     /// Does the next act on the tree.
     pub fn act(&mut self, alloc: Global, t: &mut Tree) -> Result<Act, NoMemory>
         requires statement { is_over (place self.old) ≡ false }
-        requires limit { act_count self.old < 4096 }
+        requires limit { act_count self.old < ACT_LIMIT }
         ensures next { IfOk result (λ act. IsNextAt (kept_by self.old) (place self.old) t.old act (place self.new) t.new) }
-        ensures runs { IfOk result (λ act. (script : Code) (kept : Kept) (t0 : Nodes) (n : ℕ) (acts : List Act) → IsRunning script kept t0 n acts self.old t.old → IsRunning script kept t0 (n + 1) (acts ++ act ∷ []) self.new t.new) }
+        ensures runs { IfOk result (λ act. RunsOn self.old t.old act self.new t.new) }
         ensures holds { IfOk result (λ act. ActsHold t.old (act ∷ [])) }
         ensures makes { IfOk result (λ act. t.new ≡ after_update t.old act.update) }
         ensures guarded { IfOk result IsGuarded }
+
+        // Its reads alone show that its update fits: it fits every tree that answers them.
+        ensures fits { IfOk result FitsByReads }
     {
-        self.step(alloc, t)
+        match self.step(alloc, t)? {
+            Some(act) => Ok(act),
+            None => unreachable!(),
+        }
     }
 
-    /// Does the next act, also past the limit of a transaction.
-    pub(crate) fn step(&mut self, alloc: Global, t: &mut Tree) -> Result<Act, NoMemory>
-        requires statement { is_over (place self.old) ≡ false }
-        requires room { act_count self.old + 1 < 2 ^ 64 }
-        ensures next { IfOk result (λ act. IsNextAt (kept_by self.old) (place self.old) t.old act (place self.new) t.new) }
-        ensures runs { IfOk result (λ act. (script : Code) (kept : Kept) (t0 : Nodes) (n : ℕ) (acts : List Act) → IsRunning script kept t0 n acts self.old t.old → IsRunning script kept t0 (n + 1) (acts ++ act ∷ []) self.new t.new) }
-        ensures holds { IfOk result (λ act. ActsHold t.old (act ∷ [])) }
-        ensures makes { IfOk result (λ act. t.new ≡ after_update t.old act.update) }
-        ensures guarded { IfOk result IsGuarded }
+    /// Does the next act, also past the limit of a transaction, unless the script has ended.
+    pub(crate) fn step(&mut self, alloc: Global, t: &mut Tree) -> Result<Option<Act>, NoMemory>
+        requires { act_count self.old + 1 < 2 ^ 64 }
+        ensures next { IfOk result
+            (λ done. IfSome done (λ act. IsNextAt (kept_by self.old) (place self.old) t.old act (place self.new) t.new)) }
+        ensures runs { IfOk result (λ done. IfSome done (λ act. RunsOn self.old t.old act self.new t.new)) }
+        ensures holds { IfOk result (λ done. IfSome done (λ act. ActsHold t.old (act ∷ []))) }
+        ensures makes { IfOk result (λ done. IfSome done (λ act. t.new ≡ after_update t.old act.update)) }
+        ensures guarded { IfOk result (λ done. IfSome done IsGuarded) }
+        ensures fits { IfOk result (λ done. IfSome done FitsByReads) }
+        ensures over { IfOk result (λ done. IfNone done (is_over (place self.old) ≡ true)) }
+        ensures stays { IfOk result (λ done. IfNone done ((self.new ≡ self.old) × (t.new ≡ t.old))) }
     {
         let block = self.script.block();
-        let Some(statement) = self.position.statement(block) else {
-            unreachable!()
+        let statements = self.position.statements(block);
+        let Some(statement) = self.position.next_of(statements) else {
+            return Ok(None);
         };
         let done = perform(alloc, t, &self.env, &self.kept, statement)?;
         apply(alloc, t, &done.act.update)?;
-        go_on(alloc, block, &mut self.position, &mut self.env, done.goes)?;
+        go_on(
+            alloc,
+            block,
+            statements,
+            &mut self.position,
+            &mut self.env,
+            done.goes,
+        )?;
         self.acts += 1;
-        Ok(done.act)
+        Ok(Some(done.act))
     }
 }

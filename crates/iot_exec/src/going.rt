@@ -1,52 +1,58 @@
-//! Going on behind an act.
+//! Going on after an act.
 ghost use Rattle.std.specs.Prelude.{◌≡◌, OnOk};
 ghost use Rattle.iot_lang.specs.Code.{End};
-ghost use Rattle.iot_exec.specs.Positions.{here, around, place_of};
+ghost use Rattle.iot_exec.specs.Positions.{here, around, place_of, AreInnermost};
 ghost use Rattle.iot_exec.specs.Going.{goes_to};
 
 use crate::env::Env;
 use crate::performing::Goes;
-use crate::position::{Kind, Position};
-use crate::turns::settle;
-use iot_lang::Block;
+use crate::position::{Position, Role};
+use crate::turns::{begin_turn, reach};
+use iot_lang::{Block, Stmt};
 use iot_text::NoMemory;
 use std::alloc::Global;
 
-/// Goes to the place behind an act.
+/// Goes to the place after an act. The statements are those of the innermost block, for which the act has looked.
 pub(crate) fn go_on(
     alloc: Global,
     script: &Block,
+    statements: &[Stmt],
     position: &mut Position,
     env: &mut Env,
     goes: Goes,
 ) -> Result<(), NoMemory>
-    ensures { OnOk result (place_of script.now position.new env.new ≡ goes_to (here script.now position.old) (around script.now position.old) env.old goes) }
+    requires { AreInnermost script.now statements.now position.old }
+    ensures { OnOk result
+        (place_of script.now position.new env.new ≡ goes_to (here script.now position.old) (around script.now position.old) env.old goes) }
 {
     match goes {
         Goes::Does(ok) => {
             env.ok = ok;
-            position.advance(script);
+            position.advance(statements);
+            reach(alloc, script, statements, position, env)
         }
         Goes::Sets(variable, value) => {
             env.ok = true;
             env.set(variable, value)?;
-            position.advance(script);
+            position.advance(statements);
+            reach(alloc, script, statements, position, env)
         }
         Goes::Stops => {
-            *position = Position::behind(alloc, script);
-            return Ok(());
+            *position = Position::after(alloc, script);
+            Ok(())
         }
-        Goes::Branches(true) => position.enter(Kind::Body)?,
-        Goes::Branches(false) => position.enter(Kind::Otherwise)?,
+        Goes::Branches(true) => {
+            position.enter(Role::Body)?;
+            reach(alloc, script, position.statements(script), position, env)
+        }
+        Goes::Branches(false) => {
+            position.enter(Role::Otherwise)?;
+            reach(alloc, script, position.statements(script), position, env)
+        }
         Goes::Loops(variable, names, ok) => {
             env.ok = ok;
-            position.enter(Kind::Turn {
-                variable,
-                names,
-                next: 0,
-            })?;
-            position.skip_all(script);
+            begin_turn(alloc, statements, position, env, variable, names, 0)?;
+            reach(alloc, script, position.statements(script), position, env)
         }
     }
-    settle(alloc, script, position, env)
 }

@@ -21,8 +21,8 @@ mod turns;
 mod variables;
 
 pub use exec::Exec;
-pub use job::run;
-pub use ran::Ran;
+pub use job::{run, run_on};
+pub use ran::{Acted, Ran};
 
 #[cfg(test)]
 mod tests;

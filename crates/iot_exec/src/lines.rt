@@ -28,7 +28,7 @@ pub(crate) fn lines_of(alloc: Global, bytes: &[u8]) -> Result<Lines, NoMemory>
     Ok(all)
 }
 
-/// A name as it is listed: with a `/` behind it where it is a directory's.
+/// A name as it is listed: followed by `/` if it is a directory's.
 fn name_line(alloc: Global, name: &Name, kind: Kind) -> Result<Text, NoMemory>
     ensures { IfOk result (λ line. line ≡ name_line (name.now, kind)) }
 {

@@ -1,4 +1,4 @@
-//! Doing one statement but for its update and the place behind it.
+//! Doing one statement, but not its update, nor going on after it.
 ghost use Rattle.std.specs.Prelude.{◌≡◌, IfOk, List};
 ghost use Rattle.iot_tree.specs.Tree.{IsTree};
 ghost use Rattle.iot_lang.specs.Code.{Code};
@@ -122,7 +122,9 @@ fn do_command(
     kept: &Files,
     command: &Command,
 ) -> Result<Done, NoMemory>
-    ensures { IfOk result (λ done. (rest : Code) (frames : List Frame) → IsDone (kept_files kept.now) tree.now (Stmt.Do command.now) rest frames env.now done) }
+    ensures { IfOk result
+        (λ done. (rest : Code) (frames : List Frame)
+        → IsDone (kept_files kept.now) tree.now (Stmt.Do command.now) rest frames env.now done) }
 {
     let mut asking = Asking::new(alloc, tree);
     let end = asking.command(env, kept, command);
@@ -168,7 +170,8 @@ pub(crate) fn perform(
     kept: &Files,
     statement: &Stmt,
 ) -> Result<Done, NoMemory>
-    ensures done { IfOk result (λ done. (rest : Code) (frames : List Frame) → IsDone (kept_files kept.now) tree.now statement.now rest frames env.now done) }
+    ensures done { IfOk result
+        (λ done. (rest : Code) (frames : List Frame) → IsDone (kept_files kept.now) tree.now statement.now rest frames env.now done) }
     ensures tree { IsTree tree.now }
 {
     let _rows = tree.rows();

@@ -3,7 +3,8 @@ ghost use Rattle.std.specs.Prelude.{◌≡◌, ◌+◌, ◌++◌, [], OnOk, IfSo
 ghost use Rattle.std.specs.Option.{option_copied};
 ghost use Rattle.iot_lang.specs.Code.{Code, End};
 ghost use Rattle.iot_lang.specs.Blocks.{code_of_statements};
-ghost use Rattle.iot_exec.specs.Positions.{rest_of, skip, block_code, block_in, round_it, left_in, here, around, kind_weight, weight, IsFirst};
+ghost use Rattle.iot_exec.specs.Positions.{rest_of, skip, block_code, block_in, round_it, left_in, here, around, role_weight, weight};
+ghost use Rattle.iot_exec.specs.Positions.{AreInnermost, IsFirst};
 
 use iot_lang::{Block, Stmt};
 use iot_text::{Name, NoMemory, Text};
@@ -13,14 +14,14 @@ use std::mem::replace;
 
 /// What a block is.
 #[derive(Drop)]
-pub(crate) enum Kind {
+pub(crate) enum Role {
     /// The script.
     Script,
 
-    /// What is done where a condition holds.
+    /// What is done if a condition holds.
     Body,
 
-    /// What is done where it does not.
+    /// What is done if it does not.
     Otherwise,
 
     /// A turn of a loop: its variable, the names of all turns, and the place of the next turn's name.
@@ -34,7 +35,7 @@ pub(crate) enum Kind {
 /// A block that is being done.
 #[derive(Drop)]
 pub(crate) struct Open {
-    pub(crate) kind: Kind,
+    pub(crate) role: Role,
 
     /// The place of the statement that is next, or that has the next block in it.
     pub(crate) at: usize,
@@ -69,7 +70,7 @@ fn statements_of(block: Option<&Block>) -> &[Stmt]
 }
 
 impl Position {
-    /// At the first statement of a script. Takes no memory.
+    /// At the first statement of a script. Does not allocate.
     pub(crate) fn start(alloc: Global) -> Position
         ensures here { (script : Code) → here script result ≡ script }
         ensures around { (script : Code) → around script result ≡ [] }
@@ -77,24 +78,28 @@ impl Position {
         Position {
             outer: Vec::new(alloc),
             here: Open {
-                kind: Kind::Script,
+                role: Role::Script,
                 at: 0,
             },
         }
     }
 
-    /// Behind the last statement of a script. Takes no memory.
-    pub(crate) fn behind(alloc: Global, script: &Block) -> Position
+    /// After the last statement of a script. Does not allocate.
+    pub(crate) fn after(alloc: Global, script: &Block) -> Position
         ensures { here script.now result ≡ End }
     {
-        let mut position = Position::start(alloc);
-        position.skip_all(script);
-        position
+        Position {
+            outer: Vec::new(alloc),
+            here: Open {
+                role: Role::Script,
+                at: script.statements().len(),
+            },
+        }
     }
 
-    /// The statements of the innermost block.
-    fn statements<'s>(&self, script: &'s Block) -> &'s [Stmt]
-        ensures { code_of_statements result.now ≡ block_in script.now (left_in script.now self.now.outer.items End) self.now.here.kind }
+    /// The statements of the innermost block, which are found by a walk through the blocks round it.
+    pub(crate) fn statements<'s>(&self, script: &'s Block) -> &'s [Stmt]
+        ensures { AreInnermost script.now result.now self.now }
     {
         let mut statements: &[Stmt] = &[];
         'outer: for open in &self.outer {
@@ -103,60 +108,63 @@ impl Position {
         self.here.block_in(script, statements)
     }
 
-    /// The statements that are next.
-    pub(crate) fn rest<'s>(&self, script: &'s Block) -> &'s [Stmt]
-        ensures { code_of_statements result.now ≡ here script.now self.now }
+    /// The statements that are next, of those of the innermost block.
+    pub(crate) fn rest<'s>(&self, statements: &'s [Stmt]) -> &'s [Stmt]
+        ensures { (script : Code) → AreInnermost script statements.now self.now → code_of_statements result.now ≡ here script self.now }
     {
-        from(self.statements(script), self.here.at)
+        from(statements, self.here.at)
     }
 
     /// The statement that is next, if there is one.
     pub(crate) fn statement<'s>(&self, script: &'s Block) -> Option<&'s Stmt>
         ensures { IsFirst (option_copied result) (here script.now self.now) }
     {
-        self.rest(script).first()
+        self.next_of(self.statements(script))
     }
 
-    /// Goes past the statement that is next, if there is one.
-    pub(crate) fn advance(&mut self, script: &Block)
-        ensures here { here script.now self.new ≡ rest_of (here script.now self.old) }
-        ensures around { around script.now self.new ≡ around script.now self.old }
-        ensures weight { weight self.new ≡ weight self.old }
+    /// The same, of the statements of the innermost block.
+    pub(crate) fn next_of<'s>(&self, statements: &'s [Stmt]) -> Option<&'s Stmt>
+        ensures { (script : Code) → AreInnermost script statements.now self.now → IsFirst (option_copied result) (here script self.now) }
     {
-        if self.here.at < self.statements(script).len() {
+        self.rest(statements).first()
+    }
+
+    /// Goes past the statement that is next, if there is one, of those of the innermost block.
+    pub(crate) fn advance(&mut self, statements: &[Stmt])
+        ensures here { (script : Code) → AreInnermost script statements.now self.old
+            → here script self.new ≡ rest_of (here script self.old) }
+        ensures around { (script : Code) → around script self.new ≡ around script self.old }
+        ensures weight { weight self.new ≡ weight self.old }
+        ensures block { (script : Code) → AreInnermost script statements.now self.old → AreInnermost script statements.now self.new }
+    {
+        if self.here.at < statements.len() {
             self.here.at += 1;
         }
     }
 
-    /// Goes past all statements of the innermost block.
-    pub(crate) fn skip_all(&mut self, script: &Block)
-        ensures here { here script.now self.new ≡ End }
-        ensures around { around script.now self.new ≡ around script.now self.old }
-    {
-        self.here.at = self.statements(script).len();
-    }
-
     /// Begins a block of the statement that is next.
-    pub(crate) fn enter(&mut self, kind: Kind) -> Result<(), NoMemory>
-        ensures here { OnOk result ((script : Code) → here script self.new ≡ block_in script (here script self.old) kind) }
-        ensures around { OnOk result ((script : Code) → around script self.new ≡ round_it (here script self.old) kind ++ around script self.old) }
-        ensures weight { OnOk result (weight self.new ≡ weight self.old + kind_weight kind) }
+    pub(crate) fn enter(&mut self, role: Role) -> Result<(), NoMemory>
+        ensures here { OnOk result ((script : Code) → here script self.new ≡ block_in script (here script self.old) role) }
+        ensures around { OnOk result
+            ((script : Code) → around script self.new ≡ round_it (here script self.old) role ++ around script self.old) }
+        ensures weight { OnOk result (weight self.new ≡ weight self.old + role_weight role) }
     {
-        let outer = replace(&mut self.here, Open { kind, at: 0 });
+        let outer = replace(&mut self.here, Open { role, at: 0 });
         self.outer.push(outer)?;
         Ok(())
     }
 
     /// Leaves the innermost block, if another one is round it.
-    pub(crate) fn leave(&mut self) -> Option<Kind>
-        ensures left { IfSome result (λ kind. (script : Code) → around script self.old ≡ round_it (here script self.new) kind ++ around script self.new) }
-        ensures weight { IfSome result (λ kind. weight self.old ≡ weight self.new + kind_weight kind) }
+    pub(crate) fn leave(&mut self) -> Option<Role>
+        ensures left { IfSome result
+            (λ role. (script : Code) → around script self.old ≡ round_it (here script self.new) role ++ around script self.new) }
+        ensures weight { IfSome result (λ role. weight self.old ≡ weight self.new + role_weight role) }
         ensures alone { IfNone result ((script : Code) → around script self.old ≡ []) }
         ensures stays { IfNone result ((script : Code) → here script self.new ≡ here script self.old) }
         ensures around { IfNone result ((script : Code) → around script self.new ≡ around script self.old) }
     {
         match self.outer.pop() {
-            Some(outer) => Some(replace(&mut self.here, outer).kind),
+            Some(outer) => Some(replace(&mut self.here, outer).role),
             None => None,
         }
     }
@@ -165,15 +173,15 @@ impl Position {
 impl Open {
     /// The statements of this block, which stands in the first of the given ones.
     fn block_in<'s>(&self, script: &'s Block, statements: &'s [Stmt]) -> &'s [Stmt]
-        ensures { code_of_statements result.now ≡ block_in script.now (code_of_statements statements.now) self.now.kind }
+        ensures { code_of_statements result.now ≡ block_in script.now (code_of_statements statements.now) self.now.role }
     {
-        match (&self.kind, statements.first()) {
-            (Kind::Script, _) => script.statements(),
-            (Kind::Body, Some(Stmt::If { body, .. })) => body.statements(),
-            (Kind::Otherwise, Some(Stmt::If { otherwise, .. })) => statements_of(
+        match (&self.role, statements.first()) {
+            (Role::Script, _) => script.statements(),
+            (Role::Body, Some(Stmt::If { body, .. })) => body.statements(),
+            (Role::Otherwise, Some(Stmt::If { otherwise, .. })) => statements_of(
                 otherwise.as_ref(),
             ),
-            (Kind::Turn { .. }, Some(Stmt::For { body, .. })) => body.statements(),
+            (Role::Turn { .. }, Some(Stmt::For { body, .. })) => body.statements(),
             _ => &[],
         }
     }

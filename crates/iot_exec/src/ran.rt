@@ -13,3 +13,13 @@ pub struct Ran {
     /// Whether no statement was left, or `stop` was done.
     pub ended: bool,
 }
+
+/// What a script did on a tree that was lent to it.
+#[derive(Drop)]
+pub struct Acted {
+    /// Its acts, in order.
+    pub acts: Acts,
+
+    /// Whether no statement was left, or `stop` was done.
+    pub ended: bool,
+}

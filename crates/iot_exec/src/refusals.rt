@@ -31,7 +31,7 @@ impl Reason {
 }
 
 impl Refusal {
-    /// Appends what is printed behind the command's name.
+    /// Appends what is printed after the command's name.
     fn write_to(&self, out: &mut Text) -> Result<(), NoMemory>
         ensures { OnOk result (out.new ≡ out.old ++ refusal_text self.now) }
     {

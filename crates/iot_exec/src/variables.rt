@@ -27,7 +27,7 @@ impl Model for Variables {
 }
 
 impl Variables {
-    /// No variable is set. Takes no memory.
+    /// No variable is set. Does not allocate.
     pub(crate) fn new(alloc: Global) -> Variables
         ensures { result ≡ map.empty }
     {

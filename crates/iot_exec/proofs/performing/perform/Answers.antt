@@ -9,4 +9,8 @@ use Rattle.iot_exec.proofs.performing.perform.Goals as goal
 
 pub returns-in-Do-clause-done : goal.returns-in-Do-clause-done
 returns-in-Do-clause-done c =
-    subst (λ (statement : Stmt). IfOk c.do_command.result (λ (done : Done). (rest : Code) (frames : List Frame) → IsDone (kept_files c.args.kept.now) c.args.tree.now statement rest frames c.args.env.now done)) (sym c.in-Do.is) c.do_command.ensures
+    subst
+    (λ (statement : Stmt). IfOk c.do_command.result
+    (λ (done : Done). (rest : Code) (frames : List Frame)
+    → IsDone (kept_files c.args.kept.now) c.args.tree.now statement rest frames c.args.env.now done))
+    (sym c.in-Do.is) c.do_command.ensures

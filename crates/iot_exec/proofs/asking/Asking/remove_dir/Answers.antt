@@ -3,7 +3,7 @@ use Rattle.iot_tree.specs.declared.updates.Update.TheVariants.{Remove}
 use Rattle.iot_exec.specs.Plans.{Plan}
 use Rattle.iot_exec.specs.Commands.{Ending, makes, empty_dir}
 use Rattle.iot_exec.specs.Asking.{Leads, Ends}
-use Rattle.iot_exec.proofs.Steps.{stopped}
+use Rattle.iot_exec.proofs.AskingLaws.{stopped}
 use Rattle.iot_exec.proofs.CommandLaws.{below_root}
 use Rattle.iot_exec.proofs.asking.Asking.remove_dir.Goals as goal
 

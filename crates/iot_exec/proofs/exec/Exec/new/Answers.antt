@@ -7,5 +7,7 @@ pub returns : goal.returns
 returns c = λ t. record {
   kept_same = refl;
   counted = refl;
-  after = starts c.args.script.value (kept_files c.args.kept) t _ _ c.new.result (c.start.ensures.here c.args.script.value) (c.start.ensures.around c.args.script.value) c.new.ensures;
+  after =
+      starts c.args.script.value (kept_files c.args.kept) t _ _ c.new.result (c.start.ensures.here c.args.script.value)
+      (c.start.ensures.around c.args.script.value) c.new.ensures;
 }

@@ -4,4 +4,6 @@ use Rattle.iot_exec.proofs.PositionLaws.{here_is}
 use Rattle.iot_exec.proofs.position.Position.rest.Goals as goal
 
 pub returns : goal.returns
-returns c = c.from.ensures ∙ ap (skip c.args.self.now.here.at) c.statements.ensures ∙ sym (here_is c.args.script.now c.args.self.now.outer.items c.args.self.now.here)
+returns c = λ script block.
+    c.from.ensures ∙ ap (skip c.args.self.now.here.at) block
+    ∙ sym (here_is script c.args.self.now.outer.items c.args.self.now.here)

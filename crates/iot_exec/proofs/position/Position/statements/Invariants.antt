@@ -5,4 +5,5 @@ use Rattle.iot_exec.specs.Positions.{left_in}
 use Rattle.iot_exec.proofs.position.Position.statements.Given as goal
 
 abbrev pub invariant-outer : goal.invariant-outer
-invariant-outer l = left_in l.script (drop l.open-index l.self.outer.items) (code_of_statements l.statements) ≡ left_in l.script l.self.outer.items End
+invariant-outer l =
+    left_in l.script (drop l.open-index l.self.outer.items) (code_of_statements l.statements) ≡ left_in l.script l.self.outer.items End

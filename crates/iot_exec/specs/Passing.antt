@@ -1,19 +1,19 @@
 -- What passing over a block does.
 use Rattle.std.specs.Prelude.{◌≡◌, ◌<◌, Bool, true, false, ◌∷◌}
 use Rattle.iot_lang.specs.Code.{Code, End}
-use Rattle.iot_exec.specs.Places.{Rest, Over, settle}
+use Rattle.iot_exec.specs.Places.{Rest, Over, reached}
 use Rattle.iot_exec.specs.Positions.{here, around, weight}
 use Rattle.iot_exec.specs.declared.env.Env.{Env}
 use Rattle.iot_exec.specs.declared.position.Position.{Position}
 
--- the script goes on from the new position as it did behind the block
+-- the script goes on from the new position as it did after the block
 pub record Passed (script : Code) (old : Position) (before : Env) (new : Position) (after : Env) : Type 0 where
-  pub settles : settle (Rest (here script new) ∷ around script new) after ≡ settle (around script old) before
+  pub reaches : reached (Rest (here script new) ∷ around script new) after ≡ reached (around script old) before
   pub less : weight new < weight old
 
 -- nothing is left
 pub record Finished (script : Code) (old : Position) (before : Env) (new : Position) (after : Env) : Type 0 where
-  pub over : settle (around script old) before ≡ Over
+  pub over : reached (around script old) before ≡ Over
   pub ends : here script new ≡ End
 
 abbrev pub GoesOn : Bool → Code → Position → Env → Position → Env → Type 0

@@ -1,12 +1,15 @@
 use Rattle.std.proofs.Common.{length, ◌≤◌, ◌-◌}
+use Rattle.iot_acts.proofs.TraceLaws.{AreDone}
 use Rattle.iot_exec.specs.Commands.{kept_files}
 use Rattle.iot_exec.specs.Execs.{IsRunning, act_count}
-use Rattle.iot_exec.proofs.job.run.Given as goal
+use Rattle.iot_exec.proofs.job.run_on.Given as goal
 
+-- the acts so far are those of the run, and were done on the tree
 abbrev pub invariant-acts : goal.invariant-acts
 invariant-acts l = record {
-  running : IsRunning l.fn.script.value (kept_files l.fn.kept) l.t (length l.acts) l.acts l.exec l.tree;
+  running : IsRunning l.fn.script.value (kept_files l.fn.kept) l.initial.tree (length l.acts) l.acts l.exec l.tree;
   within : act_count l.exec ≤ l.budget;
+  done : AreDone l.initial.tree l.acts l.tree;
 }
 
 abbrev pub decreases-acts : goal.decreases-acts
