@@ -1,3 +1,2 @@
-pub mod Calls
-pub mod Loops
-pub mod Appended
+pub mod DecodersLaws
+pub mod OutcomesLaws

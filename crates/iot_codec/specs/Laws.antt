@@ -1,11 +1,11 @@
--- The laws of the kinds of values: what is read is what is spelled. Their proofs.
-pub mod Standing
-pub mod Steps
-pub mod Parts
-pub mod Lists
-pub mod Tags
-pub mod Kinds
+-- The laws of the types that are spelled: what is decoded is what is spelled. Their proofs.
 pub mod Fields
-pub mod Questions
-pub mod Updates
 pub mod Labels
+pub mod Lists
+pub mod Parts
+pub mod Places
+pub mod Questions
+pub mod Steps
+pub mod Tags
+pub mod Updates
+pub mod Values

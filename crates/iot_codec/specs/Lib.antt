@@ -1,7 +1,7 @@
-pub mod Readers
+pub mod Decoders
+pub mod Decoding
+pub mod Laws
 pub mod Outcomes
 pub mod Places
-pub mod Spelling
 pub mod Rules
-pub mod Reading
-pub mod Laws
+pub mod Spelling

@@ -18,6 +18,7 @@ use Rattle.iot_tree.specs.declared.acts.Read.{Read}
 use Rattle.iot_tree.specs.declared.acts.Act.{Act}
 use Rattle.iot_tree.specs.declared.labels.Label.{Label}
 use Rattle.iot_tree.specs.declared.labels.Way.{Way}
+use Rattle.iot_tree.specs.declared.limits.TheConstants.{ACT_LIMIT, CONTENTS_LIMIT}
 
 -- a number has one in 8 bytes
 abbrev pub IsNumber : ℕ → Type 0
@@ -31,9 +32,9 @@ is_printable b = nat_le 32 b && nat_le b 126
 abbrev pub is_content_byte : ℕ → Bool
 is_content_byte b = is_printable b || b == 10
 
--- contents: at most 8,192 bytes, each such a byte
+-- contents: not too many bytes, each such a byte
 pub record IsContents (contents : List ℕ) : Type 0 where
-  pub few : length contents ≤ 8192
+  pub few : length contents ≤ CONTENTS_LIMIT
   pub bytes : IsTrue (list_all is_content_byte contents)
 
 abbrev pub IsLine : List ℕ → Type 0
@@ -42,7 +43,7 @@ IsLine line = IsTrue (list_all is_printable line)
 abbrev pub AreLines : List (List ℕ) → Type 0
 AreLines lines = AllByRecursion IsLine lines
 
--- whether a key may stand behind the pair before it: it is greater than the key there
+-- whether a key may follow the pair before it: it is greater than the key there
 abbrev pub rises : {K V : Type 0} → (K → K → Ordering) → Option (K × V) → K → Bool
 rises cmp None key = true
 rises cmp (Some before) key = is_lt (cmp before.0 key)
@@ -107,17 +108,17 @@ pub record IsAct (act : Act) : Type 0 where
   pub update : IsOptionalUpdate act.update
   pub lines : AreLines act.lines
 
--- at most 4,096 acts
+-- acts: not too many
 pub record AreActs (acts : List Act) : Type 0 where
-  pub few : length acts ≤ 4096
+  pub few : length acts ≤ ACT_LIMIT
   pub each : AllByRecursion IsAct acts
 
--- a label: one of 8 clients, at most 4,096 acts
+-- a label: one of 8 clients, and a budget of not too many acts
 pub record IsLabel (label : Label) : Type 0 where
   pub client : label.client ≤ 7
   pub tid : IsNumber label.tid
   pub script : IsName label.script
-  pub budget : label.budget ≤ 4096
+  pub budget : label.budget ≤ ACT_LIMIT
   pub kept : AreFiles label.kept
 
 -- each way has a spelling

@@ -1,9 +1,9 @@
 //! Acts.
-ghost use Rattle.std.specs.Prelude.{◌≡◌, ◌≤◌, ◌++◌, length, OnOk, OnErr, IfOk};
+ghost use Rattle.std.specs.Prelude.{◌≡◌, ◌++◌, length, OnOk, OnErr, IfOk};
 ghost use Rattle.iot_text.specs.Texts.{AppendsPart};
-ghost use Rattle.iot_codec.specs.Outcomes.{Gives, ReadsWhatStands};
-ghost use Rattle.iot_codec.specs.Places.{Stands, IsAlone};
-ghost use Rattle.iot_codec.specs.Reading.{act_at, acts_at};
+ghost use Rattle.iot_codec.specs.Outcomes.{IsOutcome, DecodesWhatIsSpelled};
+ghost use Rattle.iot_codec.specs.Places.{IsSpelledAt, IsAlone};
+ghost use Rattle.iot_codec.specs.Decoding.{act_at, acts_at};
 ghost use Rattle.iot_codec.specs.Rules.{IsAct, AreActs};
 ghost use Rattle.iot_codec.specs.Spelling.{act_spelling, acts_spelling};
 ghost use Rattle.iot_codec.specs.Laws.Updates.{act_laws, acts_laws};
@@ -13,18 +13,15 @@ use crate::lists::{put_list, read_items};
 use crate::numbers::at_most;
 use crate::spelled::{Spelled, read};
 use iot_text::{NoMemory, Text};
-use iot_tree::{Act, Acts, Lines, Reads, Update};
+use iot_tree::{ACT_LIMIT, Act, Acts, Lines, Reads, Update};
 use std::alloc::Global;
-
-/// How many acts a transaction has at most.
-const LIMIT: u64 = 4096;
 
 impl Spelled for Act {
     ghost has_spelling = { IsAct };
 
     ghost spelling = { act_spelling };
 
-    ghost reading = { act_at };
+    ghost decoding = { act_at };
 
     #[tactic(auto, unfolding(crate::specs::Spelling::act_spelling))]
     fn put(&self, out: &mut Text) -> Result<(), NoMemory> {
@@ -33,7 +30,7 @@ impl Spelled for Act {
         self.lines.put(out)
     }
 
-    #[tactic(auto, unfolding(crate::specs::Reading::act_at))]
+    #[tactic(auto, unfolding(crate::specs::Decoding::act_at))]
     fn read(alloc: Global, bytes: &[u8], at: usize) -> Result<(Act, usize), CodecFault> {
         let (reads, at) = Reads::read(alloc, bytes, at)?;
         let (update, at) = Option::<Update>::read(alloc, bytes, at)?;
@@ -54,15 +51,15 @@ impl Spelled for Acts {
 
     ghost spelling = { acts_spelling };
 
-    ghost reading = { acts_at };
+    ghost decoding = { acts_at };
 
     fn put(&self, out: &mut Text) -> Result<(), NoMemory> {
         put_list(self.as_slice(), out)
     }
 
-    #[tactic(auto, unfolding(crate::specs::Reading::acts_at))]
+    #[tactic(auto, unfolding(crate::specs::Decoding::acts_at))]
     fn read(alloc: Global, bytes: &[u8], at: usize) -> Result<(Acts, usize), CodecFault> {
-        let (count, at) = at_most(LIMIT, bytes, at)?;
+        let (count, at) = at_most(ACT_LIMIT, bytes, at)?;
         read_items(alloc, count, bytes, at)
     }
 
@@ -78,17 +75,16 @@ pub fn put_act(value: &Act, out: &mut Text) -> Result<(), NoMemory>
     value.put(out)
 }
 
-/// Reads the act that is spelled at the offset, and gives the offset behind it.
+/// Reads the act that is spelled at the offset, and gives the offset after it.
 ///
 /// # Errors
 ///
-/// `Malformed` exactly where no act is spelled there. `NoMemory` where there is none for it.
+/// `Malformed` exactly if no act is spelled there. `NoMemory` if there is none for it.
 pub fn read_act(alloc: Global, bytes: &[u8], at: usize) -> Result<(Act, usize), CodecFault>
-    requires { at ≤ length bytes.now }
-    ensures found { IfOk result (Stands IsAct act_spelling bytes.now at) }
-    ensures only { ReadsWhatStands IsAct act_spelling bytes.now at result }
+    ensures found { IfOk result (IsSpelledAt IsAct act_spelling bytes.now at) }
+    ensures only { DecodesWhatIsSpelled IsAct act_spelling bytes.now at result }
     ensures one { IsAlone IsAct act_spelling bytes.now at }
-    ensures exact { Gives result (act_at bytes.now at) }
+    ensures exact { IsOutcome result (act_at bytes.now at) }
 {
     read(alloc, bytes, at)
 }
@@ -102,17 +98,16 @@ pub fn put_acts(value: &Acts, out: &mut Text) -> Result<(), NoMemory>
     value.put(out)
 }
 
-/// Reads the acts that are spelled at the offset, and gives the offset behind them.
+/// Reads the acts that are spelled at the offset, and gives the offset after them.
 ///
 /// # Errors
 ///
-/// `Malformed` exactly where no acts are spelled there. `NoMemory` where there is none for them.
+/// `Malformed` exactly if no acts are spelled there. `NoMemory` if there is none for them.
 pub fn read_acts(alloc: Global, bytes: &[u8], at: usize) -> Result<(Acts, usize), CodecFault>
-    requires { at ≤ length bytes.now }
-    ensures found { IfOk result (Stands AreActs acts_spelling bytes.now at) }
-    ensures only { ReadsWhatStands AreActs acts_spelling bytes.now at result }
+    ensures found { IfOk result (IsSpelledAt AreActs acts_spelling bytes.now at) }
+    ensures only { DecodesWhatIsSpelled AreActs acts_spelling bytes.now at result }
     ensures one { IsAlone AreActs acts_spelling bytes.now at }
-    ensures exact { Gives result (acts_at bytes.now at) }
+    ensures exact { IsOutcome result (acts_at bytes.now at) }
 {
     read(alloc, bytes, at)
 }

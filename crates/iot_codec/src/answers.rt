@@ -1,9 +1,9 @@
 //! Answers of a tree.
-ghost use Rattle.std.specs.Prelude.{◌≡◌, ◌≤◌, ◌++◌, length, OnOk, OnErr, IfOk};
+ghost use Rattle.std.specs.Prelude.{◌≡◌, ◌++◌, length, OnOk, OnErr, IfOk};
 ghost use Rattle.iot_text.specs.Texts.{AppendsPart};
-ghost use Rattle.iot_codec.specs.Outcomes.{Gives, ReadsWhatStands};
-ghost use Rattle.iot_codec.specs.Places.{Stands, IsAlone};
-ghost use Rattle.iot_codec.specs.Reading.{answer_at};
+ghost use Rattle.iot_codec.specs.Outcomes.{IsOutcome, DecodesWhatIsSpelled};
+ghost use Rattle.iot_codec.specs.Places.{IsSpelledAt, IsAlone};
+ghost use Rattle.iot_codec.specs.Decoding.{answer_at};
 ghost use Rattle.iot_codec.specs.Rules.{IsAnswer};
 ghost use Rattle.iot_codec.specs.Spelling.{answer_spelling};
 ghost use Rattle.iot_codec.specs.Laws.Questions.{answer_laws};
@@ -20,7 +20,7 @@ impl Spelled for Answer {
 
     ghost spelling = { answer_spelling };
 
-    ghost reading = { answer_at };
+    ghost decoding = { answer_at };
 
     #[tactic(auto, unfolding(crate::specs::Spelling::answer_spelling))]
     fn put(&self, out: &mut Text) -> Result<(), NoMemory> {
@@ -40,7 +40,7 @@ impl Spelled for Answer {
         }
     }
 
-    #[tactic(auto, unfolding(crate::specs::Reading::answer_at))]
+    #[tactic(auto, unfolding(crate::specs::Decoding::answer_at))]
     fn read(alloc: Global, bytes: &[u8], at: usize) -> Result<(Answer, usize), CodecFault> {
         match tag_at(bytes, at) {
             Some(1) => Ok((Answer::Away, at + 1)),
@@ -71,17 +71,16 @@ pub fn put_answer(value: &Answer, out: &mut Text) -> Result<(), NoMemory>
     value.put(out)
 }
 
-/// Reads the answer that is spelled at the offset, and gives the offset behind it.
+/// Reads the answer that is spelled at the offset, and gives the offset after it.
 ///
 /// # Errors
 ///
-/// `Malformed` exactly where no answer is spelled there. `NoMemory` where there is none for it.
+/// `Malformed` exactly if no answer is spelled there. `NoMemory` if there is none for it.
 pub fn read_answer(alloc: Global, bytes: &[u8], at: usize) -> Result<(Answer, usize), CodecFault>
-    requires { at ≤ length bytes.now }
-    ensures found { IfOk result (Stands IsAnswer answer_spelling bytes.now at) }
-    ensures only { ReadsWhatStands IsAnswer answer_spelling bytes.now at result }
+    ensures found { IfOk result (IsSpelledAt IsAnswer answer_spelling bytes.now at) }
+    ensures only { DecodesWhatIsSpelled IsAnswer answer_spelling bytes.now at result }
     ensures one { IsAlone IsAnswer answer_spelling bytes.now at }
-    ensures exact { Gives result (answer_at bytes.now at) }
+    ensures exact { IsOutcome result (answer_at bytes.now at) }
 {
     read(alloc, bytes, at)
 }

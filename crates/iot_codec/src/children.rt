@@ -1,8 +1,8 @@
 //! What is in a directory: names with the kinds of the objects.
 ghost use Rattle.iot_codec.specs.Rules.{IsObject, AreChildren};
-ghost use Rattle.iot_codec.specs.Reading.{kind_at, children_at};
+ghost use Rattle.iot_codec.specs.Decoding.{kind_at, children_at};
 ghost use Rattle.iot_codec.specs.Spelling.{kind_spelling, children_spelling};
-ghost use Rattle.iot_codec.specs.Laws.Kinds.{kind_laws, children_laws};
+ghost use Rattle.iot_codec.specs.Laws.Values.{kind_laws, children_laws};
 
 use crate::CodecFault;
 use crate::parts::{malformed, tag_at};
@@ -17,7 +17,7 @@ impl Spelled for Kind {
 
     ghost spelling = { kind_spelling };
 
-    ghost reading = { kind_at };
+    ghost decoding = { kind_at };
 
     #[tactic(auto, unfolding(crate::specs::Spelling::kind_spelling))]
     fn put(&self, out: &mut Text) -> Result<(), NoMemory> {
@@ -29,7 +29,7 @@ impl Spelled for Kind {
         })
     }
 
-    #[tactic(auto, unfolding(crate::specs::Reading::kind_at))]
+    #[tactic(auto, unfolding(crate::specs::Decoding::kind_at))]
     fn read(_alloc: Global, bytes: &[u8], at: usize) -> Result<(Kind, usize), CodecFault> {
         match tag_at(bytes, at) {
             Some(3) => Ok((Kind::IsDir, at + 1)),
@@ -46,13 +46,13 @@ impl Spelled for Children {
 
     ghost spelling = { children_spelling };
 
-    ghost reading = { children_at };
+    ghost decoding = { children_at };
 
     fn put(&self, out: &mut Text) -> Result<(), NoMemory> {
         put_table(self.as_slice(), out)
     }
 
-    #[tactic(auto, unfolding(crate::specs::Reading::children_at))]
+    #[tactic(auto, unfolding(crate::specs::Decoding::children_at))]
     fn read(alloc: Global, bytes: &[u8], at: usize) -> Result<(Children, usize), CodecFault> {
         read_table(alloc, bytes, at)
     }

@@ -1,24 +1,21 @@
 //! The contents of files.
-ghost use Rattle.std.specs.Prelude.{◌≡◌, ◌≤◌, ◌++◌, length, OnOk, OnErr, IfOk};
+ghost use Rattle.std.specs.Prelude.{◌≡◌, ◌++◌, length, OnOk, OnErr, IfOk};
 ghost use Rattle.std.specs.List.{list_all};
 ghost use Rattle.iot_text.specs.Texts.{AppendsPart};
-ghost use Rattle.iot_codec.specs.Outcomes.{Gives, ReadsWhatStands};
-ghost use Rattle.iot_codec.specs.Places.{Stands, IsAlone};
-ghost use Rattle.iot_codec.specs.Reading.{contents_at};
+ghost use Rattle.iot_codec.specs.Outcomes.{IsOutcome, DecodesWhatIsSpelled};
+ghost use Rattle.iot_codec.specs.Places.{IsSpelledAt, IsAlone};
+ghost use Rattle.iot_codec.specs.Decoding.{contents_at};
 ghost use Rattle.iot_codec.specs.Rules.{IsContents, is_content_byte};
 ghost use Rattle.iot_codec.specs.Spelling.{contents_spelling};
-ghost use Rattle.iot_codec.specs.Laws.Kinds.{contents_laws};
+ghost use Rattle.iot_codec.specs.Laws.Values.{contents_laws};
 
 use crate::CodecFault;
 use crate::numbers::at_most;
 use crate::parts::{bytes_at, malformed, put_counted};
 use crate::spelled::{Spelled, read};
 use iot_text::{NoMemory, Text};
-use iot_tree::Blob;
+use iot_tree::{Blob, CONTENTS_LIMIT};
 use std::alloc::Global;
-
-/// How many bytes contents have at most.
-const LIMIT: u64 = 8192;
 
 /// Whether contents may have each of these bytes.
 fn are_content_bytes(bytes: &[u8]) -> bool
@@ -34,15 +31,15 @@ impl Spelled for Blob {
 
     ghost spelling = { contents_spelling };
 
-    ghost reading = { contents_at };
+    ghost decoding = { contents_at };
 
     fn put(&self, out: &mut Text) -> Result<(), NoMemory> {
         put_counted(self.as_slice(), out)
     }
 
-    #[tactic(auto, unfolding(crate::specs::Reading::contents_at))]
+    #[tactic(auto, unfolding(crate::specs::Decoding::contents_at))]
     fn read(alloc: Global, bytes: &[u8], at: usize) -> Result<(Blob, usize), CodecFault> {
-        let (len, at) = at_most(LIMIT, bytes, at)?;
+        let (len, at) = at_most(CONTENTS_LIMIT as u64, bytes, at)?;
         let (contents, end) = bytes_at(bytes, at, len)?;
         if !are_content_bytes(contents) {
             return Err(malformed(at));
@@ -62,17 +59,16 @@ pub fn put_contents(value: &Blob, out: &mut Text) -> Result<(), NoMemory>
     value.put(out)
 }
 
-/// Reads the contents that are spelled at the offset, and gives the offset behind them.
+/// Reads the contents that are spelled at the offset, and gives the offset after them.
 ///
 /// # Errors
 ///
-/// `Malformed` exactly where no contents are spelled there. `NoMemory` where there is none for them.
+/// `Malformed` exactly if no contents are spelled there. `NoMemory` if there is none for them.
 pub fn read_contents(alloc: Global, bytes: &[u8], at: usize) -> Result<(Blob, usize), CodecFault>
-    requires { at ≤ length bytes.now }
-    ensures found { IfOk result (Stands IsContents contents_spelling bytes.now at) }
-    ensures only { ReadsWhatStands IsContents contents_spelling bytes.now at result }
+    ensures found { IfOk result (IsSpelledAt IsContents contents_spelling bytes.now at) }
+    ensures only { DecodesWhatIsSpelled IsContents contents_spelling bytes.now at result }
     ensures one { IsAlone IsContents contents_spelling bytes.now at }
-    ensures exact { Gives result (contents_at bytes.now at) }
+    ensures exact { IsOutcome result (contents_at bytes.now at) }
 {
     read(alloc, bytes, at)
 }

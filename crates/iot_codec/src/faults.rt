@@ -11,7 +11,7 @@ pub enum CodecFault {
     #[error("out of memory")]
     NoMemory,
 
-    /// No value of the kind is spelled there. `at` is the offset of the first part, from the left,
+    /// No value of the type is spelled there. `at` is the offset of the first part, from the left,
     /// that is missing, cut short or breaks its rule; of a path or name that breaks the order of
     /// its list, it is where that path or name begins.
     #[error("malformed bytes, from offset {at} on")]

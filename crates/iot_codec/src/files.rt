@@ -1,12 +1,12 @@
 //! Files that are kept: contents by their paths.
-ghost use Rattle.std.specs.Prelude.{◌≡◌, ◌≤◌, ◌++◌, length, OnOk, OnErr, IfOk};
+ghost use Rattle.std.specs.Prelude.{◌≡◌, ◌++◌, length, OnOk, OnErr, IfOk};
 ghost use Rattle.iot_text.specs.Texts.{AppendsPart};
-ghost use Rattle.iot_codec.specs.Outcomes.{Gives, ReadsWhatStands};
-ghost use Rattle.iot_codec.specs.Places.{Stands, IsAlone};
-ghost use Rattle.iot_codec.specs.Reading.{files_at};
+ghost use Rattle.iot_codec.specs.Outcomes.{IsOutcome, DecodesWhatIsSpelled};
+ghost use Rattle.iot_codec.specs.Places.{IsSpelledAt, IsAlone};
+ghost use Rattle.iot_codec.specs.Decoding.{files_at};
 ghost use Rattle.iot_codec.specs.Rules.{AreFiles};
 ghost use Rattle.iot_codec.specs.Spelling.{files_spelling};
-ghost use Rattle.iot_codec.specs.Laws.Kinds.{files_laws};
+ghost use Rattle.iot_codec.specs.Laws.Values.{files_laws};
 
 use crate::CodecFault;
 use crate::spelled::{Spelled, read};
@@ -20,13 +20,13 @@ impl Spelled for Files {
 
     ghost spelling = { files_spelling };
 
-    ghost reading = { files_at };
+    ghost decoding = { files_at };
 
     fn put(&self, out: &mut Text) -> Result<(), NoMemory> {
         put_table(self.as_slice(), out)
     }
 
-    #[tactic(auto, unfolding(crate::specs::Reading::files_at))]
+    #[tactic(auto, unfolding(crate::specs::Decoding::files_at))]
     fn read(alloc: Global, bytes: &[u8], at: usize) -> Result<(Files, usize), CodecFault> {
         read_table(alloc, bytes, at)
     }
@@ -43,17 +43,16 @@ pub fn put_files(value: &Files, out: &mut Text) -> Result<(), NoMemory>
     value.put(out)
 }
 
-/// Reads the files that are spelled at the offset, and gives the offset behind them.
+/// Reads the files that are spelled at the offset, and gives the offset after them.
 ///
 /// # Errors
 ///
-/// `Malformed` exactly where no files are spelled there. `NoMemory` where there is none for them.
+/// `Malformed` exactly if no files are spelled there. `NoMemory` if there is none for them.
 pub fn read_files(alloc: Global, bytes: &[u8], at: usize) -> Result<(Files, usize), CodecFault>
-    requires { at ≤ length bytes.now }
-    ensures found { IfOk result (Stands AreFiles files_spelling bytes.now at) }
-    ensures only { ReadsWhatStands AreFiles files_spelling bytes.now at result }
+    ensures found { IfOk result (IsSpelledAt AreFiles files_spelling bytes.now at) }
+    ensures only { DecodesWhatIsSpelled AreFiles files_spelling bytes.now at result }
     ensures one { IsAlone AreFiles files_spelling bytes.now at }
-    ensures exact { Gives result (files_at bytes.now at) }
+    ensures exact { IsOutcome result (files_at bytes.now at) }
 {
     read(alloc, bytes, at)
 }

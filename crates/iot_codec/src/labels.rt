@@ -1,9 +1,9 @@
 //! Labels of commits.
-ghost use Rattle.std.specs.Prelude.{◌≡◌, ◌≤◌, ◌++◌, length, OnOk, OnErr, IfOk};
+ghost use Rattle.std.specs.Prelude.{◌≡◌, ◌++◌, length, OnOk, OnErr, IfOk};
 ghost use Rattle.iot_text.specs.Texts.{AppendsPart};
-ghost use Rattle.iot_codec.specs.Outcomes.{Gives, ReadsWhatStands};
-ghost use Rattle.iot_codec.specs.Places.{Stands, IsAlone};
-ghost use Rattle.iot_codec.specs.Reading.{way_at, label_at};
+ghost use Rattle.iot_codec.specs.Outcomes.{IsOutcome, DecodesWhatIsSpelled};
+ghost use Rattle.iot_codec.specs.Places.{IsSpelledAt, IsAlone};
+ghost use Rattle.iot_codec.specs.Decoding.{way_at, label_at};
 ghost use Rattle.iot_codec.specs.Rules.{IsWay, IsLabel};
 ghost use Rattle.iot_codec.specs.Spelling.{transaction_spelling, run_spelling, way_spelling, label_spelling};
 ghost use Rattle.iot_codec.specs.Laws.Labels.{way_laws, label_laws};
@@ -13,21 +13,18 @@ use crate::numbers::{at_most, number_at};
 use crate::parts::{malformed, tag_at};
 use crate::spelled::{Spelled, read};
 use iot_text::{Name, NoMemory, Text};
-use iot_tree::{Files, Label, Way};
+use iot_tree::{ACT_LIMIT, Files, Label, Way};
 use std::alloc::Global;
 
 /// The greatest number of a client.
 const LAST_CLIENT: u64 = 7;
-
-/// How many acts a run makes at most.
-const BUDGET: u64 = 4096;
 
 impl Spelled for Way {
     ghost has_spelling = { IsWay };
 
     ghost spelling = { way_spelling };
 
-    ghost reading = { way_at };
+    ghost decoding = { way_at };
 
     #[tactic(auto, unfolding(crate::specs::Spelling::way_spelling))]
     fn put(&self, out: &mut Text) -> Result<(), NoMemory> {
@@ -38,7 +35,7 @@ impl Spelled for Way {
         })
     }
 
-    #[tactic(auto, unfolding(crate::specs::Reading::way_at))]
+    #[tactic(auto, unfolding(crate::specs::Decoding::way_at))]
     fn read(_alloc: Global, bytes: &[u8], at: usize) -> Result<(Way, usize), CodecFault> {
         match tag_at(bytes, at) {
             Some(1) => Ok((Way::Certified, at + 1)),
@@ -76,7 +73,7 @@ impl Spelled for Label {
 
     ghost spelling = { label_spelling };
 
-    ghost reading = { label_at };
+    ghost decoding = { label_at };
 
     #[tactic(auto, unfolding(crate::specs::Spelling::label_spelling))]
     fn put(&self, out: &mut Text) -> Result<(), NoMemory> {
@@ -84,12 +81,12 @@ impl Spelled for Label {
         put_run(self, out)
     }
 
-    #[tactic(auto, unfolding(crate::specs::Reading::label_at))]
+    #[tactic(auto, unfolding(crate::specs::Decoding::label_at))]
     fn read(alloc: Global, bytes: &[u8], at: usize) -> Result<(Label, usize), CodecFault> {
         let (client, at) = at_most(LAST_CLIENT, bytes, at)?;
         let (tid, at) = number_at(bytes, at)?;
         let (script, at) = Name::read(alloc, bytes, at)?;
-        let (budget, at) = at_most(BUDGET, bytes, at)?;
+        let (budget, at) = at_most(ACT_LIMIT, bytes, at)?;
         let (way, at) = Way::read(alloc, bytes, at)?;
         let (kept, end) = Files::read(alloc, bytes, at)?;
         let label = Label {
@@ -115,17 +112,16 @@ pub fn put_label(value: &Label, out: &mut Text) -> Result<(), NoMemory>
     value.put(out)
 }
 
-/// Reads the label that is spelled at the offset, and gives the offset behind it.
+/// Reads the label that is spelled at the offset, and gives the offset after it.
 ///
 /// # Errors
 ///
-/// `Malformed` exactly where no label is spelled there. `NoMemory` where there is none for it.
+/// `Malformed` exactly if no label is spelled there. `NoMemory` if there is none for it.
 pub fn read_label(alloc: Global, bytes: &[u8], at: usize) -> Result<(Label, usize), CodecFault>
-    requires { at ≤ length bytes.now }
-    ensures found { IfOk result (Stands IsLabel label_spelling bytes.now at) }
-    ensures only { ReadsWhatStands IsLabel label_spelling bytes.now at result }
+    ensures found { IfOk result (IsSpelledAt IsLabel label_spelling bytes.now at) }
+    ensures only { DecodesWhatIsSpelled IsLabel label_spelling bytes.now at result }
     ensures one { IsAlone IsLabel label_spelling bytes.now at }
-    ensures exact { Gives result (label_at bytes.now at) }
+    ensures exact { IsOutcome result (label_at bytes.now at) }
 {
     read(alloc, bytes, at)
 }

@@ -1,4 +1,4 @@
-//! Values as bytes: the one spelling of each, and reading it.
+//! Values as bytes: the one spelling of each, and decoding it.
 //!
 //! A number is 8 bytes, most significant first. Bytes are their number and then the bytes, a list
 //! is the number of its elements and then the elements, and a tag is one byte. The calls `put_..`

@@ -1,13 +1,13 @@
 //! Lines.
-ghost use Rattle.std.specs.Prelude.{◌≡◌, ◌≤◌, ◌++◌, length, OnOk, OnErr, IfOk};
+ghost use Rattle.std.specs.Prelude.{◌≡◌, ◌++◌, length, OnOk, OnErr, IfOk};
 ghost use Rattle.std.specs.List.{list_all};
 ghost use Rattle.iot_text.specs.Texts.{AppendsPart};
-ghost use Rattle.iot_codec.specs.Outcomes.{Gives, ReadsWhatStands};
-ghost use Rattle.iot_codec.specs.Places.{Stands, IsAlone};
-ghost use Rattle.iot_codec.specs.Reading.{line_at, lines_at};
+ghost use Rattle.iot_codec.specs.Outcomes.{IsOutcome, DecodesWhatIsSpelled};
+ghost use Rattle.iot_codec.specs.Places.{IsSpelledAt, IsAlone};
+ghost use Rattle.iot_codec.specs.Decoding.{line_at, lines_at};
 ghost use Rattle.iot_codec.specs.Rules.{IsLine, AreLines, is_printable};
 ghost use Rattle.iot_codec.specs.Spelling.{line_spelling, lines_spelling};
-ghost use Rattle.iot_codec.specs.Laws.Kinds.{line_laws, lines_laws};
+ghost use Rattle.iot_codec.specs.Laws.Values.{line_laws, lines_laws};
 
 use crate::CodecFault;
 use crate::lists::{put_list, read_list};
@@ -30,13 +30,13 @@ impl Spelled for Text {
 
     ghost spelling = { line_spelling };
 
-    ghost reading = { line_at };
+    ghost decoding = { line_at };
 
     fn put(&self, out: &mut Text) -> Result<(), NoMemory> {
         put_counted(self.as_bytes(), out)
     }
 
-    #[tactic(auto, unfolding(crate::specs::Reading::line_at))]
+    #[tactic(auto, unfolding(crate::specs::Decoding::line_at))]
     fn read(alloc: Global, bytes: &[u8], at: usize) -> Result<(Text, usize), CodecFault> {
         let (len, at) = number_at(bytes, at)?;
         let (line, end) = bytes_at(bytes, at, len)?;
@@ -54,13 +54,13 @@ impl Spelled for Lines {
 
     ghost spelling = { lines_spelling };
 
-    ghost reading = { lines_at };
+    ghost decoding = { lines_at };
 
     fn put(&self, out: &mut Text) -> Result<(), NoMemory> {
         put_list(self.as_slice(), out)
     }
 
-    #[tactic(auto, unfolding(crate::specs::Reading::lines_at))]
+    #[tactic(auto, unfolding(crate::specs::Decoding::lines_at))]
     fn read(alloc: Global, bytes: &[u8], at: usize) -> Result<(Lines, usize), CodecFault> {
         read_list(alloc, bytes, at)
     }
@@ -77,17 +77,16 @@ pub fn put_line(value: &Text, out: &mut Text) -> Result<(), NoMemory>
     value.put(out)
 }
 
-/// Reads the line that is spelled at the offset, and gives the offset behind it.
+/// Reads the line that is spelled at the offset, and gives the offset after it.
 ///
 /// # Errors
 ///
-/// `Malformed` exactly where no line is spelled there. `NoMemory` where there is none for it.
+/// `Malformed` exactly if no line is spelled there. `NoMemory` if there is none for it.
 pub fn read_line(alloc: Global, bytes: &[u8], at: usize) -> Result<(Text, usize), CodecFault>
-    requires { at ≤ length bytes.now }
-    ensures found { IfOk result (Stands IsLine line_spelling bytes.now at) }
-    ensures only { ReadsWhatStands IsLine line_spelling bytes.now at result }
+    ensures found { IfOk result (IsSpelledAt IsLine line_spelling bytes.now at) }
+    ensures only { DecodesWhatIsSpelled IsLine line_spelling bytes.now at result }
     ensures one { IsAlone IsLine line_spelling bytes.now at }
-    ensures exact { Gives result (line_at bytes.now at) }
+    ensures exact { IsOutcome result (line_at bytes.now at) }
 {
     read(alloc, bytes, at)
 }
@@ -101,17 +100,16 @@ pub fn put_lines(value: &Lines, out: &mut Text) -> Result<(), NoMemory>
     value.put(out)
 }
 
-/// Reads the lines that are spelled at the offset, and gives the offset behind them.
+/// Reads the lines that are spelled at the offset, and gives the offset after them.
 ///
 /// # Errors
 ///
-/// `Malformed` exactly where no lines are spelled there. `NoMemory` where there is none for them.
+/// `Malformed` exactly if no lines are spelled there. `NoMemory` if there is none for them.
 pub fn read_lines(alloc: Global, bytes: &[u8], at: usize) -> Result<(Lines, usize), CodecFault>
-    requires { at ≤ length bytes.now }
-    ensures found { IfOk result (Stands AreLines lines_spelling bytes.now at) }
-    ensures only { ReadsWhatStands AreLines lines_spelling bytes.now at result }
+    ensures found { IfOk result (IsSpelledAt AreLines lines_spelling bytes.now at) }
+    ensures only { DecodesWhatIsSpelled AreLines lines_spelling bytes.now at result }
     ensures one { IsAlone AreLines lines_spelling bytes.now at }
-    ensures exact { Gives result (lines_at bytes.now at) }
+    ensures exact { IsOutcome result (lines_at bytes.now at) }
 {
     read(alloc, bytes, at)
 }

@@ -1,9 +1,9 @@
 //! Lists: the number of the elements, and then the elements.
-ghost use Rattle.std.specs.Prelude.{◌≡◌, ◌≤◌, ◌++◌, length, OnOk, OnErr, IfOk, None};
+ghost use Rattle.std.specs.Prelude.{◌≡◌, ◌++◌, length, OnOk, OnErr, IfOk, None};
 ghost use Rattle.std.specs.List.{AllByRecursion};
 ghost use Rattle.iot_text.specs.Texts.{AppendsPart};
-ghost use Rattle.iot_codec.specs.Outcomes.{Gives};
-ghost use Rattle.iot_codec.specs.Readers.{items_at, list_at};
+ghost use Rattle.iot_codec.specs.Outcomes.{IsOutcome};
+ghost use Rattle.iot_codec.specs.Decoders.{items_at, list_at};
 ghost use Rattle.iot_codec.specs.Spelling.{list_spelling};
 
 use crate::CodecFault;
@@ -31,9 +31,7 @@ pub(crate) fn read_list<T: Spelled>(
     bytes: &[u8],
     at: usize,
 ) -> Result<(Sequence<T>, usize), CodecFault>
-    requires { at ≤ length bytes.now }
-    ensures exact { Gives result (list_at T.reading bytes.now at) }
-    ensures within { IfOk result (λ read. read.1 ≤ length bytes.now) }
+    ensures exact { IsOutcome result (list_at T.decoding bytes.now at) }
     ensures each { IfOk result (λ read. AllByRecursion T.has_spelling read.0) }
 {
     counted_items(alloc, bytes, at)
@@ -45,9 +43,7 @@ fn counted_items<T: Spelled>(
     bytes: &[u8],
     at: usize,
 ) -> Result<(Sequence<T>, usize), CodecFault>
-    requires { at ≤ length bytes.now }
-    ensures exact { Gives result (list_at T.reading bytes.now at) }
-    ensures within { IfOk result (λ read. read.1 ≤ length bytes.now) }
+    ensures { IsOutcome result (list_at T.decoding bytes.now at) }
 {
     let (count, at) = number_at(bytes, at)?;
     read_items(alloc, count, bytes, at)
@@ -60,16 +56,14 @@ pub(crate) fn read_items<T: Spelled>(
     bytes: &[u8],
     at: usize,
 ) -> Result<(Sequence<T>, usize), CodecFault>
-    requires { at ≤ length bytes.now }
-    ensures exact { Gives result (items_at (λ _. T.reading) count None bytes.now at) }
-    ensures within { IfOk result (λ read. read.1 ≤ length bytes.now) }
+    ensures { IsOutcome result (items_at (λ _. T.decoding) count None bytes.now at) }
 {
     let mut items = Vec::new(alloc);
     let mut end = at;
     'items: for _ in 0..count {
-        let (item, behind) = T::read(alloc, bytes, end)?;
+        let (item, after) = T::read(alloc, bytes, end)?;
         items.push(item)?;
-        end = behind;
+        end = after;
     }
     Ok((Sequence::from_vec(items), end))
 }

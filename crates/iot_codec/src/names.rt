@@ -1,12 +1,12 @@
 //! Names.
-ghost use Rattle.std.specs.Prelude.{◌≡◌, ◌≤◌, ◌++◌, length, OnOk, OnErr, IfOk};
+ghost use Rattle.std.specs.Prelude.{◌≡◌, ◌++◌, length, OnOk, OnErr, IfOk};
 ghost use Rattle.iot_text.specs.Names.{IsName};
 ghost use Rattle.iot_text.specs.Texts.{AppendsPart};
-ghost use Rattle.iot_codec.specs.Outcomes.{Gives, ReadsWhatStands};
-ghost use Rattle.iot_codec.specs.Places.{Stands, IsAlone};
-ghost use Rattle.iot_codec.specs.Reading.{name_at};
+ghost use Rattle.iot_codec.specs.Outcomes.{IsOutcome, DecodesWhatIsSpelled};
+ghost use Rattle.iot_codec.specs.Places.{IsSpelledAt, IsAlone};
+ghost use Rattle.iot_codec.specs.Decoding.{name_at};
 ghost use Rattle.iot_codec.specs.Spelling.{name_spelling};
-ghost use Rattle.iot_codec.specs.Laws.Kinds.{name_laws};
+ghost use Rattle.iot_codec.specs.Laws.Values.{name_laws};
 
 use crate::CodecFault;
 use crate::numbers::number_at;
@@ -20,13 +20,13 @@ impl Spelled for Name {
 
     ghost spelling = { name_spelling };
 
-    ghost reading = { name_at };
+    ghost decoding = { name_at };
 
     fn put(&self, out: &mut Text) -> Result<(), NoMemory> {
         put_counted(self.as_bytes(), out)
     }
 
-    #[tactic(auto, unfolding(crate::specs::Reading::name_at))]
+    #[tactic(auto, unfolding(crate::specs::Decoding::name_at))]
     fn read(_alloc: Global, bytes: &[u8], at: usize) -> Result<(Name, usize), CodecFault> {
         let (len, at) = number_at(bytes, at)?;
         let (text, end) = bytes_at(bytes, at, len)?;
@@ -47,17 +47,16 @@ pub fn put_name(value: &Name, out: &mut Text) -> Result<(), NoMemory>
     value.put(out)
 }
 
-/// Reads the name that is spelled at the offset, and gives the offset behind it.
+/// Reads the name that is spelled at the offset, and gives the offset after it.
 ///
 /// # Errors
 ///
-/// `Malformed` exactly where no name is spelled there.
+/// `Malformed` exactly if no name is spelled there.
 pub fn read_name(alloc: Global, bytes: &[u8], at: usize) -> Result<(Name, usize), CodecFault>
-    requires { at ≤ length bytes.now }
-    ensures found { IfOk result (Stands IsName name_spelling bytes.now at) }
-    ensures only { ReadsWhatStands IsName name_spelling bytes.now at result }
+    ensures found { IfOk result (IsSpelledAt IsName name_spelling bytes.now at) }
+    ensures only { DecodesWhatIsSpelled IsName name_spelling bytes.now at result }
     ensures one { IsAlone IsName name_spelling bytes.now at }
-    ensures exact { Gives result (name_at bytes.now at) }
+    ensures exact { IsOutcome result (name_at bytes.now at) }
 {
     read(alloc, bytes, at)
 }

@@ -1,9 +1,9 @@
 //! Numbers.
-ghost use Rattle.std.specs.Prelude.{◌≡◌, ◌≤◌, ◌++◌, length, OnOk, OnErr, IfOk};
+ghost use Rattle.std.specs.Prelude.{◌≡◌, ◌++◌, length, OnOk, OnErr, IfOk};
 ghost use Rattle.iot_text.specs.Texts.{AppendsPart};
-ghost use Rattle.iot_codec.specs.Outcomes.{Gives, ReadsWhatStands};
-ghost use Rattle.iot_codec.specs.Places.{Stands, IsAlone};
-ghost use Rattle.iot_codec.specs.Readers.{number_at, at_most};
+ghost use Rattle.iot_codec.specs.Outcomes.{IsOutcome, DecodesWhatIsSpelled};
+ghost use Rattle.iot_codec.specs.Places.{IsSpelledAt, IsAlone};
+ghost use Rattle.iot_codec.specs.Decoders.{number_at, at_most};
 ghost use Rattle.iot_codec.specs.Rules.{IsNumber};
 ghost use Rattle.iot_codec.specs.Spelling.{number_spelling};
 ghost use Rattle.iot_codec.specs.Laws.Parts.{number_laws};
@@ -14,23 +14,19 @@ use crate::spelled::{Spelled, read};
 use iot_text::{NoMemory, Text};
 use std::alloc::Global;
 
-/// The number at the offset, and the offset behind it.
-#[tactic(auto, unfolding(crate::specs::Readers::number_at))]
+/// The number at the offset, and the offset after it.
+#[tactic(auto, unfolding(crate::specs::Decoders::number_at))]
 pub(crate) fn number_at(bytes: &[u8], at: usize) -> Result<(u64, usize), CodecFault>
-    requires { at ≤ length bytes.now }
-    ensures exact { Gives result (number_at bytes.now at) }
-    ensures within { IfOk result (λ read. read.1 ≤ length bytes.now) }
+    ensures { IsOutcome result (number_at bytes.now at) }
 {
     let (d, end) = bytes_at(bytes, at, 8)?;
     let number = u64::from_be_bytes([d[0], d[1], d[2], d[3], d[4], d[5], d[6], d[7]]);
     Ok((number, end))
 }
 
-/// A number up to the limit at the offset, and the offset behind it.
+/// A number up to the limit at the offset, and the offset after it.
 pub(crate) fn at_most(limit: u64, bytes: &[u8], at: usize) -> Result<(u64, usize), CodecFault>
-    requires { at ≤ length bytes.now }
-    ensures exact { Gives result (at_most limit bytes.now at) }
-    ensures within { IfOk result (λ read. read.1 ≤ length bytes.now) }
+    ensures { IsOutcome result (at_most limit bytes.now at) }
 {
     let (number, end) = number_at(bytes, at)?;
     if limit < number {
@@ -44,7 +40,7 @@ impl Spelled for u64 {
 
     ghost spelling = { number_spelling };
 
-    ghost reading = { number_at };
+    ghost decoding = { number_at };
 
     #[tactic(auto, unfolding(crate::specs::Spelling::number_spelling))]
     fn put(&self, out: &mut Text) -> Result<(), NoMemory> {
@@ -66,17 +62,16 @@ pub fn put_number(value: &u64, out: &mut Text) -> Result<(), NoMemory>
     value.put(out)
 }
 
-/// Reads the number that is spelled at the offset, and gives the offset behind it.
+/// Reads the number that is spelled at the offset, and gives the offset after it.
 ///
 /// # Errors
 ///
-/// `Malformed` exactly where no number is spelled there.
+/// `Malformed` exactly if no number is spelled there.
 pub fn read_number(alloc: Global, bytes: &[u8], at: usize) -> Result<(u64, usize), CodecFault>
-    requires { at ≤ length bytes.now }
-    ensures found { IfOk result (Stands IsNumber number_spelling bytes.now at) }
-    ensures only { ReadsWhatStands IsNumber number_spelling bytes.now at result }
+    ensures found { IfOk result (IsSpelledAt IsNumber number_spelling bytes.now at) }
+    ensures only { DecodesWhatIsSpelled IsNumber number_spelling bytes.now at result }
     ensures one { IsAlone IsNumber number_spelling bytes.now at }
-    ensures exact { Gives result (number_at bytes.now at) }
+    ensures exact { IsOutcome result (number_at bytes.now at) }
 {
     read(alloc, bytes, at)
 }

@@ -1,8 +1,8 @@
 //! The parts that spellings are made of.
-ghost use Rattle.std.specs.Prelude.{◌≡◌, ◌≤◌, ◌++◌, length, slice_get, OnOk, OnErr, IfOk};
+ghost use Rattle.std.specs.Prelude.{◌≡◌, ◌<◌, ◌++◌, length, slice_get, OnOk, OnErr, IfSome};
 ghost use Rattle.iot_text.specs.Texts.{AppendsPart};
-ghost use Rattle.iot_codec.specs.Outcomes.{GivesSeen};
-ghost use Rattle.iot_codec.specs.Readers.{bytes_at};
+ghost use Rattle.iot_codec.specs.Outcomes.{IsSeen};
+ghost use Rattle.iot_codec.specs.Decoders.{bytes_at};
 ghost use Rattle.iot_codec.specs.Spelling.{counted};
 
 use crate::CodecFault;
@@ -20,19 +20,20 @@ pub(crate) fn malformed(at: usize) -> CodecFault
 /// The tag at the offset, if one is there.
 #[inline]
 pub(crate) fn tag_at(bytes: &[u8], at: usize) -> Option<u8>
-    ensures { result ≡ slice_get bytes.now at }
+    ensures tag { result ≡ slice_get bytes.now at }
+    ensures within { IfSome result (λ _. at < length bytes.now) }
 {
     bytes.get(at).copied()
 }
 
-/// The next `len` bytes, and the offset behind them.
+/// The next `len` bytes, and the offset after them.
 #[inline]
 pub(crate) fn bytes_at(bytes: &[u8], at: usize, len: u64) -> Result<(&[u8], usize), CodecFault>
-    requires { at ≤ length bytes.now }
-    ensures exact { GivesSeen (λ part. (part.0.now, part.1)) result (bytes_at len bytes.now at) }
-    ensures within { IfOk result (λ part. part.1 ≤ length bytes.now) }
+    ensures { IsSeen (λ part. (part.0.now, part.1)) result (bytes_at len bytes.now at) }
 {
-    let (_, rest) = bytes.split_at(at);
+    let Some(rest) = bytes.get(at..) else {
+        return Err(malformed(at));
+    };
     if (rest.len() as u64) < len {
         return Err(malformed(at));
     }

@@ -1,12 +1,12 @@
 //! Paths.
-ghost use Rattle.std.specs.Prelude.{◌≡◌, ◌≤◌, ◌++◌, length, OnOk, OnErr, IfOk};
+ghost use Rattle.std.specs.Prelude.{◌≡◌, ◌++◌, length, OnOk, OnErr, IfOk};
 ghost use Rattle.iot_text.specs.Paths.{IsPath};
 ghost use Rattle.iot_text.specs.Texts.{AppendsPart};
-ghost use Rattle.iot_codec.specs.Outcomes.{Gives, ReadsWhatStands};
-ghost use Rattle.iot_codec.specs.Places.{Stands, IsAlone};
-ghost use Rattle.iot_codec.specs.Reading.{path_at};
+ghost use Rattle.iot_codec.specs.Outcomes.{IsOutcome, DecodesWhatIsSpelled};
+ghost use Rattle.iot_codec.specs.Places.{IsSpelledAt, IsAlone};
+ghost use Rattle.iot_codec.specs.Decoding.{path_at};
 ghost use Rattle.iot_codec.specs.Spelling.{path_spelling};
-ghost use Rattle.iot_codec.specs.Laws.Kinds.{path_laws};
+ghost use Rattle.iot_codec.specs.Laws.Values.{path_laws};
 
 use crate::CodecFault;
 use crate::lists::{put_list, read_list};
@@ -19,13 +19,13 @@ impl Spelled for Path {
 
     ghost spelling = { path_spelling };
 
-    ghost reading = { path_at };
+    ghost decoding = { path_at };
 
     fn put(&self, out: &mut Text) -> Result<(), NoMemory> {
         put_list(self.names(), out)
     }
 
-    #[tactic(auto, unfolding(crate::specs::Reading::path_at))]
+    #[tactic(auto, unfolding(crate::specs::Decoding::path_at))]
     fn read(alloc: Global, bytes: &[u8], at: usize) -> Result<(Path, usize), CodecFault> {
         let (names, end) = read_list::<Name>(alloc, bytes, at)?;
         Ok((Path::from_names(names.into_vec()), end))
@@ -42,17 +42,16 @@ pub fn put_path(value: &Path, out: &mut Text) -> Result<(), NoMemory>
     value.put(out)
 }
 
-/// Reads the path that is spelled at the offset, and gives the offset behind it.
+/// Reads the path that is spelled at the offset, and gives the offset after it.
 ///
 /// # Errors
 ///
-/// `Malformed` exactly where no path is spelled there. `NoMemory` where there is none for it.
+/// `Malformed` exactly if no path is spelled there. `NoMemory` if there is none for it.
 pub fn read_path(alloc: Global, bytes: &[u8], at: usize) -> Result<(Path, usize), CodecFault>
-    requires { at ≤ length bytes.now }
-    ensures found { IfOk result (Stands IsPath path_spelling bytes.now at) }
-    ensures only { ReadsWhatStands IsPath path_spelling bytes.now at result }
+    ensures found { IfOk result (IsSpelledAt IsPath path_spelling bytes.now at) }
+    ensures only { DecodesWhatIsSpelled IsPath path_spelling bytes.now at result }
     ensures one { IsAlone IsPath path_spelling bytes.now at }
-    ensures exact { Gives result (path_at bytes.now at) }
+    ensures exact { IsOutcome result (path_at bytes.now at) }
 {
     read(alloc, bytes, at)
 }

@@ -1,9 +1,9 @@
 //! Questions to a tree.
-ghost use Rattle.std.specs.Prelude.{◌≡◌, ◌≤◌, ◌++◌, length, OnOk, OnErr, IfOk};
+ghost use Rattle.std.specs.Prelude.{◌≡◌, ◌++◌, length, OnOk, OnErr, IfOk};
 ghost use Rattle.iot_text.specs.Texts.{AppendsPart};
-ghost use Rattle.iot_codec.specs.Outcomes.{Gives, ReadsWhatStands};
-ghost use Rattle.iot_codec.specs.Places.{Stands, IsAlone};
-ghost use Rattle.iot_codec.specs.Reading.{question_at};
+ghost use Rattle.iot_codec.specs.Outcomes.{IsOutcome, DecodesWhatIsSpelled};
+ghost use Rattle.iot_codec.specs.Places.{IsSpelledAt, IsAlone};
+ghost use Rattle.iot_codec.specs.Decoding.{question_at};
 ghost use Rattle.iot_codec.specs.Rules.{IsQuestion};
 ghost use Rattle.iot_codec.specs.Spelling.{question_spelling};
 ghost use Rattle.iot_codec.specs.Laws.Questions.{question_laws};
@@ -20,7 +20,7 @@ impl Spelled for Question {
 
     ghost spelling = { question_spelling };
 
-    ghost reading = { question_at };
+    ghost decoding = { question_at };
 
     #[tactic(auto, unfolding(crate::specs::Spelling::question_spelling))]
     fn put(&self, out: &mut Text) -> Result<(), NoMemory> {
@@ -33,7 +33,7 @@ impl Spelled for Question {
         path.put(out)
     }
 
-    #[tactic(auto, unfolding(crate::specs::Reading::question_at))]
+    #[tactic(auto, unfolding(crate::specs::Decoding::question_at))]
     fn read(alloc: Global, bytes: &[u8], at: usize) -> Result<(Question, usize), CodecFault> {
         match tag_at(bytes, at) {
             Some(1) => {
@@ -63,21 +63,20 @@ pub fn put_question(value: &Question, out: &mut Text) -> Result<(), NoMemory>
     value.put(out)
 }
 
-/// Reads the question that is spelled at the offset, and gives the offset behind it.
+/// Reads the question that is spelled at the offset, and gives the offset after it.
 ///
 /// # Errors
 ///
-/// `Malformed` exactly where no question is spelled there. `NoMemory` where there is none for it.
+/// `Malformed` exactly if no question is spelled there. `NoMemory` if there is none for it.
 pub fn read_question(
     alloc: Global,
     bytes: &[u8],
     at: usize,
 ) -> Result<(Question, usize), CodecFault>
-    requires { at ≤ length bytes.now }
-    ensures found { IfOk result (Stands IsQuestion question_spelling bytes.now at) }
-    ensures only { ReadsWhatStands IsQuestion question_spelling bytes.now at result }
+    ensures found { IfOk result (IsSpelledAt IsQuestion question_spelling bytes.now at) }
+    ensures only { DecodesWhatIsSpelled IsQuestion question_spelling bytes.now at result }
     ensures one { IsAlone IsQuestion question_spelling bytes.now at }
-    ensures exact { Gives result (question_at bytes.now at) }
+    ensures exact { IsOutcome result (question_at bytes.now at) }
 {
     read(alloc, bytes, at)
 }

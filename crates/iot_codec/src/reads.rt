@@ -1,9 +1,9 @@
 //! Reads: questions with their answers.
-ghost use Rattle.std.specs.Prelude.{◌≡◌, ◌≤◌, ◌++◌, length, OnOk, OnErr, IfOk};
+ghost use Rattle.std.specs.Prelude.{◌≡◌, ◌++◌, length, OnOk, OnErr, IfOk};
 ghost use Rattle.iot_text.specs.Texts.{AppendsPart};
-ghost use Rattle.iot_codec.specs.Outcomes.{Gives, ReadsWhatStands};
-ghost use Rattle.iot_codec.specs.Places.{Stands, IsAlone};
-ghost use Rattle.iot_codec.specs.Reading.{read_at, reads_at};
+ghost use Rattle.iot_codec.specs.Outcomes.{IsOutcome, DecodesWhatIsSpelled};
+ghost use Rattle.iot_codec.specs.Places.{IsSpelledAt, IsAlone};
+ghost use Rattle.iot_codec.specs.Decoding.{read_at, reads_at};
 ghost use Rattle.iot_codec.specs.Rules.{AreReads, IsRead};
 ghost use Rattle.iot_codec.specs.Spelling.{read_spelling, reads_spelling};
 ghost use Rattle.iot_codec.specs.Laws.Questions.{read_laws, reads_laws};
@@ -20,7 +20,7 @@ impl Spelled for Read {
 
     ghost spelling = { read_spelling };
 
-    ghost reading = { read_at };
+    ghost decoding = { read_at };
 
     #[tactic(auto, unfolding(crate::specs::Spelling::read_spelling))]
     fn put(&self, out: &mut Text) -> Result<(), NoMemory> {
@@ -28,7 +28,7 @@ impl Spelled for Read {
         self.answer.put(out)
     }
 
-    #[tactic(auto, unfolding(crate::specs::Reading::read_at))]
+    #[tactic(auto, unfolding(crate::specs::Decoding::read_at))]
     fn read(alloc: Global, bytes: &[u8], at: usize) -> Result<(Read, usize), CodecFault> {
         let (question, at) = Question::read(alloc, bytes, at)?;
         let (answer, end) = Answer::read(alloc, bytes, at)?;
@@ -43,13 +43,13 @@ impl Spelled for Reads {
 
     ghost spelling = { reads_spelling };
 
-    ghost reading = { reads_at };
+    ghost decoding = { reads_at };
 
     fn put(&self, out: &mut Text) -> Result<(), NoMemory> {
         put_list(self.as_slice(), out)
     }
 
-    #[tactic(auto, unfolding(crate::specs::Reading::reads_at))]
+    #[tactic(auto, unfolding(crate::specs::Decoding::reads_at))]
     fn read(alloc: Global, bytes: &[u8], at: usize) -> Result<(Reads, usize), CodecFault> {
         read_list(alloc, bytes, at)
     }
@@ -66,17 +66,16 @@ pub fn put_reads(value: &Reads, out: &mut Text) -> Result<(), NoMemory>
     value.put(out)
 }
 
-/// Reads the reads that are spelled at the offset, and gives the offset behind them.
+/// Reads the reads that are spelled at the offset, and gives the offset after them.
 ///
 /// # Errors
 ///
-/// `Malformed` exactly where no reads are spelled there. `NoMemory` where there is none for them.
+/// `Malformed` exactly if no reads are spelled there. `NoMemory` if there is none for them.
 pub fn read_reads(alloc: Global, bytes: &[u8], at: usize) -> Result<(Reads, usize), CodecFault>
-    requires { at ≤ length bytes.now }
-    ensures found { IfOk result (Stands AreReads reads_spelling bytes.now at) }
-    ensures only { ReadsWhatStands AreReads reads_spelling bytes.now at result }
+    ensures found { IfOk result (IsSpelledAt AreReads reads_spelling bytes.now at) }
+    ensures only { DecodesWhatIsSpelled AreReads reads_spelling bytes.now at result }
     ensures one { IsAlone AreReads reads_spelling bytes.now at }
-    ensures exact { Gives result (reads_at bytes.now at) }
+    ensures exact { IsOutcome result (reads_at bytes.now at) }
 {
     read(alloc, bytes, at)
 }

@@ -1,10 +1,10 @@
 //! Tables: lists of pairs whose keys rise.
-ghost use Rattle.std.specs.Prelude.{◌≡◌, ◌≤◌, ◌++◌, length, OnOk, OnErr, IfOk, None};
+ghost use Rattle.std.specs.Prelude.{◌≡◌, ◌++◌, length, OnOk, OnErr, IfOk, None};
 ghost use Rattle.std.specs.Option.{option_copied};
 ghost use Rattle.iot_text.specs.Texts.{AppendsPart};
-ghost use Rattle.iot_codec.specs.Outcomes.{Gives};
-ghost use Rattle.iot_codec.specs.Reading.{pair_at, table_at};
-ghost use Rattle.iot_codec.specs.Readers.{items_at};
+ghost use Rattle.iot_codec.specs.Outcomes.{IsOutcome};
+ghost use Rattle.iot_codec.specs.Decoding.{pair_at, table_at};
+ghost use Rattle.iot_codec.specs.Decoders.{items_at};
 ghost use Rattle.iot_codec.specs.Rules.{rises};
 ghost use Rattle.iot_codec.specs.Spelling.{pair_spelling, table_spelling};
 
@@ -40,7 +40,7 @@ pub(crate) fn put_table<K: Spelled, V: Spelled>(
     Ok(())
 }
 
-/// Whether the key is greater than that of the pair before it, where there is one.
+/// Whether the key is greater than that of the pair before it, if there is one.
 fn rises<K: Ord, V>(previous: Option<&(K, V)>, key: &K) -> bool
     ensures { result ≡ rises K.cmp (option_copied previous.entry) key.now }
 {
@@ -50,23 +50,21 @@ fn rises<K: Ord, V>(previous: Option<&(K, V)>, key: &K) -> bool
     }
 }
 
-/// Reads a pair that stands behind another one, or is the first.
-#[tactic(auto, unfolding(crate::specs::Reading::pair_at))]
+/// Reads a pair that follows another one, or is the first.
+#[tactic(auto, unfolding(crate::specs::Decoding::pair_at))]
 fn read_pair<K: Spelled + Ord, V: Spelled>(
     alloc: Global,
     previous: Option<&(K, V)>,
     bytes: &[u8],
     at: usize,
 ) -> Result<((K, V), usize), CodecFault>
-    requires { at ≤ length bytes.now }
-    ensures exact { Gives result (pair_at K.cmp K.reading V.reading (option_copied previous.entry) bytes.now at) }
-    ensures within { IfOk result (λ read. read.1 ≤ length bytes.now) }
+    ensures { IsOutcome result (pair_at K.cmp K.decoding V.decoding (option_copied previous.entry) bytes.now at) }
 {
-    let (key, behind) = K::read(alloc, bytes, at)?;
+    let (key, after) = K::read(alloc, bytes, at)?;
     if !rises(previous, &key) {
         return Err(malformed(at));
     }
-    let (value, end) = V::read(alloc, bytes, behind)?;
+    let (value, end) = V::read(alloc, bytes, after)?;
     Ok(((key, value), end))
 }
 
@@ -77,16 +75,14 @@ fn read_pairs<K: Spelled + Ord, V: Spelled>(
     bytes: &[u8],
     at: usize,
 ) -> Result<(Sequence<(K, V)>, usize), CodecFault>
-    requires { at ≤ length bytes.now }
-    ensures exact { Gives result (items_at (pair_at K.cmp K.reading V.reading) count None bytes.now at) }
-    ensures within { IfOk result (λ read. read.1 ≤ length bytes.now) }
+    ensures { IsOutcome result (items_at (pair_at K.cmp K.decoding V.decoding) count None bytes.now at) }
 {
     let mut pairs = Vec::new(alloc);
     let mut end = at;
     'pairs: for _ in 0..count {
-        let (pair, behind) = read_pair(alloc, pairs.last(), bytes, end)?;
+        let (pair, after) = read_pair(alloc, pairs.last(), bytes, end)?;
         pairs.push(pair)?;
-        end = behind;
+        end = after;
     }
     Ok((Sequence::from_vec(pairs), end))
 }
@@ -97,9 +93,7 @@ pub(crate) fn read_table<K: Spelled + Ord, V: Spelled>(
     bytes: &[u8],
     at: usize,
 ) -> Result<(Sequence<(K, V)>, usize), CodecFault>
-    requires { at ≤ length bytes.now }
-    ensures exact { Gives result (table_at K.cmp K.reading V.reading bytes.now at) }
-    ensures within { IfOk result (λ read. read.1 ≤ length bytes.now) }
+    ensures { IsOutcome result (table_at K.cmp K.decoding V.decoding bytes.now at) }
 {
     let (count, at) = number_at(bytes, at)?;
     read_pairs(alloc, count, bytes, at)

@@ -1,9 +1,9 @@
 //! Updates of a tree.
-ghost use Rattle.std.specs.Prelude.{◌≡◌, ◌≤◌, ◌++◌, length, OnOk, OnErr, IfOk};
+ghost use Rattle.std.specs.Prelude.{◌≡◌, ◌++◌, length, OnOk, OnErr, IfOk};
 ghost use Rattle.iot_text.specs.Texts.{AppendsPart};
-ghost use Rattle.iot_codec.specs.Outcomes.{Gives, ReadsWhatStands};
-ghost use Rattle.iot_codec.specs.Places.{Stands, IsAlone};
-ghost use Rattle.iot_codec.specs.Reading.{update_at, optional_update_at};
+ghost use Rattle.iot_codec.specs.Outcomes.{IsOutcome, DecodesWhatIsSpelled};
+ghost use Rattle.iot_codec.specs.Places.{IsSpelledAt, IsAlone};
+ghost use Rattle.iot_codec.specs.Decoding.{update_at, optional_update_at};
 ghost use Rattle.iot_codec.specs.Rules.{IsUpdate, IsOptionalUpdate};
 ghost use Rattle.iot_codec.specs.Spelling.{update_spelling, optional_update_spelling};
 ghost use Rattle.iot_codec.specs.Laws.Updates.{update_laws, optional_update_laws};
@@ -20,7 +20,7 @@ impl Spelled for Update {
 
     ghost spelling = { update_spelling };
 
-    ghost reading = { update_at };
+    ghost decoding = { update_at };
 
     #[tactic(auto, unfolding(crate::specs::Spelling::update_spelling))]
     fn put(&self, out: &mut Text) -> Result<(), NoMemory> {
@@ -46,12 +46,12 @@ impl Spelled for Update {
         }
     }
 
-    #[tactic(auto, unfolding(crate::specs::Reading::update_at))]
+    #[tactic(auto, unfolding(crate::specs::Decoding::update_at))]
     fn read(alloc: Global, bytes: &[u8], at: usize) -> Result<(Update, usize), CodecFault> {
         match tag_at(bytes, at) {
             Some(1) => {
-                let (path, behind) = Path::read(alloc, bytes, at + 1)?;
-                let (contents, end) = Blob::read(alloc, bytes, behind)?;
+                let (path, after) = Path::read(alloc, bytes, at + 1)?;
+                let (contents, end) = Blob::read(alloc, bytes, after)?;
                 Ok((Update::Put(path, contents), end))
             }
             Some(2) => {
@@ -63,8 +63,8 @@ impl Spelled for Update {
                 Ok((Update::Remove(path), end))
             }
             Some(4) => {
-                let (path, behind) = Path::read(alloc, bytes, at + 1)?;
-                let (other, end) = Path::read(alloc, bytes, behind)?;
+                let (path, after) = Path::read(alloc, bytes, at + 1)?;
+                let (other, end) = Path::read(alloc, bytes, after)?;
                 Ok((Update::Move(path, other), end))
             }
             _ => Err(malformed(at)),
@@ -79,7 +79,7 @@ impl Spelled for Option<Update> {
 
     ghost spelling = { optional_update_spelling };
 
-    ghost reading = { optional_update_at };
+    ghost decoding = { optional_update_at };
 
     #[tactic(auto, unfolding(crate::specs::Spelling::optional_update_spelling))]
     fn put(&self, out: &mut Text) -> Result<(), NoMemory> {
@@ -89,7 +89,7 @@ impl Spelled for Option<Update> {
         }
     }
 
-    #[tactic(auto, unfolding(crate::specs::Reading::optional_update_at))]
+    #[tactic(auto, unfolding(crate::specs::Decoding::optional_update_at))]
     fn read(alloc: Global, bytes: &[u8], at: usize) -> Result<(Option<Update>, usize), CodecFault> {
         if let Some(0) = tag_at(bytes, at) {
             return Ok((None, at + 1));
@@ -110,22 +110,21 @@ pub fn put_update(value: &Update, out: &mut Text) -> Result<(), NoMemory>
     value.put(out)
 }
 
-/// Reads the update that is spelled at the offset, and gives the offset behind it.
+/// Reads the update that is spelled at the offset, and gives the offset after it.
 ///
 /// # Errors
 ///
-/// `Malformed` exactly where no update is spelled there. `NoMemory` where there is none for it.
+/// `Malformed` exactly if no update is spelled there. `NoMemory` if there is none for it.
 pub fn read_update(alloc: Global, bytes: &[u8], at: usize) -> Result<(Update, usize), CodecFault>
-    requires { at ≤ length bytes.now }
-    ensures found { IfOk result (Stands IsUpdate update_spelling bytes.now at) }
-    ensures only { ReadsWhatStands IsUpdate update_spelling bytes.now at result }
+    ensures found { IfOk result (IsSpelledAt IsUpdate update_spelling bytes.now at) }
+    ensures only { DecodesWhatIsSpelled IsUpdate update_spelling bytes.now at result }
     ensures one { IsAlone IsUpdate update_spelling bytes.now at }
-    ensures exact { Gives result (update_at bytes.now at) }
+    ensures exact { IsOutcome result (update_at bytes.now at) }
 {
     read(alloc, bytes, at)
 }
 
-/// Appends the spelling of the update, or a 0 where there is none.
+/// Appends the spelling of the update, or a 0 if there is none.
 pub fn put_optional_update(value: &Option<Update>, out: &mut Text) -> Result<(), NoMemory>
     requires { IsOptionalUpdate value.now }
     ensures ok { OnOk result (out.new ≡ out.old ++ optional_update_spelling value.now) }
@@ -134,21 +133,20 @@ pub fn put_optional_update(value: &Option<Update>, out: &mut Text) -> Result<(),
     value.put(out)
 }
 
-/// Reads the update, or none, that is spelled at the offset, and gives the offset behind it.
+/// Reads the update, or none, that is spelled at the offset, and gives the offset after it.
 ///
 /// # Errors
 ///
-/// `Malformed` exactly where no update, or none, is spelled there. `NoMemory` where there is none for it.
+/// `Malformed` exactly if no update, or none, is spelled there. `NoMemory` if there is none for it.
 pub fn read_optional_update(
     alloc: Global,
     bytes: &[u8],
     at: usize,
 ) -> Result<(Option<Update>, usize), CodecFault>
-    requires { at ≤ length bytes.now }
-    ensures found { IfOk result (Stands IsOptionalUpdate optional_update_spelling bytes.now at) }
-    ensures only { ReadsWhatStands IsOptionalUpdate optional_update_spelling bytes.now at result }
+    ensures found { IfOk result (IsSpelledAt IsOptionalUpdate optional_update_spelling bytes.now at) }
+    ensures only { DecodesWhatIsSpelled IsOptionalUpdate optional_update_spelling bytes.now at result }
     ensures one { IsAlone IsOptionalUpdate optional_update_spelling bytes.now at }
-    ensures exact { Gives result (optional_update_at bytes.now at) }
+    ensures exact { IsOutcome result (optional_update_at bytes.now at) }
 {
     read(alloc, bytes, at)
 }

@@ -1,15 +1,16 @@
--- Numbers, and bytes behind their number.
-use Rattle.std.proofs.Common.{◌≡◌, ℕ, ◌+◌, ◌<◌, ◌≤◌, ◌^◌, Bool, true, List, length, take, drop, Ok, refl, sym, subst, arith, inl, inr, length-append}
+-- Numbers, and bytes after their number.
+use Rattle.std.proofs.Common.{◌≡◌, ℕ, ◌+◌, ◌<◌, ◌≤◌, ◌^◌, Bool, true, List, length, take, drop, Ok, refl, sym, subst, arith, inl, inr}
+use Rattle.std.proofs.Common.{length-append}
 use Rattle.std.specs.Prelude.{nat_le}
 use Rattle.std.specs.Int.{w64, from_be_bytes, to_be_bytes}
 use Rattle.std.proofs.lemmas.Bool.{cases_lt, leb-true, le-leb}
 use Rattle.std.proofs.lemmas.List.{length-take, get_or-drop, get_or-take, get_or_past}
 use Rattle.std.proofs.lemmas.Nat.{be_bytes_8, from_be_bytes-to_be_bytes_8}
-use Rattle.iot_codec.specs.Places.{StandsAt, Stands, AreBytes, IsSpelling}
-use Rattle.iot_codec.specs.Readers.{Reader, ◌>>=◌, tested, bytes_at, number_at, at_most}
+use Rattle.iot_codec.specs.Places.{LiesAt, IsSpelledAt, AreBytes, IsSpelling}
+use Rattle.iot_codec.specs.Decoders.{Decoder, ◌>>=◌, tested, bytes_at, number_at, at_most}
 use Rattle.iot_codec.specs.Rules.{IsNumber}
 use Rattle.iot_codec.specs.Spelling.{number_spelling, counted}
-use Rattle.iot_codec.specs.Laws.Standing.{stands_then, stands_first, stands_second, stands_short}
+use Rattle.iot_codec.specs.Laws.Places.{lies_then, lies_first, lies_second, lies_short}
 use Rattle.iot_codec.specs.Laws.Steps.{step, step_tested, tested_again, carried, part_found, part_again}
 
 AreBytes-part : (n at : ℕ) (bytes : List ℕ) → AreBytes bytes → AreBytes (take n (drop at bytes))
@@ -26,20 +27,21 @@ pub length-number : (n : ℕ) → length (number_spelling n) ≡ 8
 unfolding number_spelling
 length-number n = refl
 
-number_found : (bytes : List ℕ) (at : ℕ) (read : ℕ × ℕ) → AreBytes bytes → at ≤ length bytes → number_at bytes at ≡ Ok read → Stands IsNumber number_spelling bytes at read
+number_found : (bytes : List ℕ) (at : ℕ) (read : ℕ × ℕ) → AreBytes bytes → number_at bytes at ≡ Ok read
+    → IsSpelledAt IsNumber number_spelling bytes at read
 unfolding number_at number_spelling
-number_found bytes at read fit within e =
-    let s = step (bytes_at 8 bytes at) (λ digits behind. Ok (from_be_bytes w64 digits, behind)) read e in
-    let p = part_found 8 bytes at s.0 within s.1 in
+number_found bytes at read fit e =
+    let s = step (bytes_at 8 bytes at) (λ digits after. Ok (from_be_bytes w64 digits, after)) read e in
+    let p = part_found 8 bytes at s.0 s.1 in
     let digits_fit : AreBytes s.0.0 = subst (λ (t : List ℕ). AreBytes t) (sym p.part) (AreBytes-part 8 at bytes fit) in
     let digits : to_be_bytes w64 (from_be_bytes w64 s.0.0) ≡ s.0.0 = be_bytes_8 s.0.0 _ p.len digits_fit refl in
-    let made : Stands IsNumber number_spelling bytes at (from_be_bytes w64 s.0.0, s.0.1) = record {
+    let made : IsSpelledAt IsNumber number_spelling bytes at (from_be_bytes w64 s.0.0, s.0.1) = record {
       value = below_limit s.0.0 digits_fit;
-      place = subst (λ (t : List ℕ). StandsAt bytes at t s.0.1) (sym digits) p.place;
+      place = subst (λ (t : List ℕ). LiesAt bytes at t s.0.1) (sym digits) p.place;
     } in
-    carried (Stands IsNumber number_spelling bytes at) (from_be_bytes w64 s.0.0, s.0.1) read s.2 made
+    carried (IsSpelledAt IsNumber number_spelling bytes at) (from_be_bytes w64 s.0.0, s.0.1) read s.2 made
 
-number_again : (bytes : List ℕ) (at : ℕ) (read : ℕ × ℕ) → Stands IsNumber number_spelling bytes at read → number_at bytes at ≡ Ok read
+number_again : (bytes : List ℕ) (at : ℕ) (read : ℕ × ℕ) → IsSpelledAt IsNumber number_spelling bytes at read → number_at bytes at ≡ Ok read
 unfolding number_at number_spelling
 number_again bytes at read p =
     let digits : bytes_at 8 bytes at ≡ Ok (to_be_bytes w64 read.0, read.1) = part_again bytes at read.1 (to_be_bytes w64 read.0) p.place in
@@ -56,43 +58,51 @@ number_laws = record {
 -- a number up to a limit
 pub at_most_laws : (limit : ℕ) → limit < 2 ^ 64 → IsSpelling (λ n. n ≤ limit) number_spelling (at_most limit)
 at_most_laws limit small = record {
-  found = λ bytes at read fit within e.
+  found = λ bytes at read fit e.
       let t = step_tested (λ n. nat_le n limit) number_at bytes at read e in
-      record { value = leb-true read.0 limit t.1; place = (number_found bytes at read fit within t.0).place };
+      record { value = leb-true read.0 limit t.1; place = (number_found bytes at read fit t.0).place };
   only = λ bytes at read short p.
-      let stands : Stands IsNumber number_spelling bytes at read = record { value = omega (arith, p.value); place = p.place } in
+      let stands : IsSpelledAt IsNumber number_spelling bytes at read = record { value = omega (arith, p.value); place = p.place } in
       tested_again (λ n. nat_le n limit) number_at bytes at read (number_again bytes at read stands) (le-leb read.0 limit p.value);
   some = λ n. omega (arith, length-number n);
 }
 
--- bytes behind their number, which may have a limit, by a rule
-module _ (Small : ℕ → Type 0) (len : Reader ℕ) (len_laws : IsSpelling Small number_spelling len) (rule : List ℕ → Bool) where
-  counted_reader : Reader (List ℕ)
-  counted_reader = len >>= λ n. tested rule (bytes_at n)
+-- bytes after their number, which may have a limit, by a rule
+module _ (Small : ℕ → Type 0) (len : Decoder ℕ) (len_laws : IsSpelling Small number_spelling len) (rule : List ℕ → Bool) where
+  counted_decoder : Decoder (List ℕ)
+  counted_decoder = len >>= λ n. tested rule (bytes_at n)
 
-  counted_found : (bytes : List ℕ) (at : ℕ) (read : List ℕ × ℕ) → AreBytes bytes → at ≤ length bytes → counted_reader bytes at ≡ Ok read → Stands (λ part. Small (length part) × (rule part ≡ true)) counted bytes at read
-  unfolding counted_reader
-  counted_found bytes at read fit within e =
-      let s = step (len bytes at) (λ n behind. tested rule (bytes_at n) bytes behind) read e in
-      let first = len_laws.found bytes at s.0 fit within s.1 in
+  counted_found : (bytes : List ℕ) (at : ℕ) (read : List ℕ × ℕ) → AreBytes bytes → counted_decoder bytes at ≡ Ok read
+      → IsSpelledAt (λ part. Small (length part) × (rule part ≡ true)) counted bytes at read
+  unfolding counted_decoder
+  counted_found bytes at read fit e =
+      let s = step (len bytes at) (λ n after. tested rule (bytes_at n) bytes after) read e in
+      let first = len_laws.found bytes at s.0 fit s.1 in
       let t = step_tested rule (bytes_at s.0.0) bytes s.0.1 read s.2 in
-      let p = part_found s.0.0 bytes s.0.1 read first.place.within t.0 in
-      let count : StandsAt bytes at (number_spelling (length read.0)) s.0.1 = subst (λ (n : ℕ). StandsAt bytes at (number_spelling n) s.0.1) (sym p.len) first.place in
+      let p = part_found s.0.0 bytes s.0.1 read t.0 in
+      let count : LiesAt bytes at (number_spelling (length read.0)) s.0.1 =
+      subst (λ (n : ℕ). LiesAt bytes at (number_spelling n) s.0.1) (sym p.len) first.place in
       record {
         value = (subst Small (sym p.len) first.value, t.1);
-        place = stands_then bytes at s.0.1 read.1 (number_spelling (length read.0)) read.0 count p.place;
+        place = lies_then bytes at s.0.1 read.1 (number_spelling (length read.0)) read.0 count p.place;
       }
 
-  counted_again : (bytes : List ℕ) (at : ℕ) (read : List ℕ × ℕ) → length bytes < 2 ^ 64 → Stands (λ part. Small (length part) × (rule part ≡ true)) counted bytes at read → counted_reader bytes at ≡ Ok read
-  unfolding counted_reader
+  counted_again : (bytes : List ℕ) (at : ℕ) (read : List ℕ × ℕ) → length bytes < 2 ^ 64
+      → IsSpelledAt (λ part. Small (length part) × (rule part ≡ true)) counted bytes at read → counted_decoder bytes at ≡ Ok read
+  unfolding counted_decoder
   counted_again bytes at read short p =
-      let count : StandsAt bytes at (number_spelling (length read.0)) (at + length (number_spelling (length read.0))) = stands_first bytes at read.1 (number_spelling (length read.0)) read.0 p.place in
-      let part : StandsAt bytes (at + length (number_spelling (length read.0))) read.0 read.1 = stands_second bytes at read.1 (number_spelling (length read.0)) read.0 p.place in
-      let number : len bytes at ≡ Ok (length read.0, at + length (number_spelling (length read.0))) = len_laws.only bytes at (length read.0, at + length (number_spelling (length read.0))) short (record { value = p.value.0; place = count }) in
+      let count : LiesAt bytes at (number_spelling (length read.0)) (at + length (number_spelling (length read.0))) =
+      lies_first bytes at read.1 (number_spelling (length read.0)) read.0 p.place in
+      let part : LiesAt bytes (at + length (number_spelling (length read.0))) read.0 read.1 =
+      lies_second bytes at read.1 (number_spelling (length read.0)) read.0 p.place in
+      let number : len bytes at
+      ≡ Ok (length read.0, at + length (number_spelling (length read.0))) =
+      len_laws.only bytes at (length read.0, at + length (number_spelling (length read.0))) short
+      (record { value = p.value.0; place = count }) in
       rw number (tested_again rule (bytes_at (length read.0)) bytes _ read (part_again bytes _ read.1 read.0 part) p.value.1)
 
   pub counted_laws : IsSpelling (λ part. Small (length part) × (rule part ≡ true)) counted (len >>= λ n. tested rule (bytes_at n))
-  unfolding counted_reader
+  unfolding counted_decoder
   counted_laws = record {
     found = counted_found;
     only = counted_again;
@@ -100,36 +110,40 @@ module _ (Small : ℕ → Type 0) (len : Reader ℕ) (len_laws : IsSpelling Smal
   }
 
 -- a limit that the number of the bytes meets by itself
-pub without_count : {X : Type 0} (count : X → ℕ) (HasSpelling : X → Type 0) (spelling : X → List ℕ) (reading : Reader X) → ((x : X) → count x ≤ length (spelling x))
-    → IsSpelling (λ x. IsNumber (count x) × HasSpelling x) spelling reading → IsSpelling HasSpelling spelling reading
-without_count count HasSpelling spelling reading no_more laws = record {
-  found = λ bytes at read fit within e.
-      let s = laws.found bytes at read fit within e in
+pub without_count : {X : Type 0} (count : X → ℕ) (HasSpelling : X → Type 0) (spelling : X → List ℕ) (decoding : Decoder X)
+    → ((x : X) → count x ≤ length (spelling x))
+    → IsSpelling (λ x. IsNumber (count x) × HasSpelling x) spelling decoding → IsSpelling HasSpelling spelling decoding
+without_count count HasSpelling spelling decoding no_more laws = record {
+  found = λ bytes at read fit e.
+      let s = laws.found bytes at read fit e in
       record { value = s.value.1; place = s.place };
   only = λ bytes at read short p.
-      let few : count read.0 < 2 ^ 64 = omega (arith, no_more read.0, stands_short bytes at read.1 (spelling read.0) p.place) in
+      let few : count read.0 < 2 ^ 64 = omega (arith, no_more read.0, lies_short bytes at read.1 (spelling read.0) p.place) in
       laws.only bytes at read short (record { value = (few, p.value); place = p.place });
   some = laws.some;
 }
 
 -- the same rule in other words
-pub same_rule : {X : Type 0} (One Other : X → Type 0) (spelling : X → List ℕ) (reading : Reader X) → ((x : X) → One x → Other x) → ((x : X) → Other x → One x)
-    → IsSpelling One spelling reading → IsSpelling Other spelling reading
-same_rule One Other spelling reading there back laws = record {
-  found = λ bytes at read fit within e.
-      let s = laws.found bytes at read fit within e in
+pub same_rule : {X : Type 0} (One Other : X → Type 0) (spelling : X → List ℕ) (decoding : Decoder X) → ((x : X) → One x → Other x)
+    → ((x : X) → Other x → One x)
+    → IsSpelling One spelling decoding → IsSpelling Other spelling decoding
+same_rule One Other spelling decoding there back laws = record {
+  found = λ bytes at read fit e.
+      let s = laws.found bytes at read fit e in
       record { value = there read.0 s.value; place = s.place };
   only = λ bytes at read short p. laws.only bytes at read short (record { value = back read.0 p.value; place = p.place });
   some = laws.some;
 }
 
 -- the same spelling in other words
-pub same_spelling : {X : Type 0} (HasSpelling : X → Type 0) (one other : X → List ℕ) (reading : Reader X) → ((x : X) → one x ≡ other x) → IsSpelling HasSpelling one reading → IsSpelling HasSpelling other reading
-same_spelling HasSpelling one other reading same laws = record {
-  found = λ bytes at read fit within e.
-      let s = laws.found bytes at read fit within e in
-      record { value = s.value; place = subst (λ (t : List ℕ). StandsAt bytes at t read.1) (same read.0) s.place };
+pub same_spelling : {X : Type 0} (HasSpelling : X → Type 0) (one other : X → List ℕ) (decoding : Decoder X) → ((x : X) → one x ≡ other x)
+    → IsSpelling HasSpelling one decoding → IsSpelling HasSpelling other decoding
+same_spelling HasSpelling one other decoding same laws = record {
+  found = λ bytes at read fit e.
+      let s = laws.found bytes at read fit e in
+      record { value = s.value; place = subst (λ (t : List ℕ). LiesAt bytes at t read.1) (same read.0) s.place };
   only = λ bytes at read short p.
-      laws.only bytes at read short (record { value = p.value; place = subst (λ (t : List ℕ). StandsAt bytes at t read.1) (sym (same read.0)) p.place });
+      laws.only bytes at read short
+      (record { value = p.value; place = subst (λ (t : List ℕ). LiesAt bytes at t read.1) (sym (same read.0)) p.place });
   some = λ x. rw (← same x) (laws.some x);
 }

@@ -1,4 +1,4 @@
-use Rattle.iot_codec.specs.Laws.Kinds.{path_from_names}
+use Rattle.iot_codec.specs.Laws.Values.{path_from_names}
 use Rattle.iot_codec.proofs.paths.PathSpelled.read.Goals as goal
 
 pub from_names-requires : goal.from_names-requires

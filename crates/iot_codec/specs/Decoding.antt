@@ -1,4 +1,4 @@
--- Reading each kind of value, with the first fault from the left.
+-- Decoding a value of each type, with the first fault from the left.
 use Rattle.std.specs.Prelude.{ℕ, List, [], ◌∷◌, Option, None}
 use Rattle.std.specs.List.{list_all}
 use Rattle.std.specs.declared.cmp.Ordering.{Ordering}
@@ -19,69 +19,70 @@ use Rattle.iot_tree.specs.declared.acts.Act.{Act}
 use Rattle.iot_tree.specs.declared.labels.Label.{Label}
 use Rattle.iot_tree.specs.declared.labels.Way.{Way}
 use Rattle.iot_tree.specs.declared.labels.Way.TheVariants.{Certified, Reexecuted, Resolved}
-use Rattle.iot_codec.specs.Readers.{Reader, ◌>>=◌, done, tested, bytes_at, number_at, at_most, items_at, list_at, tagged, optional_at}
+use Rattle.iot_tree.specs.declared.limits.TheConstants.{ACT_LIMIT, CONTENTS_LIMIT}
+use Rattle.iot_codec.specs.Decoders.{Decoder, ◌>>=◌, done, tested, bytes_at, number_at, at_most, items_at, list_at, tagged, optional_at}
 use Rattle.iot_codec.specs.Rules.{is_printable, is_content_byte, rises}
 
 -- bytes that are a name
-unfoldable pub name_at : Reader (List ℕ)
+unfoldable pub name_at : Decoder (List ℕ)
 name_at = do
   len ← number_at
   tested is_name (bytes_at len)
 
-unfoldable pub path_at : Reader (List (List ℕ))
+unfoldable pub path_at : Decoder (List (List ℕ))
 path_at = list_at name_at
 
--- at most 8,192 bytes that contents may have
-unfoldable pub contents_at : Reader (List ℕ)
+-- bytes that contents may have, not too many
+unfoldable pub contents_at : Decoder (List ℕ)
 contents_at = do
-  len ← at_most 8192
+  len ← at_most CONTENTS_LIMIT
   tested (list_all is_content_byte) (bytes_at len)
 
 -- bytes that a line may have
-unfoldable pub line_at : Reader (List ℕ)
+unfoldable pub line_at : Decoder (List ℕ)
 line_at = do
   len ← number_at
   tested (list_all is_printable) (bytes_at len)
 
-unfoldable pub lines_at : Reader (List (List ℕ))
+unfoldable pub lines_at : Decoder (List (List ℕ))
 lines_at = list_at line_at
 
 -- a pair: the key, which has to rise, and then the value; a key that does not is a fault where it begins
-unfoldable pub pair_at : {K V : Type 0} → (K → K → Ordering) → Reader K → Reader V → Option (K × V) → Reader (K × V)
+unfoldable pub pair_at : {K V : Type 0} → (K → K → Ordering) → Decoder K → Decoder V → Option (K × V) → Decoder (K × V)
 pair_at cmp key value previous = do
   k ← tested (rises cmp previous) key
   v ← value
   done (k, v)
 
 -- pairs whose keys rise
-abbrev pub table_at : {K V : Type 0} → (K → K → Ordering) → Reader K → Reader V → Reader (List (K × V))
+abbrev pub table_at : {K V : Type 0} → (K → K → Ordering) → Decoder K → Decoder V → Decoder (List (K × V))
 table_at cmp key value = do
   n ← number_at
   items_at (pair_at cmp key value) n None
 
-unfoldable pub files_at : Reader (List (List (List ℕ) × List ℕ))
+unfoldable pub files_at : Decoder (List (List (List ℕ) × List ℕ))
 files_at = table_at path_cmp path_at contents_at
 
 -- the tag of a directory or of a file
-unfoldable pub kind_at : Reader object.Kind
+unfoldable pub kind_at : Decoder object.Kind
 kind_at = tagged ((3, done kinds.IsDir) ∷ (4, done kinds.IsFile) ∷ [])
 
-unfoldable pub children_at : Reader (List (List ℕ × object.Kind))
+unfoldable pub children_at : Decoder (List (List ℕ × object.Kind))
 children_at = table_at (slice_cmp nat_cmp) name_at kind_at
 
 -- what a tag of a question is followed by
-abbrev pub question_table : List (ℕ × Reader Question)
+abbrev pub question_table : List (ℕ × Decoder Question)
 question_table =
     (1, (do path ← path_at; done (asks.Kind path)))
     ∷ (2, (do path ← path_at; done (asks.Content path)))
     ∷ (3, (do path ← path_at; done (asks.Names path)))
     ∷ []
 
-unfoldable pub question_at : Reader Question
+unfoldable pub question_at : Decoder Question
 question_at = tagged question_table
 
 -- what a tag of an answer is followed by
-abbrev pub answer_table : List (ℕ × Reader Answer)
+abbrev pub answer_table : List (ℕ × Decoder Answer)
 answer_table =
     (1, done answers.Away)
     ∷ (2, done answers.Absent)
@@ -91,20 +92,20 @@ answer_table =
     ∷ (6, (do children ← children_at; done (answers.Names children)))
     ∷ []
 
-unfoldable pub answer_at : Reader Answer
+unfoldable pub answer_at : Decoder Answer
 answer_at = tagged answer_table
 
-unfoldable pub read_at : Reader Read
+unfoldable pub read_at : Decoder Read
 read_at = do
   question ← question_at
   answer ← answer_at
   done (record { question = question; answer = answer })
 
-unfoldable pub reads_at : Reader (List Read)
+unfoldable pub reads_at : Decoder (List Read)
 reads_at = list_at read_at
 
 -- what a tag of an update is followed by
-abbrev pub update_table : List (ℕ × Reader Update)
+abbrev pub update_table : List (ℕ × Decoder Update)
 update_table =
     (1, (do path ← path_at; contents ← contents_at; done (Put path contents)))
     ∷ (2, (do path ← path_at; done (MakeDir path)))
@@ -112,35 +113,35 @@ update_table =
     ∷ (4, (do path ← path_at; other ← path_at; done (Move path other)))
     ∷ []
 
-unfoldable pub update_at : Reader Update
+unfoldable pub update_at : Decoder Update
 update_at = tagged update_table
 
 -- 0, or an update
-unfoldable pub optional_update_at : Reader (Option Update)
+unfoldable pub optional_update_at : Decoder (Option Update)
 optional_update_at = optional_at update_at
 
-unfoldable pub act_at : Reader Act
+unfoldable pub act_at : Decoder Act
 act_at = do
   reads ← reads_at
   update ← optional_update_at
   lines ← lines_at
   done (record { reads = reads; update = update; lines = lines })
 
--- at most 4,096 acts
-unfoldable pub acts_at : Reader (List Act)
+-- acts, not too many
+unfoldable pub acts_at : Decoder (List Act)
 acts_at = do
-  n ← at_most 4096
+  n ← at_most ACT_LIMIT
   items_at (λ _. act_at) n None
 
-unfoldable pub way_at : Reader Way
+unfoldable pub way_at : Decoder Way
 way_at = tagged ((1, done Certified) ∷ (2, done Reexecuted) ∷ (3, done Resolved) ∷ [])
 
-unfoldable pub label_at : Reader Label
+unfoldable pub label_at : Decoder Label
 label_at = do
   client ← at_most 7
   tid ← number_at
   script ← name_at
-  budget ← at_most 4096
+  budget ← at_most ACT_LIMIT
   way ← way_at
   kept ← files_at
   done (record { client = client; tid = tid; script = script; budget = budget; way = way; kept = kept })
