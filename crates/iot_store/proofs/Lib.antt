@@ -1,6 +1,4 @@
-mod ActLaws
-mod AnswerLaws
-mod IndexLaws
-mod Keeping
-mod Leading
-mod RecordLaws
+mod CommitsLaws
+mod NumbersLaws
+mod RecordsLaws
+mod StandingLaws

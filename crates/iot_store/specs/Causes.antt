@@ -1,17 +1,17 @@
 -- Why a start gives no store.
 use Rattle.std.specs.Prelude.{◌≡◌, ◌⊎◌, ℕ, List}
-use Rattle.iot_disk.specs.Disk.{Rose}
+use Rattle.iot_count.specs.Counts.{Rose, Stayed}
 use Rattle.iot_disk.specs.declared.faults.StartFault.{StartFault}
 use Rattle.iot_disk.specs.declared.faults.StartFault.TheVariants as fault
-use Rattle.iot_journal.specs.Reading.{Foreign, Damaged, reading}
+use Rattle.iot_journal.specs.Decoding.{Foreign, Damaged, decoded}
 use Rattle.iot_store.specs.Standing.{IsDamagedAt, HoldsDamageAt}
 
 -- by the fault: what the disk's bytes are, and its count of faults before and now
 abbrev pub HasCause : StartFault → List ℕ → ℕ → ℕ → Type 0
-HasCause fault.NoMemory bytes before now = now ≡ before
+HasCause fault.NoMemory bytes before now = Stayed before now
 HasCause fault.Stopped bytes before now = Rose before now
-HasCause fault.Foreign bytes before now = (reading bytes ≡ Foreign) × (now ≡ before)
-HasCause (fault.Damaged at) bytes before now = ((reading bytes ≡ Damaged at) ⊎ HoldsDamageAt bytes at) × (now ≡ before)
+HasCause fault.Foreign bytes before now = (decoded bytes ≡ Foreign) × Stayed before now
+HasCause (fault.Damaged at) bytes before now = ((decoded bytes ≡ Damaged at) ⊎ HoldsDamageAt bytes at) × Stayed before now
 
 -- the bytes are not refused
 abbrev pub TakesBytes : StartFault → Type 0

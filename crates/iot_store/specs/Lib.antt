@@ -1,7 +1,7 @@
-pub mod States
-pub mod Records
-pub mod Standing
-pub mod Numbers
 pub mod Causes
 pub mod Commits
+pub mod Numbers
+pub mod Records
+pub mod Standing
+pub mod States
 pub mod Store

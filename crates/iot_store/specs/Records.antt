@@ -2,7 +2,7 @@
 use Rattle.std.specs.Prelude.{◌≡◌, ℕ, List, ◌∷◌, ◌++◌, Option, Some, None}
 use Rattle.iot_tree.specs.declared.acts.Act.{Act}
 use Rattle.iot_tree.specs.declared.labels.Label.{Label}
-use Rattle.iot_codec.specs.Places.{StandsAt}
+use Rattle.iot_codec.specs.Places.{LiesAt}
 use Rattle.iot_codec.specs.Rules.{IsLabel, AreActs}
 use Rattle.iot_codec.specs.Spelling.{label_spelling, acts_spelling}
 
@@ -16,13 +16,13 @@ pub record IsRecord (body : List ℕ) (label : Label) (acts : List Act) : Type 0
   pub has_acts : AreActs acts
   pub spelled : body ≡ record_spelling label acts
 
--- what a body is read as: the commit whose record it is, or none where it is that of no commit
-abbrev pub IsReadAs : List ℕ → Option (Label × List Act) → Type 0
-IsReadAs body (Some (label, acts)) = IsRecord body label acts
-IsReadAs body None = (label : Label) (acts : List Act) → IsRecord body label acts → ⊥
+-- what a body is decoded as: the commit whose record it is, or none if it is that of no commit
+abbrev pub IsDecodedAs : List ℕ → Option (Label × List Act) → Type 0
+IsDecodedAs body (Some (label, acts)) = IsRecord body label acts
+IsDecodedAs body None = (label : Label) (acts : List Act) → IsRecord body label acts → ⊥
 
--- the spellings of a label and of acts stand behind the tag, one behind the other, and end at the offset beside them
-pub record StandBehindTag (body : List ℕ) (read : Label × List Act × ℕ) : Type 0 where
+-- the spellings of a label and of acts follow the tag, one after the other, and end at the offset beside them
+pub record AreSpelledAfterTag (body : List ℕ) (read : Label × List Act × ℕ) : Type 0 where
   pub has_label : IsLabel read.0
   pub has_acts : AreActs read.1
-  pub place : StandsAt body 1 (label_spelling read.0 ++ acts_spelling read.1) read.2
+  pub place : LiesAt body 1 (label_spelling read.0 ++ acts_spelling read.1) read.2

@@ -2,7 +2,7 @@
 use Rattle.std.specs.Prelude.{◌≡◌, ◌⊎◌, ℕ, ◌+◌, List, [], ◌∷◌, ◌++◌, length}
 use Rattle.iot_tree.specs.declared.acts.Act.{Act}
 use Rattle.iot_tree.specs.declared.labels.Label.{Label}
-use Rattle.iot_journal.specs.Reading.{Stands, reading, records}
+use Rattle.iot_journal.specs.Decoding.{Encodes, decoded, records}
 use Rattle.iot_store.specs.States.{State, opening, CanFollow, after_commit}
 use Rattle.iot_store.specs.Records.{IsRecord}
 
@@ -10,12 +10,13 @@ use Rattle.iot_store.specs.Records.{IsRecord}
 abbrev pub Leads : List (List ℕ) → State → State → Type 0
 Leads [] before after = after ≡ before
 Leads (body ∷ bodies) before after =
-    (label : Label) × (acts : List Act) × IsRecord body label acts × CanFollow before label acts × Leads bodies (after_commit before label acts) after
+    (label : Label) × (acts : List Act) × IsRecord body label acts × CanFollow before label acts
+    × Leads bodies (after_commit before label acts) after
 
 -- the bytes are a journal whose bodies lead to the state
 pub record StandFor (bytes : List ℕ) (state : State) : Type 0 where
   pub bodies : List (List ℕ)
-  pub read : reading bytes ≡ Stands bodies
+  pub read : decoded bytes ≡ Encodes bodies
   pub leads : Leads bodies opening state
 
 -- each image does
@@ -46,5 +47,5 @@ pub record IsDamagedAt (bodies : List (List ℕ)) (at : ℕ) : Type 0 where
 -- the bytes are a journal one of whose bodies cannot follow
 pub record HoldsDamageAt (bytes : List ℕ) (at : ℕ) : Type 0 where
   pub bodies : List (List ℕ)
-  pub read : reading bytes ≡ Stands bodies
+  pub read : decoded bytes ≡ Encodes bodies
   pub damaged : IsDamagedAt bodies at

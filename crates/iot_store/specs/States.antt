@@ -1,15 +1,24 @@
 -- What the server's disk keeps: a tree, and the labels of the commits that made it.
-use Rattle.std.specs.Prelude.{◌≡◌, ℕ, ◌==◌, ◌&&◌, Bool, false, List, [], ◌∷◌, ◌++◌}
+use Rattle.std.specs.Prelude.{◌≡◌, ℕ, ◌==◌, ◌&&◌, Bool, false, List, [], ◌∷◌, ◌++◌, refl}
 use Rattle.std.specs.List.{list_any}
+use Rattle.std.specs.Coded.{Coded, code_by, coded×, coded_list}
 use Rattle.iot_tree.specs.Tree.{Nodes, root_alone}
 use Rattle.iot_tree.specs.declared.nodes.Node.TheVariants.{Dir}
 use Rattle.iot_tree.specs.declared.acts.Act.{Act}
 use Rattle.iot_tree.specs.declared.labels.Label.{Label}
+use Rattle.iot_tree.specs.contracts.labels.Label as label_model
+use Rattle.iot_tree.specs.contracts.tree.Tree as tree_model
 use Rattle.iot_acts.specs.Traces.{ActsHold, after_acts}
 
 pub record State : Type 0 where
   pub tree : Nodes
   pub labels : List Label
+
+-- its code, by which a proof tells states apart
+abbrev pub state_code : Coded State
+state_code =
+    code_by (Nodes × List Label) (coded× (tree_model.the_row).coded (coded_list (label_model.the_row).coded)) (λ s. (s.tree, s.labels))
+    (λ p. record { tree = p.0; labels = p.1 }) (λ _. refl)
 
 -- before the first commit
 abbrev pub opening : State

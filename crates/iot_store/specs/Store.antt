@@ -3,12 +3,11 @@ use Rattle.std.specs.Prelude.{ℕ, List}
 use Rattle.iot_journal.specs.Journal as journal
 use Rattle.iot_store.specs.States.{State, opening}
 use Rattle.iot_store.specs.Standing.{Leads}
-use Rattle.iot_store.specs.Commits.{state_in, IsIndexed}
 use Rattle.iot_store.specs.declared.store.Store.{Store}
 
 -- the tree and the labels
 abbrev pub state_of : {D : Type 0} → Store D → State
-state_of store = state_in store.commits
+state_of store = store.commits
 
 -- the disk under a store
 abbrev pub disk_of : {D : Type 0} → Store D → D
@@ -19,7 +18,6 @@ abbrev pub bodies_on : {D : Type 0} → (D → List ℕ) → Store D → List (L
 bodies_on reads store = journal.bodies_on reads store.journal
 
 -- nothing is under way: the disk has one image, and its records lead to the state
-pub record IsSettled {D : Type 0} (reads : D → List ℕ) (may_leave : D → List ℕ → Type 0) (store : Store D) : Type 0 where
-  pub journal : journal.IsSettled reads may_leave store.journal
+pub record IsSynced {D : Type 0} (reads : D → List ℕ) (may_leave : D → List ℕ → Type 0) (store : Store D) : Type 0 where
+  pub journal : journal.IsSynced reads may_leave store.journal
   pub leads : Leads (bodies_on reads store) opening (state_of store)
-  pub indexed : IsIndexed store.commits

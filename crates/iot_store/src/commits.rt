@@ -1,15 +1,15 @@
 //! The commits in memory: the tree that they make, their labels, and the number of each.
-ghost use Rattle.std.specs.Prelude.{◌≡◌, ◌↔◌, ◌++◌, ◌∷◌, [], IsTrue, OnOk, IfOk};
+ghost use Rattle.std.specs.Prelude.{◌≡◌, ◌↔◌, IsTrue, OnOk, IfOk};
 ghost use Rattle.iot_acts.specs.Traces.{ReadsHold, FitsIfAny, after_update, ActsHold, after_acts};
-ghost use Rattle.iot_store.specs.Commits.{UpdatesWhere, MakesWhere, MakesAllWhere};
+ghost use Rattle.iot_store.specs.Commits.{UpdatesIf, MakesIf, MakesAllIf};
 
-use crate::answers::is_same;
 use iot_text::NoMemory;
 use iot_tree::{Act, Label, Labels, Read, Tree, Update};
-use std::alloc::Global;
+use std::alloc::{AllocError, Global};
 use std::collections::BTreeMap;
+use std::marker::Model;
 
-/// The commits of a server, as they stand on its disk. After an `Err` of a call they are given up.
+/// The commits of a server, as they are on its disk. After an `Err` of a call they are given up.
 #[derive(Drop)]
 pub(crate) struct Commits {
     pub(crate) tree: Tree,
@@ -19,17 +19,29 @@ pub(crate) struct Commits {
     pub(crate) numbers: BTreeMap<(u64, u64), u64>,
 }
 
+impl Model for Commits {
+    ghost use Rattle.iot_store.specs.Commits.{IsIndex};
+    ghost use Rattle.iot_store.specs.States.{State, state_code};
+
+    ghost Value = { State };
+
+    ghost coded = { state_code };
+
+    ghost view = { λ c. record { tree = c.tree; labels = c.labels } };
+
+    ghost invariant = { λ c. IsIndex c.numbers c.labels };
+}
+
 impl Commits {
-    ghost use Rattle.std.specs.Prelude.{false};
+    ghost use Rattle.std.specs.Prelude.{◌++◌, ◌∷◌, [], false};
     ghost use Rattle.std.specs.List.{list_any};
-    ghost use Rattle.iot_store.specs.States.{opening, is_of, CanFollow};
+    ghost use Rattle.iot_store.specs.States.{opening, is_of, CanFollow, after_commit};
     ghost use Rattle.iot_store.specs.Numbers.{number_in};
-    ghost use Rattle.iot_store.specs.Commits.{state_in, IsIndexed, Adds, AddsWhere};
+    ghost use Rattle.iot_store.specs.Commits.{AddsIf};
 
     /// No commits.
     pub(crate) fn new(alloc: Global) -> Result<Commits, NoMemory>
-        ensures state { IfOk result (λ commits. state_in commits ≡ opening) }
-        ensures indexed { IfOk result IsIndexed }
+        ensures { IfOk result (λ commits. commits ≡ opening) }
     {
         Ok(Commits {
             tree: Tree::whole_root(alloc)?,
@@ -38,9 +50,22 @@ impl Commits {
         })
     }
 
+    /// The tree that they make.
+    pub(crate) fn tree(&self) -> &Tree
+        ensures { result.now ≡ self.now.tree }
+    {
+        &self.tree
+    }
+
+    /// Their labels.
+    pub(crate) fn labels(&self) -> &Labels
+        ensures { result.now ≡ self.now.labels }
+    {
+        &self.labels
+    }
+
     /// The number of a client's transaction, if it is among the commits.
     pub(crate) fn number_of(&self, client: u64, tid: u64) -> Option<u64>
-        requires { IsIndexed self.now }
         ensures { result ≡ number_in self.now.labels client tid }
     {
         self.numbers.get(&(client, tid)).copied()
@@ -48,23 +73,21 @@ impl Commits {
 
     /// Adds a commit that can follow.
     pub(crate) fn add(&mut self, alloc: Global, label: Label, acts: &[Act]) -> Result<(), NoMemory>
-        requires indexed { IsIndexed self.old }
-        requires follows { CanFollow (state_in self.old) label acts.now }
-        ensures { OnOk result (Adds label acts.now self.old self.new) }
+        requires { CanFollow self.old label acts.now }
+        ensures { OnOk result (self.new ≡ after_commit self.old label acts.now) }
     {
         apply_all(alloc, &mut self.tree, acts)?;
         self.list(label)
     }
 
-    /// Adds a commit where it can follow, and says whether it can.
+    /// Adds a commit if it can follow, and says whether it can.
     pub(crate) fn replay(
         &mut self,
         alloc: Global,
         label: Label,
         acts: &[Act],
     ) -> Result<bool, NoMemory>
-        requires { IsIndexed self.old }
-        ensures { IfOk result (λ follows. AddsWhere follows label acts.now self.old self.new) }
+        ensures { IfOk result (λ follows. AddsIf follows label acts.now self.old self.new) }
     {
         if let Some(_) = self.number_of(label.client, label.tid) {
             return Ok(false);
@@ -76,18 +99,22 @@ impl Commits {
         Ok(true)
     }
 
-    /// Puts a label behind the others.
+    /// Puts a label after the others.
     fn list(&mut self, label: Label) -> Result<(), NoMemory>
-        requires indexed { IsIndexed self.old }
-        requires is_new { list_any (is_of label.client label.tid) self.old.labels ≡ false }
+        requires { list_any (is_of label.client label.tid) self.old.labels ≡ false }
         ensures tree { OnOk result (self.new.tree ≡ self.old.tree) }
         ensures labels { OnOk result (self.new.labels ≡ self.old.labels ++ label ∷ []) }
-        ensures indexed { OnOk result (IsIndexed self.new) }
     {
         let key = (label.client, label.tid);
         self.labels.push(label)?;
-        self.numbers.insert(key, self.labels.len() as u64)?;
-        Ok(())
+        let number = self.labels.len();
+        match self.numbers.insert(key, number as u64) {
+            Ok(_) => Ok(()),
+            Err(_) => {
+                self.labels.remove(number - 1);
+                Err(AllocError)
+            }
+        }
     }
 }
 
@@ -115,7 +142,7 @@ fn apply_if_any(alloc: Global, tree: &mut Tree, update: &Option<Update>) -> Resu
 
 /// Makes the updates of acts as long as they hold, and says whether all do.
 fn replay_all(alloc: Global, tree: &mut Tree, acts: &[Act]) -> Result<bool, NoMemory>
-    ensures { IfOk result (λ hold. MakesAllWhere hold acts.now tree.old tree.new) }
+    ensures { IfOk result (λ hold. MakesAllIf hold acts.now tree.old tree.new) }
 {
     'acts: for act in acts {
         if !replay_act(alloc, tree, act)? {
@@ -125,11 +152,11 @@ fn replay_all(alloc: Global, tree: &mut Tree, acts: &[Act]) -> Result<bool, NoMe
     Ok(true)
 }
 
-/// Makes an act's update where its reads hold and it fits, and says whether it did.
+/// Makes an act's update if its reads hold and it fits, and says whether it did.
 fn replay_act(alloc: Global, tree: &mut Tree, act: &Act) -> Result<bool, NoMemory>
-    ensures { IfOk result (λ holds. MakesWhere holds act.now tree.old tree.new) }
+    ensures { IfOk result (λ holds. MakesIf holds act.now tree.old tree.new) }
 {
-    if !do_hold(alloc, tree, act.reads.as_slice())? {
+    if !do_hold(tree, act.reads.as_slice()) {
         return Ok(false);
     }
     match &act.update {
@@ -138,9 +165,9 @@ fn replay_act(alloc: Global, tree: &mut Tree, act: &Act) -> Result<bool, NoMemor
     }
 }
 
-/// Makes an update where it fits, and says whether it did.
+/// Makes an update if it fits, and says whether it did.
 fn make(alloc: Global, tree: &mut Tree, update: &Update) -> Result<bool, NoMemory>
-    ensures { IfOk result (λ fits. UpdatesWhere fits update.now tree.old tree.new) }
+    ensures { IfOk result (λ fits. UpdatesIf fits update.now tree.old tree.new) }
 {
     if !tree.fits(update) {
         return Ok(false);
@@ -150,14 +177,13 @@ fn make(alloc: Global, tree: &mut Tree, update: &Update) -> Result<bool, NoMemor
 }
 
 /// Whether each read is the tree's answer.
-fn do_hold(alloc: Global, tree: &Tree, reads: &[Read]) -> Result<bool, NoMemory>
-    ensures { IfOk result (λ hold. IsTrue hold ↔ ReadsHold tree.now reads.now) }
+fn do_hold(tree: &Tree, reads: &[Read]) -> bool
+    ensures { IsTrue result ↔ ReadsHold tree.now reads.now }
 {
     'reads: for read in reads {
-        let answer = tree.answer(alloc, &read.question)?;
-        if !is_same(&answer, &read.answer) {
-            return Ok(false);
+        if !tree.answers(read) {
+            return false;
         }
     }
-    Ok(true)
+    true
 }

@@ -1,7 +1,6 @@
 //! The server's list of commits, kept on a disk: after each crash it is the list before a commit, or the one with it.
 #![tactic(auto)]
 
-mod answers;
 mod commits;
 mod records;
 mod store;

@@ -1,10 +1,10 @@
 //! The records on the server's disk.
-ghost use Rattle.std.specs.Prelude.{◌≡◌, ◌<◌, ℕ, List, length, Ok, OnOk, IfOk};
+ghost use Rattle.std.specs.Prelude.{◌≡◌, ℕ, List, Ok, OnOk, IfOk};
 ghost use Rattle.iot_tree.specs.declared.acts.Act.{Act as Acted};
 ghost use Rattle.iot_tree.specs.declared.labels.Label.{Label as Labelled};
-ghost use Rattle.iot_codec.specs.Outcomes.{Gives};
+ghost use Rattle.iot_codec.specs.Outcomes.{IsOutcome};
 ghost use Rattle.iot_codec.specs.Rules.{IsLabel, AreActs};
-ghost use Rattle.iot_store.specs.Records.{record_spelling, IsReadAs, StandBehindTag};
+ghost use Rattle.iot_store.specs.Records.{record_spelling, IsDecodedAs, AreSpelledAfterTag};
 
 use iot_codec::{CodecFault, put_acts, put_label, read_acts, read_label};
 use iot_text::{NoMemory, Text};
@@ -28,7 +28,7 @@ pub(crate) fn spell(out: &mut Text, label: &Label, acts: &Acts) -> Result<(), No
 
 /// The commit whose record the body is, if it is one.
 pub(crate) fn read(alloc: Global, body: &[u8]) -> Result<Option<(Label, Acts)>, NoMemory>
-    ensures { IfOk result (IsReadAs body.now) }
+    ensures { IfOk result (IsDecodedAs body.now) }
 {
     if body.first() != Some(&COMMIT) {
         return Ok(None);
@@ -46,11 +46,10 @@ pub(crate) fn read(alloc: Global, body: &[u8]) -> Result<Option<(Label, Acts)>, 
     }
 }
 
-/// The label and the acts behind the tag, and the offset behind them.
+/// The label and the acts after the tag, and the offset after them.
 fn read_commit(alloc: Global, body: &[u8]) -> Result<(Label, Acts, usize), CodecFault>
-    requires { 0 < length body.now }
-    ensures found { IfOk result (StandBehindTag body.now) }
-    ensures only { (read : Labelled × List Acted × ℕ) → StandBehindTag body.now read → Gives result (Ok read) }
+    ensures found { IfOk result (AreSpelledAfterTag body.now) }
+    ensures only { (read : Labelled × List Acted × ℕ) → AreSpelledAfterTag body.now read → IsOutcome result (Ok read) }
 {
     let (label, at) = read_label(alloc, body, 1)?;
     let (acts, end) = read_acts(alloc, body, at)?;

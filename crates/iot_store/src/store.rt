@@ -2,13 +2,13 @@
 ghost use Rattle.std.specs.Prelude.{◌≡◌, ◌≤◌, ◌+◌, ◌^◌, ◌++◌, [], ◌∷◌, length, IfOk, IfErr, OnOk, IsErrOf, MatchResult};
 ghost use Rattle.iot_disk.specs.Bodies.{bodies_of};
 ghost use Rattle.iot_disk.specs.Disk.{armed_with, Only, SameImages};
-ghost use Rattle.iot_disk.specs.Faults.{JournalCounts};
-ghost use Rattle.iot_journal.specs.Reading.{Stands, reading, records};
-ghost use Rattle.iot_journal.specs.Keep.{EachReadsEither};
+ghost use Rattle.iot_disk.specs.Faults.{CountsJournalFault};
+ghost use Rattle.iot_journal.specs.Decoding.{Encodes, decoded, records};
+ghost use Rattle.iot_journal.specs.Images.{EachDecodes, EachDecodesEither};
 ghost use Rattle.iot_journal.specs.Start.{ChangesNothing};
 ghost use Rattle.iot_codec.specs.Rules.{IsLabel, AreActs};
 ghost use Rattle.iot_store.specs.States.{State, opening, CanFollow, after_commit};
-ghost use Rattle.iot_store.specs.Commits.{state_in, IsIndexed, ReplaysWhere};
+ghost use Rattle.iot_store.specs.Commits.{ReplaysIf};
 ghost use Rattle.iot_store.specs.Records.{record_spelling};
 ghost use Rattle.iot_store.specs.Standing.{Leads, StandFor, EachStands, EachStandsEither};
 ghost use Rattle.iot_store.specs.Numbers.{number_in};
@@ -17,16 +17,10 @@ ghost use Rattle.iot_store.specs.Causes.{HasCause, TakesBytes, IsReason};
 use crate::commits::Commits;
 use crate::records::{read, spell};
 use iot_disk::{Disk, JournalFault, Pick, StartFault};
-use iot_journal::Journal;
+use iot_journal::{FIRST_GATE, Journal, RECORD};
 use iot_text::{NoMemory, Text};
 use iot_tree::{Acts, Label, Labels, Tree};
 use std::alloc::Global;
-
-/// The place of the first record's gate.
-const FIRST_GATE: u64 = 9;
-
-/// How many bytes a record has besides its body: its gate, and the number of the body's bytes.
-const RECORD: u64 = 9;
 
 /// A server's tree and the labels of its commits, on a disk to which each commit is appended as one record.
 ///
@@ -41,27 +35,30 @@ pub struct Store<D: Disk> {
 }
 
 impl<D: Disk> Store<D> {
-    ghost use Rattle.iot_store.specs.Store.{state_of, disk_of, bodies_on, IsSettled};
+    ghost use Rattle.iot_store.specs.Store.{state_of, disk_of, bodies_on, IsSynced};
 
     /// Starts a store from its disk, which no one else writes. A disk on which none was started becomes that of a server
-    /// without a commit, whose tree has only its root. The disk comes back where this gives no store.
+    /// without a commit, whose tree has only its root. The disk comes back if this gives no store.
     ///
     /// # Errors
     ///
-    /// `Foreign` where something else wrote the disk, and `Damaged` with the place of its gate where a record is none
-    /// or cannot follow the ones before it. `Stopped` where the disk failed in this call, and `NoMemory`.
+    /// `Foreign` if something else wrote the disk, and `Damaged` with the place of its gate if a record is none or cannot
+    /// follow the ones before it. `Stopped` if the disk failed in this call, and `NoMemory`.
     pub fn start(alloc: Global, disk: D) -> Result<Store<D>, (D, StartFault)>
         requires { Only (D.reads disk) (D.may_leave disk) }
         ensures stands { IfOk result (λ store. StandFor (D.reads disk) (state_of store)) }
-        ensures records { IfOk result (λ store. reading (D.reads disk) ≡ Stands (bodies_on D.reads store)) }
+        ensures records { IfOk result (λ store. decoded (D.reads disk) ≡ Encodes (bodies_on D.reads store)) }
 
         // The disk stands for no other state.
         ensures only { (state : State) → StandFor (D.reads disk) state
             → IfOk result (λ store. state_of store ≡ state) }
-        ensures settled { IfOk result (λ store. IsSettled D.reads D.may_leave store) }
+        ensures synced { IfOk result (λ store. IsSynced D.reads D.may_leave store) }
 
-        // For whatever state the disk stood, it stands for that in each image, whichever device call failed; and its bytes
-        // are not refused.
+        // However this returns, every image encodes what the disk encoded before. So each stands for the state for which
+        // the disk stood; and if it stood for one, its bytes are not refused.
+        ensures bodies { MatchResult result
+            (λ store. EachDecodes (D.may_leave (disk_of store)) (decoded (D.reads disk)))
+            (λ refused. EachDecodes (D.may_leave refused.0) (decoded (D.reads disk))) }
         ensures images { (state : State) → StandFor (D.reads disk) state → MatchResult result
             (λ store. EachStands (D.may_leave (disk_of store)) state)
             (λ refused. EachStands (D.may_leave refused.0) state) }
@@ -96,38 +93,40 @@ impl<D: Disk> Store<D> {
         }
     }
 
-    /// Adds a commit, and gives its number: its record is on the disk when this answers Ok. It costs as much as the record
-    /// is long, and a search of the tree for each update.
+    /// Adds a commit, and gives its number: its record is on the disk when this answers Ok. Costs as much as the record is
+    /// long, and a search of the tree for each update.
     ///
     /// # Errors
     ///
-    /// `Stopped` where the disk failed in this call: its images then stand for the commits before or for those with the
-    /// new one. `NoMemory`: they stand for the commits before.
+    /// `Stopped` if the disk failed in this call: each of its images then stands for the commits before or for those with
+    /// the new one. `NoMemory`: each stands for the commits before.
     pub fn commit(&mut self, alloc: Global, label: Label, acts: &Acts) -> Result<u64, JournalFault>
-        requires settled { IsSettled D.reads D.may_leave self.old }
+        requires synced { IsSynced D.reads D.may_leave self.old }
         requires label { IsLabel label }
         requires acts { AreActs acts.now }
         requires follows { CanFollow (state_of self.old) label acts.now }
 
-        // In each image, whichever device call failed, the disk stands for the commits before or for those with the new
-        // one: its records are those before, or those and the record of this commit.
+        // However this returns, every image stands for the commits before or for those with the new one: its records are
+        // those before, or those and the record of this commit.
         ensures images { EachStandsEither (D.may_leave (disk_of self.new))
             (state_of self.old) (after_commit (state_of self.old) label acts.now) }
-        ensures one_record { EachReadsEither (D.may_leave (disk_of self.new))
-            (Stands (bodies_on D.reads self.old))
-            (Stands (bodies_on D.reads self.old ++ record_spelling label acts.now ∷ [])) }
+        ensures one_record { EachDecodesEither (D.may_leave (disk_of self.new))
+            (Encodes (bodies_on D.reads self.old))
+            (Encodes (bodies_on D.reads self.old ++ record_spelling label acts.now ∷ [])) }
         ensures no_memory { IsErrOf result JournalFault.NoMemory
             → EachStands (D.may_leave (disk_of self.new)) (state_of self.old) }
+        ensures no_record { IsErrOf result JournalFault.NoMemory
+            → EachDecodes (D.may_leave (disk_of self.new)) (Encodes (bodies_on D.reads self.old)) }
         ensures committed { OnOk result (EachStands (D.may_leave (disk_of self.new))
             (after_commit (state_of self.old) label acts.now)) }
 
         ensures state { OnOk result (state_of self.new ≡ after_commit (state_of self.old) label acts.now) }
         ensures recorded { OnOk result (bodies_on D.reads self.new
             ≡ bodies_on D.reads self.old ++ record_spelling label acts.now ∷ []) }
-        ensures settled { OnOk result (IsSettled D.reads D.may_leave self.new) }
+        ensures synced { OnOk result (IsSynced D.reads D.may_leave self.new) }
         ensures number { IfOk result (λ number. number ≡ length (state_of self.old).labels + 1) }
 
-        ensures faults { JournalCounts result
+        ensures faults { CountsJournalFault result
             (D.faults (disk_of self.old)) (D.faults (disk_of self.new)) }
         ensures arms { D.arms (disk_of self.new) ≡ D.arms (disk_of self.old) }
     {
@@ -141,26 +140,25 @@ impl<D: Disk> Store<D> {
     pub fn tree(&self) -> &Tree
         ensures { result.now ≡ (state_of self.now).tree }
     {
-        &self.commits.tree
+        self.commits.tree()
     }
 
     /// The labels of the commits, in their order.
     pub fn labels(&self) -> &Labels
         ensures { result.now ≡ (state_of self.now).labels }
     {
-        &self.commits.labels
+        self.commits.labels()
     }
 
     /// How many commits there are.
     pub fn number(&self) -> u64
         ensures { result ≡ length (state_of self.now).labels }
     {
-        self.commits.labels.len() as u64
+        self.commits.labels().len() as u64
     }
 
     /// The number of a client's transaction, if it is among the commits. Its cost is logarithmic in these.
     pub fn number_of(&self, client: u64, tid: u64) -> Option<u64>
-        requires { IsSettled D.reads D.may_leave self.now }
         ensures { result ≡ number_in (state_of self.now).labels client tid }
     {
         self.commits.number_of(client, tid)
@@ -173,7 +171,7 @@ impl<D: Disk> Store<D> {
         ensures images { SameImages (D.may_leave (disk_of self.old)) (D.may_leave (disk_of self.new)) }
         ensures faults { D.faults (disk_of self.new) ≡ D.faults (disk_of self.old) }
         ensures state { state_of self.new ≡ state_of self.old }
-        ensures settled { IsSettled D.reads D.may_leave self.old → IsSettled D.reads D.may_leave self.new }
+        ensures synced { IsSynced D.reads D.may_leave self.old → IsSynced D.reads D.may_leave self.new }
     {
         self.journal.arm(calls, pick);
     }
@@ -189,8 +187,7 @@ impl<D: Disk> Store<D> {
 /// The commits whose records these bodies are, in their order.
 fn replay(alloc: Global, bodies: &[Vec<u8>]) -> Result<Commits, StartFault>
     requires { 9 + length (records (bodies_of bodies.now)) ≤ 2 ^ 62 }
-    ensures leads { IfOk result (λ commits. Leads (bodies_of bodies.now) opening (state_in commits)) }
-    ensures indexed { IfOk result IsIndexed }
+    ensures leads { IfOk result (λ commits. Leads (bodies_of bodies.now) opening commits) }
     ensures err { IfErr result (λ fault. IsReason fault (bodies_of bodies.now)) }
 {
     let mut commits = Commits::new(alloc)?;
@@ -204,10 +201,9 @@ fn replay(alloc: Global, bodies: &[Vec<u8>]) -> Result<Commits, StartFault>
     Ok(commits)
 }
 
-/// Adds the commit whose record the body is, where it can follow, and says whether it can.
+/// Adds the commit whose record the body is, if it can follow, and says whether it can.
 fn replay_body(alloc: Global, commits: &mut Commits, body: &[u8]) -> Result<bool, NoMemory>
-    requires { IsIndexed commits.old }
-    ensures { IfOk result (λ follows. ReplaysWhere follows body.now commits.old commits.new) }
+    ensures { IfOk result (λ follows. ReplaysIf follows body.now commits.old commits.new) }
 {
     match read(alloc, body)? {
         Some((label, acts)) => commits.replay(alloc, label, acts.as_slice()),

@@ -1,4 +1,4 @@
-use Rattle.iot_store.proofs.ActLaws.{ReadsOnWay}
+use Rattle.iot_store.proofs.CommitsLaws.{ReadsOnWay}
 use Rattle.iot_store.proofs.commits.do_hold.Given as goal
 
 abbrev pub invariant-reads : goal.invariant-reads

@@ -1,4 +1,4 @@
-use Rattle.iot_store.proofs.ActLaws.{ActsOnWay}
+use Rattle.iot_store.proofs.CommitsLaws.{ActsOnWay}
 use Rattle.iot_store.proofs.commits.replay_all.Given as goal
 
 abbrev pub invariant-acts : goal.invariant-acts

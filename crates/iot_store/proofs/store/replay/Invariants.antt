@@ -1,4 +1,4 @@
-use Rattle.iot_store.proofs.Keeping.{BodiesOnWay}
+use Rattle.iot_store.proofs.StandingLaws.{BodiesOnWay}
 use Rattle.iot_store.proofs.store.replay.Given as goal
 
 abbrev pub invariant-bodies : goal.invariant-bodies

@@ -1,24 +1,56 @@
-use Rattle.std.proofs.Common.{◌∙◌}
-use Rattle.iot_store.specs.States.{opening}
-use Rattle.iot_store.proofs.Keeping.{each_stands, either_stands, settled_leads}
-use Rattle.iot_store.proofs.Leading.{leads_push}
+use Rattle.std.proofs.Common.{◌≡◌, ℕ, List, [], ◌∷◌, ◌++◌, ap, sym, subst, ◌∙◌}
+use Rattle.iot_tree.specs.declared.acts.Act.{Act}
+use Rattle.iot_tree.specs.declared.labels.Label.{Label}
+use Rattle.iot_store.specs.Records.{IsRecord}
+use Rattle.iot_store.specs.Standing.{Leads}
+use Rattle.iot_store.specs.States.{State, opening, CanFollow, after_commit}
+use Rattle.iot_store.proofs.StandingLaws.{each_stands, either_stands, leads_push}
 use Rattle.iot_store.proofs.store.Store.commit.Goals as goal
+
+-- the records lead to the state after a commit
+synced_leads : (bodies now : List (List ℕ)) (before after : State) (body : List ℕ) (label : Label) (acts made : List Act) →
+    Leads bodies opening before → IsRecord body label acts → CanFollow before label acts → now ≡ bodies ++ body ∷ [] →
+    after ≡ after_commit before label made → made ≡ acts → Leads now opening after
+synced_leads bodies now before after body label acts made leads is follows pushed state same =
+    let end : after ≡ after_commit before label acts = state ∙ ap (after_commit before label) same in
+    let more = leads_push bodies opening before body label acts leads is follows in
+    subst (λ (bs : List (List ℕ)). Leads bs opening after) (sym pushed) (subst (λ s. Leads (bodies ++ body ∷ []) opening s) (sym end) more)
 
 pub returns-in_err-append-clause-images : goal.returns-in_err-append-clause-images
 returns-in_err-append-clause-images g c =
-    either_stands _ _ _ c.as_bytes.result.now c.args.label c.args.acts.now c.requires.settled.leads (record { has_label = c.requires.label; has_acts = c.requires.acts; spelled = c.as_bytes.ensures ∙ c.in_ok-spell.ensures }) c.requires.follows c.in_err-append.ensures.images
+    let given = c.requires in
+    let spelled = c.as_bytes.ensures ∙ c.in_ok-spell.ensures in
+    let is : IsRecord c.as_bytes.result.now c.args.label c.args.acts.now =
+    record { has_label = given.label; has_acts = given.acts; spelled = spelled } in
+    either_stands _ _ _ c.as_bytes.result.now c.args.label c.args.acts.now given.synced.leads is given.follows
+    c.in_err-append.ensures.images
 
 pub returns-clause-images : goal.returns-clause-images
 returns-clause-images g c =
-    either_stands _ _ _ c.as_bytes.result.now c.args.label c.args.acts.now c.requires.settled.leads (record { has_label = c.requires.label; has_acts = c.requires.acts; spelled = c.as_bytes.ensures ∙ c.in_ok-spell.ensures }) c.requires.follows c.in_ok-append.ensures.images
+    let given = c.requires in
+    let spelled = c.as_bytes.ensures ∙ c.in_ok-spell.ensures in
+    let is : IsRecord c.as_bytes.result.now c.args.label c.args.acts.now =
+    record { has_label = given.label; has_acts = given.acts; spelled = spelled } in
+    either_stands _ _ _ c.as_bytes.result.now c.args.label c.args.acts.now given.synced.leads is given.follows c.in_ok-append.ensures.images
 
 pub returns-clause-committed : goal.returns-clause-committed
 returns-clause-committed g c =
-    each_stands _ _ _ (leads_push _ opening _ c.as_bytes.result.now c.args.label c.args.acts.now c.requires.settled.leads (record { has_label = c.requires.label; has_acts = c.requires.acts; spelled = c.as_bytes.ensures ∙ c.in_ok-spell.ensures }) c.requires.follows) c.in_ok-append.ensures.appended
+    let given = c.requires in
+    let spelled = c.as_bytes.ensures ∙ c.in_ok-spell.ensures in
+    let is : IsRecord c.as_bytes.result.now c.args.label c.args.acts.now =
+    record { has_label = given.label; has_acts = given.acts; spelled = spelled } in
+    let more = leads_push _ opening _ c.as_bytes.result.now c.args.label c.args.acts.now given.synced.leads is given.follows in
+    each_stands _ _ _ more c.in_ok-append.ensures.appended
 
-pub returns-clause-settled : goal.returns-clause-settled
-returns-clause-settled g c = record {
-  journal = c.in_ok-append.ensures.settled;
-  leads = settled_leads _ _ _ _ c.as_bytes.result.now c.args.label c.args.acts.now c.as_slice.result.now c.requires.settled.leads (record { has_label = c.requires.label; has_acts = c.requires.acts; spelled = c.as_bytes.ensures ∙ c.in_ok-spell.ensures }) c.requires.follows c.in_ok-append.ensures.bodies c.in_ok-add.ensures.state c.as_slice.ensures;
-  indexed = c.in_ok-add.ensures.indexed;
-}
+pub returns-clause-synced : goal.returns-clause-synced
+returns-clause-synced g c =
+    let given = c.requires in
+    let spelled = c.as_bytes.ensures ∙ c.in_ok-spell.ensures in
+    let is : IsRecord c.as_bytes.result.now c.args.label c.args.acts.now =
+    record { has_label = given.label; has_acts = given.acts; spelled = spelled } in
+    let done = c.in_ok-append.ensures in
+    record {
+      journal = done.synced;
+      leads =
+          synced_leads _ _ _ _ _ c.args.label _ _ given.synced.leads is given.follows done.bodies c.in_ok-add.ensures c.as_slice.ensures;
+    }

@@ -13,7 +13,7 @@ left_is xs i x within is = drop_more xs i x within ∙ ap (λ y. y ∷ drop (i +
 
 -- ---- acts
 
--- the acts from a place on hold on the tree exactly where all hold on the one before them, and lead to the same tree
+-- the acts from a place on hold on the tree exactly if all hold on the one before them, and lead to the same tree
 pub record ActsOnWay (acts : List Act) (i : ℕ) (before now : Nodes) : Type 0 where
   pub rest : ActsHold before acts → ActsHold now (drop i acts)
   pub whole : ActsHold now (drop i acts) → ActsHold before acts
@@ -27,7 +27,8 @@ module _ (acts : List Act) (i : ℕ) (before now : Nodes) (way : ActsOnWay acts 
     pub act_next : ActsHold before acts → ReadsHold now act.reads × FitsIfAny now act.update
     act_next hold = let here = subst (ActsHold now) left_acts (way.rest hold) in (here.0, here.1)
 
-    pub act_made : (next : Nodes) → ReadsHold now act.reads → FitsIfAny now act.update → next ≡ after_update now act.update → ActsOnWay acts (i + 1) before next
+    pub act_made : (next : Nodes) → ReadsHold now act.reads → FitsIfAny now act.update → next ≡ after_update now act.update
+        → ActsOnWay acts (i + 1) before next
     act_made next reads fits made = record {
       rest = λ hold. subst (λ t. ActsHold t (drop (i + 1) acts)) (sym made) (subst (ActsHold now) left_acts (way.rest hold)).2;
       whole = λ hold. way.whole (subst (ActsHold now) (sym left_acts) (reads, fits, subst (λ t. ActsHold t (drop (i + 1) acts)) made hold));
@@ -46,7 +47,7 @@ module _ (acts : List Act) (i : ℕ) (before now : Nodes) (way : ActsOnWay acts 
 
 -- ---- reads
 
--- the reads from a place on hold exactly where all do
+-- the reads from a place on hold exactly if all do
 pub record ReadsOnWay (t : Nodes) (reads : List Read) (i : ℕ) : Type 0 where
   pub rest : ReadsHold t reads → ReadsHold t (drop i reads)
   pub whole : ReadsHold t (drop i reads) → ReadsHold t reads

@@ -1,5 +1,6 @@
 -- The place of a transaction's label, and the index after one label more.
-use Rattle.std.proofs.Common.{◌≡◌, ℕ, ◌+◌, Bool, true, false, cond, List, [], ◌∷◌, ◌++◌, length, Option, Some, None, inl, inr, refl, sym, ap, ◌∙◌, subst, arith}
+use Rattle.std.proofs.Common.{◌≡◌, ℕ, ◌+◌, Bool, true, false, cond, List, [], ◌∷◌, ◌++◌, length, Option, Some, None, inl, inr, refl, sym}
+use Rattle.std.proofs.Common.{ap, ◌∙◌, subst, arith}
 use Rattle.std.specs.Prelude.{◌==◌, ◌&&◌, option_map, position}
 use Rattle.std.specs.List.{list_any, position_from}
 use Rattle.std.specs.Ordering.{nat_cmp, ordering_then, is_eq}
@@ -48,16 +49,20 @@ module _ {X : Type 0} (p : X → Bool) where
 
 -- a transaction with no number is not among the labels
 pub is_new_from : (labels : List Label) (client tid : ℕ) → number_in labels client tid ≡ None → list_any (is_of client tid) labels ≡ false
-is_new_from labels client tid is = none_from (is_of client tid) labels 0 (sym (position_from-zero (is_of client tid) labels) ∙ no_place (position (is_of client tid) labels) is)
+is_new_from labels client tid is =
+    none_from (is_of client tid) labels 0
+    (sym (position_from-zero (is_of client tid) labels) ∙ no_place (position (is_of client tid) labels) is)
   where
     no_place : (place : Option ℕ) → option_map (λ n. n + 1) place ≡ None → place ≡ None
     no_place None is = refl
     no_place (Some n) is = absurd cc
 
 -- and one that has a number is
-pub is_old_from : (labels : List Label) (client tid n : ℕ) → number_in labels client tid ≡ Some n → list_any (is_of client tid) labels ≡ false → ⊥
+pub is_old_from : (labels : List Label) (client tid n : ℕ) → number_in labels client tid ≡ Some n
+    → list_any (is_of client tid) labels ≡ false → ⊥
 is_old_from labels client tid n is none =
-    let place : position (is_of client tid) labels ≡ None = position_from-zero (is_of client tid) labels ∙ from_none (is_of client tid) labels 0 none in
+    let place : position (is_of client tid) labels ≡ None = position_from-zero (is_of client tid) labels
+    ∙ from_none (is_of client tid) labels 0 none in
     let clash : None ≡ Some n = sym (ap (option_map (λ k. k + 1)) place) ∙ is in
     absurd cc
 
@@ -89,7 +94,8 @@ module _ (old new : BTreeMap (ℕ × ℕ) ℕ) (labels : List Label) (label : La
         | inl passes ↦
             let both = and_parts (label.client == client) (label.tid == tid) passes in
             let none : list_any (is_of client tid) labels ≡ false =
-            subst (λ c. list_any (is_of c tid) labels ≡ false) (eqb-true label.client client both.0) (subst (λ t. list_any (is_of label.client t) labels ≡ false) (eqb-true label.tid tid both.1) is_new) in
+            subst (λ c. list_any (is_of c tid) labels ≡ false) (eqb-true label.client client both.0)
+            (subst (λ t. list_any (is_of label.client t) labels ≡ false) (eqb-true label.tid tid both.1) is_new) in
             here ∙ cond-true (is_of client tid label) (Some number) (get key_cmp old (client, tid)) passes ∙ ap Some is
             ∙ sym (ap (option_map (λ n. n + 1)) (position_first (is_of client tid) labels label none passes))
         | inr fails ↦
