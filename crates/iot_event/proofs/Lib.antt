@@ -1,7 +1,4 @@
-pub mod FirstLine
-pub mod Skipped
-pub mod ClosingSteps
-pub mod ScriptFaults
-pub mod Declarations
-pub mod Steps
-pub mod Outcomes
+pub mod ClosingLaws
+pub mod ScriptsLaws
+pub mod DeclarationsLaws
+pub mod EventsLaws

@@ -1,56 +1,59 @@
--- Which events an input is, or which fault its first bad line has.
+-- Which events an input gives, or which fault its first bad line has.
 use Rattle.std.specs.Prelude.{ℕ, ◌≡◌, ◌+◌, List, [], ◌∷◌, ◌++◌, length, option_to_list, Option, Some, None}
 use Rattle.iot_lines.specs.Lines.{lines}
 use Rattle.iot_lang.specs.Code.{Code}
 use Rattle.iot_event.specs.Closing.{Closed}
 use Rattle.iot_event.specs.Scripts.{SpellsScript, HasScriptFault}
-use Rattle.iot_event.specs.Lines.{Scope, nothing_declared, Reading, Refused, Skipped, Says, Opens, read_line}
+use Rattle.iot_event.specs.Meanings.{Scope, nothing_declared, Meaning, Refused, Skipped, Says, Opens, meaning_of}
 use Rattle.iot_event.specs.declared.event.Event.{Event}
 use Rattle.iot_event.specs.declared.event.Event.TheVariants.{Script}
 use Rattle.iot_event.specs.declared.fault.EventFault.{EventFault}
 
--- what the next lines give: a fault, or an event or none, and the lines that are left, with what stands in front of them and their first number
+-- what a line comes to, with the lines of its script: a fault; or an event or none, what is known after it, the lines that are left,
+-- and the number of the first of those
 pub data Step : Type 0 where
   Stops : (fault : EventFault) → Step
-  Goes : (event : Option Event) (scope : Scope) (later : List (List ℕ)) (number : ℕ) → Step
+  Goes : (event : Option Event) (after : Scope) (rest : List (List ℕ)) (number : ℕ) → Step
 
--- a script of this name, its first line inside having this number, and then these names are declared
-abbrev pub GivesScript : (name : List ℕ) (script : Closed) (scope : Scope) (first : ℕ) → Step → Type 0
-GivesScript name script scope first (Stops fault) = HasScriptFault script first fault
-GivesScript name script scope first (Goes event after later number) =
-    (code : Code) × SpellsScript script code × (Goes event after later number ≡ Goes (Some (Script name code)) scope script.later (first + length script.inside + 1))
+-- a script of this name, whose first line inside has this number
+abbrev pub IsScriptStep : (name : List ℕ) (script : Closed) (after : Scope) (first : ℕ) → Step → Type 0
+IsScriptStep name script after first (Stops fault) = HasScriptFault script first fault
+IsScriptStep name script after first (Goes event scope rest number) =
+    (code : Code) × SpellsScript script code
+    × (Goes event scope rest number ≡ Goes (Some (Script name code)) after script.later (first + length script.inside + 1))
 
--- a line that is this, with the lines behind it
-abbrev pub GivesReading : Reading → Scope → ℕ → List (List ℕ) → Step → Type 0
-GivesReading (Refused fault) scope number later step = step ≡ Stops fault
-GivesReading Skipped scope number later step = step ≡ Goes None scope later (number + 1)
-GivesReading (Says event after) scope number later step = step ≡ Goes (Some event) after later (number + 1)
-GivesReading (Opens name script after) scope number later step = GivesScript name script after (number + 1) step
+-- a line of this meaning and number, before these lines
+abbrev pub IsStepOf : Meaning → Scope → (number : ℕ) (later : List (List ℕ)) → Step → Type 0
+IsStepOf (Refused fault) scope number later step = step ≡ Stops fault
+IsStepOf Skipped scope number later step = step ≡ Goes None scope later (number + 1)
+IsStepOf (Says event after) scope number later step = step ≡ Goes (Some event) after later (number + 1)
+IsStepOf (Opens name script after) scope number later step = IsScriptStep name script after (number + 1) step
 
--- the line of this number, with the lines behind it, gives this step
-abbrev pub Gives : Scope → ℕ → List ℕ → List (List ℕ) → Step → Type 0
-Gives scope number line later step = GivesReading (read_line scope number line later) scope number later step
+abbrev pub IsStep : Scope → (number : ℕ) (line : List ℕ) (later : List (List ℕ)) → Step → Type 0
+IsStep scope number line later step = IsStepOf (meaning_of scope number line later) scope number later step
 
--- what an input is: its events, or the fault of its first bad line
+-- what an input gives: its events, or the fault of its first bad line
 pub data Outcome : Type 0 where
   Events : (events : List Event) → Outcome
   Fault : (fault : EventFault) → Outcome
 
-abbrev pub in_front : List Event → Outcome → Outcome
-in_front events (Events later) = Events (events ++ later)
-in_front events (Fault fault) = Fault fault
+-- the same, after these events
+abbrev pub after_events : List Event → Outcome → Outcome
+after_events events (Events later) = Events (events ++ later)
+after_events events (Fault fault) = Fault fault
 
--- the lines from the one of this number on are these events, or have this fault
-pub data Read : List (List ℕ) → Scope → ℕ → Outcome → Type 0 where
-  at_end : (scope : Scope) (number : ℕ) → Read [] scope number (Events [])
+-- lines, the first of which has this number, give this
+pub data LinesGive : List (List ℕ) → Scope → ℕ → Outcome → Type 0 where
+  at_end : (scope : Scope) (number : ℕ) → LinesGive [] scope number (Events [])
   stop : (line : List ℕ) (later : List (List ℕ)) (scope : Scope) (number : ℕ) (fault : EventFault)
-      → Gives scope number line later (Stops fault)
-      → Read (line ∷ later) scope number (Fault fault)
-  go : (line : List ℕ) (later : List (List ℕ)) (scope : Scope) (number : ℕ) (event : Option Event) (after : Scope) (rest : List (List ℕ)) (next : ℕ) (outcome : Outcome)
-      → Gives scope number line later (Goes event after rest next)
-      → Read rest after next outcome
-      → Read (line ∷ later) scope number (in_front (option_to_list event) outcome)
+      → IsStep scope number line later (Stops fault)
+      → LinesGive (line ∷ later) scope number (Fault fault)
+  go : (line : List ℕ) (later : List (List ℕ)) (scope : Scope) (number : ℕ)
+      (event : Option Event) (after : Scope) (rest : List (List ℕ)) (next : ℕ) (outcome : Outcome)
+      → IsStep scope number line later (Goes event after rest next)
+      → LinesGive rest after next outcome
+      → LinesGive (line ∷ later) scope number (after_events (option_to_list event) outcome)
 
--- an event script is this; lines count from 1
-abbrev pub IsRead : List ℕ → Outcome → Type 0
-IsRead input outcome = Read (lines input) nothing_declared 1 outcome
+-- an input gives this; lines count from 1
+abbrev pub Gives : List ℕ → Outcome → Type 0
+Gives input outcome = LinesGive (lines input) nothing_declared 1 outcome

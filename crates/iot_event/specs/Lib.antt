@@ -2,8 +2,8 @@ pub mod Bytes
 pub mod Forms
 pub mod Closing
 pub mod Scripts
-pub mod Lines
+pub mod Meanings
 pub mod Events
-pub mod Readings
+pub mod Results
 pub mod Declarations
 pub mod FirstFault

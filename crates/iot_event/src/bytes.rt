@@ -1,13 +1,10 @@
-//! Which bytes a line may have, and which lines say nothing.
+//! Which bytes a line may have, and how many.
 ghost use Rattle.std.specs.Prelude.{◌≡◌};
 ghost use Rattle.std.specs.List.{list_all};
 ghost use Rattle.iot_event.specs.Bytes.{is_line_byte, fits_line};
-ghost use Rattle.iot_lang.specs.Lines.{is_skipped};
 
-use iot_lines::without_blanks;
-
-/// How many bytes a line has at most.
-const LONGEST_LINE: usize = 4096;
+/// How many bytes a line has at most, without its newline.
+pub const LINE_LIMIT: usize = 4096;
 
 /// Whether a line may have this byte.
 #[inline]
@@ -24,19 +21,9 @@ fn are_line_bytes(line: &[u8]) -> bool
     line.iter().all(|byte| is_line_byte(*byte))
 }
 
-/// Whether a line has bytes of lines only, and not too many.
+/// Whether a line keeps the rule on bytes and length.
 pub(crate) fn fits_line(line: &[u8]) -> bool
     ensures { result ≡ fits_line line.now }
 {
-    line.len() <= LONGEST_LINE && are_line_bytes(line)
-}
-
-/// Whether a line has blanks alone, or its first byte after blanks is `#`.
-pub(crate) fn is_skipped(line: &[u8]) -> bool
-    ensures { result ≡ is_skipped line.now }
-{
-    match without_blanks(line).first() {
-        None => true,
-        Some(byte) => *byte == b'#',
-    }
+    line.len() <= LINE_LIMIT && are_line_bytes(line)
 }

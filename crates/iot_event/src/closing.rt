@@ -1,12 +1,11 @@
 //! Where a script ends.
-ghost use Rattle.std.specs.Prelude.{◌≡◌, ◌⊎◌, ◌+◌, ◌<◌, ◌≤◌, ◌++◌, ◌∷◌, [], List, ℕ, length, take, drop, option_map, IfSome};
+ghost use Rattle.std.specs.Prelude.{◌≡◌, ◌+◌, ◌<◌, ◌≤◌, ◌^◌, length, option_map, IfSome};
 ghost use Rattle.iot_lines.specs.Lines.{lines};
 ghost use Rattle.iot_lines.specs.Words.{words};
-ghost use Rattle.iot_event.specs.Closing.{is_closing, opens_block, closed_by};
-ghost use Rattle.iot_event.specs.Readings.{closed_of};
+ghost use Rattle.iot_event.specs.Closing.{is_closing, opens_block, blocks_after, closed_by};
+ghost use Rattle.iot_event.specs.Results.{closed_of};
 
-use iot_lines::next_word;
-use memchr::memchr;
+use iot_lines::{next_word, split_line};
 
 /// A script whose closing line was found.
 #[derive(Clone, Copy)]
@@ -17,7 +16,7 @@ pub(crate) struct Closed<'a> {
     /// The closing line.
     pub(crate) closing: &'a [u8],
 
-    /// What stands behind the closing line.
+    /// What comes after the closing line.
     pub(crate) later: &'a [u8],
 
     /// How many lines are inside.
@@ -34,7 +33,7 @@ fn is_closing(line: &[u8]) -> bool
     }
 }
 
-/// Whether a line begins with the word `if` or `for`.
+/// Whether the first word of a line is `if` or `for`.
 fn opens_block(line: &[u8]) -> bool
     ensures { result ≡ opens_block (words line.now) }
 {
@@ -44,22 +43,25 @@ fn opens_block(line: &[u8]) -> bool
     }
 }
 
-/// The first line of a text that is not empty, and how many bytes it has with its newline.
-fn first_line(text: &[u8]) -> (&[u8], usize)
-    requires { 0 < length text.now }
-    ensures first { lines text.now ≡ result.0.now ∷ lines (drop result.1 text.now) }
-    ensures alone { lines (take result.1 text.now) ≡ result.0.now ∷ [] }
-    ensures ended { (result.1 ≡ length text.now) ⊎ ((more : List ℕ) → lines (take result.1 text.now ++ more) ≡ result.0.now ∷ lines more) }
-    ensures some { 0 < result.1 }
-    ensures within { result.1 ≤ length text.now }
+/// How many blocks are open after a line, if so many are open before it. `None` if the line closes the script.
+fn blocks_after(line: &[u8], blocks: u64) -> Option<u64>
+    requires { blocks + 1 < 2 ^ 64 }
+    ensures after { result ≡ blocks_after (words line.now) blocks }
+    ensures few { IfSome result (λ after. after ≤ blocks + 1) }
 {
-    match memchr(b'\n', text) {
-        None => (text, text.len()),
-        Some(end) => (&text[..end], end + 1),
+    if is_closing(line) {
+        if blocks == 0 {
+            return None;
+        }
+        return Some(blocks - 1);
     }
+    if opens_block(line) {
+        return Some(blocks + 1);
+    }
+    Some(blocks)
 }
 
-/// The script that is open in front of a text, if one of the text's lines closes it.
+/// Finds the line that closes the script which is open before a text.
 pub(crate) fn find_closing(text: &[u8]) -> Option<Closed<'_>>
     ensures closed { option_map closed_of result ≡ closed_by (lines text.now) 0 }
     ensures count { IfSome result (λ script. script.count ≡ length (lines script.inside.now)) }
@@ -68,24 +70,19 @@ pub(crate) fn find_closing(text: &[u8]) -> Option<Closed<'_>>
 {
     let mut blocks: u64 = 0;
     let mut count: u64 = 0;
-    let mut start = 0;
-    while start < text.len() {
-        let (line, len) = first_line(&text[start..]);
-        if is_closing(line) {
-            if blocks == 0 {
-                return Some(Closed {
-                    inside: &text[..start],
-                    closing: line,
-                    later: &text[start + len..],
-                    count,
-                });
-            }
-            blocks -= 1;
-        } else if opens_block(line) {
-            blocks += 1;
-        }
+    let mut rest = text;
+    while let Some((line, later)) = split_line(rest) {
+        let Some(open) = blocks_after(line, blocks) else {
+            return Some(Closed {
+                inside: &text[..text.len() - rest.len()],
+                closing: line,
+                later,
+                count,
+            });
+        };
+        blocks = open;
         count += 1;
-        start += len;
+        rest = later;
     }
     None
 }

@@ -1,31 +1,32 @@
-//! The lines of an event script, one at a time: what each says behind the names that were declared before it.
+//! The lines of an event script, one at a time: what each says after the names that were declared before it.
 ghost use Rattle.std.specs.Prelude.{◌≡◌, ◌+◌, ◌<◌, ◌≤◌, ◌^◌, length, IfOk, Some};
 ghost use Rattle.iot_lines.specs.Lines.{lines};
 ghost use Rattle.iot_lines.specs.Words.{words};
 ghost use Rattle.iot_event.specs.Forms.{form_of};
 ghost use Rattle.iot_event.specs.Closing.{closed_by};
-ghost use Rattle.iot_event.specs.Lines.{Scope, Reading, nothing_declared, place_of, client_line, script_line, run_line, crash_line, restart_line, restarts, by_form};
-ghost use Rattle.iot_event.specs.Events.{Gives, GivesReading};
-ghost use Rattle.iot_event.specs.Readings.{scope_of, AnswersEvent, AnswersScript, Answers};
+ghost use Rattle.iot_event.specs.Meanings.{Scope, Meaning, nothing_declared, place_of, client_line, script_line, run_line, crash_line};
+ghost use Rattle.iot_event.specs.Meanings.{restart_line, restarts, meaning_of_form};
+ghost use Rattle.iot_event.specs.Events.{IsStep, IsStepOf};
+ghost use Rattle.iot_event.specs.Results.{scope_of, AnswersEvent, AnswersScript, Answers};
 
-use crate::bytes::{fits_line, is_skipped};
+use crate::bytes::fits_line;
 use crate::closing::{Closed, find_closing};
 use crate::event::{Event, SharedScript};
 use crate::fault::EventFault;
 use crate::form::{Form, form_of_line, is_restart};
-use crate::script::read_script;
+use crate::script::parse_script;
 use indexmap::IndexSet;
-use iot_lines::split_line;
+use iot_lines::{is_skipped, split_lines};
 use iot_text::Name;
 use std::alloc::Global;
 
 /// How many clients an input declares at most.
-const MOST_CLIENTS: usize = 1;
+pub const CLIENT_LIMIT: usize = 1;
 
 /// How many scripts an input declares at most.
-const MOST_SCRIPTS: usize = 256;
+pub const SCRIPT_LIMIT: usize = 256;
 
-/// What the next lines give: an event or none, the text that is left, and the number of its first line.
+/// What the next lines come to: an event or none, the text that is left, and the number of its first line.
 #[derive(Drop)]
 pub(crate) struct Step<'a> {
     pub(crate) event: Option<Event>,
@@ -33,7 +34,7 @@ pub(crate) struct Step<'a> {
     pub(crate) number: u64,
 }
 
-/// The names that were declared so far, each list in the order of declaration, and whether the server is down.
+/// The names that were declared so far, in the order of declaration, and whether the server is down.
 #[derive(Drop)]
 pub(crate) struct Declared {
     clients: IndexSet<Name>,
@@ -41,29 +42,27 @@ pub(crate) struct Declared {
     down: bool,
 }
 
-/// Whether the first line of a text that is not skipped is `restart server`.
+/// Whether the first line of a text that says something is `restart server`.
 fn restarts(text: &[u8]) -> bool
     ensures { result ≡ restarts (lines text.now) }
 {
-    let mut rest = text;
-    while let Some((line, later)) = split_line(rest) {
+    for line in split_lines(text) {
         if !is_skipped(line) {
             return fits_line(line) && is_restart(line);
         }
-        rest = later;
     }
     false
 }
 
-/// A line that is this event, with the text behind it.
+/// The step of a line that is this event.
 fn after_line(
     event: Result<Event, EventFault>,
     later: &[u8],
     number: u64,
 ) -> Result<Step<'_>, EventFault>
     requires { number < 2 ^ 63 }
-    ensures line { (line : Reading) (scope : Scope) (declared : Declared)
-        → AnswersEvent line event declared → Answers (GivesReading line scope number (lines later.now)) result declared }
+    ensures line { (meaning : Meaning) (scope : Scope) (declared : Declared)
+        → AnswersEvent meaning event declared → Answers (IsStepOf meaning scope number (lines later.now)) result declared }
     ensures later { IfOk result (λ step. step.later.now ≡ later.now) }
     ensures number { IfOk result (λ step. step.number ≡ number + 1) }
 {
@@ -75,7 +74,7 @@ fn after_line(
 }
 
 impl Declared {
-    /// Nothing is declared. Takes no memory.
+    /// Starts with nothing declared. Does not allocate.
     pub(crate) fn new(alloc: Global) -> Declared
         ensures { scope_of result ≡ nothing_declared }
     {
@@ -93,14 +92,14 @@ impl Declared {
         if name.as_bytes() == b"server".as_slice() || self.clients.contains(&name) {
             return Err(EventFault::Twice { line: number });
         }
-        if self.clients.len() >= MOST_CLIENTS {
+        if self.clients.len() >= CLIENT_LIMIT {
             return Err(EventFault::TooMany { line: number });
         }
         self.clients.insert(name)?;
         Ok(Event::Client(name))
     }
 
-    /// `script N {`, with the text behind it.
+    /// `script N {`, before this text.
     fn script_line<'a>(
         &mut self,
         name: Name,
@@ -118,7 +117,7 @@ impl Declared {
         if self.scripts.contains(&name) {
             return Err(EventFault::Twice { line: number });
         }
-        if self.scripts.len() >= MOST_SCRIPTS {
+        if self.scripts.len() >= SCRIPT_LIMIT {
             return Err(EventFault::TooMany { line: number });
         }
         self.scripts.insert(name)?;
@@ -150,7 +149,7 @@ impl Declared {
         self.scripts.get_index_of(&name).map(|place| place as u64)
     }
 
-    /// `crash server`, with the text behind it, where its restart is.
+    /// `crash server`, before this text, which begins with its restart.
     fn crash_line(&mut self, later: &[u8], number: u64) -> Result<Event, EventFault>
         ensures { AnswersEvent (crash_line (scope_of self.old) number (lines later.now)) result self.new }
     {
@@ -161,7 +160,7 @@ impl Declared {
         Ok(Event::CrashServer)
     }
 
-    /// `restart server`, behind its crash.
+    /// `restart server`, after its crash.
     fn restart_line(&mut self, number: u64) -> Result<Event, EventFault>
         ensures { AnswersEvent (restart_line (scope_of self.old) number) result self.new }
     {
@@ -172,7 +171,7 @@ impl Declared {
         Ok(Event::RestartServer)
     }
 
-    /// A script, from the line behind its first on.
+    /// A script, from the line after its first on.
     fn script<'a>(
         &mut self,
         alloc: Global,
@@ -181,12 +180,15 @@ impl Declared {
         number: u64,
     ) -> Result<Step<'a>, EventFault>
         requires { number + length later.now < 2 ^ 63 }
-        ensures line { Answers (GivesReading (script_line (scope_of self.old) number name (closed_by (lines later.now) 0)) (scope_of self.old) number (lines later.now)) result self.new }
+        ensures line { Answers
+            (IsStepOf (script_line (scope_of self.old) number name (closed_by (lines later.now) 0))
+            (scope_of self.old) number (lines later.now))
+            result self.new }
         ensures shorter { IfOk result (λ step. length step.later.now ≤ length later.now) }
         ensures number { IfOk result (λ step. step.number + length step.later.now ≤ number + 1 + length later.now) }
     {
         let script = self.script_line(name, later, number)?;
-        let code = read_script(alloc, &script, number + 1)?;
+        let code = parse_script(alloc, &script, number + 1)?;
         let shared = SharedScript::new(alloc, code)?;
         Ok(Step {
             event: Some(Event::Script(name, shared)),
@@ -195,7 +197,7 @@ impl Declared {
         })
     }
 
-    /// A line of this form.
+    /// A line of this form, before this text.
     fn by_form<'a>(
         &mut self,
         alloc: Global,
@@ -204,7 +206,10 @@ impl Declared {
         number: u64,
     ) -> Result<Step<'a>, EventFault>
         requires { number + length later.now < 2 ^ 63 }
-        ensures line { Answers (GivesReading (by_form (Some form) (scope_of self.old) number (lines later.now)) (scope_of self.old) number (lines later.now)) result self.new }
+        ensures line { Answers
+            (IsStepOf (meaning_of_form (Some form) (scope_of self.old) number (lines later.now))
+            (scope_of self.old) number (lines later.now))
+            result self.new }
         ensures shorter { IfOk result (λ step. length step.later.now ≤ length later.now) }
         ensures number { IfOk result (λ step. step.number + length step.later.now ≤ number + 1 + length later.now) }
     {
@@ -220,7 +225,7 @@ impl Declared {
         }
     }
 
-    /// The line of this number, with the text behind it: what it gives, and with it the lines of its script.
+    /// Takes the line of this number, before this text, and with it the lines of its script.
     pub(crate) fn take<'a>(
         &mut self,
         alloc: Global,
@@ -229,7 +234,7 @@ impl Declared {
         number: u64,
     ) -> Result<Step<'a>, EventFault>
         requires { number + length later.now < 2 ^ 63 }
-        ensures line { Answers (Gives (scope_of self.old) number line.now (lines later.now)) result self.new }
+        ensures line { Answers (IsStep (scope_of self.old) number line.now (lines later.now)) result self.new }
         ensures shorter { IfOk result (λ step. length step.later.now ≤ length later.now) }
         ensures number { IfOk result (λ step. step.number + length step.later.now ≤ number + 1 + length later.now) }
     {

@@ -5,7 +5,7 @@ use std::alloc::Global;
 use std::marker::Model;
 use std::rc::Rc;
 
-/// One event. Clients and scripts that were declared go by their place of declaration, from 0.
+/// One event. It names clients and scripts by their place among those that were declared, from 0.
 #[derive(Drop)]
 pub enum Event {
     /// `client N`: the client of this name is a node from now on.
@@ -14,13 +14,13 @@ pub enum Event {
     /// `script N {` up to its `}`: the script of this name can be run from now on.
     Script(Name, SharedScript),
 
-    /// `run C S abort`: the client runs the script, and gives up where it is in conflict.
+    /// `run C S abort`: the client runs the script, and gives up if it is in conflict.
     Run { client: u64, script: u64 },
 
     /// `show server`: the server's tree is printed.
     ShowServer,
 
-    /// `crash server`: the server stops. A restart follows at once.
+    /// `crash server`: the server stops. Its restart is the next event.
     CrashServer,
 
     /// `restart server`: the server that crashed comes back.
@@ -47,11 +47,11 @@ impl SharedScript {
     ghost use Rattle.std.specs.Prelude.{◌≡◌, IfOk};
     ghost use Rattle.iot_lang.specs.Scripts.{IsScript};
 
-    /// A script that can be shared.
+    /// Makes a script one that can be shared.
     ///
     /// # Errors
     ///
-    /// Where there is no memory for it.
+    /// Only if memory runs out.
     pub fn new(alloc: Global, script: Script) -> Result<SharedScript, NoMemory>
         ensures { IfOk result (λ shared. shared ≡ script) }
     {
@@ -68,11 +68,11 @@ impl SharedScript {
         &self.script
     }
 
-    /// The same script, without a copy of it.
+    /// Shares the script, without copying it. Does not allocate.
     ///
     /// # Errors
     ///
-    /// Only where it is shared more often than can be counted.
+    /// Only if it is shared more often than can be counted.
     #[inline]
     pub fn share(&self) -> Result<SharedScript, NoMemory>
         ensures { IfOk result (λ shared. shared ≡ self.now) }
@@ -82,17 +82,17 @@ impl SharedScript {
         })
     }
 
-    /// The script behind its count of owners, for those who keep it while it runs.
+    /// The script with its count of owners, for those who keep it while it runs. Does not allocate.
     ///
     /// # Errors
     ///
-    /// Only where it is shared more often than can be counted.
+    /// Only if it is shared more often than can be counted.
     #[inline]
     pub fn shared(&self) -> Result<Rc<Script>, NoMemory>
         ensures value { IfOk result (λ script. script.value ≡ self.now) }
         ensures script { IsScript self.now }
     {
-        // A `Script` is always one that some lines spell, as its block says.
+        // Some lines spell it, as each `Script`; its block says so.
         let _ = self.script.block();
         Rc::clone(&self.script)
     }

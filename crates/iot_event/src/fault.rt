@@ -1,4 +1,4 @@
-//! Why an input is not read.
+//! Why an input is no event script.
 ghost use Rattle.std.specs.Prelude.{◌≡◌};
 ghost use Rattle.iot_event.specs.declared.fault.EventFault.TheVariants.{NoMemory as no_memory};
 
@@ -8,18 +8,19 @@ use thiserror::Error;
 
 /// Why an input is no event script: the fault of its first bad line. Lines count from 1.
 ///
-/// Where one line has several faults, the first of them in the order below is told.
+/// If a line has several faults, it is the first of them in the order below.
 #[derive(Debug, Drop, Error)]
 pub enum EventFault {
-    /// There was no memory for the events. No clause says when this comes.
+    /// Memory ran out, which is always allowed.
     #[error("out of memory")]
     NoMemory,
 
-    /// The line's bytes or its length break the rule, it has none of the known forms, or its script is not closed.
+    /// The line breaks the rule on bytes and length, has none of the forms, or opens a script that is not closed; or it is a
+    /// crash that no restart follows, or a restart that follows no crash.
     #[error("line {line}: bad line")]
     BadLine { line: u64 },
 
-    /// The line uses a client or a script that no earlier line declares.
+    /// The line names a client or a script that no earlier line declares.
     #[error("line {line}: unknown name")]
     UnknownName { line: u64 },
 
@@ -27,15 +28,15 @@ pub enum EventFault {
     #[error("line {line}: named twice")]
     Twice { line: u64 },
 
-    /// The line declares a client or a script beyond how many there may be.
+    /// The line declares a client or a script more than there may be.
     #[error("line {line}: too many")]
     TooMany { line: u64 },
 
-    /// The line of a script is no statement, or none that can stand there.
+    /// The line inside a script is no statement, or none that can stand there.
     #[error("line {line}: bad statement")]
     BadStatement { line: u64 },
 
-    /// The line of a script opens a 17th block.
+    /// The line inside a script opens a 17th block: blocks nest at most 16 deep.
     #[error("line {line}: nested too deep")]
     TooDeep { line: u64 },
 }

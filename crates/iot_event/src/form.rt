@@ -3,15 +3,15 @@ ghost use Rattle.std.specs.Prelude.{◌≡◌, map, if◌then◌else◌, Some, N
 ghost use Rattle.iot_lines.specs.Words.{words};
 ghost use Rattle.iot_text.specs.Names.{is_name};
 ghost use Rattle.iot_event.specs.Forms.{form_of, server_form, two_words, three_words, four_words};
-ghost use Rattle.iot_event.specs.Lines.{is_restart};
+ghost use Rattle.iot_event.specs.Meanings.{is_restart};
 
-use iot_lines::next_word;
+use iot_lines::split_words;
 use iot_text::Name;
 
 /// How many words the longest form has.
-const MOST_WORDS: usize = 4;
+const WORD_LIMIT: usize = 4;
 
-/// What the words of a line are, before it is known which names are declared.
+/// What a line says by its words alone, before it is known which names are declared.
 #[derive(Clone, Copy)]
 pub(crate) enum Form {
     /// `client N`
@@ -33,14 +33,14 @@ pub(crate) enum Form {
     RestartServer,
 }
 
-/// A word as a name, where it is one.
+/// A word as a name, if it is one.
 fn name_of(word: &[u8]) -> Option<Name>
     ensures { result ≡ (if is_name word.now then Some word.now else None) }
 {
     Name::parse(word).ok()
 }
 
-/// What is done with the server.
+/// The form of `show server` and its like, by the first word.
 fn server_form(first: &[u8]) -> Option<Form>
     ensures { result ≡ server_form first.now }
 {
@@ -56,6 +56,7 @@ fn server_form(first: &[u8]) -> Option<Form>
     None
 }
 
+/// The form of a line of two words.
 fn two_words(first: &[u8], second: &[u8]) -> Option<Form>
     ensures { result ≡ two_words first.now second.now }
 {
@@ -68,6 +69,7 @@ fn two_words(first: &[u8], second: &[u8]) -> Option<Form>
     None
 }
 
+/// The form of a line of three words.
 fn three_words(first: &[u8], second: &[u8], third: &[u8]) -> Option<Form>
     ensures { result ≡ three_words first.now second.now third.now }
 {
@@ -77,6 +79,7 @@ fn three_words(first: &[u8], second: &[u8], third: &[u8]) -> Option<Form>
     None
 }
 
+/// The form of a line of four words.
 fn four_words(first: &[u8], second: &[u8], third: &[u8], fourth: &[u8]) -> Option<Form>
     ensures { result ≡ four_words first.now second.now third.now fourth.now }
 {
@@ -89,7 +92,7 @@ fn four_words(first: &[u8], second: &[u8], third: &[u8], fourth: &[u8]) -> Optio
     None
 }
 
-/// The form of these words, if they have one.
+/// The form of a line with these words, if it has one.
 fn form_of(found: &[&[u8]]) -> Option<Form>
     ensures { result ≡ form_of (map (λ word. word.now) found.now) }
 {
@@ -105,16 +108,14 @@ fn form_of(found: &[&[u8]]) -> Option<Form>
 pub(crate) fn form_of_line(line: &[u8]) -> Option<Form>
     ensures { result ≡ form_of (words line.now) }
 {
-    let mut found: [&[u8]; MOST_WORDS] = [b""; MOST_WORDS];
+    let mut found: [&[u8]; WORD_LIMIT] = [b""; WORD_LIMIT];
     let mut count = 0;
-    let mut rest = line;
-    while let Some((word, later)) = next_word(rest) {
-        if count == MOST_WORDS {
+    for word in split_words(line) {
+        if count == WORD_LIMIT {
             return None;
         }
         found[count] = word;
         count += 1;
-        rest = later;
     }
     form_of(&found[..count])
 }

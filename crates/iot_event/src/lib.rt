@@ -10,6 +10,8 @@ mod form;
 mod parsing;
 mod script;
 
+pub use bytes::LINE_LIMIT;
+pub use declared::{CLIENT_LIMIT, SCRIPT_LIMIT};
 pub use event::{Event, SharedScript};
 pub use fault::EventFault;
 pub use iot_text::NoMemory;

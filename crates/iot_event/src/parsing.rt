@@ -1,8 +1,8 @@
-//! Event scripts: the events that an input asks for.
+//! Parsing event scripts.
 ghost use Rattle.std.specs.Prelude.{◌≡◌, false, IfOk, IfErr};
-ghost use Rattle.iot_event.specs.Events.{IsRead, Outcome, Events};
+ghost use Rattle.iot_event.specs.Events.{Gives, Outcome, Events};
 ghost use Rattle.iot_event.specs.Declarations.{AreDeclared};
-ghost use Rattle.iot_event.specs.Readings.{HasFault, UnlessMemory};
+ghost use Rattle.iot_event.specs.Results.{HasFault, UnlessMemory};
 
 use crate::declared::{Declared, Step};
 use crate::event::Event;
@@ -10,18 +10,20 @@ use crate::fault::EventFault;
 use iot_lines::split_line;
 use std::alloc::Global;
 
-/// Reads an event script: its events in order.
+/// Parses an event script: the events that it asks for, in order.
+///
+/// A line has at most `LINE_LIMIT` bytes; there are at most `CLIENT_LIMIT` clients and `SCRIPT_LIMIT` scripts.
 ///
 /// # Errors
 ///
-/// The fault of the first bad line, exactly where there is one; `NoMemory` where memory ran out.
+/// The fault of the first bad line, exactly if there is one; `NoMemory` if memory runs out.
 pub fn parse(alloc: Global, input: &[u8]) -> Result<Vec<Event>, EventFault>
-    ensures events { IfOk result (λ events. IsRead input.now (Events events.items)) }
+    ensures events { IfOk result (λ events. Gives input.now (Events events.items)) }
     ensures declared { IfOk result (λ events. AreDeclared events.items 0 0 false) }
     ensures fault { IfErr result (HasFault input.now) }
 
-    // An input has one outcome, and it is answered, unless memory runs out.
-    ensures only { (outcome : Outcome) → IsRead input.now outcome → UnlessMemory result outcome }
+    // An input gives one outcome, and that is the result unless memory runs out.
+    ensures only { (outcome : Outcome) → Gives input.now outcome → UnlessMemory result outcome }
 {
     let mut declared = Declared::new(alloc);
     let mut events = Vec::new(alloc);

@@ -7,9 +7,8 @@ use Rattle.iot_event.proofs.script.first_unfit.Given as goal
 
 abbrev pub invariant-loop-line : goal.invariant-loop-line
 invariant-loop-line l = record {
-  same : first_unfit (lines l.inside ++ l.closing ∷ []) ≡ position_from (λ line. not (fits_line line)) l.place (lines l.rest ++ l.closing ∷ []);
-  few : l.place + length l.rest ≤ length l.inside;
+  same :
+      first_unfit (lines l.inside ++ l.closing ∷ [])
+      ≡ position_from (λ line. not (fits_line line)) l.place (l.line-iterator ++ l.closing ∷ []);
+  few : l.place + length l.line-iterator ≤ length l.inside;
 }
-
-abbrev pub decreases-loop-line : goal.decreases-loop-line
-decreases-loop-line l = length l.rest

@@ -1,0 +1,104 @@
+-- What a line outside of scripts means.
+use Rattle.std.specs.Prelude.{ℕ, ◌&&◌, ◌||◌, not, nat_lt, Bool, true, false, List, [], ◌∷◌, ◌++◌, length, position, Option, Some, None}
+use Rattle.std.specs.Prelude.{codes, bytes_eq, if◌then◌else◌}
+use Rattle.std.specs.List.{find, list_any}
+use Rattle.iot_lines.specs.Words.{words, is_skipped}
+use Rattle.iot_event.specs.Bytes.{fits_line}
+use Rattle.iot_event.specs.Forms.{form_of}
+use Rattle.iot_event.specs.Closing.{Closed, closed_by}
+use Rattle.iot_event.specs.declared.declared.TheConstants.{CLIENT_LIMIT, SCRIPT_LIMIT}
+use Rattle.iot_event.specs.declared.form.Form.{Form}
+use Rattle.iot_event.specs.declared.form.Form.TheVariants as forms
+use Rattle.iot_event.specs.declared.event.Event.{Event}
+use Rattle.iot_event.specs.declared.event.Event.TheVariants.{Client, Run, ShowServer, CrashServer, RestartServer}
+use Rattle.iot_event.specs.declared.fault.EventFault.{EventFault}
+use Rattle.iot_event.specs.declared.fault.EventFault.TheVariants.{BadLine, UnknownName, Twice, TooMany}
+
+-- what is known before a line: the names that were declared, in order, and whether the server is down
+pub record Scope : Type 0 where
+  pub clients : List (List ℕ)
+  pub scripts : List (List ℕ)
+  pub down : Bool
+
+abbrev pub nothing_declared : Scope
+nothing_declared = record { clients = []; scripts = []; down = false }
+
+abbrev pub is_declared : List ℕ → List (List ℕ) → Bool
+is_declared name names = list_any (bytes_eq name) names
+
+-- the place of a name, from 0
+abbrev pub place_of : List ℕ → List (List ℕ) → Option ℕ
+place_of name names = position (bytes_eq name) names
+
+-- what a line means: it is refused, it says nothing, it is an event, or it opens a script; the last two with what is known after it
+pub data Meaning : Type 0 where
+  Refused : (fault : EventFault) → Meaning
+  Skipped : Meaning
+  Says : (event : Event) (after : Scope) → Meaning
+  Opens : (name : List ℕ) (script : Closed) (after : Scope) → Meaning
+
+-- a client that is not a node yet, as the server is, if there may be one more
+abbrev pub client_line : Scope → (number : ℕ) (name : List ℕ) → Meaning
+client_line scope number name =
+    if bytes_eq name (codes "server") || is_declared name scope.clients then Refused (Twice number)
+    else if nat_lt (length scope.clients) CLIENT_LIMIT
+    then Says (Client name) (record scope { clients = scope.clients ++ name ∷ [] })
+    else Refused (TooMany number)
+
+-- a script that is closed and not declared yet, if there may be one more
+abbrev pub script_line : Scope → (number : ℕ) (name : List ℕ) → Option Closed → Meaning
+script_line scope number name None = Refused (BadLine number)
+script_line scope number name (Some script) =
+    if is_declared name scope.scripts then Refused (Twice number)
+    else if nat_lt (length scope.scripts) SCRIPT_LIMIT
+    then Opens name script (record scope { scripts = scope.scripts ++ name ∷ [] })
+    else Refused (TooMany number)
+
+-- a run at these places, if both are declared
+abbrev pub run_at : Option ℕ → Option ℕ → Scope → (number : ℕ) → Meaning
+run_at None script scope number = Refused (UnknownName number)
+run_at (Some client) None scope number = Refused (UnknownName number)
+run_at (Some client) (Some script) scope number = Says (Run client script) scope
+
+abbrev pub run_line : Scope → (number : ℕ) (client script : List ℕ) → Meaning
+run_line scope number client script = run_at (place_of client scope.clients) (place_of script scope.scripts) scope number
+
+abbrev pub is_restart : Option Form → Bool
+is_restart (Some forms.RestartServer) = true
+is_restart _ = false
+
+-- whether there is a line, and it is `restart server`
+abbrev pub restarts_at : Option (List ℕ) → Bool
+restarts_at None = false
+restarts_at (Some line) = fits_line line && is_restart (form_of (words line))
+
+-- whether the first line that says something is `restart server`
+abbrev pub restarts : List (List ℕ) → Bool
+restarts lines = restarts_at (find (λ line. not (is_skipped line)) lines)
+
+-- a crash, if its restart follows it
+abbrev pub crash_line : Scope → (number : ℕ) (later : List (List ℕ)) → Meaning
+crash_line scope number later =
+    if restarts later then Says CrashServer (record scope { down = true }) else Refused (BadLine number)
+
+-- a restart, if it follows its crash
+abbrev pub restart_line : Scope → (number : ℕ) → Meaning
+restart_line scope number =
+    if scope.down then Says RestartServer (record scope { down = false }) else Refused (BadLine number)
+
+-- a line of this form, before these lines
+abbrev pub meaning_of_form : Option Form → Scope → (number : ℕ) (later : List (List ℕ)) → Meaning
+meaning_of_form None scope number later = Refused (BadLine number)
+meaning_of_form (Some (forms.Client name)) scope number later = client_line scope number name
+meaning_of_form (Some (forms.Script name)) scope number later = script_line scope number name (closed_by later 0)
+meaning_of_form (Some (forms.Run client script)) scope number later = run_line scope number client script
+meaning_of_form (Some forms.ShowServer) scope number later = Says ShowServer scope
+meaning_of_form (Some forms.CrashServer) scope number later = crash_line scope number later
+meaning_of_form (Some forms.RestartServer) scope number later = restart_line scope number
+
+-- the line of this number, before these lines; the rule on bytes and length comes first
+abbrev pub meaning_of : Scope → (number : ℕ) (line : List ℕ) (later : List (List ℕ)) → Meaning
+meaning_of scope number line later =
+    if not (fits_line line) then Refused (BadLine number)
+    else if is_skipped line then Skipped
+    else meaning_of_form (form_of (words line)) scope number later
