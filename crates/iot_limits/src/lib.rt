@@ -1,2 +1,2 @@
-//! Laws of the limits of values: the acts of a run have spellings. It has no code.
+//! The acts of a run have spellings. This crate has no code: only the definitions and laws that crates above cite.
 #![tactic(auto)]

@@ -1,5 +1,5 @@
--- Plans that ask, do and print only what has a spelling.
-use Rattle.std.proofs.Common.{◌≡◌, ℕ, Bool, true, false, List, Some, refl, if◌then◌else◌}
+-- Plans that ask, do and print only what has a spelling: what they do on a tree has one.
+use Rattle.std.proofs.Common.{◌≡◌, ℕ, List, Some}
 use Rattle.std.specs.FinMap.{get}
 use Rattle.iot_tree.specs.Tree.{Nodes}
 use Rattle.iot_tree.specs.Questions.{answer_of}
@@ -8,7 +8,7 @@ use Rattle.iot_tree.specs.declared.questions.Answer.{Answer}
 use Rattle.iot_codec.specs.Rules.{IsQuestion, IsAnswer, AreReads, IsAct, IsOptionalUpdate, AreLines}
 use Rattle.iot_exec.specs.Plans.{Plan, Done, Ask, mapped, Performed, perform, Effect, act_of}
 use Rattle.iot_exec.specs.declared.env.Env.{Env}
-use Rattle.iot_limits.specs.Laws.Bytes.{AreContentBytes}
+use Rattle.iot_limits.proofs.ByteLaws.{AreContentBytes}
 
 -- ---- what is spelled
 
@@ -22,21 +22,18 @@ pub record IsSpelledEffect {R : Type 0} (IsGood : R → Type 0) (effect : Effect
   pub lines : AreLines effect.lines
   pub result : IsGood effect.result
 
--- each question has a spelling, and where the answers have one, the result is good
+-- each question has a spelling, and the result is good if the answers have one
 abbrev pub IsSpelledPlan : {R : Type 0} → (R → Type 0) → Plan R → Type 0
 IsSpelledPlan IsGood (Done result) = IsGood result
 IsSpelledPlan IsGood (Ask question next) = IsQuestion question × ((answer : Answer) → IsAnswer answer → IsSpelledPlan IsGood (next answer))
 
--- what holds of each of two holds of the one that a test takes
-pub chosen : {X : Type 0} (IsGood : X → Type 0) (test : Bool) (one two : X) → (test ≡ true → IsGood one) → (test ≡ false → IsGood two) → IsGood (if test then one else two)
-chosen IsGood true one two first second = first refl
-chosen IsGood false one two first second = second refl
-
 -- ---- plans put together
 
-pub mapped_plan : {R S : Type 0} (IsGood : R → Type 0) (IsAlso : S → Type 0) (f : R → S) (plan : Plan R) → ((result : R) → IsGood result → IsAlso (f result)) → IsSpelledPlan IsGood plan → IsSpelledPlan IsAlso (mapped f plan)
+pub mapped_plan : {R S : Type 0} (IsGood : R → Type 0) (IsAlso : S → Type 0) (f : R → S) (plan : Plan R)
+    → ((result : R) → IsGood result → IsAlso (f result)) → IsSpelledPlan IsGood plan → IsSpelledPlan IsAlso (mapped f plan)
 mapped_plan IsGood IsAlso f (Done result) leads is = leads result is
-mapped_plan IsGood IsAlso f (Ask question next) leads is = (is.0, λ answer also. mapped_plan IsGood IsAlso f (next answer) leads (is.1 answer also))
+mapped_plan IsGood IsAlso f (Ask question next) leads is =
+    (is.0, λ answer also. mapped_plan IsGood IsAlso f (next answer) leads (is.1 answer also))
 
 -- ---- plans on trees
 
@@ -49,12 +46,15 @@ pub record SpelledPerformed {R : Type 0} (IsGood : R → Type 0) (performed : Pe
 abbrev pub HasAnswers : Nodes → Type 0
 HasAnswers t = (question : Question) → IsAnswer (answer_of t question)
 
-pub performed_plan : {R : Type 0} (IsGood : R → Type 0) (t : Nodes) (plan : Plan R) → HasAnswers t → IsSpelledPlan IsGood plan → SpelledPerformed IsGood (perform t plan)
+pub performed_plan : {R : Type 0} (IsGood : R → Type 0) (t : Nodes) (plan : Plan R) → HasAnswers t → IsSpelledPlan IsGood plan
+    → SpelledPerformed IsGood (perform t plan)
 performed_plan IsGood t (Done result) answers is = record { reads = tt; result = is }
 performed_plan IsGood t (Ask question next) answers is =
     let answer : Answer = answer_of t question in
-    let rest : SpelledPerformed IsGood (perform t (next answer)) = performed_plan IsGood t (next answer) answers (is.1 answer (answers question)) in
+    let rest : SpelledPerformed IsGood (perform t (next answer)) =
+    performed_plan IsGood t (next answer) answers (is.1 answer (answers question)) in
     record { reads = (record { question = is.0; answer = answers question }, rest.reads); result = rest.result }
 
-pub performed_act : {R : Type 0} (IsGood : R → Type 0) (performed : Performed (Effect R)) → SpelledPerformed (IsSpelledEffect IsGood) performed → IsAct (act_of performed)
+pub performed_act : {R : Type 0} (IsGood : R → Type 0) (performed : Performed (Effect R))
+    → SpelledPerformed (IsSpelledEffect IsGood) performed → IsAct (act_of performed)
 performed_act IsGood performed is = record { reads = is.reads; update = is.result.update; lines = is.result.lines }

@@ -1,6 +1,8 @@
--- The values of words.
-use Rattle.std.proofs.Common.{◌≡◌, ℕ, Bool, true, false, cond, ◌&&◌, IsTrue, List, [], ◌∷◌, Option, Some, None, refl, sym, ap, subst, ◌∙◌, length, unwrap_or, arith}
+-- The values of variables and words have bytes of contents.
+use Rattle.std.proofs.Common.{◌≡◌, ℕ, Bool, true, false, cond, ◌&&◌, IsTrue, List, [], ◌∷◌, Option, Some, None, refl, sym, ap, subst, ◌∙◌}
+use Rattle.std.proofs.Common.{length, unwrap_or, arith}
 use Rattle.std.proofs.lemmas.Bool.Decides.{nat_tests}
+use Rattle.std.proofs.lemmas.Option.{none-some}
 use Rattle.std.specs.List.{list_all}
 use Rattle.std.specs.Cmp.{first_so, second_so}
 use Rattle.std.specs.Ordering.{eq_by_cmp, nat_cmp}
@@ -14,23 +16,26 @@ use Rattle.iot_exec.specs.Values.{fresh, with_variable, piece_value, word_value}
 use Rattle.iot_exec.specs.Operands.{is_too_large}
 use Rattle.iot_exec.specs.declared.env.Env.{Env}
 use Rattle.iot_codec.specs.Rules.{is_content_byte, IsContents}
-use Rattle.iot_limits.specs.Laws.Bytes.{AreContentBytes, none_is_some, weaker, joined, plain_byte, quoted_byte}
-use Rattle.iot_limits.specs.Laws.Plans.{IsSpelledEnv}
+use Rattle.iot_limits.proofs.ByteLaws.{AreContentBytes, weaker, joined, plain_byte, quoted_byte}
+use Rattle.iot_limits.proofs.PlanLaws.{IsSpelledEnv}
 
 -- ---- variables
 
 pub fresh_env : IsSpelledEnv fresh
-fresh_env name value is = absurd (none_is_some value (sym (get-empty (slice_cmp nat_cmp) name) ∙ is))
+fresh_env name value is = absurd (none-some value (sym (get-empty (slice_cmp nat_cmp) name) ∙ is))
 
-with_or_before : (same : Bool) (new value : List ℕ) (before : Option (List ℕ)) → AreContentBytes new → (before ≡ Some value → AreContentBytes value) → cond same (Some new) before ≡ Some value → AreContentBytes value
+with_or_before : (same : Bool) (new value : List ℕ) (before : Option (List ℕ)) → AreContentBytes new
+    → (before ≡ Some value → AreContentBytes value) → cond same (Some new) before ≡ Some value → AreContentBytes value
 with_or_before true new value before is was found = subst AreContentBytes (ap (λ o. unwrap_or o new) found) is
 with_or_before false new value before is was found = was found
 
 pub env_with : (name value : List ℕ) (env : Env) → AreContentBytes value → IsSpelledEnv env → IsSpelledEnv (with_variable name value env)
 env_with name value env is spelled key found there =
-    with_or_before (eq_by_cmp (slice_cmp nat_cmp) key name) value found (get env.variables key) is (spelled key found) (sym (get-insert nat_list_cmp_total env.variables name value key) ∙ there)
+    with_or_before (eq_by_cmp (slice_cmp nat_cmp) key name) value found (get env.variables key) is (spelled key found)
+    (sym (get-insert nat_list_cmp_total env.variables name value key) ∙ there)
 
-value_if_any : (value : Option (List ℕ)) → ((found : List ℕ) → value ≡ Some found → AreContentBytes found) → AreContentBytes (unwrap_or value [])
+value_if_any : (value : Option (List ℕ)) → ((found : List ℕ) → value ≡ Some found → AreContentBytes found)
+    → AreContentBytes (unwrap_or value [])
 value_if_any None is = refl
 value_if_any (Some found) is = is found refl
 

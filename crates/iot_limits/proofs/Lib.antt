@@ -1,0 +1,9 @@
+pub mod ByteLaws
+pub mod PlanLaws
+pub mod WordLaws
+pub mod CommandLaws
+pub mod BlockLaws
+pub mod UpdateLaws
+pub mod AnswerLaws
+pub mod RunLaws
+pub mod SpelledLaws
