@@ -11,7 +11,7 @@ use std::process::ExitCode;
 /// Stands for a word that is no text, which no command line takes.
 const NO_TEXT: &str = "\u{fffd}";
 
-/// What a process ends with that has no memory for its words.
+/// What a process ends with that has no memory for its words or its disks.
 const NO_MEMORY: u8 = 5;
 
 fn main(rt: HostRuntime) -> ExitCode {
@@ -25,7 +25,7 @@ fn main(rt: HostRuntime) -> ExitCode {
     ExitCode::from(status)
 }
 
-/// The words behind the program's name.
+/// The words after the program's name.
 fn words<R: Env + Alloc<A = Global>>(rt: &R) -> Result<Vec<String>, AllocError> {
     let mut words = Vec::new(rt.alloc());
     match env::args(rt) {

@@ -1,4 +1,4 @@
--- Which event may come, where so many clients and scripts are declared and the server is alive or not.
+-- Which event may come, if so many clients and scripts are declared and the server is alive or not.
 use Rattle.std.specs.Prelude.{◌≡◌, ℕ, ◌<◌, Bool, true, false}
 use Rattle.iot_event.specs.declared.event.Event.{Event}
 use Rattle.iot_event.specs.declared.event.Event.TheVariants as events

@@ -1,7 +1,8 @@
 -- The disks of a run, of which the first is the server's.
-use Rattle.std.specs.Prelude.{◌≡◌, ℕ, zero, suc, List, [], ◌∷◌, length}
+use Rattle.std.specs.Prelude.{◌≡◌, ℕ, List, [], ◌∷◌, length}
 use Rattle.std.specs.List.{AllByRecursion}
-use Rattle.iot_disk.specs.Disk.{Arms, Only}
+use Rattle.iot_disk.specs.Disk.{Arms, Only, never_armed}
+use Rattle.iot_disk.specs.Failures.{arms_of}
 use Rattle.iot_disk.specs.Memory.{Memory, images_of}
 use Rattle.iot_app.specs.Machine.{Commit}
 use Rattle.iot_app.specs.Records.{Holds}
@@ -9,7 +10,7 @@ use Rattle.iot_app.specs.Records.{Holds}
 -- nothing is on the disk, and nothing is pending
 pub record IsEmpty {D : Type 0} (reads : D → List ℕ) (may_leave : D → List ℕ → Type 0) (disk : D) : Type 0 where
   pub empty : reads disk ≡ []
-  pub settled : Only (reads disk) (may_leave disk)
+  pub synced : Only (reads disk) (may_leave disk)
 
 -- nine such disks
 pub record AreFresh {D : Type 0} (reads : D → List ℕ) (may_leave : D → List ℕ → Type 0) (disks : List D) : Type 0 where
@@ -30,19 +31,19 @@ abbrev pub first_count : {D : Type 0} → (D → ℕ) → List D → ℕ
 first_count count [] = 0
 first_count count (disk ∷ disks) = count disk
 
--- in each image of the first disk stand the records of this list
+-- each image of the first disk has the records of this list
 abbrev pub FirstHolds : {D : Type 0} → (D → List ℕ → Type 0) → List D → List Commit → Type 0
 FirstHolds may_leave [] commits = ⊥
 FirstHolds may_leave (disk ∷ disks) commits = Holds (may_leave disk) commits
 
--- with the statuses 1, 2 and 3 no event was done, and this is so
-abbrev pub WithoutEvents : ℕ → Type 0 → Type 0
-WithoutEvents zero same = Unit {0}
-WithoutEvents (suc zero) same = same
-WithoutEvents (suc (suc zero)) same = same
-WithoutEvents (suc (suc (suc zero))) same = same
-WithoutEvents (suc (suc (suc (suc n)))) same = Unit {0}
-
 -- nine empty disks in memory
 abbrev pub AreEmptyDisks : List Memory → Type 0
 AreEmptyDisks disks = AreFresh (λ disk. disk.written) images_of disks
+
+-- none was ever armed
+abbrev pub AreUnarmed : List Memory → Type 0
+AreUnarmed disks = AllByRecursion (λ disk. arms_of disk.failures ≡ never_armed) disks
+
+-- none has failed
+abbrev pub AreFaultless : List Memory → Type 0
+AreFaultless disks = AllByRecursion (λ disk. disk.failures.faults ≡ 0) disks

@@ -1,49 +1,46 @@
--- What the source gave. `reads bytes` says that these bytes were taken, and `at_end` that nothing is left.
+-- What the source gave: `took bytes` says that these bytes were taken from it, and `at_end` that nothing is left there.
 use Rattle.std.specs.Prelude.{◌≡◌, ℕ, ◌<◌, ◌≤◌, List, length}
-use Rattle.iot_io.specs.Count.{Rose}
-use Rattle.iot_event.specs.Events.{IsRead, Fault}
+use Rattle.iot_count.specs.Counts.{Counted, HasRisen, IsSteady}
+use Rattle.iot_event.specs.Events.{Gives, Outcome, Fault}
 use Rattle.iot_event.specs.declared.fault.EventFault.{EventFault}
-use Rattle.iot_app.specs.Endings.{IsScript, input_limit}
-use Rattle.iot_event.specs.declared.event.Event.{Event}
+use Rattle.iot_app.specs.Refusals.{too_long_line, refusal_line}
+use Rattle.iot_app.specs.declared.input.TheConstants.{INPUT_LIMIT}
 use Rattle.iot_app.specs.declared.input.InputFault.{InputFault}
-use Rattle.iot_app.specs.declared.input.InputFault.TheVariants as faults
+use Rattle.iot_app.specs.declared.input.InputFault.TheVariants as inputs
 
--- an event script, read to its end
-pub record GivesEvents (events : List Event) (reads : List ℕ → Type 0) (at_end : Type 0) : Type 0 where
+-- the input was read to its end, is within its limit, and gives these events or this fault
+pub record TookInput (took : List ℕ → Type 0) (at_end : Type 0) (outcome : Outcome) : Type 0 where
   pub input : List ℕ
-  pub read : reads input
+  pub taken : took input
   pub whole : at_end
-  pub script : IsScript input events
+  pub within : length input ≤ INPUT_LIMIT
+  pub gives : Gives input outcome
 
--- a front of an input that is within its limit
-pub record GivesFront (reads : List ℕ → Type 0) : Type 0 where
-  pub input : List ℕ
-  pub read : reads input
-  pub within : length input ≤ input_limit
+-- some of the input was read, within its limit
+pub record TookSome (took : List ℕ → Type 0) : Type 0 where
+  pub front : List ℕ
+  pub taken : took front
+  pub within : length front ≤ INPUT_LIMIT
 
--- more than the limit
-pub record GivesTooMuch (reads : List ℕ → Type 0) : Type 0 where
-  pub input : List ℕ
-  pub read : reads input
-  pub over : input_limit < length input
+-- more than the limit was read
+pub record TookTooMuch (took : List ℕ → Type 0) : Type 0 where
+  pub front : List ℕ
+  pub taken : took front
+  pub over : INPUT_LIMIT < length front
 
--- an input, read to its end, whose first bad line has this fault
-pub record GivesNoScript (fault : EventFault) (reads : List ℕ → Type 0) (at_end : Type 0) : Type 0 where
-  pub input : List ℕ
-  pub read : reads input
-  pub whole : at_end
-  pub within : length input ≤ input_limit
-  pub spelled : IsRead input (Fault fault)
+-- the input is over its limit, or was read to its end and is no event script; this line says which
+pub data IsRefused (took : List ℕ → Type 0) (at_end : Type 0) (text : List ℕ) : Type 0 where
+  too_long : TookTooMuch took → text ≡ too_long_line → IsRefused took at_end text
+  no_script : (fault : EventFault) → TookInput took at_end (Fault fault) → text ≡ refusal_line fault → IsRefused took at_end text
 
-abbrev pub GivesNone : InputFault → (List ℕ → Type 0) → Type 0 → Type 0
-GivesNone faults.NoMemory reads at_end = GivesFront reads
-GivesNone faults.Failed reads at_end = GivesFront reads
-GivesNone faults.TooLong reads at_end = GivesTooMuch reads
-GivesNone (faults.NoScript fault) reads at_end = GivesNoScript fault reads at_end
+-- what was read, if there are no events
+abbrev pub TookFor : InputFault → (List ℕ → Type 0) → Type 0 → Type 0
+TookFor inputs.NoMemory took at_end = TookSome took
+TookFor inputs.Failed took at_end = TookSome took
+TookFor inputs.TooLong took at_end = TookTooMuch took
+TookFor (inputs.NoScript fault) took at_end = TookInput took at_end (Fault fault)
 
--- the source's count of faults rose exactly where a read failed
-abbrev pub CountsInputFault : InputFault → ℕ → ℕ → Type 0
-CountsInputFault faults.Failed before now = Rose before now
-CountsInputFault faults.NoMemory before now = now ≡ before
-CountsInputFault faults.TooLong before now = now ≡ before
-CountsInputFault (faults.NoScript fault) before now = now ≡ before
+-- the source's count of faults rises if a read failed, and for no other fault
+abbrev pub InputCounts : InputFault → Counted → Type 0
+InputCounts inputs.Failed faults = HasRisen faults
+InputCounts fault faults = IsSteady faults

@@ -5,10 +5,11 @@ pub mod Steps
 pub mod Allowed
 pub mod World
 pub mod Status
-pub mod Endings
-pub mod Played
+pub mod Refusals
 pub mod InputFaults
 pub mod Input
+pub mod Played
+pub mod Endings
 pub mod Job
 pub mod Records
 pub mod Faults

@@ -13,12 +13,12 @@ Does text change m written n = (written ≡ text m) × (n ≡ change m)
 abbrev pub Says : {S : Type 0} → (S → List ℕ) → Part S
 Says text = Does text (λ m. m)
 
--- One record of a node's durable state is appended: no text, and a change. Each such change is written so, since this
--- is where a node may stop, once its disk may fail.
+-- One record of a node's durable state is appended: no text, and a change. Each such change is written so, since it
+-- is here that a node may stop, once its disk may fail.
 abbrev pub Append : {S : Type 0} → (S → S) → Part S
 Append change = Does (λ m. []) change
 
--- One request to the server and its reply. Each is written so, since this is where messages are lost, once a link may
+-- One request to the server and its reply. Each is written so, since it is here that messages are lost, once a link may
 -- break. Until then it is what the server does with the request.
 abbrev pub Exchange : {S : Type 0} → Part S → Part S
 Exchange handled = handled
@@ -36,7 +36,7 @@ pub record Then {S : Type 0} (one other : Part S) (m : S) (text : List ℕ) (n :
   pub second : other mid rest n
   pub whole : text ≡ front ++ rest
 
--- one part where a test of the state holds, and else another
+-- one part if a test of the state holds, and else another
 abbrev pub if_holds : {S : Type 0} → Bool → Part S → Part S → Part S
 if_holds true one other = one
 if_holds false one other = other

@@ -1,11 +1,11 @@
 -- What the server's disk keeps of the machine's list: one record for each commit.
-use Rattle.std.specs.Prelude.{◌≡◌, ℕ, List, [], ◌∷◌, map}
+use Rattle.std.specs.Prelude.{◌≡◌, ℕ, List, [], ◌∷◌, map, Option, Some, None}
 use Rattle.std.specs.FinMap.{entries}
 use Rattle.iot_tree.specs.Tree.{Nodes, root_alone}
 use Rattle.iot_tree.specs.declared.nodes.Node.TheVariants.{Dir}
 use Rattle.iot_tree.specs.declared.labels.Label.{Label}
 use Rattle.iot_exec.specs.Serial.{run_entry}
-use Rattle.iot_journal.specs.Reading.{Stands, reading}
+use Rattle.iot_journal.specs.Decoding.{Encodes, decoded}
 use Rattle.iot_store.specs.States.{State, opening}
 use Rattle.iot_store.specs.Records.{record_spelling}
 use Rattle.iot_store.specs.Standing.{Leads}
@@ -26,7 +26,8 @@ label_of commit = record {
 -- the records of commits from a tree on: of each its label, and the acts of its script's run
 abbrev pub records_from : List Commit → Nodes → List (List ℕ)
 records_from [] t = []
-records_from (commit ∷ commits) t = record_spelling (label_of commit) (run_entry commit.entry t).acts ∷ records_from commits (run_entry commit.entry t).tree
+records_from (commit ∷ commits) t =
+    record_spelling (label_of commit) (run_entry commit.entry t).acts ∷ records_from commits (run_entry commit.entry t).tree
 
 abbrev pub records_of : List Commit → List (List ℕ)
 records_of commits = records_from commits (root_alone Dir)
@@ -37,7 +38,7 @@ state_of commits = record { tree = serial_tree (entries_of commits); labels = ma
 
 -- the bytes are a journal of these records, each of which can follow the ones before it, and they lead to this state
 pub record IsImage (records : List (List ℕ)) (state : State) (bytes : List ℕ) : Type 0 where
-  pub has_records : reading bytes ≡ Stands records
+  pub has_records : decoded bytes ≡ Encodes records
   pub leads : Leads records opening state
 
 -- so is each image that a crash may leave
@@ -47,3 +48,8 @@ pub record AreImages (records : List (List ℕ)) (state : State) (images : List 
 -- each of the images has the records of this list, which lead to its tree and its labels
 abbrev pub Holds : (List ℕ → Type 0) → List Commit → Type 0
 Holds images commits = AreImages (records_of commits) (state_of commits) images
+
+-- so is it on this disk, if there is one
+abbrev pub HoldsIn : {D : Type 0} → (D → List ℕ → Type 0) → Option D → List Commit → Type 0
+HoldsIn may_leave (Some disk) commits = Holds (may_leave disk) commits
+HoldsIn may_leave None commits = ⊥

@@ -3,7 +3,8 @@ use Rattle.std.specs.Prelude.{◌≡◌, ℕ, Bool, true, false, List, length, O
 use Rattle.iot_tree.specs.Tree.{Nodes}
 use Rattle.iot_tree.specs.declared.acts.Act.{Act}
 use Rattle.iot_tree.specs.declared.labels.Label.{Label}
-use Rattle.iot_disk.specs.Disk.{Arms, Rose}
+use Rattle.iot_count.specs.Counts.{Counted, HasRisen, IsSteady}
+use Rattle.iot_disk.specs.Disk.{Arms}
 use Rattle.iot_codec.specs.Rules.{IsLabel, AreActs}
 use Rattle.iot_store.specs.States.{State, CanFollow}
 use Rattle.iot_store.specs.Store as store
@@ -12,14 +13,14 @@ use Rattle.iot_app.specs.Records.{AreImages}
 use Rattle.iot_app.specs.declared.server.Server.{Server}
 use Rattle.iot_app.specs.declared.server.Server.TheVariants.{Up, Down, Between}
 use Rattle.iot_app.specs.declared.fault.WorldFault.{WorldFault}
-use Rattle.iot_app.specs.declared.fault.WorldFault.TheVariants as faults
+use Rattle.iot_app.specs.declared.fault.WorldFault.TheVariants as world
 
 abbrev pub is_up : {D : Type 0} → Server D → Bool
 is_up (Up it) = true
 is_up (Down disk) = false
 is_up Between = false
 
--- its disk, which it has but inside a call that starts or stops it
+-- its disk, which it has except inside a call that starts or stops it
 abbrev pub disk_of : {D : Type 0} → Server D → Option D
 disk_of (Up it) = Some (store.disk_of it)
 disk_of (Down disk) = Some disk
@@ -38,26 +39,30 @@ count_of (Down disk) = 0
 count_of Between = 0
 
 -- a live server's store has these records and this state
-pub record IsStore {D : Type 0} (reads : D → List ℕ) (may_leave : D → List ℕ → Type 0) (records : List (List ℕ)) (state : State) (it : Store D) : Type 0 where
-  pub settled : store.IsSettled reads may_leave it
+pub record IsStore {D : Type 0} (reads : D → List ℕ) (may_leave : D → List ℕ → Type 0) (records : List (List ℕ)) (state : State)
+    (it : Store D) : Type 0 where
+  pub synced : store.IsSynced reads may_leave it
   pub has_records : store.bodies_on reads it ≡ records
   pub has_state : store.state_of it ≡ state
 
--- the server keeps these records and this state: in its store where it is alive, and in each image of its disk where it is down
+-- the server keeps these records and this state: in its store if it is alive, and in each image of its disk if it is down
 abbrev pub Keeps : {D : Type 0} → (D → List ℕ) → (D → List ℕ → Type 0) → List (List ℕ) → State → Server D → Type 0
 Keeps reads may_leave records state (Up it) = IsStore reads may_leave records state it
 Keeps reads may_leave records state (Down disk) = AreImages records state (may_leave disk)
 Keeps reads may_leave records state Between = ⊥
 
 -- whatever the old server keeps, the new one keeps this made of it
-pub record Carries {D : Type 0} (reads : D → List ℕ) (may_leave : D → List ℕ → Type 0) (old new : Server D) (to_records : List (List ℕ) → List (List ℕ)) (to_state : State → State) : Type 0 where
-  pub keeps : (records : List (List ℕ)) (state : State) → Keeps reads may_leave records state old → Keeps reads may_leave (to_records records) (to_state state) new
+pub record Carries {D : Type 0} (reads : D → List ℕ) (may_leave : D → List ℕ → Type 0) (old new : Server D)
+    (to_records : List (List ℕ) → List (List ℕ)) (to_state : State → State) : Type 0 where
+  pub keeps : (records : List (List ℕ)) (state : State) → Keeps reads may_leave records state old
+      → Keeps reads may_leave (to_records records) (to_state state) new
 
 -- a live server can take this commit
-pub record CanTake {D : Type 0} (reads : D → List ℕ) (may_leave : D → List ℕ → Type 0) (label : Label) (acts : List Act) (server : Server D) : Type 0 where
+pub record CanTake {D : Type 0} (reads : D → List ℕ) (may_leave : D → List ℕ → Type 0) (label : Label) (acts : List Act)
+    (server : Server D) : Type 0 where
   pub it : Store D
   pub up : server ≡ Up it
-  pub settled : store.IsSettled reads may_leave it
+  pub synced : store.IsSynced reads may_leave it
   pub has_label : IsLabel label
   pub has_acts : AreActs acts
   pub follows : CanFollow (store.state_of it) label acts
@@ -68,27 +73,23 @@ pub record KeepsSome {D : Type 0} (reads : D → List ℕ) (may_leave : D → Li
   pub state : State
   pub keeps : Keeps reads may_leave records state server
 
--- the disk's count of faults, before and after a call: it rises where the call ended by the disk, and only there
-abbrev pub CountsFault : WorldFault → ℕ → ℕ → Type 0
-CountsFault faults.NoMemory before now = now ≡ before
-CountsFault faults.DiskFailed before now = Rose before now
+-- the disk's count of faults rises in a call if the disk ended it, and only then
+abbrev pub FaultCounts : WorldFault → Counted → Type 0
+FaultCounts world.NoMemory faults = IsSteady faults
+FaultCounts world.DiskFailed faults = HasRisen faults
 
-abbrev pub Counts : {T : Type 0} → Result T WorldFault → ℕ → ℕ → Type 0
-Counts (Ok done) before now = now ≡ before
-Counts (Err fault) before now = CountsFault fault before now
-
--- a count that stays
-abbrev pub Steady : ℕ → ℕ → Type 0
-Steady before now = now ≡ before
+abbrev pub CallCounts : {T : Type 0} → Result T WorldFault → Counted → Type 0
+CallCounts (Ok done) faults = IsSteady faults
+CallCounts (Err fault) faults = FaultCounts fault faults
 
 -- the disk in a server is that of another, which was not armed, and whose faults are counted so
-pub record SameDisk {D : Type 0} (arms_of : D → Arms) (faults_of : D → ℕ) (counts : ℕ → ℕ → Type 0) (old new : Server D) : Type 0 where
+pub record SameDisk {D : Type 0} (arms_of : D → Arms) (faults_of : D → ℕ) (counts : Counted → Type 0) (old new : Server D) : Type 0 where
   pub was : D
   pub now : D
   pub old_has : disk_of old ≡ Some was
   pub new_has : disk_of new ≡ Some now
   pub arms : arms_of now ≡ arms_of was
-  pub faults : counts (faults_of was) (faults_of now)
+  pub faults : counts (record { before = faults_of was; after = faults_of now })
 
 -- a new server has the disk that was handed in, which was not armed and did not fail
 pub record Starts {D : Type 0} (arms_of : D → Arms) (faults_of : D → ℕ) (was : D) (server : Server D) : Type 0 where
@@ -98,9 +99,9 @@ pub record Starts {D : Type 0} (arms_of : D → Arms) (faults_of : D → ℕ) (w
   pub faults : faults_of now ≡ faults_of was
 
 -- the disk comes back with this fault, and was not armed
-pub record GivesBack {D : Type 0} (arms_of : D → Arms) (faults_of : D → ℕ) (was : D) (refused : D × WorldFault) : Type 0 where
+pub record HandsBack {D : Type 0} (arms_of : D → Arms) (faults_of : D → ℕ) (was : D) (refused : D × WorldFault) : Type 0 where
   pub arms : arms_of refused.0 ≡ arms_of was
-  pub faults : CountsFault refused.1 (faults_of was) (faults_of refused.0)
+  pub faults : FaultCounts refused.1 (record { before = faults_of was; after = faults_of refused.0 })
 
 -- it has a disk
 pub record HasDisk {D : Type 0} (server : Server D) : Type 0 where

@@ -5,15 +5,12 @@ use Rattle.iot_exec.specs.Serial.{Entry, run_entry}
 use Rattle.iot_lang.specs.Code.{End}
 use Rattle.iot_app.specs.Parts.{Part, Does, Says, Append, Exchange, From, Then, Choose, InTurn}
 use Rattle.iot_tree.specs.declared.labels.Way.{Way}
+use Rattle.iot_tree.specs.declared.limits.TheConstants.{ACT_LIMIT}
 use Rattle.iot_tree.specs.declared.labels.Way.TheVariants.{Certified}
 use Rattle.iot_app.specs.Machine.{Machine, Commit, Client, Declared, server_tree}
 use Rattle.iot_app.specs.Texts.{line, client_line, end_line, commit_line, settled_line, transaction_name, acts_output, tree_text}
 use Rattle.iot_event.specs.declared.event.Event.{Event}
 use Rattle.iot_event.specs.declared.event.Event.TheVariants as events
-
--- at most so many acts are in a transaction
-abbrev pub act_limit : ℕ
-act_limit = 4096
 
 -- ---- looking up by place
 
@@ -59,7 +56,7 @@ entry_of client script m = record {
   client = client;
   number = (client_at m client).last;
   script = (script_at m script).code;
-  budget = act_limit;
+  budget = ACT_LIMIT;
   way = Certified;
   kept = empty;
 }
@@ -92,7 +89,7 @@ Runs client script =
 abbrev pub set_alive : Bool → Machine → Machine
 set_alive alive m = record m { alive = alive }
 
--- an event of the server that is refused where it is not alive
+-- an event of the server, which is refused if it is not alive
 abbrev pub WhereAlive : Part Machine → Part Machine
 WhereAlive part = Choose (λ m. m.alive) part (Says (λ _. line (codes "down")))
 

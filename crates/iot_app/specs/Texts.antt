@@ -19,7 +19,7 @@ line text = text ++ 10 ∷ []
 abbrev pub transaction_name : List ℕ → ℕ → List ℕ
 transaction_name client number = client ++ 46 ∷ decimal number
 
--- an output line of a script, behind a bar
+-- an output line of a script, after a bar
 abbrev pub output_line : List ℕ → List ℕ
 output_line text = line (124 ∷ text)
 

@@ -1,9 +1,11 @@
 -- Which plain machine a world stands for, and when a change of it is a step of that machine.
-use Rattle.std.specs.Prelude.{◌≡◌, ℕ, ◌+◌, ◌≤◌, Bool, true, false, not, List, [], ◌∷◌, ◌++◌, length, map, All, Option, Some, None, slice_index_or, slice_set, codes, if◌then◌else◌}
+use Rattle.std.specs.Prelude.{◌≡◌, ℕ, ◌+◌, ◌≤◌, Bool, true, false, not, List, [], ◌∷◌, ◌++◌, length, map, All, Option, Some, None}
+use Rattle.std.specs.Prelude.{slice_index_or, slice_set, codes, if◌then◌else◌}
 use Rattle.std.specs.List.{list_any, AllByRecursion}
 use Rattle.std.specs.FinMap.{empty}
 use Rattle.iot_disk.specs.Disk.{Arms}
 use Rattle.iot_tree.specs.Tree.{Nodes}
+use Rattle.iot_tree.specs.declared.limits.TheConstants.{ACT_LIMIT}
 use Rattle.iot_tree.specs.declared.acts.Act.{Act}
 use Rattle.iot_tree.specs.declared.labels.Label.{Label}
 use Rattle.iot_tree.specs.declared.labels.Way.TheVariants.{Certified}
@@ -11,7 +13,7 @@ use Rattle.iot_acts.specs.Traces.{after_acts}
 use Rattle.iot_lang.specs.Code.{Code, End}
 use Rattle.iot_exec.specs.Runs.{run}
 use Rattle.iot_exec.specs.declared.ran.Ran.{Ran}
-use Rattle.iot_limits.specs.Limits.{IsSpelledTree}
+use Rattle.iot_limits.specs.Spelled.{IsSpelledTree}
 use Rattle.iot_store.specs.States.{is_of, after_commit}
 use Rattle.iot_store.specs.Records.{record_spelling}
 use Rattle.iot_event.specs.Declarations.{AreDeclared}
@@ -57,17 +59,19 @@ pub record StandsFor {D : Type 0} (reads : D → List ℕ) (may_leave : D → Li
   pub numbered : AreNumbered m m.commits
 
 -- it stands for some machine
-pub record Stands {D : Type 0} (reads : D → List ℕ) (may_leave : D → List ℕ → Type 0) (world : World D) : Type 0 where
+pub record StandsForSome {D : Type 0} (reads : D → List ℕ) (may_leave : D → List ℕ → Type 0) (world : World D) : Type 0 where
   pub machine : Machine
   pub stands : StandsFor reads may_leave world machine
 
 -- A change of the world that wrote is a step by this part: each machine for which the old world stands has one, with the
 -- text that was added, to a machine for which the new world stands.
-pub record Refines {D : Type 0} (reads : D → List ℕ) (may_leave : D → List ℕ → Type 0) (part : Part Machine) (old new : World D) (before after : List ℕ) : Type 0 where
-  pub step : (m : Machine) → StandsFor reads may_leave old m → (text : List ℕ) × (n : Machine) × (after ≡ before ++ text) × part m text n × StandsFor reads may_leave new n
+pub record Refines {D : Type 0} (reads : D → List ℕ) (may_leave : D → List ℕ → Type 0) (part : Part Machine) (old new : World D)
+    (before after : List ℕ) : Type 0 where
+  pub step : (m : Machine) → StandsFor reads may_leave old m
+      → (text : List ℕ) × (n : Machine) × (after ≡ before ++ text) × part m text n × StandsFor reads may_leave new n
 
 -- no count of the world is above this one
-pub record CountsAtMost {D : Type 0} (limit : ℕ) (world : World D) : Type 0 where
+pub record NumbersAtMost {D : Type 0} (limit : ℕ) (world : World D) : Type 0 where
   pub clients : All (λ client. client.last ≤ limit) world.clients.items
 
 -- these events name only what the world has, or what they declare before
@@ -77,12 +81,13 @@ DeclaredOn events world = AreDeclared events (length world.clients.items) (lengt
 -- a new world
 pub record IsOpened {D : Type 0} (reads : D → List ℕ) (may_leave : D → List ℕ → Type 0) (world : World D) : Type 0 where
   pub stands : StandsFor reads may_leave world opening
-  pub counts : CountsAtMost 0 world
+  pub counts : NumbersAtMost 0 world
   pub no_clients : world.clients.items ≡ []
   pub no_scripts : world.scripts.items ≡ []
 
 -- with the disk that was handed in
-pub record Opens {D : Type 0} (reads : D → List ℕ) (may_leave : D → List ℕ → Type 0) (arms_of : D → Arms) (faults_of : D → ℕ) (disk : D) (world : World D) : Type 0 where
+pub record Opens {D : Type 0} (reads : D → List ℕ) (may_leave : D → List ℕ → Type 0) (arms_of : D → Arms) (faults_of : D → ℕ) (disk : D)
+    (world : World D) : Type 0 where
   pub opened : IsOpened reads may_leave world
   pub starts : Starts arms_of faults_of disk world.server
 
@@ -142,11 +147,11 @@ pub record Begins {D : Type 0} (place : ℕ) (old new : World D) : Type 0 where
 
 -- the run of a script on what the client sees
 abbrev pub run_in : {D : Type 0} → World D → ℕ → Ran
-run_in world script = run (script_in world script).script empty world.view 4096
+run_in world script = run (script_in world script).script empty world.view ACT_LIMIT
 
 -- the label of a transaction whose script was run
 abbrev pub label_in : ℕ → ℕ → List ℕ → Label
-label_in client number script = record { client = client; tid = number; script = script; budget = 4096; way = Certified; kept = [] }
+label_in client number script = record { client = client; tid = number; script = script; budget = ACT_LIMIT; way = Certified; kept = [] }
 
 -- none of these commits is that of this transaction
 abbrev pub IsNew : ℕ → ℕ → List Commit → Type 0
@@ -159,7 +164,8 @@ pub record IsReady {D : Type 0} (reads : D → List ℕ) (may_leave : D → List
   pub is_new : IsNew client number machine.commits
 
 -- the run of the script was committed as this transaction, with this number and these acts
-pub record Submits {D : Type 0} (reads : D → List ℕ) (may_leave : D → List ℕ → Type 0) (client script number : ℕ) (old new : World D) (submitted : ℕ × List Act) : Type 0 where
+pub record Submits {D : Type 0} (reads : D → List ℕ) (may_leave : D → List ℕ → Type 0) (client script number : ℕ) (old new : World D)
+    (submitted : ℕ × List Act) : Type 0 where
   pub count : submitted.0 ≡ count_of old.server + 1
   pub acts : submitted.1 ≡ (run_in old script).acts
   pub server : Carries reads may_leave old.server new.server
@@ -173,7 +179,8 @@ pub record Submits {D : Type 0} (reads : D → List ℕ) (may_leave : D → List
   pub scripts : new.scripts.items ≡ old.scripts.items
 
 -- the client's next transaction was the run of the script, and says so
-pub record RanScript {D : Type 0} (reads : D → List ℕ) (may_leave : D → List ℕ → Type 0) (client script : ℕ) (old new : World D) (before after : List ℕ) : Type 0 where
+pub record RanScript {D : Type 0} (reads : D → List ℕ) (may_leave : D → List ℕ → Type 0) (client script : ℕ) (old new : World D)
+    (before after : List ℕ) : Type 0 where
   pub mid : World D
   pub submitted : ℕ × List Act
   pub begins : Begins client old mid

@@ -1,6 +1,6 @@
 //! Disks for a run.
 ghost use Rattle.std.specs.Prelude.{IfOk};
-ghost use Rattle.iot_app.specs.Disks.{AreEmptyDisks};
+ghost use Rattle.iot_app.specs.Disks.{AreEmptyDisks, AreUnarmed, AreFaultless};
 
 use iot_disk::MemDisk;
 use iot_text::NoMemory;
@@ -9,9 +9,11 @@ use std::alloc::Global;
 /// How many disks a run takes.
 const COUNT: usize = 9;
 
-/// Nine empty disks in memory, as a run takes them.
+/// Nine empty disks in memory, as a run takes them: never armed, and without a fault.
 pub fn empty_disks(alloc: Global) -> Result<Vec<MemDisk>, NoMemory>
-    ensures { IfOk result (λ disks. AreEmptyDisks disks.items) }
+    ensures empty { IfOk result (λ disks. AreEmptyDisks disks.items) }
+    ensures arms { IfOk result (λ disks. AreUnarmed disks.items) }
+    ensures faults { IfOk result (λ disks. AreFaultless disks.items) }
 {
     let mut disks = Vec::with_capacity(alloc, COUNT)?;
     'disks: for _ in 0..COUNT {

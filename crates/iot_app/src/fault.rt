@@ -1,15 +1,16 @@
 //! Why an event was not done.
 ghost use Rattle.std.specs.Prelude.{◌≡◌};
-ghost use Rattle.iot_app.specs.Faults.{of_start};
+ghost use Rattle.iot_app.specs.Faults.{of_start, ended_by};
 ghost use Rattle.iot_store.specs.Causes.{TakesBytes};
 
+use crate::status::Status;
 use iot_store::{JournalFault, StartFault};
 use iot_text::NoMemory;
 
-/// Why an event was not done. The world is then given up, but for its disk.
+/// Why an event was not done. After it only the disk of the world is of use.
 #[derive(Clone, Copy, Debug, PartialEq, Eq)]
 pub(crate) enum WorldFault {
-    /// There was no memory for it.
+    /// Memory ran out.
     NoMemory,
 
     /// The server's disk failed in it.
@@ -26,6 +27,16 @@ impl WorldFault {
             StartFault::NoMemory => WorldFault::NoMemory,
             StartFault::Stopped => WorldFault::DiskFailed,
             StartFault::Foreign | StartFault::Damaged { .. } => unreachable!(),
+        }
+    }
+
+    /// The status of a run that ends by it.
+    pub(crate) fn status(self) -> Status
+        ensures { result ≡ ended_by self }
+    {
+        match self {
+            WorldFault::NoMemory => Status::NoMemory,
+            WorldFault::DiskFailed => Status::DiskFailed,
         }
     }
 }

@@ -3,19 +3,20 @@ ghost use Rattle.std.specs.Prelude.{◌≡◌, false, IfOk, IfErr, OnOk};
 ghost use Rattle.std.specs.Io.KnownBytes.{IsAtEnd};
 ghost use Rattle.iot_io.specs.ReadAll.{Took};
 ghost use Rattle.iot_event.specs.Declarations.{AreDeclared};
-ghost use Rattle.iot_app.specs.Input.{GivesEvents, GivesNone, CountsInputFault};
+ghost use Rattle.iot_event.specs.Events.{Events};
+ghost use Rattle.iot_app.specs.Input.{TookInput, TookFor, InputCounts};
 
 use iot_event::{Event, EventFault, parse};
 use iot_io::{ReadFault, Source, read_all};
 use std::alloc::Global;
 
 /// How many bytes an input has at most.
-const INPUT_LIMIT: usize = 4_194_304;
+pub const INPUT_LIMIT: usize = 4_194_304;
 
 /// Why there are no events.
 #[derive(Debug, Drop)]
 pub(crate) enum InputFault {
-    /// There was no memory for the input or for what it says.
+    /// Memory ran out.
     NoMemory,
 
     /// A read failed.
@@ -62,11 +63,14 @@ pub(crate) fn read_events<S: Source>(
     alloc: Global,
     source: &mut S,
 ) -> Result<Vec<Event>, InputFault>
-    ensures events { IfOk result (λ events. GivesEvents events.items (Took S.left S.taken source.old source.new) (IsAtEnd (S.left source.new))) }
+    ensures events { IfOk result (λ events.
+        TookInput (Took S.left S.taken source.old source.new) (IsAtEnd (S.left source.new)) (Events events.items)) }
     ensures declared { IfOk result (λ events. AreDeclared events.items 0 0 false) }
-    ensures none { IfErr result (λ fault. GivesNone fault (Took S.left S.taken source.old source.new) (IsAtEnd (S.left source.new))) }
+    ensures none { IfErr result (λ fault.
+        TookFor fault (Took S.left S.taken source.old source.new) (IsAtEnd (S.left source.new))) }
     ensures steady { OnOk result (S.faults source.new ≡ S.faults source.old) }
-    ensures cause { IfErr result (λ fault. CountsInputFault fault (S.faults source.old) (S.faults source.new)) }
+    ensures cause { IfErr result (λ fault.
+        InputCounts fault (record { before = S.faults source.old; after = S.faults source.new })) }
 {
     let input = read_all(alloc, source, INPUT_LIMIT)?;
     Ok(parse(alloc, &input)?)

@@ -4,10 +4,12 @@ ghost use Rattle.std.specs.Io.KnownBytes.{Appends, IsAtEnd};
 ghost use Rattle.std.specs.Vec.{vec_len, vec_capacity};
 ghost use Rattle.iot_io.specs.ReadAll.{Took};
 ghost use Rattle.iot_event.specs.Declarations.{AreDeclared};
-ghost use Rattle.iot_app.specs.Endings.{usage_line, too_long_line, fault_line, refusal_line, Ends, EndsWith, Causes, CausesOf};
-ghost use Rattle.iot_app.specs.Disks.{AreFresh, OnlyFirst, FirstHolds, first_count, WithoutEvents};
-ghost use Rattle.iot_app.specs.Job.{PlayEnds, LineEnds, RefusalEnds};
-ghost use Rattle.iot_app.specs.Status.{code_of};
+ghost use Rattle.iot_app.specs.Endings.{Ends};
+ghost use Rattle.iot_app.specs.Disks.{AreFresh, OnlyFirst, FirstHolds, first_count};
+ghost use Rattle.iot_app.specs.Job.{LineEnds, RefusalEnds};
+ghost use Rattle.iot_app.specs.Played.{Played};
+ghost use Rattle.iot_app.specs.Refusals.{fault_line, refusal_line};
+ghost use Rattle.iot_app.specs.Status.{HasStatus, SourceCounts, SinkCounts, DiskCounts};
 
 use crate::input::{InputFault, read_events};
 use crate::play::play;
@@ -32,22 +34,24 @@ pub struct Outcome<D> {
 }
 
 /// Runs the program: reads the source to its end as an event script, does its events, and writes what they say, each
-/// event's text by one `write_all`. `words` are the words of the command line behind the program's name; none is known
-/// yet. Of the nine disks, which are empty and come back, the first is the server's and the others are not used yet.
+/// event's text by one `write_all`. `words` are the words of the command line after the program's name; none is known
+/// yet. Of the nine disks, which are empty and come back, the first is the server's; the others are not used yet.
 ///
 /// # Statuses
 ///
 /// - 0: the input was read to its end and is an event script, and all was written.
-/// - 1: the input has more than 4,194,304 bytes or is no event script. One line that says so was written, and no event
-///   was done.
-/// - 2: there are words. The usage line was written.
+/// - 1: the input has more than 4,194,304 bytes, or was read to its end and is no event script. One line that says so was
+///   written.
+/// - 2: there are words. Nothing was read, and the usage line was written.
 /// - 3: a read failed. Nothing was written.
-/// - 4: a write failed, or took nothing. A front of what there was to say was written.
-/// - 5: there was no memory. Nothing was written, or what the first events say.
-/// - 7: the server's disk failed. Nothing was written of an event script, or what its first events say.
+/// - 4: a write failed, or took nothing. A front of what there was to say was written. If that is a transcript, the input
+///   was read to its end, and the event whose text was cut is the last that was done.
+/// - 5: memory ran out. Nothing was written; or the input was read to its end, and what its first events say was written.
+/// - 7: the server's disk failed. The input was read to its end, and what its first events say was written.
 ///
-/// With the statuses 0 and 4 the first disk holds the commits of the events that were done, whatever of its images a
-/// crash leaves. With the statuses 1, 2 and 3 the disks are as they were.
+/// After a whole or a cut transcript the first disk holds the commits of the events that were done, whichever of its
+/// images a crash leaves. If no event was done, with the statuses 1 to 5, the disks are as they were. Of a disk after
+/// some events and status 5 or 7 nothing is said.
 pub fn run<S: Source, K: Sink, D: Disk>(
     alloc: Global,
     words: &[&str],
@@ -57,27 +61,36 @@ pub fn run<S: Source, K: Sink, D: Disk>(
 ) -> Outcome<D>
     requires { AreFresh D.reads D.may_leave disks.items }
 
-    // What was read and written, by the status, and what the first disk holds then.
-    ensures ends { Ends (length words.now)
-        (Took S.left S.taken source.old source.new)
-        (Appends (K.written sink.old) (K.written sink.new))
-        (IsAtEnd (S.left source.new))
-        (FirstHolds D.may_leave result.disks.items) result.status }
+    // What was read and written and what the disks hold, by the status.
+    ensures ends { HasStatus result.status (Ends (record {
+      words = length words.now;
+      took = Took S.left S.taken source.old source.new;
+      at_end = IsAtEnd (S.left source.new);
+      wrote = Appends (K.written sink.old) (K.written sink.new);
+      holds = FirstHolds D.may_leave result.disks.items;
+      untouched = result.disks.items ≡ disks.items;
+    })) }
 
-    // A fault's status comes exactly where its count rose.
-    ensures causes { Causes result.status
-        (record { before = S.faults source.old; after = S.faults source.new })
+    // A fault's status comes exactly when its count rose.
+    ensures source_faults { HasStatus result.status (λ status.
+        SourceCounts status (record { before = S.faults source.old; after = S.faults source.new })) }
+    ensures sink_faults { HasStatus result.status (λ status. SinkCounts status
         (record { before = K.faults sink.old; after = K.faults sink.new })
-        (record { before = K.empties sink.old; after = K.empties sink.new })
-        (record { before = first_count D.faults disks.items; after = first_count D.faults result.disks.items }) }
+        (record { before = K.empties sink.old; after = K.empties sink.new })) }
+    ensures disk_faults { HasStatus result.status (λ status. DiskCounts status (record {
+      before = first_count D.faults disks.items;
+      after = first_count D.faults result.disks.items;
+    })) }
 
-    // The disks come back, and none was armed; without an event they are as they were.
+    // The disks come back. Only the first may have changed, and it was not armed.
     ensures disks { OnlyFirst D.arms disks.items result.disks.items }
-    ensures untouched { WithoutEvents result.status (result.disks.items ≡ disks.items) }
 {
     let mut disks = disks;
-    let status = status_of(alloc, words, source, sink, &mut disks).code();
-    Outcome { status, disks }
+    let status = status_of(alloc, words, source, sink, &mut disks);
+    Outcome {
+        status: status.code(),
+        disks,
+    }
 }
 
 /// The same, as a status.
@@ -89,18 +102,23 @@ fn status_of<S: Source, K: Sink, D: Disk>(
     disks: &mut Vec<D>,
 ) -> Status
     requires { AreFresh D.reads D.may_leave disks.old.items }
-    ensures ends { EndsWith (length words.now)
-        (Took S.left S.taken source.old source.new)
-        (Appends (K.written sink.old) (K.written sink.new))
-        (IsAtEnd (S.left source.new))
-        (FirstHolds D.may_leave disks.new.items) result }
-    ensures causes { CausesOf result
-        (record { before = S.faults source.old; after = S.faults source.new })
+    ensures ends { Ends (record {
+      words = length words.now;
+      took = Took S.left S.taken source.old source.new;
+      at_end = IsAtEnd (S.left source.new);
+      wrote = Appends (K.written sink.old) (K.written sink.new);
+      holds = FirstHolds D.may_leave disks.new.items;
+      untouched = disks.new.items ≡ disks.old.items;
+    }) result }
+    ensures source_faults { SourceCounts result (record { before = S.faults source.old; after = S.faults source.new }) }
+    ensures sink_faults { SinkCounts result
         (record { before = K.faults sink.old; after = K.faults sink.new })
-        (record { before = K.empties sink.old; after = K.empties sink.new })
-        (record { before = first_count D.faults disks.old.items; after = first_count D.faults disks.new.items }) }
+        (record { before = K.empties sink.old; after = K.empties sink.new }) }
+    ensures disk_faults { DiskCounts result (record {
+      before = first_count D.faults disks.old.items;
+      after = first_count D.faults disks.new.items;
+    }) }
     ensures disks { OnlyFirst D.arms disks.old.items disks.new.items }
-    ensures untouched { WithoutEvents (code_of result) (disks.new.items ≡ disks.old.items) }
 {
     if !words.is_empty() {
         return write_line(sink, USAGE, Status::Usage);
@@ -111,7 +129,7 @@ fn status_of<S: Source, K: Sink, D: Disk>(
     }
 }
 
-/// Writes one line, and ends so, or with the sink's fault.
+/// Writes one line, and ends with this status, or with the sink's fault.
 fn write_line<K: Sink>(sink: &mut K, line: &[u8], status: Status) -> Status
     ensures { LineEnds status line.now result
         (Appends (K.written sink.old) (K.written sink.new))
@@ -133,21 +151,23 @@ fn do_events<K: Sink, D: Disk>(
 ) -> Status
     requires declared { AreDeclared events.now 0 0 false }
     requires fresh { AreFresh D.reads D.may_leave disks.old.items }
-    ensures ends { PlayEnds events.now result
+    ensures ends { Played result
         (Appends (K.written sink.old) (K.written sink.new))
         (FirstHolds D.may_leave disks.new.items)
+        events.now }
+    ensures sink_faults { SinkCounts result
         (record { before = K.faults sink.old; after = K.faults sink.new })
-        (record { before = K.empties sink.old; after = K.empties sink.new })
-        (record { before = first_count D.faults disks.old.items; after = first_count D.faults disks.new.items }) }
+        (record { before = K.empties sink.old; after = K.empties sink.new }) }
+    ensures disk_faults { DiskCounts result (record {
+      before = first_count D.faults disks.old.items;
+      after = first_count D.faults disks.new.items;
+    }) }
     ensures disks { OnlyFirst D.arms disks.old.items disks.new.items }
 {
     let disk = take_first(disks);
-    let (ended, disk) = play(alloc, events, sink, disk);
+    let (status, disk) = play(alloc, events, sink, disk);
     put_first(disks, disk);
-    match ended {
-        Ok(()) => Status::Done,
-        Err(fault) => fault.status(),
-    }
+    status
 }
 
 /// Takes the first disk out of the others, and leaves room for it.
@@ -159,7 +179,7 @@ fn take_first<D>(disks: &mut Vec<D>) -> D
     disks.remove(0)
 }
 
-/// Puts the first disk before the others, where room was left for it.
+/// Puts the first disk before the others. Room was left for it.
 fn put_first<D>(disks: &mut Vec<D>, disk: D)
     requires { vec_len disks.old < vec_capacity disks.old }
     ensures { disks.new.items ≡ disk ∷ disks.old.items }

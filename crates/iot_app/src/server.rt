@@ -26,7 +26,9 @@ pub(crate) enum Server<D: Disk> {
 }
 
 impl<D: Disk> Server<D> {
-    ghost use Rattle.iot_app.specs.Servers.{is_up, disk_of, count_of, tree_of, Keeps, KeepsSome, Carries, CanTake, Counts, Steady, SameDisk, HasDisk, Starts, GivesBack};
+    ghost use Rattle.iot_app.specs.Servers.{is_up, disk_of, count_of, tree_of, Keeps, KeepsSome, Carries, CanTake, CallCounts, SameDisk};
+    ghost use Rattle.iot_app.specs.Servers.{HasDisk, Starts, HandsBack};
+    ghost use Rattle.iot_count.specs.Counts.{IsSteady};
     ghost use Rattle.iot_app.specs.declared.server.Server.TheVariants.{Down, Between};
 
     /// A server on an empty disk.
@@ -36,7 +38,7 @@ impl<D: Disk> Server<D> {
         ensures keeps { IfOk result (Keeps D.reads D.may_leave [] opening) }
         ensures up { IfOk result (λ server. is_up server ≡ true) }
         ensures disk { IfOk result (Starts D.arms D.faults disk) }
-        ensures refused { IfErr result (GivesBack D.arms D.faults disk) }
+        ensures refused { IfErr result (HandsBack D.arms D.faults disk) }
     {
         match Store::start(alloc, disk) {
             Ok(store) => Ok(Server::Up(store)),
@@ -49,16 +51,16 @@ impl<D: Disk> Server<D> {
         requires { is_up self.old ≡ true }
         ensures down { is_up self.new ≡ false }
         ensures keeps { Carries D.reads D.may_leave self.old self.new (λ records. records) (λ state. state) }
-        ensures disk { SameDisk D.arms D.faults Steady self.old self.new }
+        ensures disk { SameDisk D.arms D.faults IsSteady self.old self.new }
     {
         match mem::replace(self, Server::Between) {
-            Server::Up(store) => self.settle(Server::Down(store.into_disk())),
+            Server::Up(store) => self.finish(Server::Down(store.into_disk())),
             _down => unreachable!(),
         }
     }
 
-    /// Becomes another, at the end of a call that starts or stops it. No disk is dropped by it.
-    fn settle(&mut self, server: Server<D>)
+    /// Ends a call that starts or stops it: this is the server then. No disk is dropped by it.
+    fn finish(&mut self, server: Server<D>)
         requires { self.old ≡ Between }
         ensures { self.new ≡ server }
     {
@@ -74,7 +76,7 @@ impl<D: Disk> Server<D> {
         requires keeps { KeepsSome D.reads D.may_leave self.old }
         ensures up { OnOk result (is_up self.new ≡ true) }
         ensures keeps { OnOk result (Carries D.reads D.may_leave self.old self.new (λ records. records) (λ state. state)) }
-        ensures disk { SameDisk D.arms D.faults (Counts result) self.old self.new }
+        ensures disk { SameDisk D.arms D.faults (CallCounts result) self.old self.new }
     {
         match mem::replace(self, Server::Between) {
             Server::Down(disk) => self.come_back(alloc, disk),
@@ -88,16 +90,16 @@ impl<D: Disk> Server<D> {
         requires images { KeepsSome D.reads D.may_leave (Down disk) }
         ensures up { OnOk result (is_up self.new ≡ true) }
         ensures keeps { OnOk result (Carries D.reads D.may_leave (Down disk) self.new (λ records. records) (λ state. state)) }
-        ensures disk { SameDisk D.arms D.faults (Counts result) (Down disk) self.new }
+        ensures disk { SameDisk D.arms D.faults (CallCounts result) (Down disk) self.new }
     {
         disk.restart();
         match Store::start(alloc, disk) {
             Ok(store) => {
-                self.settle(Server::Up(store));
+                self.finish(Server::Up(store));
                 Ok(())
             }
             Err((disk, fault)) => {
-                self.settle(Server::Down(disk));
+                self.finish(Server::Down(disk));
                 Err(WorldFault::of_start(fault))
             }
         }
@@ -113,8 +115,10 @@ impl<D: Disk> Server<D> {
         requires { CanTake D.reads D.may_leave label acts.now self.old }
         ensures number { IfOk result (λ number. number ≡ count_of self.old + 1) }
         ensures up { OnOk result (is_up self.new ≡ true) }
-        ensures keeps { OnOk result (Carries D.reads D.may_leave self.old self.new (λ records. records ++ record_spelling label acts.now ∷ []) (λ state. after_commit state label acts.now)) }
-        ensures disk { SameDisk D.arms D.faults (Counts result) self.old self.new }
+        ensures keeps { OnOk result
+            (Carries D.reads D.may_leave self.old self.new (λ records. records ++ record_spelling label acts.now ∷ [])
+            (λ state. after_commit state label acts.now)) }
+        ensures disk { SameDisk D.arms D.faults (CallCounts result) self.old self.new }
     {
         match self {
             Server::Up(store) => Ok(store.commit(alloc, label, acts)?),
@@ -129,7 +133,7 @@ impl<D: Disk> Server<D> {
         matches!(self, Server::Up(_))
     }
 
-    /// Its tree, where it is alive.
+    /// Its tree, if it is alive.
     pub(crate) fn tree(&self) -> Option<&Tree>
         ensures { option_copied result ≡ tree_of self.now }
     {

@@ -2,7 +2,8 @@
 ghost use Rattle.std.specs.Prelude.{◌≡◌, ◌++◌, ◌∷◌, [], OnOk};
 ghost use Rattle.std.specs.FinMap.{entries};
 ghost use Rattle.iot_tree.specs.declared.labels.Way.TheVariants.{Certified};
-ghost use Rattle.iot_app.specs.Texts.{line, client_line, end_line, commit_line, settled_line, transaction_name, output, acts_output, output_line, row_line, row_text, tree_text, run_lines};
+ghost use Rattle.iot_app.specs.Texts.{line, client_line, end_line, commit_line, settled_line, transaction_name, output, acts_output};
+ghost use Rattle.iot_app.specs.Texts.{output_line, row_line, row_text, tree_text, run_lines};
 
 use iot_text::{Name, NoMemory, Path, Text, quote};
 use iot_tree::{Act, Node, Tree};
@@ -52,7 +53,8 @@ fn say_end(transaction: &Transaction, out: &mut Text) -> Result<(), NoMemory>
 
 /// `commit N TID certified`
 fn say_commit(number: u64, transaction: &Transaction, out: &mut Text) -> Result<(), NoMemory>
-    ensures { OnOk result (out.new ≡ out.old ++ commit_line number (transaction_name transaction.now.client transaction.now.number) Certified) }
+    ensures { OnOk result
+        (out.new ≡ out.old ++ commit_line number (transaction_name transaction.now.client transaction.now.number) Certified) }
 {
     out.append(b"commit ")?;
     out.append_number(number)?;
@@ -72,7 +74,7 @@ fn say_settled(transaction: &Transaction, number: u64, out: &mut Text) -> Result
     out.push(b'\n')
 }
 
-/// One line that a script printed, behind its bar.
+/// One line that a script printed, after its bar.
 fn say_line(text: &Text, out: &mut Text) -> Result<(), NoMemory>
     ensures { OnOk result (out.new ≡ out.old ++ output_line text.now) }
 {
@@ -138,7 +140,8 @@ pub(crate) fn say_run(
     acts: &[Act],
     out: &mut Text,
 ) -> Result<(), NoMemory>
-    ensures { OnOk result (out.new ≡ out.old ++ run_lines (transaction_name transaction.now.client transaction.now.number) number acts.now) }
+    ensures { OnOk result
+        (out.new ≡ out.old ++ run_lines (transaction_name transaction.now.client transaction.now.number) number acts.now) }
 {
     say_end(transaction, out)?;
     say_commit(number, transaction, out)?;

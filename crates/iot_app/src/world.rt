@@ -1,24 +1,22 @@
-//! The world: the server and its client, as they stand between two events.
+//! The world: the server and its client, as they are between two events.
 ghost use Rattle.std.specs.Prelude.{◌≡◌, ℕ, ◌+◌, ◌-◌, ◌^◌, ◌<◌, ◌≤◌, List, [], ◌∷◌, ◌++◌, true, false, Some, OnOk, IfOk, IfErr, length};
+ghost use Rattle.iot_count.specs.Counts.{IsSteady};
 ghost use Rattle.iot_disk.specs.Disk.{Only};
 ghost use Rattle.iot_codec.specs.Rules.{IsLabel};
 ghost use Rattle.iot_tree.specs.declared.labels.Way.TheVariants.{Certified};
 ghost use Rattle.iot_app.specs.Texts.{line, client_line};
-ghost use Rattle.iot_app.specs.Servers.{is_up, disk_of, Counts, Steady, SameDisk, HasDisk, GivesBack};
+ghost use Rattle.iot_app.specs.Servers.{is_up, disk_of, CallCounts, SameDisk, HasDisk, HandsBack};
 ghost use Rattle.iot_app.specs.World.{label_in};
 
 use crate::fault::WorldFault;
-use crate::perform::perform;
 use crate::server::Server;
 use crate::texts::{Transaction, say, say_client, say_run, say_tree};
 use iot_disk::Disk;
 use iot_event::{Event, SharedScript};
+use iot_exec::run_on;
 use iot_text::{Name, NoMemory, Text};
-use iot_tree::{Acts, Files, Label, Tree, Way};
+use iot_tree::{ACT_LIMIT, Acts, Files, Label, Tree, Way};
 use std::alloc::Global;
-
-/// How many acts a transaction has at most.
-const BUDGET: u64 = 4096;
 
 /// A client that was declared.
 #[derive(Clone, Copy)]
@@ -36,7 +34,7 @@ pub(crate) struct DeclaredScript {
     pub(crate) script: SharedScript,
 }
 
-/// What an event works on. After a refusal only `into_disk` says anything more.
+/// What an event works on. After an error only `into_disk` is of use.
 #[derive(Drop)]
 pub(crate) struct World<D: Disk> {
     pub(crate) server: Server<D>,
@@ -53,7 +51,9 @@ impl<D: Disk> World<D> {
     ghost use Rattle.iot_app.specs.Machine.{opening};
     ghost use Rattle.iot_app.specs.Steps.{event_part};
     ghost use Rattle.iot_app.specs.Allowed.{IsAllowed};
-    ghost use Rattle.iot_app.specs.World.{StandsFor, Stands, IsReady, Refines, CountsAtMost, AddsClient, AddsScript, RanScript, Submits, Begins, Sets, DeclaredOn, client_in, run_in, transaction_of, shown, crash_text, restart_text, Opens};
+    ghost use Rattle.iot_app.specs.World.{StandsFor, StandsForSome, IsReady, Refines, NumbersAtMost, AddsClient, AddsScript, RanScript};
+    ghost use Rattle.iot_app.specs.World.{Submits, Begins, Sets, DeclaredOn, client_in, run_in, transaction_of, shown, crash_text};
+    ghost use Rattle.iot_app.specs.World.{restart_text, Opens};
     ghost use Rattle.iot_event.specs.declared.event.Event.{Event};
 
     /// The world before any event, with a server on an empty disk.
@@ -61,7 +61,7 @@ impl<D: Disk> World<D> {
         requires empty { D.reads disk ≡ [] }
         requires only { Only (D.reads disk) (D.may_leave disk) }
         ensures opens { IfOk result (Opens D.reads D.may_leave D.arms D.faults disk) }
-        ensures refused { IfErr result (GivesBack D.arms D.faults disk) }
+        ensures refused { IfErr result (HandsBack D.arms D.faults disk) }
     {
         let view = match Tree::whole_root(alloc) {
             Ok(view) => view,
@@ -86,17 +86,17 @@ impl<D: Disk> World<D> {
         out: &mut Text,
     ) -> Result<(), WorldFault>
         requires allowed { IsAllowed event.now (length self.old.clients.items) (length self.old.scripts.items) (is_up self.old.server) }
-        requires counts { CountsAtMost (2 ^ 64 - 2) self.old }
-        requires stands { Stands D.reads D.may_leave self.old }
+        requires counts { NumbersAtMost (2 ^ 64 - 2) self.old }
+        requires stands { StandsForSome D.reads D.may_leave self.old }
 
         ensures step { OnOk result (Refines D.reads D.may_leave (event_part event.now) self.old self.new out.old out.new) }
 
         // The server's disk is not armed, and its faults say whether it ended this.
-        ensures disk { SameDisk D.arms D.faults (Counts result) self.old.server self.new.server }
+        ensures disk { SameDisk D.arms D.faults (CallCounts result) self.old.server self.new.server }
 
-        // For the events behind it.
+        // For the events after it.
         ensures declared { OnOk result ((later : List Event) → DeclaredOn (event.now ∷ later) self.old → DeclaredOn later self.new) }
-        ensures counts { OnOk result ((limit : ℕ) → CountsAtMost limit self.old → CountsAtMost (limit + 1) self.new) }
+        ensures counts { OnOk result ((limit : ℕ) → NumbersAtMost limit self.old → NumbersAtMost (limit + 1) self.new) }
     {
         match event {
             Event::Client(name) => self.declare_client(name, out)?,
@@ -143,10 +143,10 @@ impl<D: Disk> World<D> {
         requires client { client < length self.old.clients.items }
         requires script { script < length self.old.scripts.items }
         requires up { is_up self.old.server ≡ true }
-        requires counts { CountsAtMost (2 ^ 64 - 2) self.old }
-        requires stands { Stands D.reads D.may_leave self.old }
+        requires counts { NumbersAtMost (2 ^ 64 - 2) self.old }
+        requires stands { StandsForSome D.reads D.may_leave self.old }
         ensures ran { OnOk result (RanScript D.reads D.may_leave client script self.old self.new out.old out.new) }
-        ensures disk { SameDisk D.arms D.faults (Counts result) self.old.server self.new.server }
+        ensures disk { SameDisk D.arms D.faults (CallCounts result) self.old.server self.new.server }
     {
         let transaction = self.begin(client as usize);
         let (number, acts) = self.submit(alloc, client, script, transaction.number)?;
@@ -157,7 +157,7 @@ impl<D: Disk> World<D> {
     /// The client's next transaction.
     fn begin(&mut self, client: usize) -> Transaction
         requires client { client < length self.old.clients.items }
-        requires counts { CountsAtMost (2 ^ 64 - 2) self.old }
+        requires counts { NumbersAtMost (2 ^ 64 - 2) self.old }
         ensures world { Begins client self.old self.new }
         ensures transaction { result ≡ transaction_of (client_in self.new client) }
     {
@@ -170,7 +170,7 @@ impl<D: Disk> World<D> {
     }
 
     /// Runs a script as the transaction of this number on what the client sees, and commits it: the number of the commit,
-    /// and the acts of the run. The commit's record is on the disk then.
+    /// and the acts of the run. Its record is on the disk then.
     fn submit(
         &mut self,
         alloc: Global,
@@ -183,16 +183,22 @@ impl<D: Disk> World<D> {
         requires up { is_up self.old.server ≡ true }
         requires ready { IsReady D.reads D.may_leave client number self.old }
         ensures submits { IfOk result (Submits D.reads D.may_leave client script number self.old self.new) }
-        ensures disk { SameDisk D.arms D.faults (Counts result) self.old.server self.new.server }
+        ensures disk { SameDisk D.arms D.faults (CallCounts result) self.old.server self.new.server }
     {
         let declared = &self.scripts[script as usize];
-        let acts = perform(alloc, &declared.script, &mut self.view)?;
+        let acted = run_on(
+            alloc,
+            declared.script.shared()?,
+            Files::new(alloc),
+            &mut self.view,
+            ACT_LIMIT,
+        )?;
         let label = label_of(alloc, client, number, declared.name);
-        let number = self.server.commit(alloc, label, &acts)?;
-        Ok((number, acts))
+        let number = self.server.commit(alloc, label, &acted.acts)?;
+        Ok((number, acted.acts))
     }
 
-    /// The server's tree, where the server is alive.
+    /// The server's tree, if the server is alive; else `down`.
     fn show(&self, out: &mut Text) -> Result<(), NoMemory>
         ensures { OnOk result (out.new ≡ out.old ++ shown self.now) }
     {
@@ -204,10 +210,10 @@ impl<D: Disk> World<D> {
 
     /// The server stops.
     fn crash(&mut self, out: &mut Text) -> Result<(), NoMemory>
-        requires { Stands D.reads D.may_leave self.old }
+        requires { StandsForSome D.reads D.may_leave self.old }
         ensures world { OnOk result (Sets D.reads D.may_leave false self.old self.new) }
         ensures text { OnOk result (out.new ≡ out.old ++ crash_text self.old) }
-        ensures disk { SameDisk D.arms D.faults Steady self.old.server self.new.server }
+        ensures disk { SameDisk D.arms D.faults IsSteady self.old.server self.new.server }
     {
         if !self.server.is_up() {
             return say(b"down", out);
@@ -218,10 +224,10 @@ impl<D: Disk> World<D> {
 
     /// The server comes back, from one of the images that its crash left.
     fn restart(&mut self, alloc: Global, out: &mut Text) -> Result<(), WorldFault>
-        requires { Stands D.reads D.may_leave self.old }
+        requires { StandsForSome D.reads D.may_leave self.old }
         ensures world { OnOk result (Sets D.reads D.may_leave true self.old self.new) }
         ensures text { OnOk result (out.new ≡ out.old ++ restart_text self.old) }
-        ensures disk { SameDisk D.arms D.faults (Counts result) self.old.server self.new.server }
+        ensures disk { SameDisk D.arms D.faults (CallCounts result) self.old.server self.new.server }
     {
         if self.server.is_up() {
             say(b"up", out)?;
@@ -241,7 +247,7 @@ impl<D: Disk> World<D> {
     }
 }
 
-/// The label of a transaction whose script was run with the whole budget, for which `keep` found nothing.
+/// The label of a transaction whose script was run with the whole budget and found nothing to keep.
 fn label_of(alloc: Global, client: u64, number: u64, script: Name) -> Label
     requires { client ≤ 7 }
     ensures value { result ≡ label_in client number script }
@@ -253,7 +259,7 @@ fn label_of(alloc: Global, client: u64, number: u64, script: Name) -> Label
         client,
         tid: number,
         script,
-        budget: BUDGET,
+        budget: ACT_LIMIT,
         way: Way::Certified,
         kept: Files::new(alloc),
     }

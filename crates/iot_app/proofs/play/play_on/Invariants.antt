@@ -1,12 +1,14 @@
 use Rattle.std.proofs.Common.{◌≡◌}
-use Rattle.iot_app.specs.Servers.{Steady, SameDisk}
-use Rattle.iot_app.proofs.Playing.{PlaysOn}
+use Rattle.iot_count.specs.Counts.{IsSteady}
+use Rattle.iot_app.specs.Servers.{SameDisk}
+use Rattle.iot_app.proofs.PlayedLaws.{PlaysOn}
 use Rattle.iot_app.proofs.play.play_on.Given as goal
 
 abbrev pub invariant-events : goal.invariant-events
 invariant-events g l = record {
-  plays : PlaysOn g.D.Disk.reads g.D.Disk.may_leave (g.K.Sink.written l.initial.sink) (g.K.Sink.written l.sink) l.events l.world l.event-index;
+  plays : PlaysOn g.D.Disk.reads g.D.Disk.may_leave (g.K.Sink.written l.initial.sink) (g.K.Sink.written l.sink) l.events l.world
+      l.event-index;
   faults : g.K.Sink.faults l.sink ≡ g.K.Sink.faults l.initial.sink;
   empties : g.K.Sink.empties l.sink ≡ g.K.Sink.empties l.initial.sink;
-  disk : SameDisk g.D.Disk.arms g.D.Disk.faults Steady l.initial.world.server l.world.server;
+  disk : SameDisk g.D.Disk.arms g.D.Disk.faults IsSteady l.initial.world.server l.world.server;
 }

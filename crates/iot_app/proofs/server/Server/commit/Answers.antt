@@ -3,7 +3,7 @@ use Rattle.std.proofs.lemmas.Result.{err_from_is_err_and}
 use Rattle.iot_store.specs.Store as store
 use Rattle.iot_app.specs.Servers.{disk_of, count_of}
 use Rattle.iot_app.specs.declared.server.Server.{Server}
-use Rattle.iot_app.proofs.Serving.{append_counts}
+use Rattle.iot_app.proofs.ServersLaws.{append_counts}
 use Rattle.iot_app.proofs.server.Server.commit.Goals as goal
 
 pub returns-clause-disk : goal.returns-clause-disk

@@ -8,7 +8,7 @@ returns-clause-disk g c = record {
   was = store.disk_of c.in-Up.store;
   now = c.into_disk.result;
   old_has = ap disk_of (sym c.replace.ensures.value ∙ c.in-Up.is);
-  new_has = ap disk_of c.settle.ensures;
+  new_has = ap disk_of c.finish.ensures;
   arms = ap g.D.Disk.arms c.into_disk.ensures;
   faults = ap g.D.Disk.faults c.into_disk.ensures;
 }

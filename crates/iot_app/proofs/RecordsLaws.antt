@@ -12,36 +12,45 @@ use Rattle.iot_store.specs.Records.{record_spelling}
 use Rattle.iot_app.specs.Machine.{Commit, entries_of}
 use Rattle.iot_app.specs.Records.{label_of, records_from, records_of, state_of}
 
-tree_from-append : (list : List (Entry Way)) (entry : Entry Way) (tree : Nodes) → tree_from (list ++ entry ∷ []) tree ≡ (run_entry entry (tree_from list tree)).tree
+tree_from-append : (list : List (Entry Way)) (entry : Entry Way) (tree : Nodes)
+    → tree_from (list ++ entry ∷ []) tree ≡ (run_entry entry (tree_from list tree)).tree
 tree_from-append [] entry tree = refl
 tree_from-append (first ∷ later) entry tree = tree_from-append later entry (run_entry first tree).tree
 
 -- its script is run on the tree after the others
-pub serial_tree-append : (commits : List Commit) (commit : Commit) → serial_tree (entries_of (commits ++ commit ∷ [])) ≡ (run_entry commit.entry (serial_tree (entries_of commits))).tree
+pub serial_tree-append : (commits : List Commit) (commit : Commit)
+    → serial_tree (entries_of (commits ++ commit ∷ [])) ≡ (run_entry commit.entry (serial_tree (entries_of commits))).tree
 serial_tree-append commits commit =
     ap (λ (es : List (Entry Way)). tree_from es (root_alone Dir)) (map-append (λ c. c.entry) commits (commit ∷ []))
     ∙ tree_from-append (entries_of commits) commit.entry (root_alone Dir)
 
 -- its record has the acts of that run
 records_from-append : (commits : List Commit) (commit : Commit) (tree : Nodes)
-    → records_from (commits ++ commit ∷ []) tree ≡ records_from commits tree ++ record_spelling (label_of commit) (run_entry commit.entry (tree_from (entries_of commits) tree)).acts ∷ []
+    → records_from (commits ++ commit ∷ []) tree
+    ≡ records_from commits tree ++ record_spelling (label_of commit) (run_entry commit.entry (tree_from (entries_of commits) tree)).acts
+    ∷ []
 records_from-append [] commit tree = refl
 records_from-append (first ∷ later) commit tree =
-    ap (λ (rs : List (List ℕ)). record_spelling (label_of first) (run_entry first.entry tree).acts ∷ rs) (records_from-append later commit (run_entry first.entry tree).tree)
+    ap (λ (rs : List (List ℕ)). record_spelling (label_of first) (run_entry first.entry tree).acts ∷ rs)
+    (records_from-append later commit (run_entry first.entry tree).tree)
 
 pub records_of-append : (commits : List Commit) (commit : Commit)
-    → records_of (commits ++ commit ∷ []) ≡ records_of commits ++ record_spelling (label_of commit) (run_entry commit.entry (serial_tree (entries_of commits))).acts ∷ []
+    → records_of (commits ++ commit ∷ [])
+    ≡ records_of commits ++ record_spelling (label_of commit) (run_entry commit.entry (serial_tree (entries_of commits))).acts ∷ []
 records_of-append commits commit = records_from-append commits commit (root_alone Dir)
 
 abbrev the_state : Nodes → List Label → State
 the_state tree labels = record { tree = tree; labels = labels }
 
 same_state : (one other : Nodes) (labels more : List Label) → one ≡ other → labels ≡ more → the_state one labels ≡ the_state other more
-same_state one other labels more trees lists = ap (λ (t : Nodes). the_state t labels) trees ∙ ap (λ (ls : List Label). the_state other ls) lists
+same_state one other labels more trees lists =
+    ap (λ (t : Nodes). the_state t labels) trees ∙ ap (λ (ls : List Label). the_state other ls) lists
 
 -- its acts make the state after it
 pub state_of-append : (commits : List Commit) (commit : Commit)
-    → (run_entry commit.entry (serial_tree (entries_of commits))).tree ≡ after_acts (serial_tree (entries_of commits)) (run_entry commit.entry (serial_tree (entries_of commits))).acts
-    → state_of (commits ++ commit ∷ []) ≡ after_commit (state_of commits) (label_of commit) (run_entry commit.entry (serial_tree (entries_of commits))).acts
+    → (run_entry commit.entry (serial_tree (entries_of commits))).tree
+    ≡ after_acts (serial_tree (entries_of commits)) (run_entry commit.entry (serial_tree (entries_of commits))).acts
+    → state_of (commits ++ commit ∷ [])
+    ≡ after_commit (state_of commits) (label_of commit) (run_entry commit.entry (serial_tree (entries_of commits))).acts
 state_of-append commits commit made =
     same_state _ _ _ _ (serial_tree-append commits commit ∙ made) (map-append label_of commits (commit ∷ []))

@@ -1,0 +1,254 @@
+-- Events that are done one by one.
+use Rattle.std.proofs.Common.{◌≡◌, ℕ, suc, ◌+◌, ◌<◌, ◌≤◌, Bool, true, false, not, List, [], ◌∷◌, ◌++◌, length, take, drop, slice_index_or}
+use Rattle.std.proofs.Common.{Option, Some, None}
+use Rattle.std.proofs.Common.{refl, sym, ap, subst, ◌∙◌, arith, append_assoc, add-one}
+use Rattle.std.proofs.lemmas.List.{append-nil, take_all, take-append-drop}
+use Rattle.std.proofs.Math.Seq.{drop-cons, take-suc}
+use Rattle.std.specs.Io.KnownBytes.{Appends}
+use Rattle.std.proofs.KnownBytes.{Appends-trans}
+use Rattle.iot_count.specs.Counts.{Counted, IsSteady}
+use Rattle.iot_disk.specs.Disk.{Arms}
+use Rattle.iot_event.specs.Declarations.{AreDeclared}
+use Rattle.iot_event.specs.declared.event.Event.{Event}
+use Rattle.iot_event.specs.declared.event.Event.TheVariants as events
+use Rattle.iot_app.specs.Allowed.{IsAllowed}
+use Rattle.iot_app.specs.Faults.{ended_by}
+use Rattle.iot_app.specs.Machine.{Machine, Commit, opening}
+use Rattle.iot_app.specs.Parts.{Part, InTurn}
+use Rattle.iot_app.specs.Played.{WroteAll, WroteFirst, WroteCut, Played}
+use Rattle.iot_app.specs.Records.{HoldsIn, records_of, state_of}
+use Rattle.iot_app.specs.Servers.{is_up, disk_of, FaultCounts, Starts, SameDisk}
+use Rattle.iot_app.specs.Status.{SinkCounts, DiskCounts}
+use Rattle.iot_app.specs.Steps.{Transcript, event_part}
+use Rattle.iot_app.specs.World.{StandsFor, Refines, NumbersAtMost, DeclaredOn, IsOpened, KeepsList}
+use Rattle.iot_app.specs.declared.fault.WorldFault.{WorldFault}
+use Rattle.iot_app.specs.declared.fault.WorldFault.TheVariants as world
+use Rattle.iot_app.specs.declared.server.Server.{Server}
+use Rattle.iot_app.specs.declared.server.Server.TheVariants.{Up, Down, Between}
+use Rattle.iot_app.specs.declared.world.World.{World}
+use Rattle.iot_app.proofs.ServersLaws.{store_images, one_disk}
+
+-- one more event in turn
+module _ {S E : Type 0} (part : E → Part S) where
+  InTurn-append : (events : List E) (event : E) (m n o : S) (text more : List ℕ)
+      → InTurn part events m text n → part event n more o → InTurn part (events ++ event ∷ []) m (text ++ more) o
+  InTurn-append [] event m n o text more front last = record {
+    mid = o;
+    front = more;
+    rest = [];
+    second = (refl, refl);
+    first = subst (λ (s : S). part event s more o) front.1 last;
+    whole = ap (λ (t : List ℕ). t ++ more) front.0 ∙ sym (append-nil more);
+  }
+  InTurn-append (first ∷ events) event m n o text more front last = record {
+    mid = front.mid;
+    front = front.front;
+    rest = front.rest ++ more;
+    first = front.first;
+    second = InTurn-append events event front.mid n o front.rest more front.second last;
+    whole = ap (λ (t : List ℕ). t ++ more) front.whole ∙ append_assoc front.front front.rest more;
+  }
+
+-- ---- which event may come
+
+not_true : (alive : Bool) → not alive ≡ false → alive ≡ true
+not_true true is = refl
+not_true false is = absurd cc
+
+not_false : (alive : Bool) → not alive ≡ true → alive ≡ false
+not_false true is = absurd cc
+not_false false is = refl
+
+-- the first of events that are declared may come
+allowed : {D : Type 0} (event : Event) (later : List Event) (world : World D) → DeclaredOn (event ∷ later) world
+    → IsAllowed event (length world.clients.items) (length world.scripts.items) (is_up world.server)
+allowed (events.Client name) later world declared = omega (arith, declared.1)
+allowed (events.Script name code) later world declared = tt
+allowed (events.Run client script) later world declared = (declared.1, declared.2, not_true (is_up world.server) declared.0)
+allowed events.ShowServer later world declared = tt
+allowed events.CrashServer later world declared = not_true (is_up world.server) declared.0
+allowed events.RestartServer later world declared = not_false (is_up world.server) declared.0
+
+-- what a server keeps is on its disk
+holds_list : {D : Type 0} (reads : D → List ℕ) (may_leave : D → List ℕ → Type 0) (server : Server D) (commits : List Commit)
+    → KeepsList reads may_leave server commits → HoldsIn may_leave (disk_of server) commits
+holds_list reads may_leave (Up it) commits keeps = store_images reads may_leave it (records_of commits) (state_of commits) keeps
+holds_list reads may_leave (Down disk) commits keeps = keeps
+holds_list reads may_leave Between commits keeps = absurd keeps
+
+-- the first so many events are done and what they say is written
+pub record PlaysOn {D : Type 0} (reads : D → List ℕ) (may_leave : D → List ℕ → Type 0) (before after : Option (List ℕ))
+    (events : List Event) (world : World D) (done : ℕ) : Type 0 where
+  pub text : List ℕ
+  pub machine : Machine
+  pub transcript : Transcript (take done events) opening text machine
+  pub stands : StandsFor reads may_leave world machine
+  pub written : Appends before after text
+  pub declared : DeclaredOn (drop done events) world
+  pub counts : NumbersAtMost done world
+
+-- counts that are at most this are at most that
+pub counts_within : {D : Type 0} (n limit : ℕ) (world : World D) → n ≤ limit → NumbersAtMost n world → NumbersAtMost limit world
+counts_within n limit world within counts = record { clients = λ k d there. omega (arith, within, counts.clients k d there) }
+
+pub appends_none : (written : Option (List ℕ)) → Appends written written []
+appends_none None = tt
+appends_none (Some bytes) = sym (append-nil bytes)
+
+-- nothing is done yet
+pub plays_none : {D : Type 0} (reads : D → List ℕ) (may_leave : D → List ℕ → Type 0) (before after : Option (List ℕ)) (events : List Event)
+    (world : World D)
+    → IsOpened reads may_leave world → AreDeclared events 0 0 false → Appends before after []
+    → PlaysOn reads may_leave before after events world 0
+plays_none reads may_leave before after events world is declared written = record {
+  text = [];
+  machine = opening;
+  transcript = (refl, refl);
+  stands = is.stands;
+  written = written;
+  declared =
+      subst (λ (n : ℕ). AreDeclared events n (length world.scripts.items) (not (is_up world.server))) (sym (ap length is.no_clients))
+      (subst (λ (n : ℕ). AreDeclared events 0 n (not (is_up world.server))) (sym (ap length is.no_scripts))
+      (subst (λ (down : Bool). AreDeclared events 0 0 down) (ap not (sym is.stands.alive)) declared));
+  counts = is.counts;
+}
+
+-- the event that is done next, and its text
+module _ {D : Type 0} (reads : D → List ℕ) (may_leave : D → List ℕ → Type 0) (before mid : Option (List ℕ)) (events : List Event)
+    (old new : World D) (done : ℕ) (event : Event) (out : List ℕ)
+    (plays : PlaysOn reads may_leave before mid events old done) (within : done < length events)
+    (here : event ≡ slice_index_or events done event)
+    (refines : Refines reads may_leave (event_part event) old new [] out) where
+  front : take (done + 1) events ≡ take done events ++ event ∷ []
+  front =
+      ap (λ (k : ℕ). take k events) (add-one done) ∙ take-suc events done event within
+      ∙ ap (λ (e : Event). take done events ++ e ∷ []) (sym here)
+
+  rest : drop done events ≡ event ∷ drop (done + 1) events
+  rest =
+      drop-cons events done event within ∙ ap (λ (e : Event). e ∷ drop (suc done) events) (sym here)
+      ∙ ap (λ (k : ℕ). event ∷ drop k events) (sym (add-one done))
+
+  record Next : Type 0 where
+    machine : Machine
+    last : event_part event plays.machine out machine
+    stands : StandsFor reads may_leave new machine
+
+  next : Next
+  next =
+      let step = refines.step plays.machine plays.stands in
+      record {
+        machine = step.1;
+        last = subst (λ (t : List ℕ). event_part event plays.machine t step.1) (sym step.2) step.3;
+        stands = step.4;
+      }
+
+  -- it is done, and what it says is written
+  pub plays_more : (after : Option (List ℕ))
+      → ((later : List Event) → DeclaredOn (event ∷ later) old → DeclaredOn later new)
+      → ((limit : ℕ) → NumbersAtMost limit old → NumbersAtMost (limit + 1) new)
+      → Appends mid after out
+      → PlaysOn reads may_leave before after events new (done + 1)
+  plays_more after declares counts appends = record {
+    text = plays.text ++ out;
+    machine = next.machine;
+    transcript =
+        subst (λ (es : List Event). Transcript es opening (plays.text ++ out) next.machine) (sym front)
+        (InTurn-append event_part (take done events) event opening plays.machine next.machine plays.text out plays.transcript next.last);
+    stands = next.stands;
+    written = Appends-trans before mid after plays.text out plays.written appends;
+    declared = declares (drop (done + 1) events) (subst (λ (es : List Event). DeclaredOn es old) rest plays.declared);
+    counts = counts done plays.counts;
+  }
+
+  -- it is done, and only a front of what it says is written
+  pub plays_cut : (after : Option (List ℕ)) (count : ℕ) → count < length out → Appends mid after (take count out)
+      → WroteCut (Appends before after) (HoldsIn may_leave (disk_of new.server)) events
+  plays_cut after count cut appends = record {
+    earlier = take done events;
+    event = event;
+    later = drop (done + 1) events;
+    split = sym (take-append-drop done events) ∙ ap (λ (es : List Event). take done events ++ es) rest;
+    text = plays.text;
+    before = plays.machine;
+    transcript = plays.transcript;
+    says = out;
+    machine = next.machine;
+    last = next.last;
+    count = count;
+    cut = cut;
+    written = Appends-trans before mid after plays.text (take count out) plays.written appends;
+    kept = holds_list reads may_leave new.server next.machine.commits next.stands.server;
+  }
+
+module _ {D : Type 0} (reads : D → List ℕ) (may_leave : D → List ℕ → Type 0) (before after : Option (List ℕ)) (events : List Event)
+    (world : World D) where
+  -- what was written before an event is a transcript of those before it
+  pub plays_first : (done : ℕ) → PlaysOn reads may_leave before after events world done → WroteFirst (Appends before after) events
+  plays_first done plays = record {
+    done = done;
+    text = plays.text;
+    machine = plays.machine;
+    transcript = plays.transcript;
+    written = plays.written;
+  }
+
+  -- all are done
+  pub plays_all : (done : ℕ) → length events ≤ done → PlaysOn reads may_leave before after events world done
+      → WroteAll (Appends before after) (HoldsIn may_leave (disk_of world.server)) events
+  plays_all done whole plays = record {
+    text = plays.text;
+    machine = plays.machine;
+    transcript = subst (λ (es : List Event). Transcript es opening plays.text plays.machine) (take_all done events whole) plays.transcript;
+    written = plays.written;
+    kept = holds_list reads may_leave world.server plays.machine.commits plays.stands.server;
+  }
+
+  -- the next event may come
+  pub next_allowed : (done : ℕ) (event : Event) → PlaysOn reads may_leave before after events world done → done < length events
+      → event ≡ slice_index_or events done event
+      → IsAllowed event (length world.clients.items) (length world.scripts.items) (is_up world.server)
+  next_allowed done event plays within here =
+      allowed event (drop (suc done) events) world
+      (subst (λ (es : List Event). DeclaredOn es world)
+      (drop-cons events done event within ∙ ap (λ (e : Event). e ∷ drop (suc done) events) (sym here)) plays.declared)
+
+-- ---- how it ends
+
+-- some events were done, and then the world failed
+pub fault_played : (fault : WorldFault) (events : List Event) (wrote : List ℕ → Type 0) (holds : List Commit → Type 0)
+    → WroteFirst wrote events → Played (ended_by fault) wrote holds events
+fault_played world.NoMemory events wrote holds first = first
+fault_played world.DiskFailed events wrote holds first = first
+
+-- no event was done
+pub none_played : (events : List Event) (written : Option (List ℕ)) → WroteFirst (Appends written written) events
+none_played events written = record { done = 0; text = []; machine = opening; transcript = (refl, refl); written = appends_none written }
+
+-- the sink's counts and the disk's, if the world failed
+pub fault_sink : (fault : WorldFault) (faults empties : Counted) → IsSteady faults → IsSteady empties
+    → SinkCounts (ended_by fault) faults empties
+fault_sink world.NoMemory faults empties one other = (one, other)
+fault_sink world.DiskFailed faults empties one other = (one, other)
+
+pub fault_disk : (fault : WorldFault) (faults : Counted) → FaultCounts fault faults → DiskCounts (ended_by fault) faults
+fault_disk world.NoMemory faults counts = counts
+fault_disk world.DiskFailed faults counts = counts
+
+-- what was done to the disk from the opening on
+module _ {D : Type 0} (arms_of : D → Arms) (faults_of : D → ℕ) (disk back : D) (first last : Server D) (counts : Counted → Type 0)
+    (starts : Starts arms_of faults_of disk first) (same : SameDisk arms_of faults_of counts first last)
+    (has : disk_of last ≡ Some back) where
+  it_was : starts.now ≡ same.was
+  it_was = one_disk starts.now same.was (sym starts.has ∙ same.old_has)
+
+  it_is : same.now ≡ back
+  it_is = one_disk same.now back (sym same.new_has ∙ has)
+
+  pub whole_arms : arms_of back ≡ arms_of disk
+  whole_arms = ap arms_of (sym it_is) ∙ same.arms ∙ ap arms_of (sym it_was) ∙ starts.arms
+
+  pub whole_counts : counts (record { before = faults_of disk; after = faults_of back })
+  whole_counts =
+      subst (λ (n : ℕ). counts (record { before = n; after = faults_of back })) (ap faults_of (sym it_was) ∙ starts.faults)
+      (subst (λ (n : ℕ). counts (record { before = faults_of same.was; after = n })) (ap faults_of it_is) same.faults)
