@@ -1,0 +1,15 @@
+use Rattle.std.proofs.Common.{◌≡◌, ◌++◌, ◌+◌, ℕ, List, take, drop, length, reverse}
+use Rattle.std.specs.List.{zip}
+use Rattle.iot_access.specs.BaseReads.{Base, based_reads}
+use Rattle.iot_access.proofs.collect.add_reads.Given as goal
+
+abbrev pub invariant-reads : goal.invariant-reads
+invariant-reads l = record {
+  place : l.place ≡ l.read-index + l.first;
+  even : length l.access.places ≡ length l.access.reads;
+  updates : l.access.updates ≡ l.fn.access.updates;
+  bases : (rest : List Base)
+      → zip l.access.places l.access.reads
+      ++ based_reads (drop l.read-index l.reads) l.before (reverse (take l.done l.fn.access.updates)) l.place rest
+      ≡ zip l.fn.access.places l.fn.access.reads ++ based_reads l.reads l.before (reverse (take l.done l.fn.access.updates)) l.first rest;
+}

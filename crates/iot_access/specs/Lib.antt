@@ -1,0 +1,4 @@
+pub mod Sources
+pub mod BaseReads
+pub mod Access
+pub mod Index

@@ -1,0 +1,95 @@
+//! What the tree before must answer.
+ghost use Rattle.std.specs.Prelude.{◌≡◌, ◌≤◌, take, length, IfOk, reverse};
+ghost use Rattle.iot_tree.specs.Tree.{Path as TreePath};
+ghost use Rattle.iot_access.specs.Index.{IsRising, Covers};
+ghost use Rattle.iot_access.specs.BaseReads.{base_names, base_at, settled, base_of, path_of};
+
+use crate::index::Entry;
+use crate::sources::source_by;
+use iot_text::{NoMemory, Path};
+use iot_tree::{Answer, Duplicate, Question, Read, Tree, Update};
+use std::alloc::Global;
+
+/// The path of which a question asks.
+fn path_of(question: &Question) -> &Path
+    ensures { result.now ≡ path_of question.now }
+{
+    match question {
+        Question::Kind(path) | Question::Content(path) | Question::Names(path) => path,
+    }
+}
+
+/// The answer to a question for names at the base: names are the tree's own, any other answer is the one that was read.
+fn base_names(
+    alloc: Global,
+    before: &Tree,
+    question: &Question,
+    answer: &Answer,
+) -> Result<Answer, NoMemory>
+    ensures { (o : TreePath) → question.now ≡ Question.Names o → IfOk result (λ base. base ≡ base_names before.now o answer.now) }
+{
+    match answer {
+        Answer::Names(_) => before.answer(alloc, question),
+        _ => answer.copy(alloc),
+    }
+}
+
+/// The base read of a question whose row comes from the path.
+fn base_at(
+    alloc: Global,
+    before: &Tree,
+    question: &Question,
+    path: Path,
+    answer: &Answer,
+) -> Result<Read, NoMemory>
+    ensures { IfOk result (λ base. base ≡ base_at before.now question.now path answer.now) }
+{
+    match question {
+        Question::Kind(_) => Ok(Read {
+            question: Question::Kind(path),
+            answer: answer.copy(alloc)?,
+        }),
+        Question::Content(_) => Ok(Read {
+            question: Question::Content(path),
+            answer: answer.copy(alloc)?,
+        }),
+        Question::Names(_) => {
+            let question = Question::Names(path);
+            let answer = base_names(alloc, before, &question, answer)?;
+            Ok(Read { question, answer })
+        }
+    }
+}
+
+/// The base read if the run itself made what is at the path: none, unless the answer was that it is away.
+fn settled(alloc: Global, question: &Question, answer: &Answer) -> Result<Option<Read>, NoMemory>
+    ensures { IfOk result (λ base. base ≡ settled question.now answer.now) }
+{
+    match answer {
+        Answer::Away => Ok(Some(Read {
+            question: question.copy(alloc)?,
+            answer: Answer::Away,
+        })),
+        _ => Ok(None),
+    }
+}
+
+/// The base read of a read that was made after the first `left` updates, if it has one.
+pub(crate) fn base_of(
+    alloc: Global,
+    before: &Tree,
+    index: &[Entry],
+    updates: &[Update],
+    left: u64,
+    read: &Read,
+) -> Result<Option<Read>, NoMemory>
+    requires rising { IsRising index.now }
+    requires covers { Covers index.now updates.now }
+    requires within { left ≤ length updates.now }
+    ensures { IfOk result (λ base. base ≡ base_of before.now (reverse (take left updates.now)) read.now) }
+{
+    match source_by(alloc, index, updates, left, path_of(&read.question))? {
+        Some(path) => Ok(Some(base_at(alloc, before, &read.question, path, &read.answer)?)),
+        None => settled(alloc, &read.question, &read.answer),
+    }
+}
