@@ -1,0 +1,5 @@
+mod CellsLaws
+mod DecodingLaws
+mod LayoutsLaws
+mod PartsLaws
+mod SlotsLaws

@@ -1,0 +1,10 @@
+use Rattle.std.proofs.Common.{ℕ, List, sym, ◌∙◌, ap}
+use Rattle.iot_slots.specs.Decoding.{decoded, opened}
+use Rattle.iot_slots.proofs.LayoutsLaws.{laid_encodes}
+use Rattle.iot_slots.proofs.start.open.Goals as goal
+
+pub returns-in-Some-clause-state : goal.returns-in-Some-clause-state
+returns-in-Some-clause-state g c =
+    let laid = rw c.in-Some.is at c.in_ok-found.ensures.some in
+    ap (λ (l : List ℕ). opened c.args.body.now (decoded c.args.header.now l)) (sym (c.deref.ensures.value ∙ c.in_ok-bytes.ensures.bytes))
+    ∙ ap (opened c.args.body.now) (laid_encodes _ _ _ _ laid)

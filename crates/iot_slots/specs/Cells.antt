@@ -1,0 +1,38 @@
+-- The two cells of a disk, each of which names a checkpoint, and which of them is in force.
+use Rattle.std.specs.Prelude.{ℕ, ◌+◌, ◌%◌, ◌^◌, ◌==◌, Bool, true, false, nat_le, ◌&&◌, if◌then◌else◌, List, length}
+use Rattle.iot_records.specs.Bytes.{number_at, is_open}
+use Rattle.iot_slots.specs.declared.cell.Cell.{Cell}
+use Rattle.iot_slots.specs.declared.cell.Cell.TheVariants.{First, Second}
+use Rattle.iot_slots.specs.declared.cell.Force.{Force}
+use Rattle.iot_slots.specs.declared.cell.Force.TheVariants.{NoCell, Clash, Is}
+
+-- where the gate of a cell is; its generation and the place of its checkpoint follow as two numbers
+abbrev pub cell_at : Cell → ℕ
+cell_at First = 9
+cell_at Second = 26
+
+abbrev pub other_of : Cell → Cell
+other_of First = Second
+other_of Second = First
+
+-- one more, modulo 2 ^ 64: the next generation, and the count after an append
+abbrev pub next : ℕ → ℕ
+next n = (n + 1) % 2 ^ 64
+
+-- which cell is in force, by the gates and the generations of both
+abbrev pub chosen : (first second : Bool) (one two : ℕ) → Force
+chosen true true one two = if one == next two then Is First else (if two == next one then Is Second else Clash)
+chosen true false one two = Is First
+chosen false true one two = Is Second
+chosen false false one two = NoCell
+
+abbrev pub counting : List ℕ → Force
+counting bytes = chosen (is_open bytes 9) (is_open bytes 26) (number_at bytes 10) (number_at bytes 27)
+
+-- byte 0 is open, and there is room for both cells
+abbrev pub has_cells : List ℕ → Bool
+has_cells bytes = nat_le 43 (length bytes) && is_open bytes 0
+
+-- which cell is in force on a disk that may have none
+abbrev pub in_force : List ℕ → Force
+in_force bytes = if has_cells bytes then counting bytes else NoCell

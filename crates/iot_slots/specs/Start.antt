@@ -1,0 +1,32 @@
+-- The start of slots from their disk.
+use Rattle.std.specs.Prelude.{◌≡◌, ℕ, List, [], ◌∷◌, ◌++◌, replicate}
+use Rattle.iot_count.specs.Counts.{Rose, Stayed}
+use Rattle.iot_disk.specs.declared.faults.StartFault.{StartFault}
+use Rattle.iot_disk.specs.declared.faults.StartFault.TheVariants as fault
+use Rattle.iot_records.specs.Bytes.{number}
+use Rattle.iot_records.specs.Images.{Each}
+use Rattle.iot_records.specs.Records.{spelled}
+use Rattle.iot_slots.specs.Decoding.{Decoded, Foreign, Damaged, decoded, opened}
+
+-- each image encodes what these bytes encode, if a disk that is not started encodes this body with no records
+abbrev pub EachEncodesAs : (header body bytes : List ℕ) → (images : List ℕ → Type 0) → Type 0
+EachEncodesAs header body bytes images = Each (λ image. opened body (decoded header image) ≡ opened body (decoded header bytes)) images
+
+-- why a start gives no slots: the fault, what the disk's bytes encode, and its count of faults before and now
+abbrev pub HasCause : StartFault → Decoded → ℕ → ℕ → Type 0
+HasCause fault.NoMemory decoding before now = Stayed before now
+HasCause fault.Stopped decoding before now = Rose before now
+HasCause fault.Foreign decoding before now = (decoding ≡ Foreign) × Stayed before now
+HasCause (fault.Damaged at) decoding before now = (decoding ≡ Damaged at) × Stayed before now
+
+-- why these bytes are refused, or memory for what they hold ran out
+abbrev pub IsReason : StartFault → Decoded → Type 0
+IsReason fault.NoMemory decoding = Unit {0}
+IsReason fault.Stopped decoding = ⊥
+IsReason fault.Foreign decoding = decoding ≡ Foreign
+IsReason (fault.Damaged at) decoding = decoding ≡ Damaged at
+
+-- what follows byte 0 of a disk that was just started: the header, both cells closed, a checkpoint of this body with
+-- no record before it, and a closed gate
+abbrev pub fresh : (header body : List ℕ) → List ℕ
+fresh header body = header ++ (0 ∷ (number 1 ++ (number 43 ++ (replicate 17 0 ++ (spelled body ++ (number 0 ++ 0 ∷ []))))))

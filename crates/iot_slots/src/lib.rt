@@ -1,0 +1,19 @@
+//! A checkpoint and records after it on a disk. Records are appended, and a new checkpoint takes the place of both. A
+//! crash leaves the state before or the state after, whenever it comes.
+#![tactic(auto)]
+
+mod cell;
+mod decoding;
+mod layout;
+mod slots;
+mod spelling;
+mod start;
+mod started;
+
+pub use cell::{Cell, Force};
+pub use layout::Layout;
+pub use slots::Slots;
+pub use started::{Body, Started};
+
+#[cfg(test)]
+mod tests;

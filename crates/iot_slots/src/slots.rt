@@ -1,0 +1,236 @@
+//! The slots themselves.
+ghost use Rattle.std.specs.Prelude.{◌≡◌, [], false, length, IfOk, IfErr, OnOk, IsErrOf, MatchResult};
+ghost use Rattle.iot_disk.specs.Disk.{armed_with, Only, SameImages};
+ghost use Rattle.iot_disk.specs.Faults.{CountsJournalFault};
+ghost use Rattle.iot_records.specs.Records.{ChangesNothing};
+ghost use Rattle.iot_slots.specs.Cells.{next};
+ghost use Rattle.iot_slots.specs.Decoding.{Encodes, decoded, opened, state_in};
+ghost use Rattle.iot_slots.specs.Start.{HasCause, EachEncodesAs};
+
+use crate::layout::MANY;
+use crate::spelling::{closing, spell_cell, spell_checkpoint};
+use crate::start::open;
+use crate::{Body, Layout, Started};
+use iot_disk::{Disk, JournalFault, Pick, StartFault, keep};
+use iot_records::{OPEN, spell_record};
+use std::alloc::Global;
+
+/// A body on a disk, and records after it. Records are appended, and a checkpoint puts a new body in the place of both.
+///
+/// After an `Err` only `into_disk` says anything more: start again from the disk.
+#[derive(Drop)]
+pub struct Slots<D: Disk> {
+    pub(crate) disk: D,
+    pub(crate) header: [u8; 8],
+    pub(crate) layout: Layout,
+    /// The spelling of the last record or checkpoint, whose memory serves the next one.
+    pub(crate) buffer: Vec<u8>,
+}
+
+impl<D: Disk> Slots<D> {
+    ghost use Rattle.iot_slots.specs.Layouts.{renewed_layout, is_due, MakesRoom};
+    ghost use Rattle.iot_slots.specs.Slots.{disk_of, header_of, count_of, layout_of, state_on, IsSynced};
+    ghost use Rattle.iot_slots.specs.Slots.{appended, renewed, EachEncodes, EachEncodesEither};
+
+    /// Starts slots from their disk, which no one else writes, and gives the state that it encodes. A disk that is not
+    /// started is started with an empty body. If this gives no slots, it gives the disk back.
+    pub fn start(
+        alloc: Global,
+        disk: D,
+        header: [u8; 8],
+    ) -> Result<(Slots<D>, Started), (D, StartFault)>
+        requires { Only (D.reads disk) (D.may_leave disk) }
+        ensures state { IfOk result (λ made. opened [] (decoded header (D.reads disk))
+            ≡ Encodes (state_in made.1.body made.1.records (count_of made.0))) }
+        ensures same { IfOk result (λ made. state_on D.reads made.0
+            ≡ state_in made.1.body made.1.records (count_of made.0)) }
+        ensures synced { IfOk result (λ made. IsSynced D.reads D.may_leave made.0) }
+        ensures header { IfOk result (λ made. header_of made.0 ≡ header) }
+
+        // However this returns, every image encodes what the disk encoded before.
+        ensures images { MatchResult result
+            (λ made. EachEncodesAs header [] (D.reads disk) (D.may_leave (disk_of made.0)))
+            (λ refused. EachEncodesAs header [] (D.reads disk) (D.may_leave refused.0)) }
+
+        ensures steady { IfOk result (λ made. D.faults (disk_of made.0) ≡ D.faults disk) }
+        ensures cause { IfErr result (λ refused.
+            HasCause refused.1 (decoded header (D.reads disk)) (D.faults disk) (D.faults refused.0)) }
+
+        // A refusal of the bytes changes nothing.
+        ensures refused_reads { IfErr result (λ refused.
+            ChangesNothing refused.1 (D.reads refused.0 ≡ D.reads disk)) }
+        ensures refused_images { IfErr result (λ refused.
+            ChangesNothing refused.1 (SameImages (D.may_leave disk) (D.may_leave refused.0))) }
+
+        ensures arms { MatchResult result
+            (λ made. D.arms (disk_of made.0) ≡ D.arms disk)
+            (λ refused. D.arms refused.0 ≡ D.arms disk) }
+    {
+        Self::start_with(alloc, disk, header, &[])
+    }
+
+    /// The same, but a disk that is not started is started with this body.
+    pub fn start_with(
+        alloc: Global,
+        mut disk: D,
+        header: [u8; 8],
+        body: &[u8],
+    ) -> Result<(Slots<D>, Started), (D, StartFault)>
+        requires { Only (D.reads disk) (D.may_leave disk) }
+        ensures state { IfOk result (λ made. opened body.now (decoded header (D.reads disk))
+            ≡ Encodes (state_in made.1.body made.1.records (count_of made.0))) }
+        ensures same { IfOk result (λ made. state_on D.reads made.0
+            ≡ state_in made.1.body made.1.records (count_of made.0)) }
+        ensures synced { IfOk result (λ made. IsSynced D.reads D.may_leave made.0) }
+        ensures header { IfOk result (λ made. header_of made.0 ≡ header) }
+
+        // However this returns, every image encodes what the disk encoded before.
+        ensures images { MatchResult result
+            (λ made. EachEncodesAs header body.now (D.reads disk) (D.may_leave (disk_of made.0)))
+            (λ refused. EachEncodesAs header body.now (D.reads disk) (D.may_leave refused.0)) }
+
+        ensures steady { IfOk result (λ made. D.faults (disk_of made.0) ≡ D.faults disk) }
+        ensures cause { IfErr result (λ refused.
+            HasCause refused.1 (decoded header (D.reads disk)) (D.faults disk) (D.faults refused.0)) }
+
+        // A refusal of the bytes changes nothing.
+        ensures refused_reads { IfErr result (λ refused.
+            ChangesNothing refused.1 (D.reads refused.0 ≡ D.reads disk)) }
+        ensures refused_images { IfErr result (λ refused.
+            ChangesNothing refused.1 (SameImages (D.may_leave disk) (D.may_leave refused.0))) }
+
+        ensures arms { MatchResult result
+            (λ made. D.arms (disk_of made.0) ≡ D.arms disk)
+            (λ refused. D.arms refused.0 ≡ D.arms disk) }
+    {
+        match open(alloc, &mut disk, &header, body) {
+            Ok(found) => {
+                let slots = Slots {
+                    disk,
+                    header,
+                    layout: found.layout,
+                    buffer: Vec::new(alloc),
+                };
+                let started = Started {
+                    body: Body::from(found.body),
+                    records: found.bodies,
+                };
+                Ok((slots, started))
+            }
+            Err(fault) => Err((disk, fault)),
+        }
+    }
+
+    /// Appends a record: it is on the disk when this answers Ok. Makes four device calls, a write and a sync for
+    /// the record, and a write and a sync for its gate. Costs as much as the body is long.
+    pub fn append(&mut self, body: &[u8]) -> Result<(), JournalFault>
+        requires synced { IsSynced D.reads D.may_leave self.old }
+        requires not_due { is_due (state_on D.reads self.old).bodies (layout_of self.old)
+            (length body.now) ≡ false }
+
+        // However this returns, every image encodes the state before or the one with the new record: without memory the
+        // former, and after Ok the latter.
+        ensures images { EachEncodesEither (header_of self.old) (D.may_leave (disk_of self.new))
+            (state_on D.reads self.old) (appended (state_on D.reads self.old) body.now) }
+        ensures no_memory { IsErrOf result JournalFault.NoMemory
+            → EachEncodes (header_of self.old) (D.may_leave (disk_of self.new)) (state_on D.reads self.old) }
+        ensures appended { OnOk result (EachEncodes (header_of self.old) (D.may_leave (disk_of self.new))
+            (appended (state_on D.reads self.old) body.now)) }
+
+        ensures state { OnOk result
+            (state_on D.reads self.new ≡ appended (state_on D.reads self.old) body.now) }
+        ensures synced { OnOk result (IsSynced D.reads D.may_leave self.new) }
+        ensures count { OnOk result (count_of self.new ≡ next (count_of self.old)) }
+        ensures header { header_of self.new ≡ header_of self.old }
+
+        ensures faults { CountsJournalFault result
+            (D.faults (disk_of self.old)) (D.faults (disk_of self.new)) }
+        ensures arms { D.arms (disk_of self.new) ≡ D.arms (disk_of self.old) }
+    {
+        spell_record(&mut self.buffer, body)?;
+        keep(&mut self.disk, self.layout.gate + 1, &self.buffer)?;
+        keep(&mut self.disk, self.layout.gate, &[OPEN])?;
+        self.layout.gate += self.buffer.len() as u64;
+        self.layout.count = self.layout.count.wrapping_add(1);
+        Ok(())
+    }
+
+    /// Whether a checkpoint is to come before an append of a body of so many bytes. Does not allocate.
+    pub fn due(&self, size: u64) -> bool
+        requires { IsSynced D.reads D.may_leave self.now }
+        ensures { result ≡ is_due (state_on D.reads self.now).bodies (layout_of self.now) size }
+    {
+        self.layout.gate - self.layout.first > MANY || self.layout.reaches_other(size)
+    }
+
+    /// Puts a new body in the place of the old one and its records: it is on the disk when this answers Ok. Makes
+    /// seven device calls. Costs as much as the body is long.
+    pub fn checkpoint(&mut self, body: &[u8]) -> Result<(), JournalFault>
+        requires { IsSynced D.reads D.may_leave self.old }
+
+        // However this returns, every image encodes the old body with its records or the new body with none: without
+        // memory the former, and after Ok the latter.
+        ensures images { EachEncodesEither (header_of self.old) (D.may_leave (disk_of self.new))
+            (state_on D.reads self.old) (renewed (state_on D.reads self.old) body.now) }
+        ensures no_memory { IsErrOf result JournalFault.NoMemory
+            → EachEncodes (header_of self.old) (D.may_leave (disk_of self.new)) (state_on D.reads self.old) }
+        ensures renewed { OnOk result (EachEncodes (header_of self.old) (D.may_leave (disk_of self.new))
+            (renewed (state_on D.reads self.old) body.now)) }
+
+        ensures state { OnOk result
+            (state_on D.reads self.new ≡ renewed (state_on D.reads self.old) body.now) }
+        ensures synced { OnOk result (IsSynced D.reads D.may_leave self.new) }
+        ensures count { OnOk result (count_of self.new ≡ count_of self.old) }
+        ensures header { header_of self.new ≡ header_of self.old }
+
+        // So after at most two checkpoints none is due.
+        ensures layout { OnOk result (layout_of self.new
+            ≡ renewed_layout (layout_of self.old) (length (D.reads (disk_of self.old))) (length body.now)) }
+        ensures room { OnOk result (MakesRoom (layout_of self.old) (layout_of self.new)) }
+
+        ensures faults { CountsJournalFault result
+            (D.faults (disk_of self.old)) (D.faults (disk_of self.new)) }
+        ensures arms { D.arms (disk_of self.new) ≡ D.arms (disk_of self.old) }
+    {
+        spell_checkpoint(&mut self.buffer, body, self.layout.count)?;
+        let next = self.layout.renewed(self.disk.len(), body.len() as u64);
+        let gate = next.cell.at();
+        keep(&mut self.disk, gate, closing(self.layout.other))?;
+        self.disk
+            .write_at(gate + 1, &spell_cell(next.generation, next.place))?;
+        keep(&mut self.disk, next.place, &self.buffer)?;
+        keep(&mut self.disk, gate, &[OPEN])?;
+        self.layout = next;
+        Ok(())
+    }
+
+    /// The number of records ever appended, modulo 2^64.
+    pub fn count(&self) -> u64
+        ensures { result ≡ count_of self.now }
+    {
+        self.layout.count
+    }
+
+    /// Makes a later device call of the disk fail, and does nothing else.
+    pub fn arm(&mut self, calls: u64, pick: Pick)
+        ensures arms { D.arms (disk_of self.new)
+            ≡ armed_with (D.arms (disk_of self.old)) calls pick }
+        ensures reads { D.reads (disk_of self.new) ≡ D.reads (disk_of self.old) }
+        ensures images { SameImages
+            (D.may_leave (disk_of self.old)) (D.may_leave (disk_of self.new)) }
+        ensures faults { D.faults (disk_of self.new) ≡ D.faults (disk_of self.old) }
+        ensures layout { layout_of self.new ≡ layout_of self.old }
+        ensures header { header_of self.new ≡ header_of self.old }
+        ensures synced { IsSynced D.reads D.may_leave self.old
+            → IsSynced D.reads D.may_leave self.new }
+    {
+        self.disk.arm(calls, pick);
+    }
+
+    /// Gives the disk back.
+    pub fn into_disk(self) -> D
+        ensures { result ≡ disk_of self }
+    {
+        self.disk
+    }
+}

@@ -1,0 +1,102 @@
+//! The start of slots from their disk.
+ghost use Rattle.std.specs.Prelude.{◌≡◌, ◌≤◌, ◌^◌, [], true, length, IfOk, IfErr, OnOk};
+ghost use Rattle.iot_disk.specs.Disk.{CountsFault, Only, SameImages};
+ghost use Rattle.iot_records.specs.Bytes.{is_closed};
+ghost use Rattle.iot_records.specs.Images.{Each};
+ghost use Rattle.iot_records.specs.Records.{ChangesNothing};
+ghost use Rattle.iot_slots.specs.Decoding.{Encodes, NotStarted, decoded, opened, state_in};
+ghost use Rattle.iot_slots.specs.Layouts.{IsLaidOut, fresh_layout};
+ghost use Rattle.iot_slots.specs.Start.{HasCause, EachEncodesAs};
+
+use crate::Layout;
+use crate::decoding::{Opened, decode};
+use crate::spelling::spell_fresh;
+use iot_disk::{Bodies, Disk, DiskFault, StartFault, keep};
+use iot_records::{CLOSED, OPEN, has_closed_gate, read_disk};
+use std::alloc::Global;
+
+/// Reads the disk, and starts it with this body if it is not started.
+pub fn open<D: Disk>(
+    alloc: Global,
+    disk: &mut D,
+    header: &[u8; 8],
+    body: &[u8],
+) -> Result<Opened, StartFault>
+    requires { Only (D.reads disk.old) (D.may_leave disk.old) }
+    ensures state { IfOk result (λ found. opened body.now (decoded header.now (D.reads disk.old))
+        ≡ Encodes (state_in found.body.items found.bodies found.layout.count)) }
+    ensures laid_out { IfOk result (λ found. IsLaidOut header.now (D.reads disk.new)
+        (state_in found.body.items found.bodies found.layout.count) found.layout) }
+    ensures durable { OnOk result (Only (D.reads disk.new) (D.may_leave disk.new)) }
+
+    // However this returns, every image encodes what the disk encoded before.
+    ensures images { EachEncodesAs header.now body.now (D.reads disk.old) (D.may_leave disk.new) }
+
+    ensures steady { OnOk result (D.faults disk.new ≡ D.faults disk.old) }
+    ensures cause { IfErr result (λ fault.
+        HasCause fault (decoded header.now (D.reads disk.old)) (D.faults disk.old) (D.faults disk.new)) }
+    ensures refused_reads { IfErr result (λ fault.
+        ChangesNothing fault (D.reads disk.new ≡ D.reads disk.old)) }
+    ensures refused_images { IfErr result (λ fault.
+        ChangesNothing fault (SameImages (D.may_leave disk.old) (D.may_leave disk.new))) }
+    ensures arms { D.arms disk.new ≡ D.arms disk.old }
+{
+    let bytes = read_disk(alloc, disk)?;
+    if let Some(found) = decode(alloc, header, &bytes)? {
+        return Ok(found);
+    }
+    let copy = body.to_vec(alloc)?;
+    begin(alloc, disk, header, body, &bytes)?;
+    Ok(Opened {
+        layout: Layout::fresh(body.len() as u64),
+        body: copy,
+        bodies: Bodies::new(alloc),
+    })
+}
+
+/// Starts a disk that is not started, and which reads as these bytes, with this body.
+fn begin<D: Disk>(
+    alloc: Global,
+    disk: &mut D,
+    header: &[u8; 8],
+    body: &[u8],
+    bytes: &[u8],
+) -> Result<(), DiskFault>
+    requires bytes { bytes.now ≡ D.reads disk.old }
+    requires not_started { decoded header.now (D.reads disk.old) ≡ NotStarted }
+    requires limit { length (D.reads disk.old) ≤ 2 ^ 62 }
+    requires only { Only (D.reads disk.old) (D.may_leave disk.old) }
+    ensures laid_out { OnOk result (IsLaidOut header.now (D.reads disk.new)
+        (state_in body.now [] 0) (fresh_layout (length body.now))) }
+    ensures durable { OnOk result (Only (D.reads disk.new) (D.may_leave disk.new)) }
+    ensures images { Each (λ image. opened body.now (decoded header.now image) ≡ Encodes (state_in body.now [] 0))
+        (D.may_leave disk.new) }
+    ensures faults { CountsFault result (D.faults disk.old) (D.faults disk.new) }
+    ensures arms { D.arms disk.new ≡ D.arms disk.old }
+{
+    let mut fresh = Vec::new(alloc);
+    spell_fresh(&mut fresh, header, body)?;
+    close_first(disk, header, bytes)?;
+    keep(disk, 1, &fresh)?;
+    keep(disk, 9, &[OPEN])?;
+    keep(disk, 0, &[OPEN])
+}
+
+/// Makes byte 0 a closed gate, unless it is one.
+fn close_first<D: Disk>(disk: &mut D, header: &[u8; 8], bytes: &[u8]) -> Result<(), DiskFault>
+    requires bytes { bytes.now ≡ D.reads disk.old }
+    requires not_started { decoded header.now (D.reads disk.old) ≡ NotStarted }
+    requires limit { length (D.reads disk.old) ≤ 2 ^ 62 }
+    requires only { Only (D.reads disk.old) (D.may_leave disk.old) }
+    ensures closed { OnOk result (is_closed (D.reads disk.new) ≡ true) }
+    ensures limit { OnOk result (length (D.reads disk.new) ≤ 2 ^ 62) }
+    ensures durable { OnOk result (Only (D.reads disk.new) (D.may_leave disk.new)) }
+    ensures images { Each (λ image. decoded header.now image ≡ NotStarted) (D.may_leave disk.new) }
+    ensures faults { CountsFault result (D.faults disk.old) (D.faults disk.new) }
+    ensures arms { D.arms disk.new ≡ D.arms disk.old }
+{
+    if has_closed_gate(bytes) {
+        return Ok(());
+    }
+    keep(disk, 0, &[CLOSED])
+}
