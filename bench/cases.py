@@ -90,7 +90,7 @@ def text(size):
 
 
 def journal(size):
-    """Small transactions, behind 64 KiB, 2 MiB and 64 MiB that stand on the server's disk already."""
+    """Small transactions, after 64 KiB, 2 MiB and 64 MiB that are on the server's disk already."""
     writes = 8 * round(size ** 2.5)
     at_once = min(writes, FILLED_AT_ONCE)
     fill = ['set a x'] + ['set a $a$a'] * 13 + ['write /f $a'] * at_once

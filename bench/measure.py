@@ -32,9 +32,11 @@ def words():
 
 
 def program_of(given):
-    """The program's path; the one of this repository is built where it is missing."""
+    """The program's path; the one of this repository is proved and built if it is missing."""
     if given is None and not os.access(BUILT, os.X_OK):
-        subprocess.run([ROOT / 'iot'], stdin=subprocess.DEVNULL, check=True)
+        crate = ROOT / 'crates' / 'iot'
+        with open(crate / 'stdin', 'rb') as source:
+            subprocess.run(['rt', 'run'], cwd=crate, stdin=source, stdout=subprocess.DEVNULL, check=True)
     path = shutil.which(given or BUILT)
     if path is None:
         sys.exit(f'bench/run: {given or BUILT} is no program')
