@@ -1,0 +1,38 @@
+//! What a tree knows, with its stamps.
+ghost use Rattle.std.specs.Prelude.{◌≡◌, IfOk, IsTrue, length};
+ghost use Rattle.std.specs.List.{filter_map};
+ghost use Rattle.std.specs.FinMap.{is_sorted};
+ghost use Rattle.iot_text.specs.Paths.{path_cmp};
+ghost use Rattle.iot_stamp.specs.Refresh.{known_stamp, known_with_stamps};
+ghost use Rattle.iot_stamp.specs.Pairing.{paired};
+
+use crate::nodes::is_known;
+use crate::{Known, Stamped};
+use iot_text::{NoMemory, Path};
+use iot_tree::{Duplicate, Node};
+use std::alloc::Global;
+
+impl Stamped {
+    /// The paths that the tree knows, with their stamps.
+    pub fn known_with_stamps(&self, alloc: Global) -> Result<Known, NoMemory>
+        ensures value { IfOk result (λ known. known ≡ known_with_stamps self.now) }
+        ensures rising { IfOk result (λ known. IsTrue (is_sorted path_cmp known)) }
+    {
+        known_entries(alloc, self.tree().rows().as_slice(), self.stamps())
+    }
+}
+
+/// The paths of the rows whose insides are known, with the stamps beside them.
+fn known_entries(alloc: Global, rows: &[(Path, Node)], stamps: &[u64]) -> Result<Known, NoMemory>
+    requires { length stamps.now ≡ length rows.now }
+    ensures { IfOk result (λ known. known ≡ filter_map known_stamp (paired rows.now stamps.now)) }
+{
+    let mut known = Known::new(alloc);
+    'rows: for at in 0..rows.len() {
+        let row = &rows[at];
+        if is_known(&row.1) {
+            known.push((row.0.copy(alloc)?, stamps[at]))?;
+        }
+    }
+    Ok(known)
+}
