@@ -12,6 +12,7 @@ pub mod WithoutLaws
 pub mod UpdateLaws
 pub mod LeafLaws
 pub mod ChildLaws
+pub mod ChildKindLaws
 pub mod AnswerLaws
 pub mod ReadLaws
 pub mod PutLaws

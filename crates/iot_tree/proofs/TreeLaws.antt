@@ -44,7 +44,8 @@ module _ (t : Nodes) (tree : IsTree t) where
   -- the parent of a row is a known directory
   parent_known : (front : Path) (name : List ℕ) → IsSome (get t (front ++ name ∷ [])) → get t front ≡ Some Dir
   parent_known front name mapped =
-      ap (option_and_then (get t)) (sym (parent_of-push front name)) ∙ tree.parents (front ++ name ∷ []) (below_not_root front name []) mapped
+      ap (option_and_then (get t)) (sym (parent_of-push front name))
+      ∙ tree.parents (front ++ name ∷ []) (below_not_root front name []) mapped
 
   ancestors_by : (q : Path) (k : ℕ) (name : List ℕ) (rest : Path) → length rest ≤ k → IsSome (get t (q ++ name ∷ rest)) → get t q ≡ Some Dir
   ancestors_by q k name [] short mapped = parent_known q name mapped

@@ -25,7 +25,7 @@ pub(crate) fn begins_within(rows: &[(Path, Node)], names: &[Name]) -> bool
 }
 
 /// How many rows, from the first on, are at or below the path.
-pub(crate) fn count_within(rows: &[(Path, Node)], names: &[Name]) -> usize
+pub fn count_within(rows: &[(Path, Node)], names: &[Name]) -> usize
     ensures { result ≡ prefix_len (is_within names.now) rows.now }
 {
     'rows: for (count, row) in rows.iter().enumerate() {

@@ -1,8 +1,10 @@
 //! The tree of files and directories: questions, answers and updates.
 #![tactic(auto)]
 
+mod access;
 mod acts;
 mod blob;
+mod changes;
 mod children;
 mod duplicate;
 mod faults;
@@ -15,20 +17,22 @@ mod places;
 mod questions;
 mod rows;
 mod sequence;
-#[cfg(test)]
-mod tests;
 mod tree;
 mod updates;
 mod want;
 
+pub use access::{Access, Places};
 pub use acts::{Act, Acts, Lines, Read, Reads};
 pub use blob::Blob;
+pub use changes::{Changes, Known, StampedRows};
+pub use children::count_within;
 pub use duplicate::Duplicate;
 pub use faults::RowFault;
 pub use kinds::Kind;
 pub use labels::{Files, Label, Labels, OnConflict, Way};
 pub use limits::{ACT_LIMIT, CONTENTS_LIMIT};
 pub use nodes::{Node, Paths, Rows};
+pub use places::place_of;
 pub use questions::{Answer, Children, Question};
 pub use sequence::Sequence;
 pub use tree::Tree;

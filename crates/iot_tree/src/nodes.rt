@@ -21,6 +21,7 @@ pub enum Node {
 
 impl Node {
     ghost use Rattle.iot_tree.specs.Questions.{is_dir, is_known_dir, node_kind, is_far_dir, content_at, content_answer};
+    ghost use Rattle.iot_tree.specs.Snapshots.{is_known, far, seen};
 
     /// The kind of the object.
     pub fn kind(&self) -> Kind
@@ -44,6 +45,34 @@ impl Node {
         ensures { result ≡ is_known_dir self.now }
     {
         matches!(self, Node::Dir)
+    }
+
+    /// Whether the inside of the object is known: a directory's names, a file's contents.
+    pub fn is_known(&self) -> bool
+        ensures { result ≡ is_known self.now }
+    {
+        matches!(self, Node::Dir | Node::File(_))
+    }
+
+    /// The object without its inside.
+    pub fn far(&self) -> Node
+        ensures { result ≡ far self.now }
+    {
+        match self {
+            Node::Dir | Node::FarDir => Node::FarDir,
+            Node::File(_) | Node::FarFile => Node::FarFile,
+        }
+    }
+
+    /// The object in memory of its own, with its inside if that is to be seen.
+    pub fn seen(&self, alloc: Global, inside: bool) -> Result<Node, NoMemory>
+        ensures { IfOk result (λ node. node ≡ seen inside self.now) }
+    {
+        if inside {
+            self.copy(alloc)
+        } else {
+            Ok(self.far())
+        }
     }
 
     /// The contents, if this is a file whose contents are known.

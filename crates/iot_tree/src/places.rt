@@ -11,8 +11,8 @@ use crate::{Kind, Node};
 use iot_text::{Name, Path};
 use std::cmp::Ordering;
 
-/// The place of the path's row, or the place where it would go.
-pub(crate) fn place_of(rows: &[(Path, Node)], names: &[Name]) -> Result<usize, usize>
+/// The place of the path's row among rows that rise, or the place where it would go. A binary search.
+pub fn place_of(rows: &[(Path, Node)], names: &[Name]) -> Result<usize, usize>
     requires { IsTrue (is_sorted path_cmp rows.now) }
     ensures { IsPlace rows.now names.now result }
 {
