@@ -88,7 +88,7 @@ module _ (k : Path → Bool) where
     later : (q : Path) → path_cmp next.0 q ≡ Less → path_cmp now.0 q ≡ Less
     later q late = path_total.trans now.0 next.0 q follows.rises late
 
-    -- the last row hides the next exactly where a path above it is not known
+    -- the last row hides the next exactly if a path above it is not known
     hidden_is : is_hidden last (parent_of next.0) ≡ not (is_reached k next.0)
     hidden_is = elim (ends next.0) [
       | at_root is ↦ absurd (rw is at follows.parent)

@@ -2,7 +2,7 @@
 ghost use Rattle.std.specs.Prelude.{◌≡◌, IfOk};
 ghost use Rattle.iot_text.specs.Paths.{parent_of};
 ghost use Rattle.iot_tree.specs.Rows.{AreTreeRows};
-ghost use Rattle.iot_tree.specs.Snapshots.{AnswersOrAway, ArePathsRising, cut_rows, far, has, prune, seen};
+ghost use Rattle.iot_tree.specs.Snapshots.{AnswersOrAway, ArePathsRising, cut_rows, has, prune};
 ghost use Rattle.iot_prune.specs.Walks.{is_hidden, last_row};
 
 use crate::walking::{begins, from};
@@ -33,7 +33,7 @@ fn cut_rows(alloc: Global, rows: &[(Path, Node)], paths: &[Path]) -> Result<Rows
         if !is_hidden(out.as_slice(), &row.0) {
             rest = from(&row.0, rest);
             let known = begins(&row.0, rest);
-            out.push((row.0.copy(alloc)?, seen(alloc, &row.1, known)?))?;
+            out.push((row.0.copy(alloc)?, row.1.seen(alloc, known)?))?;
         }
     }
     Ok(out)
@@ -50,26 +50,5 @@ fn is_hidden(rows: &[(Path, Node)], path: &Path) -> bool
     match rows.last() {
         Some((above, Node::FarDir)) => parent.starts_with(above.names()),
         _ => false,
-    }
-}
-
-/// The object in memory of its own, with its inside if that is known.
-fn seen(alloc: Global, node: &Node, known: bool) -> Result<Node, NoMemory>
-    ensures { IfOk result (λ out. out ≡ seen known node.now) }
-{
-    if known {
-        node.copy(alloc)
-    } else {
-        Ok(far(node))
-    }
-}
-
-/// The object without its inside.
-fn far(node: &Node) -> Node
-    ensures { result ≡ far node.now }
-{
-    match node {
-        Node::Dir | Node::FarDir => Node::FarDir,
-        Node::File(_) | Node::FarFile => Node::FarFile,
     }
 }

@@ -20,16 +20,9 @@ fn known_paths(alloc: Global, rows: &[(Path, Node)]) -> Result<Paths, NoMemory>
 {
     let mut paths = Paths::new(alloc);
     'rows: for row in rows {
-        if is_known(&row.1) {
+        if row.1.is_known() {
             paths.push(row.0.copy(alloc)?)?;
         }
     }
     Ok(paths)
-}
-
-/// Whether the inside of the object is known.
-fn is_known(node: &Node) -> bool
-    ensures { result ≡ is_known node.now }
-{
-    matches!(node, Node::Dir | Node::File(_))
 }

@@ -5,9 +5,7 @@ mod absence;
 mod cutting;
 mod joining;
 mod knowledge;
-#[cfg(test)]
-mod tests;
-mod walking;
+pub mod walking;
 mod wishes;
 
 pub use absence::away;

@@ -5,7 +5,7 @@ ghost use Rattle.iot_prune.specs.Walks.{begins, from};
 use iot_text::Path;
 
 /// The paths from the first on that does not come before this one.
-pub(crate) fn from<'a>(path: &Path, paths: &'a [Path]) -> &'a [Path]
+pub fn from<'a>(path: &Path, paths: &'a [Path]) -> &'a [Path]
     ensures { result.now ≡ from path.now paths.now }
 {
     'paths: for (at, other) in paths.iter().enumerate() {
@@ -17,7 +17,7 @@ pub(crate) fn from<'a>(path: &Path, paths: &'a [Path]) -> &'a [Path]
 }
 
 /// Whether the paths begin with this one.
-pub(crate) fn begins(path: &Path, paths: &[Path]) -> bool
+pub fn begins(path: &Path, paths: &[Path]) -> bool
     ensures { result ≡ begins path.now paths.now }
 {
     match paths.first() {
