@@ -16,7 +16,7 @@ use Rattle.iot_tree.specs.declared.questions.Answer.TheVariants.{Away, Absent, I
 use Rattle.iot_tree.proofs.AncestorLaws.{none_above}
 use Rattle.iot_tree.proofs.ReadLaws.{names_row}
 use Rattle.iot_access.specs.BaseReads.{Base, path_of, base_at, settled, base_from}
-use Rattle.iot_access.proofs.ChildKindLaws.{Child, same_names}
+use Rattle.iot_tree.proofs.ChildKindLaws.{Child, same_names}
 use Rattle.iot_access.proofs.TiedLaws.{Sources, Tied}
 
 -- ---- base reads with their places
@@ -125,7 +125,7 @@ dir_names t p is = ap (λ o. names_answer o (is_far_above t p) (children_of t p)
 
 -- ---- a read and its base read
 
--- the read holds after the run exactly where the base read holds before it; where there is none, it holds
+-- the read holds after the run exactly if the base read holds before it; if there is none, it holds
 pub data Based (t u : Nodes) (question : Question) (answer : Answer) (base : Option Read) : Type 0 where
   asks : (read : Read) → base ≡ Some read → (answer_of u question ≡ answer) ↔ (answer_of t read.question ≡ read.answer)
       → Based t u question answer base

@@ -1,5 +1,5 @@
 -- Each base read holds on the tree before.
-use Rattle.std.proofs.Common.{◌≡◌, ◌≢◌, ℕ, suc, ◌+◌, length, Bool, false, IsSome, List, [], ◌∷◌, ◌++◌, Option, Some, None, refl, sym, ap}
+use Rattle.std.proofs.Common.{◌≡◌, ◌≢◌, ℕ, suc, ◌+◌, length, false, IsSome, List, [], ◌∷◌, ◌++◌, Option, Some, None, refl, sym, ap}
 use Rattle.std.proofs.Common.{subst, ◌∙◌, arith, length-append}
 use Rattle.std.proofs.lemmas.List.{append-nil}
 use Rattle.std.specs.FinMap.{get, insert, remove}
@@ -27,7 +27,7 @@ use Rattle.iot_access.specs.Sources.{source, hidden, carried}
 use Rattle.iot_access.specs.BaseReads.{Base, path_of, base_at, settled, base_from, base_of, cons_base, based_reads, based, done_more}
 use Rattle.iot_acts.specs.Turns.{Answers}
 use Rattle.iot_access.proofs.BaseReadsLaws.{BasesHold, reads_beside, other_names, kind_not_away, content_not_away, names_not_away}
-use Rattle.iot_access.proofs.ChildKindLaws.{Child}
+use Rattle.iot_tree.proofs.ChildKindLaws.{Child}
 use Rattle.iot_access.proofs.TiedLaws.{Sources, no_source, same_some, Tied, tied_first, hidden_outside, carried_inside, carried_outside}
 use Rattle.iot_acts.proofs.TraceLaws.{tree_after}
 use Rattle.iot_tree.proofs.UpdateLaws.{longer, tree_updated, from_outside, moved_at, moved_gone, moved_else, other_stays}

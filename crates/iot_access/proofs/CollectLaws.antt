@@ -1,15 +1,20 @@
 -- Base reads collected in turn.
-use Rattle.std.proofs.Common.{◌≡◌, ℕ, zero, suc, ◌+◌, ◌<◌, ◌≤◌, List, [], ◌∷◌, ◌++◌, length, take, drop, get_or, Option, Some, None}
-use Rattle.std.proofs.Common.{is_some, true, false, reverse, refl, sym, ap, subst, ◌∙◌, arith}
+use Rattle.std.proofs.Common.{◌≡◌, ℕ, suc, ◌+◌, ◌≤◌, List, [], ◌∷◌, ◌++◌, length, Option, Some, None}
+use Rattle.std.proofs.Common.{refl, sym, ap, subst, ◌∙◌, arith}
+use Rattle.std.proofs.lemmas.List.{append-nil}
 use Rattle.std.specs.List.{zip}
-use Rattle.iot_tree.specs.Tree.{Nodes}
+use Rattle.iot_tree.specs.Tree.{Nodes, Path}
+use Rattle.iot_tree.specs.Updates.{FitsMove}
 use Rattle.iot_tree.specs.declared.updates.Update.{Update}
+use Rattle.iot_tree.specs.declared.updates.Update.TheVariants.{Put, MakeDir, Remove, Move}
 use Rattle.iot_tree.specs.declared.acts.Act.{Act}
 use Rattle.iot_tree.specs.declared.acts.Read.{Read}
+use Rattle.iot_acts.specs.Traces.{FitsIfAny, ActsHold, after_update}
 use Rattle.iot_access.specs.BaseReads.{Base, base_of, cons_base, based_reads, based, done_more}
-use Rattle.iot_access.specs.Access.{Rise, cons_update, updates_of}
-use Rattle.std.proofs.lemmas.List.{drop_more}
-use Rattle.iot_access.proofs.SourcesLaws.{reverse_more}
+use Rattle.iot_access.specs.Access.{Rise, updates_of}
+use Rattle.iot_access.specs.Entries.{Entries, Tells, AreApart, IsApartIfAny}
+use Rattle.iot_access.specs.Sources.{source}
+use Rattle.iot_access.proofs.EntriesLaws.{tells_first}
 
 -- two lists of one length, and one item more in each
 pub zip_more : (places : List ℕ) (reads : List Read) (place : ℕ) (read : Read) (rest : List Base) → length places ≡ length reads
@@ -61,89 +66,51 @@ places_of places reads acts before even is =
 
 -- ---- one act more
 
-abbrev pub next_done : Option Update → ℕ → ℕ
-next_done None done = done
-next_done (Some update) done = done + 1
+-- neither path of any move is at or below the other
+abbrev pub AllApart : List Act → Type 0
+AllApart [] = Unit {0}
+AllApart (act ∷ acts) = IsApartIfAny act.update × AllApart acts
 
--- how many updates are done behind an act
-record Further (updates rest : List Update) (update : Option Update) (done : ℕ) : Type 0 where
-  within : next_done update done ≤ length updates
-  left : drop (next_done update done) updates ≡ rest
-  more : reverse (take (next_done update done) updates) ≡ done_more (reverse (take done updates)) update
-
-drop_cut : (updates : List Update) (done : ℕ) (update : Update) (rest : List Update) → drop done updates ≡ update ∷ rest
-    → (done < length updates) × (drop (done + 1) updates ≡ rest) × (take (done + 1) updates ≡ take done updates ++ update ∷ [])
-drop_cut [] zero update rest is = absurd cc
-drop_cut [] (suc done) update rest is = absurd cc
-drop_cut (u ∷ updates) zero update rest is =
-    (omega arith, tail_is u update updates rest is, ap (λ (u : Update). u ∷ []) (head_is u update updates rest is))
+apart_move : (t : Nodes) (p q : Path) → FitsMove t p q → AreApart p q
+apart_move t p q fits = record {
+  first = λ rest is. by_first rest is;
+  second = λ rest is. by_second rest is;
+}
   where
-    tail_is : (a b : Update) (x y : List Update) → a ∷ x ≡ b ∷ y → x ≡ y
-    tail_is a b x y is = cc
+    by_first : (rest : Path) → p ≡ q ++ rest → ⊥
+    by_first [] is = fits.differ (is ∙ append-nil q)
+    by_first (name ∷ rest) is = fits.from_apart (name, rest, is)
 
-    head_is : (a b : Update) (x y : List Update) → a ∷ x ≡ b ∷ y → a ≡ b
-    head_is a b x y is = cc
-drop_cut (u ∷ updates) (suc done) update rest is =
-    let more = drop_cut updates done update rest is in
-    let longer : suc done + 1 ≡ suc (done + 1) = omega arith in (
-      omega (arith, more.0),
-      ap (λ (n : ℕ). drop n (u ∷ updates)) longer ∙ more.1,
-      ap (λ (n : ℕ). take n (u ∷ updates)) longer ∙ ap (λ (updates : List Update). u ∷ updates) more.2,
-    )
+    by_second : (rest : Path) → q ≡ p ++ rest → ⊥
+    by_second [] is = fits.differ (sym (is ∙ append-nil p))
+    by_second (name ∷ rest) is = fits.to_apart (name, rest, is)
 
-further : (updates rest : List Update) (update : Option Update) (done : ℕ) → done ≤ length updates
-    → drop done updates ≡ cons_update update rest → Further updates rest update done
-further updates rest None done within left = record { within = within; left = left; more = refl }
-further updates rest (Some update) done within left =
-    let cut = drop_cut updates done update rest left in
-    record { within = omega (arith, cut.0); left = cut.1; more = ap reverse cut.2 ∙ reverse_more (take done updates) update }
+apart_if_fits : (t : Nodes) (update : Option Update) → FitsIfAny t update → IsApartIfAny update
+apart_if_fits t None fits = tt
+apart_if_fits t (Some (Put p bytes)) fits = tt
+apart_if_fits t (Some (MakeDir p)) fits = tt
+apart_if_fits t (Some (Remove p)) fits = tt
+apart_if_fits t (Some (Move p q)) fits = apart_move t p q fits
 
--- what the loop keeps
-pub record Collected (acts : List Act) (before : Nodes) (updates : List Update) (i done place : ℕ) (found all : List Base) : Type 0 where
-  pub within : done ≤ length updates
-  pub left : drop done updates ≡ updates_of (drop i acts)
-  pub bases : found ++ based (drop i acts) before (reverse (take done updates)) place ≡ all
+pub all_apart : (acts : List Act) (t : Nodes) → ActsHold t acts → AllApart acts
+all_apart [] t hold = tt
+all_apart (act ∷ acts) t hold = (apart_if_fits t act.update hold.1, all_apart acts (after_update t act.update) hold.2)
 
-pub collected_more : (acts : List Act) (before : Nodes) (updates : List Update) (i done place next : ℕ) (act : Act)
-    (found new all : List Base)
-    → i < length acts → act ≡ get_or acts i act → Collected acts before updates i done place found all → next ≡ length act.reads + place
-    → ((rest : List Base) → new ++ rest ≡ found ++ based_reads act.reads before (reverse (take done updates)) place rest)
-    → Collected acts before updates (i + 1) (next_done act.update done) next new all
-collected_more acts before updates i done place next act found new all lt is kept next_is adds =
-    let cut : drop i acts ≡ act ∷ drop (i + 1) acts = drop_more acts i act lt ∙ ap (λ (a : Act). a ∷ drop (i + 1) acts) (sym is) in
-    let more : Further updates (updates_of (drop (i + 1) acts)) act.update done =
-    further updates (updates_of (drop (i + 1) acts)) act.update done kept.within (kept.left ∙ ap updates_of cut) in
-    record {
-      within = more.within;
-      left = more.left;
-      bases =
-          ap (λ (done : List Update). new ++ based (drop (i + 1) acts) before done next) more.more
-          ∙ ap (λ (n : ℕ). new ++ based (drop (i + 1) acts) before (done_more (reverse (take done updates)) act.update) n) next_is
-          ∙ adds (based (drop (i + 1) acts) before (done_more (reverse (take done updates)) act.update) (length act.reads + place))
-          ∙ ap (λ (acts : List Act). found ++ based acts before (reverse (take done updates)) place) (sym cut)
-          ∙ kept.bases;
-    }
+-- what the loop keeps: the updates so far, and what is left to add; and the entries tell the sources after the updates done
+pub record Collected (acts left : List Act) (before : Nodes) (place : ℕ) (found : List Base) (updates : List Update) (entry : Entries)
+    : Type 0 where
+  pub updates_are : updates ++ updates_of left ≡ updates_of acts
+  pub apart : AllApart left
+  pub done : List Update
+  pub tells : Tells entry (source done)
+  pub bases : found ++ based left before done place ≡ based acts before [] 1
 
-pub next_some : (update : Option Update) (done : ℕ) → is_some update ≡ true → next_done update done ≡ done + 1
-next_some None done is = absurd cc
-next_some (Some update) done is = refl
-
-pub next_none : (update : Option Update) (done : ℕ) → is_some update ≡ false → next_done update done ≡ done
-next_none None done is = refl
-next_none (Some update) done is = absurd cc
-
--- the same of what is equal to it
-pub collected_by : (acts : List Act) (before : Nodes) (updates updates' : List Update) (i done done' place next : ℕ) (act : Act)
-    (reads : List Read) (found new all : List Base)
-    → i < length acts → act ≡ get_or acts i act → Collected acts before updates i done place found all → reads ≡ act.reads
-    → next ≡ length reads + place
-    → ((rest : List Base) → new ++ rest ≡ found ++ based_reads reads before (reverse (take done updates)) place rest)
-    → updates' ≡ updates → done' ≡ next_done act.update done → Collected acts before updates' (i + 1) done' next new all
-collected_by acts before updates updates' i done done' place next act reads found new all lt is kept same next_is adds same_updates
-    done_is =
-    let more : Collected acts before updates (i + 1) (next_done act.update done) next new all =
-    collected_more acts before updates i done place next act found new all lt is kept
-    (next_is ∙ ap (λ (reads : List Read). length reads + place) same)
-    (λ rest. adds rest ∙ ap (λ (reads : List Read). found ++ based_reads reads before (reverse (take done updates)) place rest) same) in
-    subst (λ (updates : List Update). Collected acts before updates (i + 1) done' next new all) (sym same_updates)
-    (subst (λ (done : ℕ). Collected acts before updates (i + 1) done next new all) (sym done_is) more)
+pub collected_first : (acts : List Act) (before : Nodes) (found : List Base) (updates : List Update) (entry : Entries)
+    → ActsHold before acts → found ≡ [] → updates ≡ [] → ((k : Path) → entry k ≡ None) → Collected acts acts before 1 found updates entry
+collected_first acts before found updates entry hold no_base no_update none = record {
+  updates_are = ap (λ (updates : List Update). updates ++ updates_of acts) no_update;
+  apart = all_apart acts before hold;
+  done = [];
+  tells = tells_first entry none;
+  bases = ap (λ (found : List Base). found ++ based acts before [] 1) no_base;
+}

@@ -1,5 +1,5 @@
 -- What is far above a path is far above where its row comes from.
-use Rattle.std.proofs.Common.{◌≡◌, ℕ, Bool, false, ◌||◌, IsSome, List, [], ◌∷◌, ◌++◌, map, Option, Some, None, refl, sym, ap, subst, ◌∙◌}
+use Rattle.std.proofs.Common.{◌≡◌, ℕ, Bool, false, ◌||◌, IsSome, List, [], ◌∷◌, ◌++◌, map, Some, None, refl, sym, ap, subst, ◌∙◌}
 use Rattle.std.proofs.Common.{append_assoc}
 use Rattle.std.proofs.lemmas.List.{append-nil}
 use Rattle.std.specs.List.{list_any}

@@ -1,11 +1,10 @@
-pub mod ChildKindLaws
 pub mod TiedLaws
 pub mod BaseReadsLaws
 pub mod StepLaws
 pub mod WholeLaws
 pub mod AccessLaws
-pub mod SourcesLaws
-pub mod IndexLaws
+pub mod EntriesLaws
+pub mod OriginsLaws
 pub mod CollectLaws
 pub mod FarLaws
 pub mod BeforeLaws

@@ -1,23 +1,22 @@
 -- A guarded update leaves two trees tied.
-use Rattle.std.proofs.Common.{◌≡◌, ◌≢◌, ℕ, Bool, true, false, cond, List, [], ◌∷◌, ◌++◌, Option, Some, None, refl, sym, ap, subst, ◌∙◌}
+use Rattle.std.proofs.Common.{◌≡◌, ◌≢◌, ℕ, cond, List, [], ◌∷◌, ◌++◌, Option, Some, None, refl, sym, ap, ◌∙◌}
 use Rattle.std.proofs.Common.{inl, inr}
 use Rattle.std.proofs.lemmas.List.{append-nil}
 use Rattle.std.specs.Cmp.{tied_itself}
-use Rattle.std.specs.Ordering.{eq_by_cmp, is_eq}
+use Rattle.std.specs.Ordering.{is_eq}
 use Rattle.std.specs.FinMap.{get, insert, remove, get-insert}
-use Rattle.iot_text.specs.Paths.{path_cmp}
-use Rattle.iot_tree.specs.Tree.{Nodes, IsTree, Path, IsWhole}
+use Rattle.iot_tree.specs.Tree.{Nodes, IsTree, Path}
 use Rattle.iot_tree.specs.Questions.{is_far_above, children_of}
 use Rattle.iot_tree.specs.Updates.{Fits, FitsPut, FitsRemove, FitsMove, IsLeaf, moved, updated}
 use Rattle.iot_tree.specs.declared.nodes.Node.{Node}
-use Rattle.iot_tree.specs.declared.nodes.Node.TheVariants.{Dir, File, FarDir, FarFile}
+use Rattle.iot_tree.specs.declared.nodes.Node.TheVariants.{Dir, File}
 use Rattle.iot_tree.specs.declared.acts.Read.{Read}
 use Rattle.iot_tree.specs.declared.updates.Update.{Update}
 use Rattle.iot_tree.specs.declared.updates.Update.TheVariants.{Put, MakeDir, Remove, Move}
 use Rattle.iot_tree.specs.declared.questions.Question.TheVariants.{Kind, Content, Names}
 use Rattle.iot_text.proofs.PathsLaws.{path_total}
 use Rattle.iot_tree.proofs.TreeLaws.{apart, get-insert_other, none_not_some}
-use Rattle.iot_tree.proofs.WithinLaws.{IsOutside, side, inside, outside}
+use Rattle.iot_tree.proofs.WithinLaws.{IsOutside}
 use Rattle.iot_acts.specs.Traces.{ReadsHold, FitsIfAny, after_update}
 use Rattle.iot_acts.specs.Guards.{Asked, AskedFree, GuardsPut, GuardsRemove, GuardsMove, over_file, over_contents, in_free, file_goes}
 use Rattle.iot_acts.specs.Guards.{empty_goes, file_to_file, dir_to_empty, any_to_free, Guards, GuardsIfAny}
@@ -26,7 +25,7 @@ use Rattle.iot_tree.proofs.ReadLaws.{IsFileRow, IsDirRow, known, far, known_dir,
 use Rattle.iot_tree.proofs.ReadLaws.{leaf_of}
 use Rattle.iot_access.specs.Sources.{source}
 use Rattle.iot_access.specs.BaseReads.{done_more}
-use Rattle.iot_access.proofs.ChildKindLaws.{row_kind, SameKind}
+use Rattle.iot_tree.proofs.ChildKindLaws.{row_kind, SameKind}
 use Rattle.iot_access.proofs.TiedLaws.{Tied, tied_hidden, tied_carried}
 use Rattle.iot_tree.proofs.UpdateLaws.{longer, other_stays, is_gone, to_outside, from_outside, moved_at, moved_gone, moved_else}
 use Rattle.iot_tree.specs.declared.kinds.Kind.TheVariants as kinds

@@ -8,7 +8,7 @@ use Rattle.iot_tree.specs.declared.nodes.Node.{Node}
 use Rattle.iot_tree.proofs.AncestorLaws.{ends, at_root, in_name}
 use Rattle.iot_tree.proofs.WithinLaws.{IsOutside, side, inside, outside, test_is}
 use Rattle.iot_access.specs.Sources.{hidden, carried}
-use Rattle.iot_access.proofs.ChildKindLaws.{Name, SameKind, row_kind}
+use Rattle.iot_tree.proofs.ChildKindLaws.{Name, SameKind, row_kind}
 use Rattle.iot_tree.proofs.UpdateLaws.{front_outside, same_front_of}
 
 -- where each row comes from
@@ -16,7 +16,7 @@ abbrev pub Sources : Type 0
 Sources = Path → Option Path
 
 -- rows with a source are those of the trees before, and the others are the same; and the kinds of a child are the same after
--- exactly where they were the same before
+-- exactly if they were the same before
 pub record Tied (s : Sources) (t1 u1 t2 u2 : Nodes) : Type 0 where
   pub first : (k o : Path) → s k ≡ Some o → get u1 k ≡ get t1 o
   pub second : (k o : Path) → s k ≡ Some o → get u2 k ≡ get t2 o

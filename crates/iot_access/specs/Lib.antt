@@ -1,4 +1,5 @@
 pub mod Sources
+pub mod Entries
+pub mod Origins
 pub mod BaseReads
 pub mod Access
-pub mod Index

@@ -21,11 +21,3 @@ source (Put p bytes ∷ done) k = hidden p (source done) k
 source (MakeDir p ∷ done) k = hidden p (source done) k
 source (Remove p ∷ done) k = hidden p (source done) k
 source (Move p q ∷ done) k = carried p q (source done) k
-
--- the path before one update from which the row at a path comes after it, if it has one
-abbrev pub back : Update → Path → Option Path
-back (Put p bytes) k = if starts_with bytes_eq k p then None else Some k
-back (MakeDir p) k = if starts_with bytes_eq k p then None else Some k
-back (Remove p) k = if starts_with bytes_eq k p then None else Some k
-back (Move p q) k =
-    if starts_with bytes_eq k q then Some (p ++ drop (length q) k) else (if starts_with bytes_eq k p then None else Some k)

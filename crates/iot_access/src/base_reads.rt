@@ -1,13 +1,15 @@
 //! What the tree before must answer.
-ghost use Rattle.std.specs.Prelude.{◌≡◌, ◌≤◌, take, length, IfOk, reverse};
+ghost use Rattle.std.specs.Prelude.{◌≡◌, List, IfOk};
 ghost use Rattle.iot_tree.specs.Tree.{Path as TreePath};
-ghost use Rattle.iot_access.specs.Index.{IsRising, Covers};
+ghost use Rattle.iot_tree.specs.declared.updates.Update.{Update as TreeUpdate};
 ghost use Rattle.iot_access.specs.BaseReads.{base_names, base_at, settled, base_of, path_of};
+ghost use Rattle.iot_access.specs.Entries.{Tells};
+ghost use Rattle.iot_access.specs.Origins.{entries};
+ghost use Rattle.iot_access.specs.Sources.{source};
 
-use crate::index::Entry;
-use crate::sources::source_by;
+use crate::origins::{Origins, source_of};
 use iot_text::{NoMemory, Path};
-use iot_tree::{Answer, Duplicate, Question, Read, Tree, Update};
+use iot_tree::{Answer, Duplicate, Question, Read, Tree};
 use std::alloc::Global;
 
 /// The path of which a question asks.
@@ -74,21 +76,17 @@ fn settled(alloc: Global, question: &Question, answer: &Answer) -> Result<Option
     }
 }
 
-/// The base read of a read that was made after the first `left` updates, if it has one.
+/// The base read of a read, if it has one, given where the rows come from as it is made.
 pub(crate) fn base_of(
     alloc: Global,
     before: &Tree,
-    index: &[Entry],
-    updates: &[Update],
-    left: u64,
+    origins: &Origins,
     read: &Read,
 ) -> Result<Option<Read>, NoMemory>
-    requires rising { IsRising index.now }
-    requires covers { Covers index.now updates.now }
-    requires within { left ≤ length updates.now }
-    ensures { IfOk result (λ base. base ≡ base_of before.now (reverse (take left updates.now)) read.now) }
+    ensures { IfOk result
+        (λ base. (done : List TreeUpdate) → Tells (entries origins.now) (source done) → base ≡ base_of before.now done read.now) }
 {
-    match source_by(alloc, index, updates, left, path_of(&read.question))? {
+    match source_of(alloc, origins, path_of(&read.question))? {
         Some(path) => Ok(Some(base_at(alloc, before, &read.question, path, &read.answer)?)),
         None => settled(alloc, &read.question, &read.answer),
     }

@@ -1,41 +1,49 @@
 //! The access of a transaction: its base reads, and its updates.
-ghost use Rattle.std.specs.Prelude.{◌≡◌, ◌++◌, ◌+◌, ◌≤◌, ℕ, List, [], length, take, reverse, IfOk, OnOk};
+ghost use Rattle.std.specs.Prelude.{◌≡◌, ◌++◌, ◌+◌, List, [], length, IfOk, OnOk};
 ghost use Rattle.std.specs.List.{zip};
+ghost use Rattle.iot_tree.specs.declared.updates.Update.{Update as TreeUpdate};
 ghost use Rattle.iot_acts.specs.Guards.{AllGuarded};
 ghost use Rattle.iot_acts.specs.Traces.{ReadsHold, ActsHold};
-ghost use Rattle.iot_access.specs.BaseReads.{Base, based, based_reads, base_of, cons_base};
-ghost use Rattle.iot_access.specs.Index.{IsRising, Covers};
-ghost use Rattle.iot_access.specs.Access.{IsAccess, Rise, updates_of};
+ghost use Rattle.iot_access.specs.BaseReads.{Base, based, based_reads, base_of, cons_base, done_more};
+ghost use Rattle.iot_access.specs.Entries.{Tells, IsApartIfAny};
+ghost use Rattle.iot_access.specs.Origins.{entries};
+ghost use Rattle.iot_access.specs.Sources.{source};
+ghost use Rattle.iot_access.specs.Access.{IsAccess, Rise, cons_update, updates_of};
 
 use crate::base_reads::base_of;
-use crate::index::{Entry, index_of, next_place};
-use crate::{Access, Places};
+use crate::origins::{Origins, follow};
 use iot_text::NoMemory;
-use iot_tree::{Act, Acts, Duplicate, Read, Reads, Tree, Updates};
-use std::alloc::Global;
+use iot_tree::{Access, Act, Acts, Duplicate, Places, Read, Reads, Tree, Update, Updates};
+use std::alloc::{AllocError, Global};
 
-/// Adds the base read of a read of this place, if it has one. The read was made after the first `done` updates.
+/// The next place. Places end at 64 bits; no list in memory is that long.
+fn next_place(place: u64) -> Result<u64, NoMemory>
+    ensures { IfOk result (λ next. next ≡ place + 1) }
+{
+    match place.checked_add(1) {
+        Some(next) => Ok(next),
+        None => Err(AllocError),
+    }
+}
+
+/// Adds the base read of a read of this place, if it has one.
 fn add_read(
     alloc: Global,
     before: &Tree,
-    index: &[Entry],
-    done: u64,
+    origins: &Origins,
     read: &Read,
     place: u64,
     access: &mut Access,
 ) -> Result<(), NoMemory>
-    requires even { length access.old.places ≡ length access.old.reads }
-    requires rising { IsRising index.now }
-    requires covers { Covers index.now access.old.updates }
-    requires within { done ≤ length access.old.updates }
+    requires { length access.old.places ≡ length access.old.reads }
     ensures even { OnOk result (length access.new.places ≡ length access.new.reads) }
     ensures updates { OnOk result (access.new.updates ≡ access.old.updates) }
     ensures bases { OnOk result
-        ((rest : List Base) → zip access.new.places access.new.reads ++ rest
-        ≡ zip access.old.places access.old.reads
-        ++ cons_base place (base_of before.now (reverse (take done access.old.updates)) read.now) rest) }
+        ((done : List TreeUpdate) (rest : List Base) → Tells (entries origins.now) (source done)
+        → zip access.new.places access.new.reads ++ rest
+        ≡ zip access.old.places access.old.reads ++ cons_base place (base_of before.now done read.now) rest) }
 {
-    if let Some(base) = base_of(alloc, before, index, access.updates.as_slice(), done, read)? {
+    if let Some(base) = base_of(alloc, before, origins, read)? {
         access.reads.push(base)?;
         access.places.push(place)?;
     }
@@ -46,73 +54,73 @@ fn add_read(
 fn add_reads(
     alloc: Global,
     before: &Tree,
-    index: &[Entry],
-    done: u64,
+    origins: &Origins,
     reads: &[Read],
     first: u64,
     access: &mut Access,
 ) -> Result<u64, NoMemory>
-    requires even { length access.old.places ≡ length access.old.reads }
-    requires rising { IsRising index.now }
-    requires covers { Covers index.now access.old.updates }
-    requires within { done ≤ length access.old.updates }
+    requires { length access.old.places ≡ length access.old.reads }
     ensures place { IfOk result (λ next. next ≡ length reads.now + first) }
     ensures even { OnOk result (length access.new.places ≡ length access.new.reads) }
     ensures updates { OnOk result (access.new.updates ≡ access.old.updates) }
     ensures bases { OnOk result
-        ((rest : List Base) → zip access.new.places access.new.reads ++ rest
-        ≡ zip access.old.places access.old.reads
-        ++ based_reads reads.now before.now (reverse (take done access.old.updates)) first rest) }
+        ((done : List TreeUpdate) (rest : List Base) → Tells (entries origins.now) (source done)
+        → zip access.new.places access.new.reads ++ rest
+        ≡ zip access.old.places access.old.reads ++ based_reads reads.now before.now done first rest) }
 {
     let mut place = first;
     'reads: for read in reads {
-        add_read(alloc, before, index, done, read, place, access)?;
+        add_read(alloc, before, origins, read, place, access)?;
         place = next_place(place)?;
     }
     Ok(place)
 }
 
-/// The updates of the acts, in turn.
-fn updates_of(alloc: Global, acts: &[Act]) -> Result<Updates, NoMemory>
-    ensures { IfOk result (λ updates. updates ≡ updates_of acts.now) }
+/// Adds the update, if there is one, and follows it.
+fn add_update(
+    alloc: Global,
+    update: &Option<Update>,
+    origins: &mut Origins,
+    updates: &mut Updates,
+) -> Result<(), NoMemory>
+    requires { IsApartIfAny update.now }
+    ensures updates { OnOk result
+        ((rest : List TreeUpdate) → updates.new ++ rest ≡ updates.old ++ cons_update update.now rest) }
+    ensures tells { OnOk result
+        ((done : List TreeUpdate) → Tells (entries origins.old) (source done)
+        → Tells (entries origins.new) (source (done_more done update.now))) }
 {
-    let mut updates = Updates::new(alloc);
-    'acts: for act in acts {
-        if let Some(update) = &act.update {
-            updates.push(update.copy(alloc)?)?;
-        }
+    if let Some(update) = update {
+        updates.push(update.copy(alloc)?)?;
+        follow(alloc, origins, update)?;
     }
-    Ok(updates)
+    Ok(())
 }
 
 /// The base reads and the updates of the acts.
 fn collect(alloc: Global, acts: &[Act], before: &Tree) -> Result<Access, NoMemory>
+    requires { ActsHold before.now acts.now }
     ensures even { IfOk result (λ access. length access.places ≡ length access.reads) }
     ensures updates { IfOk result (λ access. access.updates ≡ updates_of acts.now) }
     ensures bases { IfOk result (λ access. zip access.places access.reads ≡ based acts.now before.now [] 1) }
 {
-    let updates = updates_of(alloc, acts)?;
-    let index = index_of(alloc, updates.as_slice())?;
     let mut access = Access {
         reads: Reads::new(alloc),
-        updates,
+        updates: Updates::new(alloc),
         places: Places::new(alloc),
     };
-    let mut done = 0;
+    let mut origins = Origins::new(alloc);
     let mut place = 1;
     'acts: for act in acts {
         place = add_reads(
             alloc,
             before,
-            index.as_slice(),
-            done,
+            &origins,
             act.reads.as_slice(),
             place,
             &mut access,
         )?;
-        if act.update.is_some() {
-            done += 1;
-        }
+        add_update(alloc, &act.update, &mut origins, &mut access.updates)?;
     }
     Ok(access)
 }

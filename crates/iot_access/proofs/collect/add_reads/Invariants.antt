@@ -1,6 +1,10 @@
-use Rattle.std.proofs.Common.{◌≡◌, ◌++◌, ◌+◌, ℕ, List, take, drop, length, reverse}
+use Rattle.std.proofs.Common.{◌≡◌, ◌++◌, ◌+◌, List, drop, length}
 use Rattle.std.specs.List.{zip}
+use Rattle.iot_tree.specs.declared.updates.Update.{Update}
 use Rattle.iot_access.specs.BaseReads.{Base, based_reads}
+use Rattle.iot_access.specs.Entries.{Tells}
+use Rattle.iot_access.specs.Origins.{entries}
+use Rattle.iot_access.specs.Sources.{source}
 use Rattle.iot_access.proofs.collect.add_reads.Given as goal
 
 abbrev pub invariant-reads : goal.invariant-reads
@@ -8,8 +12,7 @@ invariant-reads l = record {
   place : l.place ≡ l.read-index + l.first;
   even : length l.access.places ≡ length l.access.reads;
   updates : l.access.updates ≡ l.fn.access.updates;
-  bases : (rest : List Base)
-      → zip l.access.places l.access.reads
-      ++ based_reads (drop l.read-index l.reads) l.before (reverse (take l.done l.fn.access.updates)) l.place rest
-      ≡ zip l.fn.access.places l.fn.access.reads ++ based_reads l.reads l.before (reverse (take l.done l.fn.access.updates)) l.first rest;
+  bases : (done : List Update) (rest : List Base) → Tells (entries l.origins) (source done)
+      → zip l.access.places l.access.reads ++ based_reads (drop l.read-index l.reads) l.before done l.place rest
+      ≡ zip l.fn.access.places l.fn.access.reads ++ based_reads l.reads l.before done l.first rest;
 }
