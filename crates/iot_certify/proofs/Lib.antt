@@ -1,0 +1,3 @@
+pub mod ReadsLaws
+pub mod WalkLaws
+pub mod AccessLaws
