@@ -66,6 +66,19 @@ agrees_zero t s positive p a b n here there =
     zero_either true = refl
     zero_either false = refl
 
+-- a whole tree with one stamp on all rows, as a server begins
+pub positive_with : (t : Nodes) (stamp : ℕ) → IsWhole t → 0 < stamp → IsPositive (with_stamps (λ p. stamp) t)
+positive_with t stamp whole some p a n is =
+    let row = with_row (λ q. stamp) t p a n is in
+    omega (arith, some, row.stamp ∙ ap (λ (b : Bool). cond b stamp 0) (whole_known t whole p a row.node))
+
+pub up_with : (t : Nodes) (stamp : ℕ) → UpTo (with_stamps (λ p. stamp) t) stamp
+up_with t stamp p a n is = by (is_known a) (with_row (λ q. stamp) t p a n is).stamp
+  where
+    by : (b : Bool) → n ≡ cond b stamp 0 → n ≤ stamp
+    by true one = omega (arith, one)
+    by false one = omega (arith, one)
+
 -- stamps stay positive, and up to the new one
 pub positive_commit : (s new : Stamps) (stamp : ℕ) → IsPositive s → 0 < stamp → IsWhole (nodes_of new) → Keeps s new stamp → IsPositive new
 positive_commit s new stamp positive some whole keeps p a n is = elim (eqb_tells n stamp) [

@@ -11,10 +11,8 @@ pub mod StackLaws
 pub mod PairingLaws
 pub mod PassesLaws
 pub mod SendingLaws
-pub mod WeaveLaws
-pub mod JoiningLaws
-pub mod FrontLaws
-pub mod OutcomeLaws
 pub mod GoneLaws
+pub mod ChangesLaws
 pub mod KnownLaws
-pub mod AppliedLaws
+pub mod LiningLaws
+pub mod CarriedLaws

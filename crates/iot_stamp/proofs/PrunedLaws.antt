@@ -1,7 +1,7 @@
 -- What is at a path of a tree that is cut down to known paths.
 use Rattle.std.proofs.Common.{◌≡◌, ℕ, Bool, true, false, cond, ◌||◌, ◌&&◌, IsSome, List, [], ◌∷◌, ◌++◌, Option, Some, None}
 use Rattle.std.proofs.Common.{option_map, refl, ap, ◌∙◌, inl, inr}
-use Rattle.std.specs.Cmp.{first_so, second_so}
+use Rattle.std.specs.Cmp.{second_so}
 use Rattle.std.specs.FinMap.{get}
 use Rattle.iot_tree.specs.Snapshots.{is_known, is_reached, far, seen, prune}
 use Rattle.iot_tree.specs.Tree.{Path, Nodes, IsTree, IsWhole}
@@ -33,9 +33,6 @@ module _ (k : Path → Bool) where
   -- what is above a path that is reached is reached, and among k
   pub known_above : (q : Path) (name : List ℕ) (rest : Path) → is_reached k (q ++ name ∷ rest) ≡ true → k q ≡ true
   known_above q name rest reached = second_so (is_reached k q) _ (reached_above k q name rest reached)
-
-  pub reached_upper : (q : Path) (name : List ℕ) (rest : Path) → is_reached k (q ++ name ∷ rest) ≡ true → is_reached k q ≡ true
-  reached_upper q name rest reached = first_so (is_reached k q) _ (reached_above k q name rest reached)
 
   pub reached_push : (q : Path) (name : List ℕ) → is_reached k q ≡ true → k q ≡ true → is_reached k (q ++ name ∷ []) ≡ true
   reached_push q name reached here = all_push k q name ∙ (λ i. reached i && here i)

@@ -1,8 +1,10 @@
 -- The pass that finds what is sent.
-use Rattle.std.proofs.Common.{◌≡◌, ℕ, zero, suc, ◌+◌, ◌-◌, ◌<◌, Bool, true, false, cond, not, ◌||◌, ◌&&◌, IsTrue, List, [], ◌∷◌}
+use Rattle.std.proofs.Common.{◌≡◌, ℕ, zero, suc, ◌+◌, ◌-◌, ◌<◌, ◌≤◌, Bool, true, false, cond, not, ◌||◌, ◌&&◌, IsTrue, List, [], ◌∷◌}
 use Rattle.std.proofs.Common.{◌++◌, map, Option, Some, None, is_some, length, length-append, take, drop, get_or, slice_get, refl, sym, ap}
-use Rattle.std.proofs.Common.{subst, ◌∙◌, arith}
-use Rattle.std.proofs.lemmas.List.{append-nil, take_more, drop_more, take-append-drop, map-append}
+use Rattle.std.proofs.Common.{subst, ◌∙◌, arith, append_assoc}
+use Rattle.std.proofs.lemmas.List.{take_more, drop_more, take-append-drop, map-append}
+use Rattle.std.proofs.lemmas.List.Elements.{filter_map-append}
+use Rattle.std.proofs.Math.Seq.{take-length}
 use Rattle.std.specs.List.{filter_map}
 use Rattle.std.specs.declared.cmp.Ordering.TheVariants.{Less, Equal}
 use Rattle.std.specs.FinMap.{get, find, is_sorted, get-from_sorted, FinMap, entries, entries_sorted, retain_keys}
@@ -10,14 +12,14 @@ use Rattle.std.specs.FinMap.{get-retain_keys, get-entries}
 use Rattle.std.specs.FinMap.Entries.{below_all, where_key, is_sorted-where_key, find-where_key, same_entries}
 use Rattle.iot_text.specs.Paths.{path_cmp, parent_of}
 use Rattle.iot_tree.specs.Ancestors.{proper_prefixes}
-use Rattle.iot_tree.specs.Place.{AllBefore}
+use Rattle.iot_tree.specs.Place.{AllBefore, AllAfter}
 use Rattle.iot_tree.specs.Rows.{Rising, AreTreeRows}
 use Rattle.iot_tree.specs.declared.nodes.Node.{Node}
 use Rattle.iot_stamp.proofs.PickedLaws.{picked_more, picked_none}
 use Rattle.iot_stamp.specs.Stamps.{Entry, Stamps, nodes_of, stamp_at, stamp_in, stamped_node, pruned}
 use Rattle.iot_text.proofs.PathsLaws.{parent_of-push, path_total, path_same}
 use Rattle.iot_tree.proofs.AncestorLaws.{ends, at_root, in_name}
-use Rattle.iot_tree.proofs.PlaceLaws.{rows_rise, front_before}
+use Rattle.iot_tree.proofs.PlaceLaws.{rows_rise, front_before, back_after}
 use Rattle.iot_tree.proofs.RowLaws.{tested}
 use Rattle.iot_tree.proofs.SnapshotLaws.{all_push}
 use Rattle.iot_tree.proofs.TreeLaws.{apart}
@@ -26,14 +28,15 @@ use Rattle.iot_tree.specs.Snapshots.{is_reached, seen, prune, cut_rows}
 use Rattle.iot_tree.specs.Tree.{Row, Path}
 use Rattle.iot_tree.specs.declared.want.Want.{Want}
 use Rattle.std.specs.Cmp.{second_so}
-use Rattle.iot_stamp.specs.Refresh.{is_stamp, is_sent, is_parent_new, is_new, asked, changed_rows}
+use Rattle.iot_stamp.specs.Refresh.{is_stamp, is_sent, is_parent_new, is_new, asked, changed_rows, gone_path, gone_paths}
 use Rattle.iot_stamp.specs.Pairing.{paired, stamps_of}
-use Rattle.iot_stamp.specs.Passes.{from_key, sending, flags, above_of, wanted, head_at, shown_path}
+use Rattle.iot_stamp.specs.Passes.{before_key, from_key, after_head, sending, flags, above_of, wanted, head_at}
 use Rattle.iot_stamp.proofs.FoundLaws.{found_here}
+use Rattle.iot_stamp.proofs.GoneLaws.{Ahead, ahead_none, ahead_more, gone_before, gone_at, gone_rest}
 use Rattle.iot_stamp.proofs.StampsLaws.{node_some}
 use Rattle.iot_stamp.proofs.StartsLaws.{wanted_is}
 use Rattle.iot_stamp.proofs.PairingLaws.{sorted_paired}
-use Rattle.iot_stamp.proofs.PassesLaws.{find_from, sorted_from, head_from}
+use Rattle.iot_stamp.proofs.PassesLaws.{find_from, sorted_from, head_from, find_after_head, sorted_after_head, rest_after, key_parts}
 use Rattle.iot_stamp.proofs.StackLaws.{above_push, prefixes_end, Stacked, cut_is, next_is, stacked_none}
 use Rattle.iot_stamp.proofs.MappedLaws.{entries_of_mapped}
 use Rattle.iot_stamp.specs.Mapped.{mapped_entries}
@@ -106,16 +109,26 @@ module _ (s : Stamps) (sent : List (Path × ℕ)) (k : Path → Bool) where
 
 -- how far the pass has come
 pub record SoFar (rows : List Row) (stamps : List ℕ) (sent : List (Path × ℕ)) (want : Want) (rest : List (Path × ℕ))
-    (stack : List (Bool × Bool)) (out : List Entry) (i : ℕ) : Type 0 where
+    (stack : List (Bool × Bool)) (out : List Entry) (gone : List Path) (i : ℕ) : Type 0 where
   pub out_is : out ≡ filter_map (sending (stamps_of rows stamps) sent (asked (stamps_of rows stamps) sent want)) (take i rows)
   pub stacked : Stacked (flags (stamps_of rows stamps) sent (asked (stamps_of rows stamps) sent want)) rows i stack
   pub rising : IsTrue (is_sorted path_cmp rest)
   pub finds : (q : Path) → AllBefore q (take i rows) → find path_cmp q rest ≡ find path_cmp q sent
+  pub ahead : Ahead (take i rows) rest
+  pub gone_is : gone ++ filter_map (gone_path (pruned (stamps_of rows stamps) (asked (stamps_of rows stamps) sent want))) rest
+      ≡ gone_paths (stamps_of rows stamps) sent (asked (stamps_of rows stamps) sent want)
 
 pub so_far_none : (rows : List Row) (stamps : List ℕ) (sent : List (Path × ℕ)) (want : Want) (stack : List (Bool × Bool)) (out : List Entry)
-    → out ≡ [] → stack ≡ [] → IsTrue (is_sorted path_cmp sent) → SoFar rows stamps sent want sent stack out 0
-so_far_none rows stamps sent want stack out none empty rising =
-    record { out_is = none; stacked = stacked_none _ rows stack empty; rising = rising; finds = λ q before. refl }
+    (gone : List Path) → out ≡ [] → gone ≡ [] → stack ≡ [] → IsTrue (is_sorted path_cmp sent)
+    → SoFar rows stamps sent want sent stack out gone 0
+so_far_none rows stamps sent want stack out gone none nothing empty rising = record {
+  out_is = none;
+  stacked = stacked_none _ rows stack empty;
+  rising = rising;
+  finds = λ q before. refl;
+  ahead = ahead_none sent;
+  gone_is = ap (λ (paths : List Path). paths ++ gone_paths (stamps_of rows stamps) sent (asked (stamps_of rows stamps) sent want)) nothing;
+}
 
 pub before_left : (q : Path) (a : List Row) (row : Row) → AllBefore q (a ++ row ∷ []) → AllBefore q a
 before_left q [] row before = tt
@@ -126,12 +139,15 @@ before_at q [] row before = before.0
 before_at q (x ∷ a) row before = before_at q a row before.1
 
 module _ (rows : List Row) (stamps : List ℕ) (sent : List (Path × ℕ)) (want : Want) (rest : List (Path × ℕ)) (stack : List (Bool × Bool))
-    (out : List Entry) (i : ℕ) (row : Row)
-    (all : AreTreeRows rows) (lt : i < length rows) (is : row ≡ get_or rows i row) (so_far : SoFar rows stamps sent want rest stack out i)
-    (cut new_stack : List (Bool × Bool)) (above : Bool × Bool) (left : List (Path × ℕ)) (known : Option ℕ) (kept fresh sends : Bool)
-    (stamp : ℕ)
+    (out : List Entry) (gone : List Path) (i : ℕ) (row : Row)
+    (all : AreTreeRows rows) (lt : i < length rows) (is : row ≡ get_or rows i row)
+    (so_far : SoFar rows stamps sent want rest stack out gone i)
+    (cut new_stack : List (Bool × Bool)) (above : Bool × Bool) (left after : List (Path × ℕ)) (known : Option ℕ) (kept fresh sends : Bool)
+    (stamp : ℕ) (passed hidden : List Path)
     (cut_by : cut ≡ take (length row.0) stack) (above_by : above ≡ above_of (slice_get cut (length cut - 1)))
-    (left_by : left ≡ from_key row.0 rest) (known_by : known ≡ head_at row.0 left)
+    (left_by : left ≡ from_key row.0 rest) (passed_by : passed ≡ gone ++ map (λ e. e.0) (before_key row.0 rest))
+    (known_by : known ≡ head_at row.0 left) (after_by : after ≡ after_head row.0 left)
+    (hidden_by : hidden ≡ passed ++ cond (is_some known && not above.0) (row.0 ∷ []) [])
     (kept_by : kept ≡ (is_some known || wanted want row.0)) (fresh_by : fresh ≡ not (is_stamp known stamp))
     (stamp_by : stamp ≡ get_or stamps i 0)
     (stack_by : new_stack ≡ cut ++ (above.0 && kept, fresh) ∷ []) (sends_by : sends ≡ (above.0 && cond kept fresh above.1)) where
@@ -173,20 +189,31 @@ module _ (rows : List Row) (stamps : List ℕ) (sent : List (Path × ℕ)) (want
   above_list : above ≡ (is_reached k row.0, is_parent_new s sent (parent_of row.0))
   above_list = above_by ∙ ap (λ (list : List (Bool × Bool)). above_of (slice_get list (length list - 1))) cut_list ∙ above_is s sent k row.0
 
-  -- the path is shown if it is reached
-  pub next_shown : (shown new : List Path) → shown ≡ filter_map (shown_path k) (take i rows) → new ≡ shown ++ cond (above.0) (row.0 ∷ []) []
-      → new ≡ filter_map (shown_path k) (take (i + 1) rows)
-  next_shown shown new shown_is new_is =
-      by (is_reached k row.0) refl
-    where
-      by : (c : Bool) → is_reached k row.0 ≡ c → new ≡ filter_map (shown_path k) (take (i + 1) rows)
-      by false off =
-          picked_none (shown_path k) rows i row new lt is (rw off refl)
-          (new_is ∙ ap (λ (b : Bool). shown ++ cond b (row.0 ∷ []) []) (ap (λ (a : Bool × Bool). a.0) above_list ∙ off) ∙ append-nil shown
-          ∙ shown_is)
-      by true off =
-          picked_more (shown_path k) rows i row row.0 shown new lt is (rw off refl) shown_is
-          (new_is ∙ ap (λ (b : Bool). shown ++ cond b (row.0 ∷ []) []) (ap (λ (a : Bool × Bool). a.0) above_list ∙ off))
+  tail : AllAfter row.0 (drop (i + 1) rows)
+  tail = back_after (take i rows) row (drop (i + 1) rows) (subst (λ (r : List Row). IsTrue (is_sorted path_cmp r)) parts all.rising)
+
+  -- the entries that are passed are gone, and the row's if the row is not reached
+  next_gone : hidden ++ filter_map (gone_path (pruned s k)) after ≡ gone_paths s sent k
+  next_gone =
+      (λ j. (hidden_by ∙ (λ l. passed_by l ++ cond (is_some ((known_by
+      ∙ ap (head_at row.0) left_by) l) && not (above_list l).0) (row.0 ∷ []) [])) j
+      ++ filter_map (gone_path (pruned s k)) ((after_by ∙ ap (after_head row.0) left_by) j))
+      ∙ append_assoc (gone ++ map (λ e. e.0) (before_key row.0 rest)) _ _
+      ∙ ap (λ (paths : List Path). (gone ++ map (λ e. e.0) (before_key row.0 rest)) ++ paths)
+      (gone_at rows stamps k all.rising row.0 there (from_key row.0 rest))
+      ∙ append_assoc gone (map (λ e. e.0) (before_key row.0 rest)) (filter_map (gone_path (pruned s k)) (from_key row.0 rest))
+      ∙ ap (λ (paths : List Path). gone ++ paths)
+      (ap (λ (paths : List Path). paths ++ filter_map (gone_path (pruned s k)) (from_key row.0 rest))
+      (sym (gone_before rows stamps k all.rising (take i rows) row (drop (i + 1) rows) parts tail rest so_far.ahead))
+      ∙ sym (filter_map-append (gone_path (pruned s k)) (before_key row.0 rest) (from_key row.0 rest))
+      ∙ ap (filter_map (gone_path (pruned s k))) (key_parts row.0 rest))
+      ∙ so_far.gone_is
+
+  next_ahead : Ahead (take (i + 1) rows) after
+  next_ahead =
+      subst (λ (es : List (Path × ℕ)). Ahead (take (i + 1) rows) es) (sym (after_by ∙ ap (after_head row.0) left_by))
+      (subst (λ (front : List Row). Ahead front (after_head row.0 (from_key row.0 rest))) (sym more)
+      (ahead_more (take i rows) row early (after_head row.0 (from_key row.0 rest)) (rest_after row.0 rest so_far.rising)))
 
   next_stack : Stacked (flags s sent k) rows (i + 1) new_stack
   next_stack =
@@ -194,21 +221,25 @@ module _ (rows : List Row) (stamps : List ℕ) (sent : List (Path × ℕ)) (want
       ∙ (λ j. cut_by j ++ ((above_list j).0 && kept_is j, fresh_is j) ∷ []) in
       subst (Stacked (flags s sent k) rows (i + 1)) (sym same) (next_is (flags s sent k) rows all i row lt is stack so_far.stacked)
 
-  next_finds : (q : Path) → AllBefore q (take (i + 1) rows) → find path_cmp q left ≡ find path_cmp q sent
+  next_finds : (q : Path) → AllBefore q (take (i + 1) rows) → find path_cmp q after ≡ find path_cmp q sent
   next_finds q before =
       let both = subst (AllBefore q) more before in
-      ap (find path_cmp q) left_by ∙ find_from row.0 q (before_at q (take i rows) row both) rest
+      ap (find path_cmp q) (after_by ∙ ap (after_head row.0) left_by)
+      ∙ find_after_head row.0 q (before_at q (take i rows) row both) (from_key row.0 rest)
+      ∙ find_from row.0 q (before_at q (take i rows) row both) rest
       ∙ so_far.finds q (before_left q (take i rows) row both)
 
-  next_rising : IsTrue (is_sorted path_cmp left)
-  next_rising = subst (λ (es : List (Path × ℕ)). IsTrue (is_sorted path_cmp es)) (sym left_by) (sorted_from row.0 rest so_far.rising)
+  next_rising : IsTrue (is_sorted path_cmp after)
+  next_rising =
+      subst (λ (es : List (Path × ℕ)). IsTrue (is_sorted path_cmp es)) (sym (after_by ∙ ap (after_head row.0) left_by))
+      (sorted_after_head row.0 (from_key row.0 rest) (sorted_from row.0 rest so_far.rising))
 
   sends_is : (is_reached k row.0 && is_new s sent k row.0) ≡ sends
   sends_is = sym (sends_by ∙ (λ j. (above_list j).0 && cond (kept_is j) (fresh_is j) (above_list j).1))
 
   -- something is sent of the row
   pub next_sent : (new : List Entry) → sends ≡ true → new ≡ out ++ (row.0, stamped_node (seen kept row.1) stamp) ∷ []
-      → SoFar rows stamps sent want left new_stack new (i + 1)
+      → SoFar rows stamps sent want after new_stack new hidden (i + 1)
   next_sent new yes_sends new_is = record {
     out_is =
         picked_more (sending s sent k) rows i row (row.0, stamped_node (seen (k row.0) row.1) (stamp_at s row.0)) out new lt is
@@ -217,16 +248,35 @@ module _ (rows : List Row) (stamps : List ℕ) (sent : List (Path × ℕ)) (want
     stacked = next_stack;
     rising = next_rising;
     finds = next_finds;
+    ahead = next_ahead;
+    gone_is = next_gone;
   }
 
   -- nothing is
-  pub next_unsent : sends ≡ false → SoFar rows stamps sent want left new_stack out (i + 1)
+  pub next_unsent : sends ≡ false → SoFar rows stamps sent want after new_stack out hidden (i + 1)
   next_unsent no_sends = record {
     out_is = picked_none (sending s sent k) rows i row out lt is (sent_if s sent k false row (sends_is ∙ no_sends)) so_far.out_is;
     stacked = next_stack;
     rising = next_rising;
     finds = next_finds;
+    ahead = next_ahead;
+    gone_is = next_gone;
   }
+
+-- at the end all that is left is gone
+pub so_far_all : (rows : List Row) (stamps : List ℕ) (sent : List (Path × ℕ)) (want : Want) (rest : List (Path × ℕ))
+    (stack : List (Bool × Bool)) (out : List Entry) (gone new : List Path) (i : ℕ)
+    → Rising rows → length rows ≤ i → i ≤ length rows → SoFar rows stamps sent want rest stack out gone i
+    → new ≡ gone ++ map (λ e. e.0) rest
+    → new ≡ gone_paths (stamps_of rows stamps) sent (asked (stamps_of rows stamps) sent want)
+so_far_all rows stamps sent want rest stack out gone new i rising long short so_far new_by =
+    let end : i ≡ length rows = omega (arith, long, short) in
+    new_by
+    ∙ ap (λ (paths : List Path). gone ++ paths)
+    (sym
+    (gone_rest rows stamps (asked (stamps_of rows stamps) sent want) rising rest
+    (subst (λ (front : List Row). Ahead front rest) (ap (λ (n : ℕ). take n rows) end ∙ take-length rows) so_far.ahead)))
+    ∙ so_far.gone_is
 
 -- ---- what is sent of each row is what is sent of the tree
 

@@ -1,8 +1,9 @@
 pub mod Mapped
 pub mod Stamps
 pub mod Stamping
+pub mod Lining
+pub mod Carried
 pub mod Refresh
 pub mod Agreement
 pub mod Pairing
 pub mod Passes
-pub mod Weave

@@ -3,7 +3,7 @@ use Rattle.iot_tree.specs.Tree.{Path, Row}
 use Rattle.std.specs.Prelude.{ℕ, Bool, true, false, not, ◌&&◌, ◌||◌, cond, List, [], ◌∷◌, if◌then◌else◌, Option, Some, None}
 use Rattle.std.specs.Prelude.{bytes_eq}
 use Rattle.std.specs.List.{starts_with}
-use Rattle.iot_tree.specs.Snapshots.{is_reached, has, seen}
+use Rattle.iot_tree.specs.Snapshots.{is_reached, seen}
 use Rattle.iot_tree.specs.declared.want.Want.{Want}
 use Rattle.iot_tree.specs.declared.want.Want.TheVariants as wish
 use Rattle.std.specs.Ordering.{is_lt, eq_by_cmp}
@@ -42,10 +42,12 @@ abbrev pub head_at : {V : Type 0} → Path → List (Path × V) → Option V
 head_at p [] = None
 head_at p (e ∷ es) = cond (eq_by_cmp path_cmp p e.0) (Some e.1) None
 
--- the path of a row that is reached
-abbrev pub shown_path : (Path → Bool) → Row → Option Path
-shown_path k row = if is_reached k row.0 then Some row.0 else None
+-- the entries up to the first that does not come before p
+abbrev pub before_key : {V : Type 0} → Path → List (Path × V) → List (Path × V)
+before_key p [] = []
+before_key p (e ∷ es) = if is_lt (path_cmp e.0 p) then e ∷ before_key p es else []
 
--- a path that was sent, if it is none of the paths shown
-abbrev pub unless_shown : List Path → Path × ℕ → Option Path
-unless_shown shown e = cond (has shown e.0) None (Some e.0)
+-- the entries after the first, if its key is p, or else all
+abbrev pub after_head : {V : Type 0} → Path → List (Path × V) → List (Path × V)
+after_head p [] = []
+after_head p (e ∷ es) = cond (eq_by_cmp path_cmp p e.0) es (e ∷ es)

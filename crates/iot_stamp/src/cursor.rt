@@ -1,56 +1,60 @@
-//! Paths and entries in order, gone through beside rows.
-ghost use Rattle.std.specs.Prelude.{◌≡◌};
-ghost use Rattle.iot_prune.specs.Walks.{begins, from};
-ghost use Rattle.iot_stamp.specs.Passes.{from_key, head_at};
+//! Entries in order, gone through beside rows.
+ghost use Rattle.std.specs.Prelude.{◌≡◌, ◌++◌, map, IfOk, OnOk};
+ghost use Rattle.iot_stamp.specs.Passes.{before_key, from_key, after_head, head_at};
 
-use iot_text::Path;
+use iot_text::{NoMemory, Path};
+use iot_tree::{Duplicate, Paths};
+use std::alloc::Global;
 
-/// The entries from the first on that does not come before the path.
-pub(crate) fn from_key<'a>(path: &Path, entries: &'a [(Path, u64)]) -> &'a [(Path, u64)]
-    ensures { result.now ≡ from_key path.now entries.now }
+/// Puts the paths of the entries up to the first that does not come before the path after the others, and gives the rest.
+pub(crate) fn pass_before<'a>(
+    alloc: Global,
+    path: &Path,
+    entries: &'a [(Path, u64)],
+    passed: &mut Paths,
+) -> Result<&'a [(Path, u64)], NoMemory>
+    ensures rest { IfOk result (λ rest. rest.now ≡ from_key path.now entries.now) }
+    ensures passed { OnOk result (passed.new ≡ passed.old ++ map (λ e. e.0) (before_key path.now entries.now)) }
 {
     'entries: for (at, entry) in entries.iter().enumerate() {
         if !entry.0.cmp(path).is_lt() {
-            return &entries[at..];
+            return Ok(&entries[at..]);
         }
+        passed.push(entry.0.copy(alloc)?)?;
     }
-    &entries[entries.len()..]
+    Ok(&entries[entries.len()..])
 }
 
-/// The stamp of the path, if the entries begin with it.
-pub(crate) fn head_at(path: &Path, entries: &[(Path, u64)]) -> Option<u64>
-    ensures { result ≡ head_at path.now entries.now }
+/// Puts the paths of the entries after the others.
+pub(crate) fn pass_all(
+    alloc: Global,
+    entries: &[(Path, u64)],
+    passed: &mut Paths,
+) -> Result<(), NoMemory>
+    ensures { OnOk result (passed.new ≡ passed.old ++ map (λ e. e.0) entries.now) }
 {
-    match entries.first() {
-        Some(first) => {
+    'entries: for entry in entries {
+        passed.push(entry.0.copy(alloc)?)?;
+    }
+    Ok(())
+}
+
+/// The stamp of the path, if the entries begin with it, and the entries after that.
+pub(crate) fn split_head<'a>(
+    path: &Path,
+    entries: &'a [(Path, u64)],
+) -> (Option<u64>, &'a [(Path, u64)])
+    ensures stamp { result.0 ≡ head_at path.now entries.now }
+    ensures rest { result.1.now ≡ after_head path.now entries.now }
+{
+    match entries.split_first() {
+        Some((first, rest)) => {
             if path.cmp(&first.0).is_eq() {
-                Some(first.1)
+                (Some(first.1), rest)
             } else {
-                None
+                (None, entries)
             }
         }
-        None => None,
-    }
-}
-
-/// The paths from the first on that does not come before this one.
-pub(crate) fn from<'a>(path: &Path, paths: &'a [Path]) -> &'a [Path]
-    ensures { result.now ≡ from path.now paths.now }
-{
-    'paths: for (at, other) in paths.iter().enumerate() {
-        if !other.cmp(path).is_lt() {
-            return &paths[at..];
-        }
-    }
-    &paths[paths.len()..]
-}
-
-/// Whether the paths begin with this one.
-pub(crate) fn begins(path: &Path, paths: &[Path]) -> bool
-    ensures { result ≡ begins path.now paths.now }
-{
-    match paths.first() {
-        Some(first) => path.cmp(first).is_eq(),
-        None => false,
+        None => (None, entries),
     }
 }

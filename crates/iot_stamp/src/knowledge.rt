@@ -6,10 +6,9 @@ ghost use Rattle.iot_text.specs.Paths.{path_cmp};
 ghost use Rattle.iot_stamp.specs.Refresh.{known_stamp, known_with_stamps};
 ghost use Rattle.iot_stamp.specs.Pairing.{paired};
 
-use crate::nodes::is_known;
-use crate::{Known, Stamped};
+use crate::Stamped;
 use iot_text::{NoMemory, Path};
-use iot_tree::{Duplicate, Node};
+use iot_tree::{Duplicate, Known, Node};
 use std::alloc::Global;
 
 impl Stamped {
@@ -30,7 +29,7 @@ fn known_entries(alloc: Global, rows: &[(Path, Node)], stamps: &[u64]) -> Result
     let mut known = Known::new(alloc);
     'rows: for at in 0..rows.len() {
         let row = &rows[at];
-        if is_known(&row.1) {
+        if row.1.is_known() {
             known.push((row.0.copy(alloc)?, stamps[at]))?;
         }
     }

@@ -1,18 +1,13 @@
-//! Trees whose known rows carry stamps, and refreshes by difference.
+//! Trees whose known rows carry stamps, and what changed in them for a client.
 #![tactic(auto)]
 
-mod changes;
 mod cursor;
-mod joining;
 mod knowledge;
 mod nodes;
 mod refreshes;
 mod sending;
 mod stamped;
 mod stamping;
-#[cfg(test)]
-mod tests;
 
-pub use changes::{Changes, Known, StampedRows};
-pub use refreshes::MergeFault;
+pub use nodes::stamp_of;
 pub use stamped::Stamped;

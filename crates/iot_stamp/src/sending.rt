@@ -1,42 +1,42 @@
 //! What a server sends of its tree.
-ghost use Rattle.std.specs.Prelude.{◌≡◌, ◌++◌, ◌∷◌, ◌&&◌, ◌||◌, [], cond, is_some, IfOk, OnOk, IsTrue, length, slice_get, ◌-◌};
+ghost use Rattle.std.specs.Prelude.{◌≡◌, ◌++◌, ◌∷◌, ◌&&◌, ◌||◌, [], cond, not, is_some, IfOk, OnOk, IsTrue, length, slice_get, ◌-◌};
 ghost use Rattle.std.specs.List.{filter_map};
 ghost use Rattle.std.specs.FinMap.{is_sorted};
 ghost use Rattle.iot_text.specs.Paths.{path_cmp};
 ghost use Rattle.iot_tree.specs.Rows.{AreTreeRows};
-ghost use Rattle.iot_tree.specs.Snapshots.{ArePathsRising, seen};
+ghost use Rattle.iot_tree.specs.Snapshots.{seen};
 ghost use Rattle.iot_stamp.specs.Stamps.{stamped_node};
-ghost use Rattle.iot_stamp.specs.Refresh.{asked, is_stamp};
+ghost use Rattle.iot_stamp.specs.Refresh.{asked, gone_paths, is_stamp};
 ghost use Rattle.iot_stamp.specs.Pairing.{stamps_of};
-ghost use Rattle.iot_stamp.specs.Passes.{above_of, wanted, sending, shown_path, unless_shown};
+ghost use Rattle.iot_stamp.specs.Passes.{above_of, wanted, sending};
 
-use crate::StampedRows;
-use crate::cursor::{begins, from, from_key, head_at};
-use crate::nodes::{seen, stamp_of};
+use crate::cursor::{pass_all, pass_before, split_head};
+use crate::nodes::stamp_of;
 use iot_text::{NoMemory, Path};
-use iot_tree::{Duplicate, Node, Paths, Want};
+use iot_tree::{Changes, Duplicate, Node, Paths, StampedRows, Want};
 use std::alloc::Global;
 
-/// The rows that are sent to a client that sent these paths with their stamps: one pass over both.
-pub(crate) fn rows_to_send(
+/// What changed for a client that sent these paths with their stamps: one pass over both lists.
+pub(crate) fn changes_in(
     alloc: Global,
     rows: &[(Path, Node)],
     stamps: &[u64],
     sent: &[(Path, u64)],
     want: &Want,
-) -> Result<(StampedRows, Paths), NoMemory>
+) -> Result<Changes, NoMemory>
     requires tree { AreTreeRows rows.now }
     requires count { length stamps.now ≡ length rows.now }
     requires rising { IsTrue (is_sorted path_cmp sent.now) }
-    ensures sent { IfOk result
-        (λ out. out.0
+    ensures rows { IfOk result
+        (λ out. out.rows
         ≡ filter_map (sending (stamps_of rows.now stamps.now) sent.now (asked (stamps_of rows.now stamps.now) sent.now want.now))
         rows.now) }
-    ensures shown { IfOk result
-        (λ out. out.1 ≡ filter_map (shown_path (asked (stamps_of rows.now stamps.now) sent.now want.now)) rows.now) }
+    ensures gone { IfOk result
+        (λ out. out.gone
+        ≡ gone_paths (stamps_of rows.now stamps.now) sent.now (asked (stamps_of rows.now stamps.now) sent.now want.now)) }
 {
     let mut out = StampedRows::new(alloc);
-    let mut shown = Paths::new(alloc);
+    let mut gone = Paths::new(alloc);
     let mut flags: Vec<(bool, bool)> = Vec::new(alloc);
     let mut rest = sent;
     'rows: for at in 0..rows.len() {
@@ -44,9 +44,10 @@ pub(crate) fn rows_to_send(
         let stamp = stamps[at];
         flags.truncate(row.0.names().len());
         let above = above_of(flags.as_slice());
-        push_if(alloc, above.0, &row.0, &mut shown)?;
-        rest = from_key(&row.0, rest);
-        let known = head_at(&row.0, rest);
+        let left = pass_before(alloc, &row.0, rest, &mut gone)?;
+        let (known, after) = split_head(&row.0, left);
+        push_if(alloc, is_hidden(known, above), &row.0, &mut gone)?;
+        rest = after;
         let kept = is_kept(&row.0, known, want);
         let fresh = !is_stamp(known, stamp);
         flags.push(for_rows_below(above, kept, fresh))?;
@@ -54,26 +55,8 @@ pub(crate) fn rows_to_send(
             out.push(row_to_send(alloc, row, kept, stamp)?)?;
         }
     }
-    Ok((out, shown))
-}
-
-/// The paths that were sent and are not shown: one pass over both.
-pub(crate) fn gone_paths(
-    alloc: Global,
-    sent: &[(Path, u64)],
-    shown: &[Path],
-) -> Result<Paths, NoMemory>
-    requires sent { IsTrue (is_sorted path_cmp sent.now) }
-    requires shown { ArePathsRising shown.now }
-    ensures { IfOk result (λ gone. gone ≡ filter_map (unless_shown shown.now) sent.now) }
-{
-    let mut gone = Paths::new(alloc);
-    let mut rest = shown;
-    'sent: for entry in sent {
-        rest = from(&entry.0, rest);
-        push_if(alloc, !begins(&entry.0, rest), &entry.0, &mut gone)?;
-    }
-    Ok(gone)
+    pass_all(alloc, rest, &mut gone)?;
+    Ok(Changes { rows: out, gone })
 }
 
 /// Puts the path after the others, if this holds.
@@ -84,6 +67,13 @@ fn push_if(alloc: Global, holds: bool, path: &Path, paths: &mut Paths) -> Result
         paths.push(path.copy(alloc)?)?;
     }
     Ok(())
+}
+
+/// Whether the row's path was sent, and the client sees no row there.
+fn is_hidden(sent: Option<u64>, above: (bool, bool)) -> bool
+    ensures { result ≡ (is_some sent && not above.0) }
+{
+    sent.is_some() && !above.0
 }
 
 /// What is kept of the row's parent.
@@ -149,7 +139,7 @@ fn row_to_send(
 ) -> Result<(Path, (Node, u64)), NoMemory>
     ensures { IfOk result (λ sent. sent ≡ (row.now.0, stamped_node (seen kept row.now.1) stamp)) }
 {
-    let node = seen(alloc, &row.1, kept)?;
+    let node = row.1.seen(alloc, kept)?;
     let stamp = stamp_of(&node, stamp);
     Ok((row.0.copy(alloc)?, (node, stamp)))
 }

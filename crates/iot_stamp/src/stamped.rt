@@ -1,16 +1,19 @@
 //! Trees with stamps.
-ghost use Rattle.std.specs.Prelude.{◌≡◌, IfOk, IfErr, OnOk, OnErr, map};
-ghost use Rattle.std.specs.FinMap.{entries};
+ghost use Rattle.std.specs.Prelude.{◌≡◌, IfOk, IfErr, OnOk, OnErr, map, not, is_some};
+ghost use Rattle.std.specs.FinMap.{entries, get};
 ghost use Rattle.iot_tree.specs.Rows.{AreTreeRows, RefusesRows};
-ghost use Rattle.iot_tree.specs.Updates.{Fits};
-ghost use Rattle.iot_stamp.specs.Agreement.{Keeps};
+ghost use Rattle.iot_tree.specs.Updates.{Fits, FitsRemove, FitsMove, updated};
+ghost use Rattle.iot_stamp.specs.Agreement.{Agrees, IsPositive, Keeps};
+ghost use Rattle.iot_stamp.specs.Carried.{in_either};
+ghost use Rattle.iot_stamp.specs.Lining.{marked, PutsAt};
 ghost use Rattle.iot_stamp.specs.Pairing.{AreStamps, paired};
-ghost use Rattle.iot_stamp.specs.Stamping.{stamped};
-ghost use Rattle.iot_stamp.specs.Stamps.{nodes_of, FarZero};
+ghost use Rattle.iot_stamp.specs.Stamping.{stamped, is_at, is_parent};
+ghost use Rattle.iot_stamp.specs.Stamps.{Stamps, nodes_of, stamp_at, with_stamps, FarZero};
 
-use crate::stamping::stamps_after;
-use iot_text::NoMemory;
-use iot_tree::{RowFault, Rows, Tree, Update};
+use crate::nodes::stamp_of;
+use crate::stamping::{all_stamps, carry, same_kind};
+use iot_text::{NoMemory, Path};
+use iot_tree::{RowFault, Rows, Tree, Update, count_within, place_of};
 use std::alloc::Global;
 use std::marker::Model;
 
@@ -54,6 +57,22 @@ impl Stamped {
         }
     }
 
+    /// The tree with this stamp on each row that is known.
+    pub fn with_stamp(alloc: Global, tree: Tree, stamp: u64) -> Result<Stamped, NoMemory>
+        ensures { IfOk result (λ t. t ≡ with_stamps (λ k. stamp) tree) }
+    {
+        let stamps = all_stamps(alloc, tree.rows().as_slice(), stamp)?;
+        Ok(Stamped { tree, stamps })
+    }
+
+    /// The tree with stamp 0 at every row, as a client holds it after a restart: it agrees with each tree of a server.
+    pub fn unstamped(alloc: Global, tree: Tree) -> Result<Stamped, NoMemory>
+        ensures value { IfOk result (λ t. t ≡ with_stamps (λ k. 0) tree) }
+        ensures agrees { IfOk result (λ t. (s : Stamps) → IsPositive s → Agrees t s) }
+    {
+        Stamped::with_stamp(alloc, tree, 0)
+    }
+
     /// The tree without its stamps.
     pub fn tree(&self) -> &Tree
         ensures value { result.now ≡ nodes_of self.now }
@@ -77,10 +96,111 @@ impl Stamped {
         ensures keeps { OnOk result (Keeps self.old self.new stamp) }
         ensures err { OnErr result (self.new ≡ self.old) }
     {
-        let mut tree = self.tree().copy(alloc)?;
-        tree.apply(alloc, u)?;
-        let stamps = stamps_after(alloc, self, tree.rows().as_slice(), u, stamp)?;
-        *self = Stamped { tree, stamps };
+        match u {
+            Update::Put(path, _) => {
+                if self.put(alloc, u, path, stamp)? {
+                    self.mark_parent(path, stamp);
+                }
+            }
+            Update::MakeDir(path) => {
+                self.put(alloc, u, path, stamp)?;
+                self.mark_parent(path, stamp);
+            }
+            Update::Remove(path) => {
+                self.remove(alloc, u, path)?;
+                self.mark_parent(path, stamp);
+            }
+            Update::Move(from, to) => {
+                let same = same_kind(self.tree.node(from.names()), self.tree.node(to.names()));
+                self.move_to(alloc, u, from, to, stamp)?;
+                self.mark_parent(from, stamp);
+                if !same {
+                    self.mark_parent(to, stamp);
+                }
+            }
+        }
         Ok(())
+    }
+
+    /// Makes an update that puts something at the path, and puts the stamp there. Tells whether nothing was there. After an
+    /// error the tree is as it was.
+    fn put(&mut self, alloc: Global, u: &Update, path: &Path, stamp: u64) -> Result<bool, NoMemory>
+        requires fits { Fits (nodes_of self.old) u.now }
+        requires puts { PutsAt u.now path.now }
+        ensures ok { OnOk result (self.new ≡ marked self.old (updated (nodes_of self.old) u.now) (λ k. is_at k path.now) stamp) }
+        ensures is_new { IfOk result (λ is_new. is_new ≡ not (is_some (get (nodes_of self.old) path.now))) }
+        ensures err { OnErr result (self.new ≡ self.old) }
+    {
+        let place = place_of(self.tree.rows().as_slice(), path.names());
+        self.stamps.reserve(1)?;
+        self.tree.apply(alloc, u)?;
+        match place {
+            Ok(at) => {
+                self.stamps[at] = stamp;
+                Ok(false)
+            }
+            Err(gap) => {
+                self.stamps.insert(gap, stamp)?;
+                Ok(true)
+            }
+        }
+    }
+
+    /// Makes an update that takes the path's row away. After an error the tree is as it was.
+    fn remove(&mut self, alloc: Global, u: &Update, path: &Path) -> Result<(), NoMemory>
+        requires fits { FitsRemove (nodes_of self.old) path.now }
+        requires removes { u.now ≡ Update.Remove path.now }
+        ensures ok { OnOk result (self.new ≡ with_stamps (stamp_at self.old) (updated (nodes_of self.old) u.now)) }
+        ensures err { OnErr result (self.new ≡ self.old) }
+    {
+        let place = place_of(self.tree.rows().as_slice(), path.names());
+        self.tree.apply(alloc, u)?;
+        if let Ok(at) = place {
+            self.stamps.remove(at);
+        }
+        Ok(())
+    }
+
+    /// Makes an update that moves the first path to the second, and puts the stamp on the rows that move. After an error
+    /// the tree is as it was.
+    fn move_to(
+        &mut self,
+        alloc: Global,
+        u: &Update,
+        from: &Path,
+        to: &Path,
+        stamp: u64,
+    ) -> Result<(), NoMemory>
+        requires fits { FitsMove (nodes_of self.old) from.now to.now }
+        requires moves { u.now ≡ Update.Move from.now to.now }
+        ensures ok { OnOk result (self.new ≡ marked self.old (updated (nodes_of self.old) u.now) (in_either from.now to.now) stamp) }
+        ensures err { OnErr result (self.new ≡ self.old) }
+    {
+        let rows = self.tree.rows().as_slice();
+        let Ok(at) = place_of(rows, from.names()) else {
+            return Ok(());
+        };
+        let count = count_within(&rows[at..], from.names());
+        let goes = place_of(rows, to.names()).is_ok();
+        self.tree.apply(alloc, u)?;
+        let moved = self.tree.rows().as_slice();
+        if let Ok(place) = place_of(moved, to.names()) {
+            let come = &moved[place..place + count];
+            carry(&mut self.stamps, at, place, goes, come, stamp);
+        }
+        Ok(())
+    }
+
+    /// Puts the stamp on the row of the path's parent, if there is one.
+    fn mark_parent(&mut self, path: &Path, stamp: u64)
+        ensures { self.new ≡ marked self.old (nodes_of self.old) (λ k. is_parent k path.now) stamp }
+    {
+        let rows = self.tree.rows().as_slice();
+        let Some(parent) = path.parent_names() else {
+            return;
+        };
+        if let Ok(at) = place_of(rows, parent) {
+            self.stamps[at] = stamp_of(&rows[at].1, stamp);
+        }
     }
 }

@@ -1,71 +1,87 @@
 //! Which stamps an update leaves.
-ghost use Rattle.std.specs.Prelude.{◌≡◌, ◌&&◌, ◌||◌, cond, map, IfOk, unwrap_or};
+ghost use Rattle.std.specs.Prelude.{◌≡◌, ◌≤◌, ◌+◌, ◌++◌, ℕ, List, cond, take, drop, length, IfOk};
 ghost use Rattle.std.specs.Option.{option_copied};
-ghost use Rattle.iot_tree.specs.Rows.{AreTreeRows};
-ghost use Rattle.iot_stamp.specs.Stamping.{changes_names, is_at, is_parent, same_kind, new_stamp, touches_by};
+ghost use Rattle.iot_stamp.specs.Carried.{IsCarried};
+ghost use Rattle.iot_stamp.specs.Lining.{stamps_by};
+ghost use Rattle.iot_stamp.specs.Stamping.{same_kind};
 
-use crate::Stamped;
-use crate::cursor::{from_key, head_at};
 use crate::nodes::stamp_of;
 use iot_text::{NoMemory, Path};
-use iot_tree::{Node, Tree, Update};
+use iot_tree::Node;
 use std::alloc::Global;
 
-/// The stamps of these rows, those of the tree after the update. One pass over them and over what was known before.
-pub(crate) fn stamps_after(
+/// The stamp for each row that is known, and 0 for each far one.
+pub(crate) fn all_stamps(
     alloc: Global,
-    before: &Stamped,
     rows: &[(Path, Node)],
-    update: &Update,
     stamp: u64,
 ) -> Result<Vec<u64>, NoMemory>
-    requires { AreTreeRows rows.now }
-    ensures { IfOk result (λ stamps. stamps.items ≡ map (new_stamp before.now update.now stamp) rows.now) }
+    ensures { IfOk result (λ stamps. stamps.items ≡ stamps_by (λ k. stamp) rows.now) }
 {
-    let known = before.known_with_stamps(alloc)?;
-    let changes = changes_names(before.tree(), update);
-    let mut stamps: Vec<u64> = Vec::new(alloc);
-    let mut rest = known.as_slice();
+    let mut stamps = Vec::with_capacity(alloc, rows.len())?;
     'rows: for row in rows {
-        rest = from_key(&row.0, rest);
-        let old = or_zero(head_at(&row.0, rest));
-        let new = chosen(touches(changes, update, &row.0), stamp, old);
-        stamps.push(stamp_of(&row.1, new))?;
+        stamps.push(stamp_of(&row.1, stamp))?;
     }
     Ok(stamps)
 }
 
-/// The new stamp if the row is touched, else the old one.
-fn chosen(touched: bool, new: u64, old: u64) -> u64
-    ensures { result ≡ cond touched new old }
+/// Takes as many stamps out at `at` as there are rows, and the one at `to` among the others if it goes. Then the rows
+/// stand at `to`, the known ones with the stamp. Does not allocate.
+pub(crate) fn carry(
+    stamps: &mut Vec<u64>,
+    at: usize,
+    to: usize,
+    goes: bool,
+    rows: &[(Path, Node)],
+    stamp: u64,
+)
+    requires taken { at + length rows.now ≤ length stamps.old.items }
+    requires others { (to + cond goes 1 0) + length rows.now ≤ length stamps.old.items }
+    ensures { IsCarried stamps.old.items at to goes (stamps_by (λ k. stamp) rows.now) stamps.new.items }
 {
-    if touched { new } else { old }
+    let count = rows.len();
+    rotate(stamps, at, count);
+    take_out(stamps, to, goes);
+    let others = stamps.len() - count;
+    rotate(stamps, to, others - to);
+    put(stamps, to, rows, stamp);
 }
 
-/// The stamp, or 0 if there is none.
-fn or_zero(stamp: Option<u64>) -> u64
-    ensures { result ≡ unwrap_or stamp 0 }
+/// Puts the `count` stamps from a place on after all others.
+fn rotate(stamps: &mut Vec<u64>, at: usize, count: usize)
+    requires { at + count ≤ length stamps.old.items }
+    ensures rotated { (a b c : List ℕ) → stamps.old.items ≡ a ++ (b ++ c) → length a ≡ at → length b ≡ count
+        → stamps.new.items ≡ a ++ (c ++ b) }
+    ensures len { length stamps.new.items ≡ length stamps.old.items }
 {
-    match stamp {
-        Some(stamp) => stamp,
-        None => 0,
+    stamps[at..].rotate_left(count);
+}
+
+/// Takes the stamp at a place out, if it goes.
+fn take_out(stamps: &mut Vec<u64>, at: usize, goes: bool)
+    requires { at + cond goes 1 0 ≤ length stamps.old.items }
+    ensures taken { (front own back : List ℕ) → stamps.old.items ≡ front ++ (own ++ back) → length front ≡ at → length own ≡ cond goes 1 0
+        → stamps.new.items ≡ front ++ back }
+    ensures len { length stamps.new.items + cond goes 1 0 ≡ length stamps.old.items }
+{
+    if goes {
+        stamps.remove(at);
     }
 }
 
-/// Whether the update changes the names at the place where it puts something, or their kinds.
-fn changes_names(tree: &Tree, update: &Update) -> bool
-    ensures { result ≡ changes_names tree.now update.now }
+/// Puts the stamp in place of those from a place on, as many as there are rows: 0 for a far row.
+fn put(stamps: &mut Vec<u64>, at: usize, rows: &[(Path, Node)], stamp: u64)
+    requires { at + length rows.now ≤ length stamps.old.items }
+    ensures { stamps.new.items ≡ take at stamps.old.items
+        ++ (stamps_by (λ k. stamp) rows.now ++ drop (at + length rows.now) stamps.old.items) }
 {
-    match update {
-        Update::Put(path, _) => tree.node(path.names()).is_none(),
-        Update::MakeDir(_) => true,
-        Update::Remove(_) => true,
-        Update::Move(from, to) => !same_kind(tree.node(from.names()), tree.node(to.names())),
+    'rows: for place in 0..rows.len() {
+        stamps[at + place] = stamp_of(&rows[place].1, stamp);
     }
 }
 
 /// Whether both are directories, both files, or both nothing.
-fn same_kind(one: Option<&Node>, other: Option<&Node>) -> bool
+pub(crate) fn same_kind(one: Option<&Node>, other: Option<&Node>) -> bool
     ensures { result ≡ same_kind (option_copied one.entry) (option_copied other.entry) }
 {
     match one {
@@ -75,53 +91,4 @@ fn same_kind(one: Option<&Node>, other: Option<&Node>) -> bool
             Some(other) => one.is_dir() == other.is_dir(),
         },
     }
-}
-
-/// Whether an update that changes names or not stamps the path.
-fn touches(changes: bool, update: &Update, path: &Path) -> bool
-    ensures { result ≡ touches_by changes update.now path.now }
-{
-    match update {
-        Update::Put(at, _) => either(is_at(path, at), both(is_parent(path, at), changes)),
-        Update::MakeDir(at) => either(is_at(path, at), is_parent(path, at)),
-        Update::Remove(at) => either(is_at(path, at), is_parent(path, at)),
-        Update::Move(from, to) => either(
-            either(
-                path.names().starts_with(to.names()),
-                path.names().starts_with(from.names()),
-            ),
-            either(is_parent(path, from), both(is_parent(path, to), changes)),
-        ),
-    }
-}
-
-/// Whether the two paths are one.
-fn is_at(path: &Path, other: &Path) -> bool
-    ensures { result ≡ is_at path.now other.now }
-{
-    path.cmp(other).is_eq()
-}
-
-/// Whether the path is that of the other's parent.
-fn is_parent(path: &Path, other: &Path) -> bool
-    ensures { result ≡ is_parent path.now other.now }
-{
-    match other.parent_names() {
-        Some(parent) => path.names().cmp(parent).is_eq(),
-        None => false,
-    }
-}
-
-/// Whether one of the two holds.
-fn either(a: bool, b: bool) -> bool
-    ensures { result ≡ (a || b) }
-{
-    a || b
-}
-
-/// Whether both hold.
-fn both(a: bool, b: bool) -> bool
-    ensures { result ≡ (a && b) }
-{
-    a && b
 }

@@ -6,7 +6,7 @@ use Rattle.iot_text.specs.Paths.{path_cmp}
 use Rattle.iot_tree.specs.Tree.{Nodes, Path}
 use Rattle.iot_stamp.specs.Stamps.{Stamps, Entry}
 use Rattle.iot_stamp.specs.Refresh.{known_stamp, known_with_stamps}
-use Rattle.iot_stamp.proofs.OutcomeLaws.{count_is, paired_is}
+use Rattle.iot_stamp.proofs.ChangesLaws.{count_is, paired_is}
 use Rattle.iot_stamp.proofs.KnownLaws.{known_rising}
 use Rattle.iot_stamp.proofs.stamped.Stamped.known_with_stamps.Goals as goal
 

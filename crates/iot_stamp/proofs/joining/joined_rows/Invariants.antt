@@ -1,5 +1,0 @@
-use Rattle.iot_stamp.proofs.JoiningLaws.{Merging}
-use Rattle.iot_stamp.proofs.joining.joined_rows.Given as goal
-
-abbrev pub invariant-held : goal.invariant-held
-invariant-held l = Merging l.held l.stamps l.rows l.gone l.rest l.left l.flags.items l.out l.at
