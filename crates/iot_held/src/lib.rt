@@ -2,7 +2,8 @@
 #![tactic(auto)]
 
 mod held;
-#[cfg(test)]
-mod tests;
+mod joining;
+mod merging;
 
 pub use held::Held;
+pub use merging::{MergeFault, merge_changes};

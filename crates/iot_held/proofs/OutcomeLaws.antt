@@ -1,0 +1,111 @@
+-- The outcome of a merge.
+use Rattle.iot_stamp.proofs.StampsLaws.{nodes_with}
+use Rattle.iot_tree.proofs.PruneLaws.{pruned_tree}
+use Rattle.std.proofs.Common.{is_some, ◌||◌, ◌≡◌, ℕ, cond, IsTrue, List, [], ◌∷◌, map, Option}
+use Rattle.std.proofs.Common.{refl, sym, ap, subst, ◌∙◌}
+use Rattle.std.specs.FinMap.{entries, entries_sorted, from_sorted, is_sorted, get-entries, entries-from_sorted, same_entries_map}
+use Rattle.std.proofs.lemmas.List.{length-map}
+use Rattle.iot_text.specs.Paths.{path_cmp}
+use Rattle.iot_tree.specs.Tree.{IsTree, Row, Path}
+use Rattle.iot_tree.specs.Rows.{IsFirstBadRow}
+use Rattle.iot_tree.specs.declared.nodes.Node.{Node}
+use Rattle.iot_stamp.proofs.MappedLaws.{entries_of_mapped, sorted_mapped}
+use Rattle.iot_stamp.specs.Mapped.{mapped, mapped_entries}
+use Rattle.iot_stamp.specs.Stamps.{Entry, Stamps, nodes_of, FarZero, pruned, stamp_at}
+use Rattle.iot_tree.proofs.RowLaws.{tested, is_tested}
+use Rattle.iot_tree.specs.Snapshots.{is_known, wants, prune}
+use Rattle.iot_stamp.specs.Agreement.{IsRefresh, Knows}
+use Rattle.iot_stamp.proofs.FoundLaws.{sent_some}
+use Rattle.iot_tree.specs.declared.want.Want.{Want}
+use Rattle.iot_stamp.proofs.RefreshLaws.{merge_is_pruned}
+use Rattle.iot_stamp.specs.Refresh.{known_with_stamps, asked, zeroed, joined, merged, stays}
+use Rattle.iot_stamp.specs.Pairing.{paired, FarRowsZero, AreStamps}
+use Rattle.iot_held.specs.Weave.{woven}
+use Rattle.iot_held.proofs.FrontLaws.{take_tree}
+use Rattle.iot_stamp.proofs.ChangesLaws.{rows_in, stamps_in, paired_is, map_back}
+use Rattle.iot_held.proofs.WeaveLaws.{joined_woven}
+
+-- if there is a first bad row, there is no tree
+pub bad_no_tree : (rows : List Row) (at : ℕ) → IsTrue (is_sorted path_cmp rows) → IsFirstBadRow rows at → IsTree (from_sorted rows) → ⊥
+bad_no_tree rows at rising bad tree = bad.bad (take_tree rows (record { rising = rising; tree = tree }) at)
+
+-- the stamps, with 0 for each far row
+abbrev pub zeroed_in : List Entry → List ℕ
+zeroed_in es = map (λ (e : Entry). cond (is_known e.1.0) e.1.1 0) es
+
+pub paired_zeroed : (es : List Entry) → paired (rows_in es) (zeroed_in es) ≡ mapped_entries zeroed es
+paired_zeroed [] = refl
+paired_zeroed (e ∷ es) = ap (λ (rest : List Entry). (e.0, zeroed e.0 e.1) ∷ rest) (paired_zeroed es)
+
+far_rows : (es : List Entry) → FarRowsZero (rows_in es) (zeroed_in es)
+far_rows [] = tt
+far_rows (e ∷ es) = (λ far. ap (λ b. cond b e.1.1 0) far, far_rows es)
+
+pub are_stamps : (es : List Entry) → AreStamps (rows_in es) (zeroed_in es)
+are_stamps es = record {
+  count = length-map es (λ (e : Entry). cond (is_known e.1.0) e.1.1 0) ∙ sym (length-map es (λ (e : Entry). (e.0, e.1.0)));
+  far = far_rows es;
+}
+
+pub rows_rise_in : (es : List Entry) → IsTrue (is_sorted path_cmp es) → IsTrue (is_sorted path_cmp (rows_in es))
+rows_rise_in es rising = sorted_mapped (λ p (row : Node × ℕ). row.0) es ∙ rising
+
+-- the stamped tree of entries in order, with 0 at each far row
+zeroed_entries : (es : List Entry) → IsTrue (is_sorted path_cmp es) → entries (mapped zeroed (from_sorted es)) ≡ mapped_entries zeroed es
+zeroed_entries es rising =
+    entries_of_mapped zeroed (from_sorted es) ∙ ap (mapped_entries zeroed) (entries-from_sorted path_cmp es (tested _ rising))
+
+pub nodes_sorted : (es : List Entry) → IsTrue (is_sorted path_cmp es)
+    → nodes_of (mapped zeroed (from_sorted es)) ≡ from_sorted (rows_in es)
+nodes_sorted es rising = same_entries_map _ _ (
+    entries_of_mapped (λ p (row : Node × ℕ). row.0) (mapped zeroed (from_sorted es))
+    ∙ ap (mapped_entries (λ p (row : Node × ℕ). row.0)) (zeroed_entries es rising) ∙ nodes_stay es
+    ∙ sym (entries-from_sorted path_cmp (rows_in es) (tested _ (rows_rise_in es rising))))
+  where
+    nodes_stay : (es : List Entry) → mapped_entries (λ p (row : Node × ℕ). row.0) (mapped_entries zeroed es) ≡ rows_in es
+    nodes_stay [] = refl
+    nodes_stay (e ∷ es) = ap (λ (rest : List Row). (e.0, e.1.0) ∷ rest) (nodes_stay es)
+
+pub map_of_entries : (t : Stamps) (es : List Entry) → IsTrue (is_sorted path_cmp es)
+    → entries t ≡ mapped_entries zeroed es → t ≡ mapped zeroed (from_sorted es)
+map_of_entries t es rising is = same_entries_map _ _ (is ∙ sym (zeroed_entries es rising))
+
+-- ---- the merge
+
+module _ (m : Stamps) (held : List Row) (stamps : List ℕ) (held_by : held ≡ entries (nodes_of m))
+    (stamps_by : stamps ≡ stamps_in (entries m)) where
+  module _ (rows : List Entry) (gone : List Path) (out : List Entry) (rising : IsTrue (is_sorted path_cmp rows))
+      (out_by : out ≡ woven (stays rows gone) (paired held stamps) rows) where
+    out_is : out ≡ entries (joined m rows gone)
+    out_is = out_by ∙ ap (λ (hs : List Entry). woven (stays rows gone) hs rows) (paired_is m held stamps held_by stamps_by)
+        ∙ joined_woven m rows gone rising
+
+    pub out_rising : IsTrue (is_sorted path_cmp out)
+    out_rising =
+        subst (λ (es : List Entry). IsTrue (is_sorted path_cmp es)) (sym out_is) (is_tested _ (entries_sorted (joined m rows gone)))
+
+    pub out_map : mapped zeroed (from_sorted out) ≡ merged m rows gone
+    out_map = ap (mapped zeroed) (ap from_sorted out_is ∙ map_back (joined m rows gone))
+
+-- the paths that the held tree knows are among those that are asked for
+knows_sent : (held s : Stamps) (want : Want) → Knows held (asked s (known_with_stamps held) want)
+knows_sent held s want = record {
+  all = λ p a n here known.
+      ap (λ (o : Option ℕ). is_some o || wants (nodes_of s) want p)
+      (sent_some p a n (entries held) (sym (get-entries held p) ∙ here) known);
+}
+
+-- the merge of a refresh is the pruned tree
+pub refresh_is : (held s : Stamps) (want : Want) (rows : List Entry) (gone : List Path) → IsTree (nodes_of held) → FarZero held
+    → IsRefresh held s want rows gone → merged held rows gone ≡ pruned s (asked s (known_with_stamps held) want)
+refresh_is held s want rows gone tree far is =
+    (λ i. merged held (is.rows_are i) (is.gone_are i))
+    ∙ merge_is_pruned held s (asked s (known_with_stamps held) want) tree far is.tree is.whole (knows_sent held s want) is.agrees
+
+-- which is a tree
+pub refresh_tree : (held s : Stamps) (want : Want) (rows : List Entry) (gone : List Path) → IsTree (nodes_of held) → FarZero held
+    → IsRefresh held s want rows gone → IsTree (nodes_of (merged held rows gone))
+refresh_tree held s want rows gone tree far is =
+    let k = asked s (known_with_stamps held) want in
+    subst (λ (t : Stamps). IsTree (nodes_of t)) (sym (refresh_is held s want rows gone tree far is))
+    (subst IsTree (sym (nodes_with (stamp_at s) (prune (nodes_of s) k))) (pruned_tree (nodes_of s) k is.tree))
