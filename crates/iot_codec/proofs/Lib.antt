@@ -1,2 +1,3 @@
+pub mod BasesLaws
 pub mod DecodersLaws
 pub mod OutcomesLaws

@@ -1,5 +1,5 @@
 -- Decoding a value of each type, with the first fault from the left.
-use Rattle.std.specs.Prelude.{ℕ, List, [], ◌∷◌, Option, None}
+use Rattle.std.specs.Prelude.{ℕ, List, [], ◌∷◌, map, Option, None, nat_lt}
 use Rattle.std.specs.List.{list_all}
 use Rattle.std.specs.declared.cmp.Ordering.{Ordering}
 use Rattle.std.specs.Ordering.{nat_cmp}
@@ -15,13 +15,20 @@ use Rattle.iot_tree.specs.declared.questions.Answer.TheVariants as answers
 use Rattle.iot_tree.specs.declared.updates.Update.{Update}
 use Rattle.iot_tree.specs.declared.updates.Update.TheVariants.{Put, MakeDir, Remove, Move}
 use Rattle.iot_tree.specs.declared.acts.Read.{Read}
+use Rattle.iot_tree.specs.declared.access.Access.{Access}
 use Rattle.iot_tree.specs.declared.acts.Act.{Act}
 use Rattle.iot_tree.specs.declared.labels.Label.{Label}
 use Rattle.iot_tree.specs.declared.labels.Way.{Way}
 use Rattle.iot_tree.specs.declared.labels.Way.TheVariants.{Certified, Reexecuted, Resolved}
 use Rattle.iot_tree.specs.declared.limits.TheConstants.{ACT_LIMIT, CONTENTS_LIMIT}
+use Rattle.iot_tree.specs.declared.nodes.Node.{Node}
+use Rattle.iot_tree.specs.declared.nodes.Node.TheVariants.{Dir, File, FarDir, FarFile}
+use Rattle.iot_tree.specs.declared.want.Want.{Want}
+use Rattle.iot_tree.specs.declared.want.Want.TheVariants as wants
+use Rattle.iot_tree.specs.Rows.{map_of}
+use Rattle.iot_tree.specs.Tree.{Nodes, Row}
 use Rattle.iot_codec.specs.Decoders.{Decoder, ◌>>=◌, done, tested, bytes_at, number_at, at_most, items_at, list_at, tagged, optional_at}
-use Rattle.iot_codec.specs.Rules.{is_printable, is_content_byte, rises}
+use Rattle.iot_codec.specs.Rules.{is_printable, is_content_byte, rises, is_after, path_follows, node_follows}
 
 -- bytes that are a name
 unfoldable pub name_at : Decoder (List ℕ)
@@ -145,3 +152,83 @@ label_at = do
   way ← way_at
   kept ← files_at
   done (record { client = client; tid = tid; script = script; budget = budget; way = way; kept = kept })
+
+-- a base read: the read, and then its place
+unfoldable pub base_at : Decoder (Read × ℕ)
+base_at = do
+  read ← read_at
+  place ← number_at
+  done (read, place)
+
+-- the reads, and their places
+abbrev pub parted : List (Read × ℕ) → List Read × List ℕ
+parted bases = (map (λ base. base.0) bases, map (λ base. base.1) bases)
+
+abbrev pub bases_at : Decoder (List Read × List ℕ)
+bases_at = do
+  bases ← list_at base_at
+  done (parted bases)
+
+abbrev pub updates_at : Decoder (List Update)
+updates_at = list_at update_at
+
+unfoldable pub access_at : Decoder Access
+access_at = do
+  bases ← bases_at
+  updates ← updates_at
+  done (record { reads = bases.0; updates = updates; places = bases.1 })
+
+-- a path that is greater than the one before it; one that is not is a fault where it begins
+abbrev pub next_path_at : Option (List (List ℕ)) → Decoder (List (List ℕ))
+next_path_at previous = tested (is_after path_cmp previous) path_at
+
+-- paths that rise
+unfoldable pub paths_at : Decoder (List (List (List ℕ)))
+paths_at = do
+  n ← number_at
+  items_at next_path_at n None
+
+-- what a tag of a node is followed by
+abbrev pub node_table : List (ℕ × Decoder Node)
+node_table =
+    (1, done Dir)
+    ∷ (2, (do contents ← contents_at; done (File contents)))
+    ∷ (3, done FarDir)
+    ∷ (4, done FarFile)
+    ∷ []
+
+unfoldable pub node_at : Decoder Node
+node_at = tagged node_table
+
+-- a row that may follow the one before it: a path that may not, or else a node that may not, is a fault where it begins
+unfoldable pub row_at : Option Row → Decoder Row
+row_at previous = do
+  path ← tested (path_follows previous) path_at
+  node ← tested (node_follows previous) node_at
+  done (path, node)
+
+-- a number that is not 0; a 0 is a fault where it begins
+abbrev pub at_least_one : Decoder ℕ
+at_least_one = tested (λ n. nat_lt 0 n) number_at
+
+-- rows of a tree: at least one
+unfoldable pub rows_at : Decoder (List Row)
+rows_at = do
+  n ← at_least_one
+  items_at row_at n None
+
+unfoldable pub tree_at : Decoder Nodes
+tree_at = do
+  rows ← rows_at
+  done (map_of rows)
+
+-- what a tag of a want is followed by
+abbrev pub want_table : List (ℕ × Decoder Want)
+want_table =
+    (1, done wants.Nothing)
+    ∷ (2, (do path ← path_at; done (wants.Path path)))
+    ∷ (3, (do path ← path_at; done (wants.Below path)))
+    ∷ []
+
+unfoldable pub want_at : Decoder Want
+want_at = tagged want_table

@@ -1,11 +1,15 @@
 -- The laws of the types that are spelled: what is decoded is what is spelled. Their proofs.
+pub mod Bases
 pub mod Fields
 pub mod Labels
 pub mod Lists
 pub mod Parts
 pub mod Places
 pub mod Questions
+pub mod Rising
 pub mod Steps
 pub mod Tags
+pub mod Trees
 pub mod Updates
 pub mod Values
+pub mod Wants

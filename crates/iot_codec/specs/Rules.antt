@@ -1,11 +1,13 @@
 -- Which values have a spelling.
-use Rattle.std.specs.Prelude.{ℕ, ◌<◌, ◌≤◌, ◌^◌, ◌==◌, Bool, true, ◌&&◌, ◌||◌, IsTrue, nat_le, List, [], ◌∷◌, length, Option, Some, None}
-use Rattle.std.specs.List.{list_all, AllByRecursion}
+use Rattle.std.specs.Prelude.{◌≡◌, ℕ, ◌<◌, ◌≤◌, ◌^◌, ◌==◌, Bool, true, false, ◌&&◌, ◌||◌, IsTrue, nat_le, nat_lt, nat_eq, List, [], ◌∷◌}
+use Rattle.std.specs.Prelude.{length, Option, Some, None}
+use Rattle.std.specs.List.{list_all, starts_with, AllByRecursion}
 use Rattle.std.specs.declared.cmp.Ordering.{Ordering}
 use Rattle.std.specs.Ordering.{nat_cmp, is_lt}
-use Rattle.std.specs.Cmp.Lexicographic.{slice_cmp}
+use Rattle.std.specs.Cmp.Lexicographic.{slice_cmp, pointwise}
+use Rattle.std.specs.FinMap.{entries}
 use Rattle.iot_text.specs.Names.{IsName}
-use Rattle.iot_text.specs.Paths.{IsPath, path_cmp}
+use Rattle.iot_text.specs.Paths.{IsPath, path_cmp, parent_of}
 use Rattle.iot_tree.specs.declared.kinds.Kind as object
 use Rattle.iot_tree.specs.declared.kinds.Kind.TheVariants as kinds
 use Rattle.iot_tree.specs.declared.questions.Question.{Question}
@@ -15,10 +17,18 @@ use Rattle.iot_tree.specs.declared.questions.Answer.TheVariants as answers
 use Rattle.iot_tree.specs.declared.updates.Update.{Update}
 use Rattle.iot_tree.specs.declared.updates.Update.TheVariants.{Put, MakeDir, Remove, Move}
 use Rattle.iot_tree.specs.declared.acts.Read.{Read}
+use Rattle.iot_tree.specs.declared.access.Access.{Access}
 use Rattle.iot_tree.specs.declared.acts.Act.{Act}
 use Rattle.iot_tree.specs.declared.labels.Label.{Label}
 use Rattle.iot_tree.specs.declared.labels.Way.{Way}
 use Rattle.iot_tree.specs.declared.limits.TheConstants.{ACT_LIMIT, CONTENTS_LIMIT}
+use Rattle.iot_tree.specs.declared.nodes.Node.{Node}
+use Rattle.iot_tree.specs.declared.nodes.Node.TheVariants.{Dir, File, FarDir, FarFile}
+use Rattle.iot_tree.specs.declared.want.Want.{Want}
+use Rattle.iot_tree.specs.declared.want.Want.TheVariants as wants
+use Rattle.iot_tree.specs.Questions.{is_dir, is_known_dir}
+use Rattle.iot_tree.specs.Snapshots.{ArePathsRising}
+use Rattle.iot_tree.specs.Tree.{Nodes, Path, Row, IsTree}
 
 -- a number has one in 8 bytes
 abbrev pub IsNumber : ℕ → Type 0
@@ -124,3 +134,67 @@ pub record IsLabel (label : Label) : Type 0 where
 -- each way has a spelling
 abbrev pub IsWay : Way → Type 0
 IsWay way = Unit {0}
+
+abbrev pub AreUpdates : List Update → Type 0
+AreUpdates updates = AllByRecursion IsUpdate updates
+
+-- base reads: as many places as reads
+pub record AreBases (bases : List Read × List ℕ) : Type 0 where
+  pub even : length bases.1 ≡ length bases.0
+  pub reads : AreReads bases.0
+  pub places : AllByRecursion IsNumber bases.1
+
+pub record IsAccess (access : Access) : Type 0 where
+  pub bases : AreBases (access.reads, access.places)
+  pub updates : AreUpdates access.updates
+
+-- whether a key may follow the one before it: it is greater
+abbrev pub is_after : {K : Type 0} → (K → K → Ordering) → Option K → K → Bool
+is_after cmp None key = true
+is_after cmp (Some before) key = is_lt (cmp before key)
+
+-- paths in strictly rising order
+pub record ArePaths (paths : List Path) : Type 0 where
+  pub rising : ArePathsRising paths
+  pub each : AllByRecursion IsPath paths
+
+abbrev pub IsNode : Node → Type 0
+IsNode Dir = Unit {0}
+IsNode (File contents) = IsContents contents
+IsNode FarDir = Unit {0}
+IsNode FarFile = Unit {0}
+
+abbrev pub IsRow : Row → Type 0
+IsRow row = IsPath row.0 × IsNode row.1
+
+-- a tree whose files have such contents
+pub record IsTreeOfRows (t : Nodes) : Type 0 where
+  pub tree : IsTree t
+  pub each : AllByRecursion IsRow (entries t)
+
+-- whether rows of a tree that end in this one have a directory at the path whose names are known: the row itself, or one above it
+abbrev pub has_dir : Row → Path → Bool
+has_dir last path = starts_with (pointwise nat_eq) last.0 path && (nat_lt (length path) (length last.0) || is_known_dir last.1)
+
+abbrev pub has_parent : Row → Option Path → Bool
+has_parent last None = false
+has_parent last (Some parent) = has_dir last parent
+
+abbrev pub is_root : Path → Bool
+is_root path = length path == 0
+
+-- whether a row of the path may follow rows of a tree that end in this one: the first is the root's; each other one comes
+-- after the row before it, and the rows so far have its parent
+abbrev pub path_follows : Option Row → Path → Bool
+path_follows None path = is_root path
+path_follows (Some last) path = is_lt (path_cmp last.0 path) && has_parent last (parent_of path)
+
+-- whether the node may be there: the root is a directory
+abbrev pub node_follows : Option Row → Node → Bool
+node_follows None node = is_dir node
+node_follows (Some last) node = true
+
+abbrev pub IsWant : Want → Type 0
+IsWant wants.Nothing = Unit {0}
+IsWant (wants.Path path) = IsPath path
+IsWant (wants.Below path) = IsPath path

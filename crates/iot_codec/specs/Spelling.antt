@@ -1,6 +1,7 @@
 -- The one spelling of each value.
 use Rattle.std.specs.Prelude.{ℕ, List, [], ◌∷◌, ◌++◌, length, Option, Some, None}
-use Rattle.std.specs.List.{flat_map}
+use Rattle.std.specs.FinMap.{entries}
+use Rattle.std.specs.List.{flat_map, zip}
 use Rattle.std.specs.Int.{w64, to_be_bytes}
 use Rattle.iot_tree.specs.declared.questions.Question.{Question}
 use Rattle.iot_tree.specs.declared.questions.Question.TheVariants as asks
@@ -11,10 +12,16 @@ use Rattle.iot_tree.specs.declared.kinds.Kind.TheVariants as kinds
 use Rattle.iot_tree.specs.declared.updates.Update.{Update}
 use Rattle.iot_tree.specs.declared.updates.Update.TheVariants.{Put, MakeDir, Remove, Move}
 use Rattle.iot_tree.specs.declared.acts.Read.{Read}
+use Rattle.iot_tree.specs.declared.access.Access.{Access}
 use Rattle.iot_tree.specs.declared.acts.Act.{Act}
 use Rattle.iot_tree.specs.declared.labels.Label.{Label}
 use Rattle.iot_tree.specs.declared.labels.Way.{Way}
 use Rattle.iot_tree.specs.declared.labels.Way.TheVariants.{Certified, Reexecuted, Resolved}
+use Rattle.iot_tree.specs.declared.nodes.Node.{Node}
+use Rattle.iot_tree.specs.declared.nodes.Node.TheVariants.{Dir, File, FarDir, FarFile}
+use Rattle.iot_tree.specs.declared.want.Want.{Want}
+use Rattle.iot_tree.specs.declared.want.Want.TheVariants as wants
+use Rattle.iot_tree.specs.Tree.{Nodes, Row}
 
 -- a number: 8 bytes, most significant first
 unfoldable pub number_spelling : ℕ → List ℕ
@@ -127,3 +134,43 @@ run_spelling label = number_spelling label.budget ++ (way_spelling label.way ++ 
 
 unfoldable pub label_spelling : Label → List ℕ
 label_spelling label = transaction_spelling label ++ run_spelling label
+
+-- a base read: the read, and then its place
+abbrev pub base_spelling : Read × ℕ → List ℕ
+base_spelling base = pair_spelling read_spelling number_spelling base
+
+-- base reads: the list of the reads with their places
+abbrev pub bases_spelling : List Read × List ℕ → List ℕ
+bases_spelling bases = list_spelling base_spelling (zip bases.0 bases.1)
+
+abbrev pub updates_spelling : List Update → List ℕ
+updates_spelling updates = list_spelling update_spelling updates
+
+-- an access: its base reads, and its updates
+unfoldable pub access_spelling : Access → List ℕ
+access_spelling access = bases_spelling (access.reads, access.places) ++ updates_spelling access.updates
+
+-- paths: the list of them
+abbrev pub paths_spelling : List (List (List ℕ)) → List ℕ
+paths_spelling paths = list_spelling path_spelling paths
+
+-- a node: its tag, and then the contents of a file
+unfoldable pub node_spelling : Node → List ℕ
+node_spelling Dir = 1 ∷ []
+node_spelling (File contents) = 2 ∷ contents_spelling contents
+node_spelling FarDir = 3 ∷ []
+node_spelling FarFile = 4 ∷ []
+
+-- rows: the table of their paths and nodes
+abbrev pub rows_spelling : List Row → List ℕ
+rows_spelling rows = table_spelling path_spelling node_spelling rows
+
+-- a tree: its rows in the order of their paths
+abbrev pub tree_spelling : Nodes → List ℕ
+tree_spelling tree = rows_spelling (entries tree)
+
+-- a want: its tag, and then the path
+unfoldable pub want_spelling : Want → List ℕ
+want_spelling wants.Nothing = 1 ∷ []
+want_spelling (wants.Path path) = 2 ∷ path_spelling path
+want_spelling (wants.Below path) = 3 ∷ path_spelling path

@@ -12,8 +12,8 @@ pub enum CodecFault {
     NoMemory,
 
     /// No value of the type is spelled there. `at` is the offset of the first part, from the left,
-    /// that is missing, cut short or breaks its rule; of a path or name that breaks the order of
-    /// its list, it is where that path or name begins.
+    /// that is missing, cut short or breaks its rule; of a path, name or node that breaks the order
+    /// of its list or the rules of a tree, it is where that path, name or node begins.
     #[error("malformed bytes, from offset {at} on")]
     Malformed { at: u64 },
 }

@@ -6,6 +6,7 @@
 //! one pass, and answer the first fault that they meet.
 #![tactic(auto)]
 
+mod access;
 mod acts;
 mod answers;
 mod children;
@@ -16,15 +17,20 @@ mod labels;
 mod lines;
 mod lists;
 mod names;
+mod nodes;
 mod numbers;
 mod parts;
 mod paths;
 mod questions;
 mod reads;
+mod rising;
 mod spelled;
 mod tables;
+mod trees;
 mod updates;
+mod wants;
 
+pub use access::{put_access, read_access};
 pub use acts::{put_act, put_acts, read_act, read_acts};
 pub use answers::{put_answer, read_answer};
 pub use contents::{put_contents, read_contents};
@@ -33,11 +39,12 @@ pub use files::{put_files, read_files};
 pub use labels::{put_label, read_label};
 pub use lines::{put_line, put_lines, read_line, read_lines};
 pub use names::{put_name, read_name};
+pub use nodes::{put_node, read_node};
 pub use numbers::{put_number, read_number};
 pub use paths::{put_path, read_path};
 pub use questions::{put_question, read_question};
 pub use reads::{put_reads, read_reads};
+pub use rising::{put_paths, read_paths};
+pub use trees::{put_tree, read_tree};
 pub use updates::{put_optional_update, put_update, read_optional_update, read_update};
-
-#[cfg(test)]
-mod tests;
+pub use wants::{put_want, read_want};

@@ -147,3 +147,17 @@ same_spelling HasSpelling one other decoding same laws = record {
       (record { value = p.value; place = subst (λ (t : List ℕ). LiesAt bytes at t read.1) (sym (same read.0)) p.place });
   some = λ x. rw (← same x) (laws.some x);
 }
+
+-- values that pass a test
+pub tested_laws : {X : Type 0} (test : X → Bool) (HasSpelling : X → Type 0) (spelling : X → List ℕ) (decoder : Decoder X)
+    → IsSpelling HasSpelling spelling decoder
+    → IsSpelling (λ x. (test x ≡ true) × HasSpelling x) spelling (tested test decoder)
+tested_laws test HasSpelling spelling decoder laws = record {
+  found = λ bytes at read fit e.
+      let t = step_tested test decoder bytes at read e in
+      let s = laws.found bytes at read fit t.0 in
+      record { value = (t.1, s.value); place = s.place };
+  only = λ bytes at read short p.
+      tested_again test decoder bytes at read (laws.only bytes at read short (record { value = p.value.1; place = p.place })) p.value.0;
+  some = laws.some;
+}

@@ -1,0 +1,10 @@
+use Rattle.std.specs.Prelude.{None}
+use Rattle.iot_codec.specs.Decoders.{items_at}
+use Rattle.iot_codec.specs.Decoding.{row_at}
+use Rattle.iot_codec.proofs.DecodersLaws.{IsOnWay}
+use Rattle.iot_codec.proofs.trees.read_rows.Given as goal
+
+abbrev pub invariant-rows : goal.invariant-rows
+invariant-rows l =
+    let item = row_at in
+    IsOnWay item l.bytes l.count (items_at item l.count None l.bytes l.at) l.rows.items l.counter l.end

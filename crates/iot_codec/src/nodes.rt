@@ -1,0 +1,76 @@
+//! Nodes of a tree.
+ghost use Rattle.std.specs.Prelude.{◌≡◌, ◌++◌, length, OnOk, OnErr, IfOk};
+ghost use Rattle.iot_text.specs.Texts.{AppendsPart};
+ghost use Rattle.iot_codec.specs.Outcomes.{IsOutcome, DecodesWhatIsSpelled};
+ghost use Rattle.iot_codec.specs.Places.{IsSpelledAt, IsAlone};
+ghost use Rattle.iot_codec.specs.Decoding.{node_at};
+ghost use Rattle.iot_codec.specs.Rules.{IsNode};
+ghost use Rattle.iot_codec.specs.Spelling.{node_spelling};
+ghost use Rattle.iot_codec.specs.Laws.Trees.{node_laws};
+
+use crate::CodecFault;
+use crate::parts::{malformed, tag_at};
+use crate::spelled::{Spelled, read};
+use iot_text::{NoMemory, Text};
+use iot_tree::{Blob, Node};
+use std::alloc::Global;
+
+impl Spelled for Node {
+    ghost has_spelling = { IsNode };
+
+    ghost spelling = { node_spelling };
+
+    ghost decoding = { node_at };
+
+    #[tactic(auto, unfolding(crate::specs::Spelling::node_spelling))]
+    fn put(&self, out: &mut Text) -> Result<(), NoMemory> {
+        match self {
+            Node::Dir => out.push(1),
+            Node::File(contents) => {
+                out.push(2)?;
+                contents.put(out)
+            }
+            Node::FarDir => out.push(3),
+            Node::FarFile => out.push(4),
+        }
+    }
+
+    #[tactic(auto, unfolding(crate::specs::Decoding::node_at))]
+    fn read(alloc: Global, bytes: &[u8], at: usize) -> Result<(Node, usize), CodecFault> {
+        match tag_at(bytes, at) {
+            Some(1) => Ok((Node::Dir, at + 1)),
+            Some(2) => {
+                let (contents, end) = Blob::read(alloc, bytes, at + 1)?;
+                Ok((Node::File(contents), end))
+            }
+            Some(3) => Ok((Node::FarDir, at + 1)),
+            Some(4) => Ok((Node::FarFile, at + 1)),
+            _ => Err(malformed(at)),
+        }
+    }
+
+    ghost laws = { node_laws };
+}
+
+/// Appends the spelling of the node: its tag, and then the contents of a file.
+pub fn put_node(value: &Node, out: &mut Text) -> Result<(), NoMemory>
+    requires { IsNode value.now }
+    ensures ok { OnOk result (out.new ≡ out.old ++ node_spelling value.now) }
+    ensures err { OnErr result (AppendsPart out.old out.new (node_spelling value.now)) }
+{
+    value.put(out)
+}
+
+/// Reads the node that is spelled at the offset, and gives the offset after it.
+///
+/// # Errors
+///
+/// `Malformed` exactly if no node is spelled there. `NoMemory` if there is none for it.
+pub fn read_node(alloc: Global, bytes: &[u8], at: usize) -> Result<(Node, usize), CodecFault>
+    ensures found { IfOk result (IsSpelledAt IsNode node_spelling bytes.now at) }
+    ensures only { DecodesWhatIsSpelled IsNode node_spelling bytes.now at result }
+    ensures one { IsAlone IsNode node_spelling bytes.now at }
+    ensures exact { IsOutcome result (node_at bytes.now at) }
+{
+    read(alloc, bytes, at)
+}
