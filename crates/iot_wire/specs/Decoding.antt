@@ -1,0 +1,50 @@
+-- Decoding messages, with the first fault from the left.
+use Rattle.std.specs.Prelude.{[], ◌∷◌}
+use Rattle.iot_codec.specs.Decoders.{Decoder, ◌>>=◌, done, number_at, at_most, tagged}
+use Rattle.iot_codec.specs.Decoding.{paths_at, want_at, label_at, acts_at, tree_at, answer_at}
+use Rattle.iot_wire.specs.declared.requests.Request.{Request}
+use Rattle.iot_wire.specs.declared.requests.Request.TheVariants.{Refresh, Commit}
+use Rattle.iot_wire.specs.declared.replies.Reply.{Reply}
+use Rattle.iot_wire.specs.declared.replies.Reply.TheVariants.{Objects, Committed, Already, Conflict}
+
+unfoldable pub refresh_at : Decoder Request
+refresh_at = do
+  client ← at_most 7
+  known ← paths_at
+  want ← want_at
+  done (Refresh client known want)
+
+unfoldable pub commit_at : Decoder Request
+commit_at = do
+  label ← label_at
+  acts ← acts_at
+  done (Commit label acts)
+
+-- a request: what a tag is followed by
+unfoldable pub request_at : Decoder Request
+request_at = tagged ((1, refresh_at) ∷ (2, commit_at) ∷ [])
+
+unfoldable pub objects_at : Decoder Reply
+objects_at = do
+  tree ← tree_at
+  done (Objects tree)
+
+unfoldable pub committed_at : Decoder Reply
+committed_at = do
+  number ← number_at
+  done (Committed number)
+
+unfoldable pub already_at : Decoder Reply
+already_at = do
+  number ← number_at
+  done (Already number)
+
+unfoldable pub conflict_at : Decoder Reply
+conflict_at = do
+  read ← number_at
+  answer ← answer_at
+  done (Conflict read answer)
+
+-- a reply: what a tag is followed by
+unfoldable pub reply_at : Decoder Reply
+reply_at = tagged ((1, objects_at) ∷ (2, committed_at) ∷ (3, already_at) ∷ (4, conflict_at) ∷ [])

@@ -1,0 +1,4 @@
+pub mod Decoding
+pub mod Messages
+pub mod Rules
+pub mod Spelling

@@ -1,0 +1,12 @@
+//! Messages between a client and the server, as bytes: one spelling each.
+//!
+//! A message is its tag, which is one byte, and then its parts, spelled as everywhere. It takes up
+//! the whole input: bytes that are left after it are a fault at the first of them.
+#![tactic(auto)]
+
+mod messages;
+mod replies;
+mod requests;
+
+pub use replies::{Reply, read_reply, write_reply};
+pub use requests::{Request, read_request, write_request};

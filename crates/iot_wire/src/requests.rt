@@ -1,0 +1,132 @@
+//! What a client asks of the server.
+ghost use Rattle.std.specs.Prelude.{◌≡◌, ◌++◌, IfOk, Ok, OnOk, [], ◌∷◌};
+ghost use Rattle.iot_codec.specs.Outcomes.{IsOutcome};
+ghost use Rattle.iot_wire.specs.Decoding.{request_at, refresh_at, commit_at};
+ghost use Rattle.iot_wire.specs.Messages.{IsMessage, ReadsMessage, IsOneMessage, whole};
+ghost use Rattle.iot_wire.specs.Rules.{IsRequest};
+ghost use Rattle.iot_wire.specs.Spelling.{request_spelling};
+
+use crate::messages::{finished, malformed, read_at_most, tag_of};
+use iot_codec::{
+    CodecFault, put_acts, put_label, put_number, put_paths, put_want, read_acts, read_label,
+    read_paths, read_want,
+};
+use iot_text::{NoMemory, Text};
+use iot_tree::{Acts, Label, Paths, Want};
+use std::alloc::Global;
+
+/// The greatest number of a client.
+const LAST_CLIENT: u64 = 7;
+
+/// What a client asks of the server.
+#[derive(Drop)]
+pub enum Request {
+    /// What it wants to know besides what it knows: the paths whose insides it knows, in their order.
+    Refresh {
+        client: u64,
+        known: Paths,
+        want: Want,
+    },
+    /// That a transaction be committed.
+    Commit {
+        label: Label,
+        acts: Acts,
+    },
+}
+
+/// Appends the spelling of the request.
+#[tactic(auto, unfolding(crate::specs::Spelling::request_spelling))]
+fn put_request(request: &Request, out: &mut Text) -> Result<(), NoMemory>
+    requires { IsRequest request.now }
+    ensures { OnOk result (out.new ≡ out.old ++ request_spelling request.now) }
+{
+    match request {
+        Request::Refresh {
+            client,
+            known,
+            want,
+        } => {
+            out.push(1)?;
+            put_number(client, out)?;
+            put_paths(known, out)?;
+            put_want(want, out)
+        }
+        Request::Commit { label, acts } => {
+            out.push(2)?;
+            put_label(label, out)?;
+            put_acts(acts, out)
+        }
+    }
+}
+
+/// The bytes of the request: its tag, and then its parts. What is written is read back.
+pub fn write_request(alloc: Global, request: &Request) -> Result<Vec<u8>, NoMemory>
+    requires { IsRequest request.now }
+    ensures spelled { IfOk result (λ bytes. bytes.items ≡ request_spelling request.now) }
+    ensures back { IfOk result (λ bytes. whole request_at bytes.items ≡ Ok request.now) }
+{
+    let mut out = Text::new(alloc);
+    put_request(request, &mut out)?;
+    Ok(out.into_bytes())
+}
+
+/// Reads what follows the tag of a refresh.
+#[tactic(auto, unfolding(crate::specs::Decoding::refresh_at))]
+fn read_refresh(alloc: Global, bytes: &[u8], at: usize) -> Result<(Request, usize), CodecFault>
+    ensures { IsOutcome result (refresh_at bytes.now at) }
+{
+    let (client, at) = read_at_most(alloc, LAST_CLIENT, bytes, at)?;
+    let (known, at) = read_paths(alloc, bytes, at)?;
+    let (want, end) = read_want(alloc, bytes, at)?;
+    let request = Request::Refresh {
+        client,
+        known,
+        want,
+    };
+    Ok((request, end))
+}
+
+/// Reads what follows the tag of a commit.
+#[tactic(auto, unfolding(crate::specs::Decoding::commit_at))]
+fn read_commit(alloc: Global, bytes: &[u8], at: usize) -> Result<(Request, usize), CodecFault>
+    ensures { IsOutcome result (commit_at bytes.now at) }
+{
+    let (label, at) = read_label(alloc, bytes, at)?;
+    let (acts, end) = read_acts(alloc, bytes, at)?;
+    Ok((Request::Commit { label, acts }, end))
+}
+
+/// Reads a request, and gives the offset after it.
+#[tactic(auto, unfolding(crate::specs::Decoding::request_at))]
+fn read_tagged(alloc: Global, bytes: &[u8]) -> Result<(Request, usize), CodecFault>
+    ensures { IsOutcome result (request_at bytes.now 0) }
+{
+    match tag_of(bytes) {
+        Some(1) => read_refresh(alloc, bytes, 1),
+        Some(2) => read_commit(alloc, bytes, 1),
+        _ => Err(malformed(0)),
+    }
+}
+
+/// Reads the bytes as a request.
+fn read_whole(alloc: Global, bytes: &[u8]) -> Result<Request, CodecFault>
+    ensures { IsOutcome result (whole request_at bytes.now) }
+{
+    let (request, end) = read_tagged(alloc, bytes)?;
+    finished(request, end, bytes)
+}
+
+/// The request whose spelling the bytes are.
+///
+/// # Errors
+///
+/// `Malformed` exactly if they are that of no request: `at` is the first fault from the left, or
+/// the offset of the first byte that is left after a request. `NoMemory` if there is none for it.
+pub fn read_request(alloc: Global, bytes: &[u8]) -> Result<Request, CodecFault>
+    ensures found { IfOk result (IsMessage IsRequest request_spelling bytes.now) }
+    ensures only { ReadsMessage IsRequest request_spelling bytes.now result }
+    ensures one { IsOneMessage IsRequest request_spelling bytes.now }
+    ensures exact { IsOutcome result (whole request_at bytes.now) }
+{
+    read_whole(alloc, bytes)
+}
