@@ -18,7 +18,8 @@ use Rattle.iot_exec.specs.declared.position.Position.{Position}
 use Rattle.iot_exec.proofs.GuardLaws.{place_fits, place_guarded}
 use denote.Ref.{Bor}
 use Rattle.std.specs.Option.{option_copied}
-use Rattle.iot_exec.specs.Misses.{first_away, is_away, path_of_question}
+use Rattle.iot_tree.specs.Snapshots.{is_away}
+use Rattle.iot_exec.specs.Misses.{first_away, path_of_question}
 use Rattle.iot_exec.specs.Plans.{perform, act_of}
 use Rattle.iot_exec.specs.Going.{IsDone, goes_to}
 use Rattle.iot_exec.specs.Execs.{IsNextAt, next_miss}

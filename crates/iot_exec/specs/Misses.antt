@@ -1,9 +1,8 @@
 -- Questions that a tree does not know the answer to.
-use Rattle.std.specs.Prelude.{ℕ, Bool, true, false, List, [], ◌∷◌, Option, Some, None, if◌then◌else◌}
+use Rattle.std.specs.Prelude.{ℕ, List, [], ◌∷◌, Option, Some, None, if◌then◌else◌}
 use Rattle.iot_tree.specs.declared.questions.Question.{Question}
 use Rattle.iot_tree.specs.declared.questions.Question.TheVariants as asks
-use Rattle.iot_tree.specs.declared.questions.Answer.{Answer}
-use Rattle.iot_tree.specs.declared.questions.Answer.TheVariants.{Away}
+use Rattle.iot_tree.specs.Snapshots.{is_away}
 use Rattle.iot_tree.specs.declared.acts.Read.{Read}
 
 -- the path that a question is about
@@ -11,10 +10,6 @@ abbrev pub path_of_question : Question → List (List ℕ)
 path_of_question (asks.Kind p) = p
 path_of_question (asks.Content p) = p
 path_of_question (asks.Names p) = p
-
-abbrev pub is_away : Answer → Bool
-is_away Away = true
-is_away other = false
 
 -- the path of the first question that is answered `Away`
 abbrev pub first_away : List Read → Option (List (List ℕ))

@@ -23,6 +23,3 @@ mod variables;
 pub use exec::Exec;
 pub use job::{run, run_on};
 pub use ran::{Acted, Ran};
-
-#[cfg(test)]
-mod tests;
