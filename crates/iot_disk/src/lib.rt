@@ -15,6 +15,3 @@ pub use disk::{Arm, Disk, DiskFault, LIMIT, Pick};
 pub use durable::keep;
 pub use faults::{JournalFault, StartFault};
 pub use memory::MemDisk;
-
-#[cfg(test)]
-mod tests;

@@ -16,6 +16,3 @@ pub use event::{Event, SharedScript};
 pub use fault::EventFault;
 pub use iot_text::NoMemory;
 pub use parsing::parse;
-
-#[cfg(test)]
-mod tests;

@@ -12,8 +12,6 @@ mod mem_source;
 mod numbers;
 mod reading;
 mod standard;
-#[cfg(test)]
-mod tests;
 mod traits;
 mod writing;
 

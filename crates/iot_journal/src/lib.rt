@@ -7,6 +7,3 @@ mod start;
 
 pub use journal::Journal;
 pub use records::{FIRST_GATE, RECORD};
-
-#[cfg(test)]
-mod tests;

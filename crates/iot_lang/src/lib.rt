@@ -23,6 +23,3 @@ pub use parsing::parse;
 pub use printing::print;
 pub use scripts::Script;
 pub use words::{Command, Cond, Piece, Word};
-
-#[cfg(test)]
-mod tests;

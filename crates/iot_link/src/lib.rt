@@ -6,8 +6,6 @@
 
 mod connection;
 mod passages;
-#[cfg(test)]
-mod tests;
 
 pub use connection::Link;
 pub use passages::{Loss, Passage};

@@ -14,6 +14,3 @@ pub use cell::{Cell, Force};
 pub use layout::Layout;
 pub use slots::Slots;
 pub use started::{Body, Started};
-
-#[cfg(test)]
-mod tests;

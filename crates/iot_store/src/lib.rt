@@ -7,6 +7,3 @@ mod store;
 
 pub use iot_disk::{JournalFault, StartFault};
 pub use store::Store;
-
-#[cfg(test)]
-mod tests;

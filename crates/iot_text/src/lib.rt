@@ -13,6 +13,3 @@ pub use paths::Path;
 pub use quoting::quote;
 pub use std::alloc::AllocError as NoMemory;
 pub use texts::Text;
-
-#[cfg(test)]
-mod tests;
