@@ -1,0 +1,4 @@
+pub mod StatesLaws
+pub mod TiesLaws
+pub mod StepsLaws
+pub mod DoingLaws

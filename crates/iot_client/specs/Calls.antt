@@ -1,0 +1,168 @@
+-- What the calls of a client refuse, change and answer.
+use Rattle.std.specs.Prelude.{◌≡◌, ℕ, ◌+◌, ◌<◌, ◌||◌, Bool, true, false, List, [], ◌∷◌, drop, leb, if◌then◌else◌}
+use Rattle.std.specs.Prelude.{Option, Some, None, Result, Ok, Err}
+use Rattle.iot_tree.specs.Tree.{Path}
+use Rattle.iot_tree.specs.declared.acts.Act.{Act}
+use Rattle.iot_tree.specs.declared.limits.TheConstants.{ACT_LIMIT}
+use Rattle.iot_tree.specs.declared.want.Want.TheVariants as wants
+use Rattle.iot_lang.specs.Code.{Code}
+use Rattle.iot_exec.specs.Misses.{first_away}
+use Rattle.iot_queue.specs.declared.items.Item.{Item}
+use Rattle.iot_client.specs.States.{Transaction, State, view}
+use Rattle.iot_client.specs.Records.{CanFollow, after}
+use Rattle.iot_client.specs.Ties.{state_of, place_of, live_of, Live, count, run_of}
+use Rattle.iot_client.specs.declared.client.Client.{Client}
+use Rattle.iot_client.specs.declared.fault.ClientFault.{ClientFault}
+use Rattle.iot_client.specs.declared.fault.ClientFault.TheVariants.{NoMemory, Busy, Pending, Idle, NotAtEnd, Nothing}
+use Rattle.iot_client.specs.declared.record.Record.{Record}
+use Rattle.iot_client.specs.declared.running.Ended.{Ended}
+use Rattle.iot_client.specs.declared.record.Record.TheVariants as records
+use Rattle.iot_client.specs.declared.steps.Step.{Step}
+use Rattle.iot_client.specs.declared.steps.Step.TheVariants.{Acted, Fetch, AtEnd, AtLimit}
+
+-- ---- refusals, by the state alone
+
+-- a call that wants that nothing runs
+abbrev pub busy : Option Transaction → Option ClientFault
+busy None = None
+busy (Some running) = Some Busy
+
+-- a call that wants that nothing runs and nothing waits
+abbrev pub unready : Option Transaction → List Item → Option ClientFault
+unready (Some running) items = Some Busy
+unready None [] = None
+unready None (item ∷ items) = Some Pending
+
+-- a call that wants that a transaction runs
+abbrev pub idle : Option Transaction → Option ClientFault
+idle None = Some Idle
+idle (Some running) = None
+
+-- a call that wants that a transaction waits
+abbrev pub empty_queue : List Item → Option ClientFault
+empty_queue [] = Some Nothing
+empty_queue (item ∷ items) = None
+
+-- whether the script of the running transaction has ended
+abbrev pub has_ended : State → Code → Bool
+has_ended state code = (run_of state code (count state)).ended
+
+-- whether it may be ended: its script has ended, or it may do no more acts
+abbrev pub may_end : State → Option Live → Bool
+may_end state None = false
+may_end state (Some live) = has_ended state live.code || leb ACT_LIMIT (count state)
+
+-- a call that wants that a transaction runs, and that it may be ended
+abbrev pub unended : Option Transaction → Bool → Option ClientFault
+unended None over = Some Idle
+unended (Some running) over = if over then None else Some NotAtEnd
+
+-- for this cause, exactly if there is one, a call is refused; else it is done, or memory ran out
+abbrev pub RefusesFor : {T : Type 0} → Option ClientFault → Result T ClientFault → Type 0
+RefusesFor (Some fault) result = result ≡ Err fault
+RefusesFor None (Ok value) = Unit {0}
+RefusesFor None (Err fault) = fault ≡ NoMemory
+
+-- and a refusal but for want of memory changes nothing
+abbrev pub Refuses : {T : Type 0} → Option ClientFault → Client → Client → Result T ClientFault → Type 0
+Refuses None old new result = RefusesFor None result
+Refuses (Some fault) old new result = RefusesFor (Some fault) result × (new ≡ old)
+
+-- why an interpreter's transaction may not be ended
+abbrev pub not_at_end : Bool → ℕ → Option ClientFault
+not_at_end over acts = if over || leb ACT_LIMIT acts then None else Some NotAtEnd
+
+-- ---- changes
+
+-- the durable state changes by this record, which could follow
+pub record Notes (noted : Record) (old new : Client) : Type 0 where
+  pub follows : CanFollow (state_of old) noted
+  pub state : state_of new ≡ after (state_of old) noted
+  pub place : place_of new ≡ place_of old
+
+-- whether the running transaction is first class, if one runs
+abbrev pub first_of : Option Live → Option Bool
+first_of None = None
+first_of (Some live) = Some live.first
+
+-- if a transaction runs, it is first class
+abbrev pub IsFirstIfAny : Option Live → Type 0
+IsFirstIfAny None = Unit {0}
+IsFirstIfAny (Some live) = live.first ≡ true
+
+-- a second-class transaction, if one runs
+abbrev pub second_class : Option Live → Option Live
+second_class None = None
+second_class (Some live) = Some (record live { first = false })
+
+-- ---- single steps
+
+-- the act that the script does next, if it does one more
+abbrev pub next_acts : State → Code → List Act
+next_acts state code = drop (count state) (run_of state code (count state + 1)).acts
+
+-- a first-class transaction misses this path, if any
+abbrev pub missed_by : Bool → Option Path → Option Path
+missed_by true path = path
+missed_by false path = None
+
+-- the path of the first question of an act that is answered `Away`
+abbrev pub missed : List Act → Option Path
+missed [] = None
+missed (act ∷ acts) = first_away act.reads
+
+-- the script has not ended and may do one more act; if it is first class, that act asks nothing that is away
+pub record CanAct (state : State) (live : Live) : Type 0 where
+  pub goes_on : has_ended state live.code ≡ false
+  pub within : count state < ACT_LIMIT
+  pub known : live.first ≡ true → missed (next_acts state live.code) ≡ None
+
+-- of the transaction that runs
+abbrev pub CanActIfAny : State → Option Live → Type 0
+CanActIfAny state None = ⊥
+CanActIfAny state (Some live) = CanAct state live
+
+-- the next act was done
+pub record DoesNext (old : Client) (live : Live) (acts : ℕ) (ended : Bool) (new : Client) : Type 0 where
+  pub can : CanAct (state_of old) live
+  pub act : Act
+  pub next : next_acts (state_of old) live.code ≡ act ∷ []
+  pub notes : Notes (records.Acted act) old new
+  pub counted : acts ≡ count (state_of old) + 1
+  pub ends : ended ≡ has_ended (state_of new) live.code
+
+-- the next act of a first-class transaction asks first about this path of those that are away
+pub record Misses (old : Client) (live : Live) (path : Path) (new : Client) : Type 0 where
+  pub goes_on : has_ended (state_of old) live.code ≡ false
+  pub within : count (state_of old) < ACT_LIMIT
+  pub first : live.first ≡ true
+  pub miss : missed (next_acts (state_of old) live.code) ≡ Some path
+  pub stays : new ≡ old
+
+-- what a single step answers
+abbrev pub StepIs : Client → Live → Step → Client → Type 0
+StepIs old live (Acted acts ended) new = DoesNext old live acts ended new
+StepIs old live (Fetch want path) new = (want ≡ wants.Path path) × Misses old live path new
+StepIs old live (AtEnd acts) new = (has_ended (state_of old) live.code ≡ true) × (acts ≡ count (state_of old)) × (new ≡ old)
+StepIs old live (AtLimit acts) new =
+    (has_ended (state_of old) live.code ≡ false) × (acts ≡ ACT_LIMIT) × (count (state_of old) ≡ ACT_LIMIT) × (new ≡ old)
+
+abbrev pub StepIsIfAny : Client → Option Live → Step → Client → Type 0
+StepIsIfAny old None step new = ⊥
+StepIsIfAny old (Some live) step new = StepIs old live step new
+
+-- ---- the end
+
+-- what is handed out of the transaction that ends: its number, its class and its acts, which are those of the run of its script with
+-- the whole budget; that run's tree is the view
+pub record Ends (state : State) (running : Transaction) (live : Live) (gone : Ended) (acts : List Act) : Type 0 where
+  pub number : gone.tid ≡ running.number
+  pub class : gone.first ≡ live.first
+  pub recorded : acts ≡ running.acts
+  pub whole_acts : (run_of state live.code ACT_LIMIT).acts ≡ acts
+  pub whole_tree : (run_of state live.code ACT_LIMIT).tree ≡ view state
+
+abbrev pub EndsIfAny : State → Option Transaction → Option Live → Ended → List Act → Type 0
+EndsIfAny state (Some running) (Some live) gone acts = Ends state running live gone acts
+EndsIfAny state (Some running) None gone acts = ⊥
+EndsIfAny state None live gone acts = ⊥

@@ -1,0 +1,488 @@
+//! The client itself.
+ghost use Rattle.std.specs.Prelude.{◌≡◌, ◌+◌, ◌<◌, ◌^◌, [], true, None, Some, IsSome, IfOk, OnOk, IfSome, IfNone};
+ghost use Rattle.std.specs.Option.{option_copied};
+ghost use Rattle.iot_exec.specs.Places.{is_over};
+ghost use Rattle.iot_exec.specs.Execs.{place, kept_by, act_count, next_miss};
+ghost use Rattle.iot_client.specs.States.{opening, view};
+ghost use Rattle.iot_client.specs.Records.{CanFollow};
+ghost use Rattle.iot_client.specs.Memory.{transaction_of, class_of};
+ghost use Rattle.iot_client.specs.Ties.{state_of, place_of, live_of, IsTied, IsOwnRunIfAny};
+ghost use Rattle.iot_client.specs.Calls.{busy, unready, idle, may_end, unended, not_at_end, empty_queue, RefusesFor, Refuses, Notes};
+ghost use Rattle.iot_client.specs.Calls.{missed_by};
+ghost use Rattle.iot_client.specs.Calls.{first_of, second_class, IsFirstIfAny, StepIsIfAny, CanActIfAny, EndsIfAny};
+
+use crate::fault::ClientFault;
+use crate::interpreter::{Interpreter, act_by};
+use crate::kept::Kept;
+use crate::record::Record;
+use crate::running::{Ended, Running};
+use crate::steps::Step;
+use iot_exec::Exec;
+use iot_held::Held;
+use iot_lang::Script;
+use iot_queue::Queue;
+use iot_text::{Name, NoMemory, Path};
+use iot_tree::{Acts, Duplicate, OnConflict, Tree, Want};
+use std::alloc::Global;
+use std::rc::Rc;
+
+/// A client. After a `NoMemory` use it no more.
+#[derive(Drop)]
+pub struct Client {
+    me: u64,
+    kept: Kept,
+
+    /// The held tree after all that is done on it: what scripts read.
+    view: Tree,
+
+    /// Is there as long as a transaction runs.
+    interpreter: Option<Interpreter>,
+}
+
+impl Client {
+    /// A client at this place that knows nothing yet.
+    pub fn new(alloc: Global, me: u64) -> Result<Client, NoMemory>
+        ensures state { IfOk result (λ client. state_of client ≡ opening) }
+        ensures live { IfOk result (λ client. live_of client ≡ None) }
+        ensures place { IfOk result (λ client. place_of client ≡ me) }
+        ensures tied { IfOk result IsTied }
+    {
+        Ok(Client {
+            me,
+            kept: Kept {
+                held: Held::new(alloc)?,
+                queue: Queue::new(alloc),
+                running: None,
+                last: 0,
+            },
+            view: Tree::far_root(alloc)?,
+            interpreter: None,
+        })
+    }
+
+    /// The client's place.
+    pub fn me(&self) -> u64
+        ensures { result ≡ place_of self.now }
+    {
+        self.me
+    }
+
+    /// The tree that scripts read: the held one after all that waits and runs.
+    pub fn view(&self) -> &Tree
+        requires { IsTied self.now }
+        ensures view { result.now ≡ view (state_of self.now) }
+
+        // The running acts are those of the transaction's script.
+        ensures run { IsOwnRunIfAny (state_of self.now) (live_of self.now) }
+    {
+        &self.view
+    }
+
+    /// The held tree.
+    pub fn held(&self) -> &Tree
+        ensures { result.now ≡ (state_of self.now).held }
+    {
+        self.kept.held.tree()
+    }
+
+    /// The transactions that wait.
+    pub fn queue(&self) -> &Queue
+        ensures { result.now ≡ (state_of self.now).items }
+    {
+        &self.kept.queue
+    }
+
+    /// The transaction that runs, if one does.
+    pub fn running(&self) -> Option<&Running>
+        requires { IsTied self.now }
+        ensures running { transaction_of (option_copied result) ≡ (state_of self.now).running }
+        ensures class { class_of (option_copied result) ≡ first_of (live_of self.now) }
+    {
+        self.kept.running.as_ref()
+    }
+
+    /// What is to be brought from the server: what is wanted. It changes nothing.
+    ///
+    /// # Errors
+    ///
+    /// `Busy` if a transaction runs, `Pending` if one waits, `NoMemory`.
+    pub fn ask(&self, alloc: Global, want: &Want) -> Result<Want, ClientFault>
+        ensures want { IfOk result (λ same. same ≡ want.now) }
+        ensures refuses { RefusesFor (unready (state_of self.now).running (state_of self.now).items) result }
+    {
+        match self.unready() {
+            Some(fault) => Err(fault),
+            None => Ok(want.copy(alloc)?),
+        }
+    }
+
+    /// Holds the tree that was brought. Copies it once.
+    ///
+    /// # Errors
+    ///
+    /// `Busy` if a transaction runs, `Pending` if one waits, `NoMemory`.
+    pub fn take_objects(&mut self, alloc: Global, t: Tree) -> Result<(), ClientFault>
+        requires { IsTied self.old }
+        ensures notes { OnOk result (Notes (Record.Held t) self.old self.new) }
+        ensures live { OnOk result (live_of self.new ≡ None) }
+        ensures tied { OnOk result (IsTied self.new) }
+        ensures refuses { Refuses (unready (state_of self.old).running (state_of self.old).items) self.old self.new result }
+    {
+        match self.unready() {
+            Some(refusal) => Err(refusal),
+            None => Ok(self.bring(alloc, t)?),
+        }
+    }
+
+    /// Begins a transaction of this script, and gives its number. A first-class one needs that none waits.
+    ///
+    /// # Errors
+    ///
+    /// `Busy` if a transaction runs, `NoMemory`.
+    pub fn begin(
+        &mut self,
+        alloc: Global,
+        name: &Name,
+        script: Rc<Script>,
+        option: OnConflict,
+        first: bool,
+    ) -> Result<u64, ClientFault>
+        requires tied { IsTied self.old }
+        requires number { (state_of self.old).last + 1 < 2 ^ 64 }
+        requires alone { first ≡ true → (state_of self.old).items ≡ [] }
+        ensures number { IfOk result (λ number. number ≡ (state_of self.old).last + 1) }
+        ensures notes { IfOk result (λ number. Notes (Record.Begun number name.now option) self.old self.new) }
+        ensures live { OnOk result (live_of self.new ≡ Some (record { first = first; code = script.value })) }
+        ensures tied { OnOk result (IsTied self.new) }
+        ensures refuses { Refuses (busy (state_of self.old).running) self.old self.new result }
+    {
+        match self.busy() {
+            Some(fault) => Err(fault),
+            None => Ok(self.start(alloc, *name, script, option, first)?),
+        }
+    }
+
+    /// Does the next act on the view, or says why none is done: the script has ended, it may do no more, or the transaction is
+    /// first class and the act asks about something that the view does not know. Costs what the act costs.
+    ///
+    /// # Errors
+    ///
+    /// `Idle` if no transaction runs, `NoMemory`.
+    pub fn step(&mut self, alloc: Global) -> Result<Step, ClientFault>
+        requires { IsTied self.old }
+        ensures step { IfOk result (λ step. StepIsIfAny self.old (live_of self.old) step self.new) }
+        ensures live { OnOk result (live_of self.new ≡ live_of self.old) }
+        ensures tied { OnOk result (IsTied self.new) }
+        ensures refuses { Refuses (idle (state_of self.old).running) self.old self.new result }
+    {
+        match self.idle() {
+            Some(fault) => Err(fault),
+            None => Ok(self.go_on(alloc)?),
+        }
+    }
+
+    /// Holds the tree that was brought for the running transaction, which is first class and starts again. Copies the tree once.
+    ///
+    /// # Errors
+    ///
+    /// `Idle` if no transaction runs, `NoMemory`.
+    pub fn fetched(&mut self, alloc: Global, t: Tree) -> Result<(), ClientFault>
+        requires tied { IsTied self.old }
+        requires first { IsFirstIfAny (live_of self.old) }
+        ensures notes { OnOk result (Notes (Record.Fetched t) self.old self.new) }
+        ensures live { OnOk result (live_of self.new ≡ live_of self.old) }
+        ensures tied { OnOk result (IsTied self.new) }
+        ensures refuses { Refuses (idle (state_of self.old).running) self.old self.new result }
+    {
+        match self.idle() {
+            Some(fault) => Err(fault),
+            None => Ok(self.begin_again(alloc, t)?),
+        }
+    }
+
+    /// Makes the running transaction, if there is one, second class. Does not allocate.
+    pub fn second(&mut self)
+        requires { IsTied self.old }
+        ensures state { state_of self.new ≡ state_of self.old }
+        ensures place { place_of self.new ≡ place_of self.old }
+        ensures live { live_of self.new ≡ second_class (live_of self.old) }
+        ensures tied { IsTied self.new }
+    {
+        self.kept.set_class(false);
+    }
+
+    /// Ends the running transaction, which waits from now on, and hands out a copy of its acts.
+    ///
+    /// # Errors
+    ///
+    /// `Idle` if no transaction runs, `NotAtEnd` if its script has not ended and may do more acts, `NoMemory`.
+    pub fn end(&mut self, alloc: Global) -> Result<(Ended, Acts), ClientFault>
+        requires { IsTied self.old }
+        ensures notes { OnOk result (Notes Record.Ended self.old self.new) }
+        ensures ends { IfOk result (λ ended.
+            EndsIfAny (state_of self.old) (state_of self.old).running (live_of self.old) ended.0 ended.1) }
+        ensures live { OnOk result (live_of self.new ≡ None) }
+        ensures tied { OnOk result (IsTied self.new) }
+        ensures refuses { Refuses (unended (state_of self.old).running (may_end (state_of self.old) (live_of self.old)))
+            self.old self.new result }
+    {
+        match self.unended() {
+            Some(fault) => Err(fault),
+            None => Ok(self.retire(alloc)?),
+        }
+    }
+
+    /// Lets the first transaction that waits leave: its changes stay in the held tree. Costs its updates.
+    ///
+    /// # Errors
+    ///
+    /// `Nothing` if none waits, `NoMemory`.
+    pub fn take_verdict(&mut self, alloc: Global) -> Result<(), ClientFault>
+        requires { IsTied self.old }
+        ensures notes { OnOk result (Notes Record.Left self.old self.new) }
+        ensures live { OnOk result (live_of self.new ≡ live_of self.old) }
+        ensures tied { OnOk result (IsTied self.new) }
+        ensures refuses { Refuses (empty_queue (state_of self.old).items) self.old self.new result }
+    {
+        match self.nothing() {
+            Some(fault) => Err(fault),
+            None => Ok(self.settle(alloc)?),
+        }
+    }
+}
+
+// Why a call is refused.
+impl Client {
+    fn busy(&self) -> Option<ClientFault>
+        ensures { result ≡ busy (state_of self.now).running }
+    {
+        match &self.kept.running {
+            Some(_) => Some(ClientFault::Busy),
+            None => None,
+        }
+    }
+
+    fn unready(&self) -> Option<ClientFault>
+        ensures { result ≡ unready (state_of self.now).running (state_of self.now).items }
+    {
+        match &self.kept.running {
+            Some(_) => Some(ClientFault::Busy),
+            None => pending(&self.kept.queue),
+        }
+    }
+
+    fn idle(&self) -> Option<ClientFault>
+        ensures { result ≡ idle (state_of self.now).running }
+    {
+        match &self.kept.running {
+            Some(_) => None,
+            None => Some(ClientFault::Idle),
+        }
+    }
+
+    fn unended(&self) -> Option<ClientFault>
+        requires { IsTied self.now }
+        ensures { result ≡ unended (state_of self.now).running (may_end (state_of self.now) (live_of self.now)) }
+    {
+        match &self.interpreter {
+            Some(interpreter) => not_at_end(&interpreter.exec),
+            None => Some(ClientFault::Idle),
+        }
+    }
+
+    fn nothing(&self) -> Option<ClientFault>
+        ensures { result ≡ empty_queue (state_of self.now).items }
+    {
+        match self.kept.queue.head() {
+            Some(_) => None,
+            None => Some(ClientFault::Nothing),
+        }
+    }
+}
+
+/// `Pending` if one waits.
+fn pending(queue: &Queue) -> Option<ClientFault>
+    ensures { result ≡ unready None queue.now }
+{
+    match queue.head() {
+        Some(_) => Some(ClientFault::Pending),
+        None => None,
+    }
+}
+
+/// `NotAtEnd` unless the script has ended or may do no more acts.
+fn not_at_end(exec: &Exec) -> Option<ClientFault>
+    ensures { result ≡ not_at_end (is_over (place exec.now)) (act_count exec.now) }
+{
+    if exec.at_end() {
+        return None;
+    }
+    if exec.at_limit() {
+        return None;
+    }
+    Some(ClientFault::NotAtEnd)
+}
+
+/// The path that the next act misses, if the transaction is first class.
+fn missed(alloc: Global, first: bool, exec: &Exec, view: &Tree) -> Result<Option<Path>, NoMemory>
+    ensures { IfOk result (λ path. path ≡ missed_by first (next_miss (kept_by exec.now) (place exec.now) view.now)) }
+{
+    if first {
+        exec.next_miss(alloc, view)
+    } else {
+        Ok(None)
+    }
+}
+
+// What a call does that is not refused.
+impl Client {
+    fn bring(&mut self, alloc: Global, t: Tree) -> Result<(), NoMemory>
+        requires tied { IsTied self.old }
+        requires follows { CanFollow (state_of self.old) (Record.Held t) }
+        ensures notes { OnOk result (Notes (Record.Held t) self.old self.new) }
+        ensures live { OnOk result (live_of self.new ≡ None) }
+        ensures tied { OnOk result (IsTied self.new) }
+    {
+        self.view = t.copy(alloc)?;
+        self.kept.note(alloc, Record::Held(t))?;
+        Ok(())
+    }
+
+    fn start(
+        &mut self,
+        alloc: Global,
+        script: Name,
+        code: Rc<Script>,
+        option: OnConflict,
+        first: bool,
+    ) -> Result<u64, NoMemory>
+        requires tied { IsTied self.old }
+        requires number { (state_of self.old).last + 1 < 2 ^ 64 }
+        requires idle { (state_of self.old).running ≡ None }
+        requires alone { first ≡ true → (state_of self.old).items ≡ [] }
+        ensures number { IfOk result (λ number. number ≡ (state_of self.old).last + 1) }
+        ensures notes { IfOk result (λ number. Notes (Record.Begun number script option) self.old self.new) }
+        ensures live { OnOk result (live_of self.new ≡ Some (record { first = first; code = code.value })) }
+        ensures tied { OnOk result (IsTied self.new) }
+    {
+        let interpreter = Interpreter::start(alloc, code)?;
+        let number = self.kept.last + 1;
+        self.kept.note(
+            alloc,
+            Record::Begun {
+                number,
+                script,
+                option,
+            },
+        )?;
+        self.kept.set_class(first);
+        self.interpreter = Some(interpreter);
+        Ok(number)
+    }
+
+    fn begin_again(&mut self, alloc: Global, t: Tree) -> Result<(), NoMemory>
+        requires tied { IsTied self.old }
+        requires follows { CanFollow (state_of self.old) (Record.Fetched t) }
+        ensures notes { OnOk result (Notes (Record.Fetched t) self.old self.new) }
+        ensures live { OnOk result (live_of self.new ≡ live_of self.old) }
+        ensures tied { OnOk result (IsTied self.new) }
+    {
+        let Some(interpreter) = &self.interpreter else {
+            unreachable!();
+        };
+        let again = interpreter.again(alloc)?;
+        self.view = t.copy(alloc)?;
+        self.kept.note(alloc, Record::Fetched(t))?;
+        self.interpreter = Some(again);
+        Ok(())
+    }
+
+    fn go_on(&mut self, alloc: Global) -> Result<Step, NoMemory>
+        requires tied { IsTied self.old }
+        requires runs { IsSome (state_of self.old).running }
+        ensures step { IfOk result (λ step. StepIsIfAny self.old (live_of self.old) step self.new) }
+        ensures live { OnOk result (live_of self.new ≡ live_of self.old) }
+        ensures tied { OnOk result (IsTied self.new) }
+    {
+        match self.pause(alloc)? {
+            Some(step) => Ok(step),
+            None => self.act(alloc),
+        }
+    }
+
+    /// Why no act is done, if that is so.
+    fn pause(&self, alloc: Global) -> Result<Option<Step>, NoMemory>
+        requires tied { IsTied self.now }
+        requires runs { IsSome (state_of self.now).running }
+        ensures pauses { IfOk result (λ pause. IfSome pause (λ step. StepIsIfAny self.now (live_of self.now) step self.now)) }
+        ensures goes { IfOk result (λ pause. IfNone pause (CanActIfAny (state_of self.now) (live_of self.now))) }
+    {
+        let Some(interpreter) = &self.interpreter else {
+            unreachable!();
+        };
+        let exec = &interpreter.exec;
+        if exec.at_end() {
+            return Ok(Some(Step::AtEnd { acts: exec.acts() }));
+        }
+        if exec.at_limit() {
+            return Ok(Some(Step::AtLimit { acts: exec.acts() }));
+        }
+        match missed(alloc, self.kept.is_first(), exec, &self.view)? {
+            Some(path) => {
+                let want = Want::Path(path.copy(alloc)?);
+                Ok(Some(Step::Fetch { want, path }))
+            }
+            None => Ok(None),
+        }
+    }
+
+    fn act(&mut self, alloc: Global) -> Result<Step, NoMemory>
+        requires tied { IsTied self.old }
+        requires runs { IsSome (state_of self.old).running }
+        requires can { CanActIfAny (state_of self.old) (live_of self.old) }
+        ensures step { IfOk result (λ step. StepIsIfAny self.old (live_of self.old) step self.new) }
+        ensures live { OnOk result (live_of self.new ≡ live_of self.old) }
+        ensures tied { OnOk result (IsTied self.new) }
+    {
+        let done = act_by(&mut self.interpreter, alloc, &mut self.view)?;
+        self.kept.note(alloc, Record::Acted(done.act))?;
+        Ok(Step::Acted {
+            acts: done.acts,
+            ended: done.ended,
+        })
+    }
+
+    fn retire(&mut self, alloc: Global) -> Result<(Ended, Acts), NoMemory>
+        requires tied { IsTied self.old }
+        requires runs { IsSome (state_of self.old).running }
+        requires over { may_end (state_of self.old) (live_of self.old) ≡ true }
+        ensures notes { OnOk result (Notes Record.Ended self.old self.new) }
+        ensures ends { IfOk result (λ ended.
+            EndsIfAny (state_of self.old) (state_of self.old).running (live_of self.old) ended.0 ended.1) }
+        ensures live { OnOk result (live_of self.new ≡ None) }
+        ensures tied { OnOk result (IsTied self.new) }
+    {
+        let Some(running) = &self.kept.running else {
+            unreachable!();
+        };
+        let ended = Ended {
+            tid: running.tid,
+            first: running.first,
+        };
+        let acts = running.acts.copy(alloc)?;
+        self.kept.note(alloc, Record::Ended)?;
+        self.interpreter = None;
+        Ok((ended, acts))
+    }
+
+    fn settle(&mut self, alloc: Global) -> Result<(), NoMemory>
+        requires tied { IsTied self.old }
+        requires follows { CanFollow (state_of self.old) Record.Left }
+        ensures notes { OnOk result (Notes Record.Left self.old self.new) }
+        ensures live { OnOk result (live_of self.new ≡ live_of self.old) }
+        ensures tied { OnOk result (IsTied self.new) }
+    {
+        self.kept.note(alloc, Record::Left)?;
+        Ok(())
+    }
+}
