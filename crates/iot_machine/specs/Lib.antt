@@ -1,0 +1,9 @@
+pub mod Calls
+pub mod Refining
+pub mod Nodes
+pub mod Stops
+pub mod Machine
+pub mod Sound
+pub mod Texts
+pub mod Events
+pub mod Transcript

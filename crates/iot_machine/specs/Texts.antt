@@ -1,0 +1,66 @@
+-- The lines that events print.
+use Rattle.std.specs.Prelude.{ℕ, List, [], ◌∷◌, ◌++◌, codes, decimal}
+use Rattle.std.specs.FinMap.{entries}
+use Rattle.std.specs.List.{flat_map}
+use Rattle.iot_text.specs.Paths.{path_text}
+use Rattle.iot_text.specs.Quotes.{quoted}
+use Rattle.iot_tree.specs.Tree.{Nodes}
+use Rattle.iot_tree.specs.declared.nodes.Node.{Node}
+use Rattle.iot_tree.specs.declared.nodes.Node.TheVariants.{Dir, File, FarDir, FarFile}
+use Rattle.iot_tree.specs.declared.acts.Act.{Act}
+use Rattle.iot_tree.specs.declared.labels.Way.{Way}
+use Rattle.iot_tree.specs.declared.labels.Way.TheVariants.{Certified, Reexecuted, Resolved}
+
+-- a line ends with a newline
+abbrev pub line : List ℕ → List ℕ
+line text = text ++ 10 ∷ []
+
+-- the name of a transaction: its client's name, a dot and its number there
+abbrev pub transaction_name : List ℕ → ℕ → List ℕ
+transaction_name client number = client ++ 46 ∷ decimal number
+
+-- an output line of a script, after a bar
+abbrev pub output_line : List ℕ → List ℕ
+output_line text = line (124 ∷ text)
+
+-- the output lines of a script
+abbrev pub output : List (List ℕ) → List ℕ
+output lines = flat_map output_line lines
+
+-- what these acts print
+abbrev pub acts_output : List Act → List ℕ
+acts_output acts = output (flat_map (λ act. act.lines) acts)
+
+-- a row of a tree
+abbrev pub row_text : List (List ℕ) → Node → List ℕ
+row_text path Dir = codes "dir " ++ path_text path
+row_text path (File contents) = codes "file " ++ path_text path ++ 32 ∷ quoted contents
+row_text path FarDir = codes "dir " ++ path_text path ++ codes " far"
+row_text path FarFile = codes "file " ++ path_text path ++ codes " far"
+
+abbrev pub row_line : List (List ℕ) → Node → List ℕ
+row_line path node = line (row_text path node)
+
+abbrev pub rows_text : List (List (List ℕ) × Node) → List ℕ
+rows_text rows = flat_map (λ row. row_line row.0 row.1) rows
+
+-- all rows in order of their paths
+abbrev pub tree_text : Nodes → List ℕ
+tree_text tree = rows_text (entries tree)
+
+abbrev pub way_text : Way → List ℕ
+way_text Certified = codes "certified"
+way_text Reexecuted = codes "reexecuted"
+way_text Resolved = codes "resolved"
+
+abbrev pub end_line : List ℕ → List ℕ
+end_line tid = line (codes "end " ++ tid)
+
+abbrev pub commit_line : ℕ → List ℕ → Way → List ℕ
+commit_line number tid way = line (codes "commit " ++ decimal number ++ 32 ∷ tid ++ 32 ∷ way_text way)
+
+abbrev pub settled_line : List ℕ → ℕ → List ℕ
+settled_line tid number = line (codes "settled " ++ tid ++ 32 ∷ decimal number)
+
+abbrev pub client_line : List ℕ → List ℕ
+client_line name = line (codes "client " ++ name)
