@@ -1,0 +1,126 @@
+-- Trees after runs: those of a client, and the one of a list of commits.
+use Rattle.std.proofs.Common.{◌≡◌, ◌≢◌, ℕ, List, [], ◌∷◌, Option, Some, None, refl, sym, ap, subst, ◌∙◌}
+use Rattle.std.proofs.lemmas.Option.{none-some}
+use Rattle.std.specs.FinMap.{empty, get-empty}
+use Rattle.std.specs.List.{AllByRecursion}
+use Rattle.iot_text.specs.Paths.{path_cmp}
+use Rattle.iot_tree.specs.Tree.{Path, Nodes, IsTree, IsWhole, root_alone}
+use Rattle.iot_tree.specs.Updates.{updated}
+use Rattle.iot_tree.specs.declared.acts.Act.{Act}
+use Rattle.iot_tree.specs.declared.labels.Way.{Way}
+use Rattle.iot_tree.specs.declared.nodes.Node.{Node}
+use Rattle.iot_tree.specs.declared.nodes.Node.TheVariants.{Dir, File, FarDir, FarFile}
+use Rattle.iot_tree.specs.declared.updates.Update.{Update}
+use Rattle.iot_tree.specs.declared.updates.Update.TheVariants.{Put, MakeDir, Remove, Move}
+use Rattle.iot_tree.proofs.EachLaws.{EachNode, each_inserted, each_removed, each_moved}
+use Rattle.iot_tree.proofs.RowLaws.{root_rows, root_map}
+use Rattle.iot_lang.specs.Code.{Code}
+use Rattle.iot_lang.specs.Scripts.{IsScript}
+use Rattle.iot_acts.specs.Traces.{after_acts, after_update}
+use Rattle.iot_exec.specs.Commands.{Kept}
+use Rattle.iot_exec.specs.Runs.{run}
+use Rattle.iot_exec.specs.Serial.{Entry, run_entry, tree_from}
+use Rattle.iot_limits.specs.Spelled.{IsSpelledTree, AreSpelledFiles}
+use Rattle.iot_limits.proofs.SpelledLaws.{run_is_spelled, root_is_spelled}
+use Rattle.iot_judging.specs.Clients.{Item, local_run, after_items}
+use Rattle.iot_machine.specs.Machine.{Commit, entries_of, tree_after}
+use Rattle.iot_judging.proofs.JudgingLaws.{own_acts, run_tree}
+use Rattle.iot_judging.proofs.SpelledTreesLaws.{run_spelled}
+
+-- ---- a client's
+
+-- what the acts of one that waits make of the tree
+pub local_made : (t : Nodes) (item : Item) (acts : List Act) → IsTree t → acts ≡ (local_run t item).acts
+    → (local_run t item).tree ≡ after_acts t acts
+local_made t item acts tree is = (own_acts item.script.code empty t item.budget tree).made ∙ ap (after_acts t) (sym is)
+
+pub items_tree : (items : List Item) (t : Nodes) → IsTree t → IsTree (after_items t items)
+items_tree [] t tree = tree
+items_tree (item ∷ items) t tree = items_tree items (local_run t item).tree (run_tree item.script.code empty t item.budget tree)
+
+pub items_spelled : (items : List Item) (t : Nodes) → AllByRecursion (λ item. IsScript item.script.code) items → IsSpelledTree t
+    → IsSpelledTree (after_items t items)
+items_spelled [] t scripts tree = tree
+items_spelled (item ∷ items) t scripts tree =
+    items_spelled items (local_run t item).tree scripts.1 (run_spelled item.script.code t item.budget scripts.0 tree)
+
+-- ---- the server's
+
+from_tree : (entries : List (Entry Way)) (t : Nodes) → IsTree t → IsTree (tree_from entries t)
+from_tree [] t tree = tree
+from_tree (entry ∷ entries) t tree = from_tree entries (run_entry entry t).tree (run_tree entry.script entry.kept t entry.budget tree)
+
+-- the script of the entry is one, and its kept files have spellings
+pub record IsSpelledEntry (entry : Entry Way) : Type 0 where
+  pub script : IsScript entry.script
+  pub kept : AreSpelledFiles entry.kept
+
+from_spelled : (entries : List (Entry Way)) (t : Nodes) → AllByRecursion IsSpelledEntry entries → IsSpelledTree t
+    → IsSpelledTree (tree_from entries t)
+from_spelled [] t all tree = tree
+from_spelled (entry ∷ entries) t all tree =
+    from_spelled entries (run_entry entry t).tree all.1
+    (run_is_spelled entry.script entry.kept t entry.budget all.0.script all.0.kept tree).tree
+
+pub root_is_tree : IsTree (root_alone Dir)
+root_is_tree = subst IsTree (root_map Dir) (root_rows Dir refl).tree
+
+pub list_tree : (commits : List Commit) → IsTree (tree_after commits)
+list_tree commits = from_tree (entries_of commits) (root_alone Dir) root_is_tree
+
+pub list_spelled : (commits : List Commit) → AllByRecursion IsSpelledEntry (entries_of commits) → IsSpelledTree (tree_after commits)
+list_spelled commits all = from_spelled (entries_of commits) (root_alone Dir) all root_is_spelled
+
+-- ---- whole trees
+
+abbrev IsNear : Path → Node → Type 0
+IsNear path node = (node ≢ FarDir) × (node ≢ FarFile)
+
+file_is_near : (path : Path) (bytes : List ℕ) → IsNear path (File bytes)
+file_is_near path bytes = ((λ is. cc), (λ is. cc))
+
+dir_is_near : (path : Path) → IsNear path Dir
+dir_is_near path = ((λ is. cc), (λ is. cc))
+
+update_near : (t : Nodes) (update : Update) → EachNode IsNear t → EachNode IsNear (updated t update)
+update_near t (Put path bytes) each = each_inserted IsNear t path (File bytes) each (file_is_near path bytes)
+update_near t (MakeDir path) each = each_inserted IsNear t path Dir each (dir_is_near path)
+update_near t (Remove path) each = each_removed IsNear t path each
+update_near t (Move from to) each = each_moved IsNear from to (λ path node near. near) t each
+
+acts_near : (acts : List Act) (t : Nodes) → EachNode IsNear t → EachNode IsNear (after_acts t acts)
+acts_near [] t each = each
+acts_near (act ∷ acts) t each = acts_near acts (after_update t act.update) (by act.update)
+  where
+    by : (update : Option Update) → EachNode IsNear (after_update t update)
+    by None = each
+    by (Some update) = update_near t update each
+
+near_whole : (t : Nodes) → EachNode IsNear t → IsWhole t
+near_whole t each = record { no_far_dir = λ p is. (each p FarDir is).0 refl; no_far_file = λ p is. (each p FarFile is).1 refl }
+
+whole_near : (t : Nodes) → IsWhole t → EachNode IsNear t
+whole_near t whole p node is =
+    ((λ far. whole.no_far_dir p (is ∙ ap Some far)), (λ far. whole.no_far_file p (is ∙ ap Some far)))
+
+-- after acts on a whole tree it is whole
+pub acts_whole : (acts : List Act) (t : Nodes) → IsWhole t → IsWhole (after_acts t acts)
+acts_whole acts t whole = near_whole (after_acts t acts) (acts_near acts t (whole_near t whole))
+
+pub run_whole : (code : Code) (kept : Kept) (t : Nodes) (n : ℕ) → IsTree t → IsWhole t → IsWhole (run code kept t n).tree
+run_whole code kept t n tree whole =
+    subst IsWhole (sym (own_acts code kept t n tree).made) (acts_whole (run code kept t n).acts t whole)
+
+from_whole : (entries : List (Entry Way)) (t : Nodes) → IsTree t → IsWhole t → IsWhole (tree_from entries t)
+from_whole [] t tree whole = whole
+from_whole (entry ∷ entries) t tree whole =
+    from_whole entries (run_entry entry t).tree (run_tree entry.script entry.kept t entry.budget tree)
+    (run_whole entry.script entry.kept t entry.budget tree whole)
+
+root_is_whole : IsWhole (root_alone Dir)
+root_is_whole =
+    near_whole (root_alone Dir)
+    (each_inserted IsNear empty [] Dir (λ path node is. absurd (none-some node (sym (get-empty path_cmp path) ∙ is))) (dir_is_near []))
+
+pub list_whole : (commits : List Commit) → IsWhole (tree_after commits)
+list_whole commits = from_whole (entries_of commits) (root_alone Dir) root_is_tree root_is_whole
