@@ -7,47 +7,45 @@ use Rattle.std.proofs.Math.Seq.{drop-cons, take-suc}
 use Rattle.std.specs.Io.KnownBytes.{Appends}
 use Rattle.std.proofs.KnownBytes.{Appends-trans}
 use Rattle.iot_count.specs.Counts.{Counted, IsSteady}
-use Rattle.iot_disk.specs.Disk.{Arms}
 use Rattle.iot_event.specs.Declarations.{AreDeclared}
 use Rattle.iot_event.specs.declared.event.Event.{Event}
 use Rattle.iot_event.specs.declared.event.Event.TheVariants as events
-use Rattle.iot_app.specs.Allowed.{IsAllowed}
+use Rattle.iot_machine.specs.Machine.{Machine, Commit, opening}
+use Rattle.iot_machine.specs.Events.{event_part}
+use Rattle.iot_machine.specs.Transcript.{InTurn, Transcript}
+use Rattle.iot_world.specs.Allowed.{IsAllowed}
+use Rattle.iot_world.specs.Faults.{FaultCounts}
+use Rattle.iot_world.specs.Records.{FirstHolds}
+use Rattle.iot_world.specs.World.{StandsFor, Steps, NumbersAtMost, DeclaredOn, IsOpened, client_count, script_count, server_is_up, disks_of}
+use Rattle.iot_world.specs.declared.fault.WorldFault.{WorldFault}
+use Rattle.iot_world.specs.declared.fault.WorldFault.TheVariants as world
+use Rattle.iot_world.specs.declared.world.World.{World}
+use Rattle.iot_world.proofs.DisksLaws.{first_holds}
 use Rattle.iot_app.specs.Faults.{ended_by}
-use Rattle.iot_app.specs.Machine.{Machine, Commit, opening}
-use Rattle.iot_app.specs.Parts.{Part, InTurn}
 use Rattle.iot_app.specs.Played.{WroteAll, WroteFirst, WroteCut, Played}
-use Rattle.iot_app.specs.Records.{HoldsIn, records_of, state_of}
-use Rattle.iot_app.specs.Servers.{is_up, disk_of, FaultCounts, Starts, SameDisk}
 use Rattle.iot_app.specs.Status.{SinkCounts, DiskCounts}
-use Rattle.iot_app.specs.Steps.{Transcript, event_part}
-use Rattle.iot_app.specs.World.{StandsFor, Refines, NumbersAtMost, DeclaredOn, IsOpened, KeepsList}
-use Rattle.iot_app.specs.declared.fault.WorldFault.{WorldFault}
-use Rattle.iot_app.specs.declared.fault.WorldFault.TheVariants as world
-use Rattle.iot_app.specs.declared.server.Server.{Server}
-use Rattle.iot_app.specs.declared.server.Server.TheVariants.{Up, Down, Between}
-use Rattle.iot_app.specs.declared.world.World.{World}
-use Rattle.iot_app.proofs.ServersLaws.{store_images, one_disk}
 
 -- one more event in turn
-module _ {S E : Type 0} (part : E → Part S) where
-  InTurn-append : (events : List E) (event : E) (m n o : S) (text more : List ℕ)
-      → InTurn part events m text n → part event n more o → InTurn part (events ++ event ∷ []) m (text ++ more) o
-  InTurn-append [] event m n o text more front last = record {
-    mid = o;
-    front = more;
-    rest = [];
-    second = (refl, refl);
-    first = subst (λ (s : S). part event s more o) front.1 last;
-    whole = ap (λ (t : List ℕ). t ++ more) front.0 ∙ sym (append-nil more);
-  }
-  InTurn-append (first ∷ events) event m n o text more front last = record {
-    mid = front.mid;
-    front = front.front;
-    rest = front.rest ++ more;
-    first = front.first;
-    second = InTurn-append events event front.mid n o front.rest more front.second last;
-    whole = ap (λ (t : List ℕ). t ++ more) front.whole ∙ append_assoc front.front front.rest more;
-  }
+InTurn-append : (events : List Event) (event : Event) (m n o : Machine) (text more : List ℕ)
+    → InTurn events m text tt n → event_part event n more tt o → InTurn (events ++ event ∷ []) m (text ++ more) tt o
+InTurn-append [] event m n o text more front last = record {
+  mid = o;
+  front = more;
+  rest = [];
+  answer = tt;
+  second = (refl, refl);
+  first = subst (λ (s : Machine). event_part event s more tt o) front.1 last;
+  whole = ap (λ (t : List ℕ). t ++ more) front.0 ∙ sym (append-nil more);
+}
+InTurn-append (first ∷ events) event m n o text more front last = record {
+  mid = front.mid;
+  front = front.front;
+  rest = front.rest ++ more;
+  answer = front.answer;
+  first = front.first;
+  second = InTurn-append events event front.mid n o front.rest more front.second last;
+  whole = ap (λ (t : List ℕ). t ++ more) front.whole ∙ append_assoc front.front front.rest more;
+}
 
 -- ---- which event may come
 
@@ -61,27 +59,20 @@ not_false false is = refl
 
 -- the first of events that are declared may come
 allowed : {D : Type 0} (event : Event) (later : List Event) (world : World D) → DeclaredOn (event ∷ later) world
-    → IsAllowed event (length world.clients.items) (length world.scripts.items) (is_up world.server)
+    → IsAllowed event (client_count world) (script_count world) (server_is_up world)
 allowed (events.Client name) later world declared = omega (arith, declared.1)
 allowed (events.Script name code) later world declared = tt
-allowed (events.Run client script) later world declared = (declared.1, declared.2, not_true (is_up world.server) declared.0)
+allowed (events.Run client script) later world declared = (declared.1, declared.2, not_true (server_is_up world) declared.0)
 allowed events.ShowServer later world declared = tt
-allowed events.CrashServer later world declared = not_true (is_up world.server) declared.0
-allowed events.RestartServer later world declared = not_false (is_up world.server) declared.0
-
--- what a server keeps is on its disk
-holds_list : {D : Type 0} (reads : D → List ℕ) (may_leave : D → List ℕ → Type 0) (server : Server D) (commits : List Commit)
-    → KeepsList reads may_leave server commits → HoldsIn may_leave (disk_of server) commits
-holds_list reads may_leave (Up it) commits keeps = store_images reads may_leave it (records_of commits) (state_of commits) keeps
-holds_list reads may_leave (Down disk) commits keeps = keeps
-holds_list reads may_leave Between commits keeps = absurd keeps
+allowed events.CrashServer later world declared = not_true (server_is_up world) declared.0
+allowed events.RestartServer later world declared = not_false (server_is_up world) declared.0
 
 -- the first so many events are done and what they say is written
 pub record PlaysOn {D : Type 0} (reads : D → List ℕ) (may_leave : D → List ℕ → Type 0) (before after : Option (List ℕ))
     (events : List Event) (world : World D) (done : ℕ) : Type 0 where
   pub text : List ℕ
   pub machine : Machine
-  pub transcript : Transcript (take done events) opening text machine
+  pub transcript : Transcript (take done events) text machine
   pub stands : StandsFor reads may_leave world machine
   pub written : Appends before after text
   pub declared : DeclaredOn (drop done events) world
@@ -107,9 +98,9 @@ plays_none reads may_leave before after events world is declared written = recor
   stands = is.stands;
   written = written;
   declared =
-      subst (λ (n : ℕ). AreDeclared events n (length world.scripts.items) (not (is_up world.server))) (sym (ap length is.no_clients))
-      (subst (λ (n : ℕ). AreDeclared events 0 n (not (is_up world.server))) (sym (ap length is.no_scripts))
-      (subst (λ (down : Bool). AreDeclared events 0 0 down) (ap not (sym is.stands.alive)) declared));
+      subst (λ (n : ℕ). AreDeclared events n (script_count world) (not (server_is_up world))) (sym is.no_clients)
+      (subst (λ (n : ℕ). AreDeclared events 0 n (not (server_is_up world))) (sym is.no_scripts)
+      (subst (λ (up : Bool). AreDeclared events 0 0 (not up)) (sym is.up) declared));
   counts = is.counts;
 }
 
@@ -118,7 +109,7 @@ module _ {D : Type 0} (reads : D → List ℕ) (may_leave : D → List ℕ → T
     (old new : World D) (done : ℕ) (event : Event) (out : List ℕ)
     (plays : PlaysOn reads may_leave before mid events old done) (within : done < length events)
     (here : event ≡ slice_index_or events done event)
-    (refines : Refines reads may_leave (event_part event) old new [] out) where
+    (refines : Steps reads may_leave (event_part event) old new [] out tt) where
   front : take (done + 1) events ≡ take done events ++ event ∷ []
   front =
       ap (λ (k : ℕ). take k events) (add-one done) ∙ take-suc events done event within
@@ -131,7 +122,7 @@ module _ {D : Type 0} (reads : D → List ℕ) (may_leave : D → List ℕ → T
 
   record Next : Type 0 where
     machine : Machine
-    last : event_part event plays.machine out machine
+    last : event_part event plays.machine out tt machine
     stands : StandsFor reads may_leave new machine
 
   next : Next
@@ -139,7 +130,7 @@ module _ {D : Type 0} (reads : D → List ℕ) (may_leave : D → List ℕ → T
       let step = refines.step plays.machine plays.stands in
       record {
         machine = step.1;
-        last = subst (λ (t : List ℕ). event_part event plays.machine t step.1) (sym step.2) step.3;
+        last = subst (λ (t : List ℕ). event_part event plays.machine t tt step.1) (sym step.2) step.3;
         stands = step.4;
       }
 
@@ -153,8 +144,8 @@ module _ {D : Type 0} (reads : D → List ℕ) (may_leave : D → List ℕ → T
     text = plays.text ++ out;
     machine = next.machine;
     transcript =
-        subst (λ (es : List Event). Transcript es opening (plays.text ++ out) next.machine) (sym front)
-        (InTurn-append event_part (take done events) event opening plays.machine next.machine plays.text out plays.transcript next.last);
+        subst (λ (es : List Event). Transcript es (plays.text ++ out) next.machine) (sym front)
+        (InTurn-append (take done events) event opening plays.machine next.machine plays.text out plays.transcript next.last);
     stands = next.stands;
     written = Appends-trans before mid after plays.text out plays.written appends;
     declared = declares (drop (done + 1) events) (subst (λ (es : List Event). DeclaredOn es old) rest plays.declared);
@@ -163,7 +154,7 @@ module _ {D : Type 0} (reads : D → List ℕ) (may_leave : D → List ℕ → T
 
   -- it is done, and only a front of what it says is written
   pub plays_cut : (after : Option (List ℕ)) (count : ℕ) → count < length out → Appends mid after (take count out)
-      → WroteCut (Appends before after) (HoldsIn may_leave (disk_of new.server)) events
+      → WroteCut (Appends before after) (FirstHolds may_leave (disks_of new)) events
   plays_cut after count cut appends = record {
     earlier = take done events;
     event = event;
@@ -178,7 +169,7 @@ module _ {D : Type 0} (reads : D → List ℕ) (may_leave : D → List ℕ → T
     count = count;
     cut = cut;
     written = Appends-trans before mid after plays.text (take count out) plays.written appends;
-    kept = holds_list reads may_leave new.server next.machine.commits next.stands.server;
+    kept = first_holds reads may_leave new next.machine.server next.stands.server;
   }
 
 module _ {D : Type 0} (reads : D → List ℕ) (may_leave : D → List ℕ → Type 0) (before after : Option (List ℕ)) (events : List Event)
@@ -195,19 +186,19 @@ module _ {D : Type 0} (reads : D → List ℕ) (may_leave : D → List ℕ → T
 
   -- all are done
   pub plays_all : (done : ℕ) → length events ≤ done → PlaysOn reads may_leave before after events world done
-      → WroteAll (Appends before after) (HoldsIn may_leave (disk_of world.server)) events
+      → WroteAll (Appends before after) (FirstHolds may_leave (disks_of world)) events
   plays_all done whole plays = record {
     text = plays.text;
     machine = plays.machine;
-    transcript = subst (λ (es : List Event). Transcript es opening plays.text plays.machine) (take_all done events whole) plays.transcript;
+    transcript = subst (λ (es : List Event). Transcript es plays.text plays.machine) (take_all done events whole) plays.transcript;
     written = plays.written;
-    kept = holds_list reads may_leave world.server plays.machine.commits plays.stands.server;
+    kept = first_holds reads may_leave world plays.machine.server plays.stands.server;
   }
 
   -- the next event may come
   pub next_allowed : (done : ℕ) (event : Event) → PlaysOn reads may_leave before after events world done → done < length events
       → event ≡ slice_index_or events done event
-      → IsAllowed event (length world.clients.items) (length world.scripts.items) (is_up world.server)
+      → IsAllowed event (client_count world) (script_count world) (server_is_up world)
   next_allowed done event plays within here =
       allowed event (drop (suc done) events) world
       (subst (λ (es : List Event). DeclaredOn es world)
@@ -234,21 +225,3 @@ fault_sink world.DiskFailed faults empties one other = (one, other)
 pub fault_disk : (fault : WorldFault) (faults : Counted) → FaultCounts fault faults → DiskCounts (ended_by fault) faults
 fault_disk world.NoMemory faults counts = counts
 fault_disk world.DiskFailed faults counts = counts
-
--- what was done to the disk from the opening on
-module _ {D : Type 0} (arms_of : D → Arms) (faults_of : D → ℕ) (disk back : D) (first last : Server D) (counts : Counted → Type 0)
-    (starts : Starts arms_of faults_of disk first) (same : SameDisk arms_of faults_of counts first last)
-    (has : disk_of last ≡ Some back) where
-  it_was : starts.now ≡ same.was
-  it_was = one_disk starts.now same.was (sym starts.has ∙ same.old_has)
-
-  it_is : same.now ≡ back
-  it_is = one_disk same.now back (sym same.new_has ∙ has)
-
-  pub whole_arms : arms_of back ≡ arms_of disk
-  whole_arms = ap arms_of (sym it_is) ∙ same.arms ∙ ap arms_of (sym it_was) ∙ starts.arms
-
-  pub whole_counts : counts (record { before = faults_of disk; after = faults_of back })
-  whole_counts =
-      subst (λ (n : ℕ). counts (record { before = n; after = faults_of back })) (ap faults_of (sym it_was) ∙ starts.faults)
-      (subst (λ (n : ℕ). counts (record { before = faults_of same.was; after = n })) (ap faults_of it_is) same.faults)

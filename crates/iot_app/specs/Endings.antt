@@ -2,7 +2,7 @@
 use Rattle.std.specs.Prelude.{◌≡◌, ◌⊎◌, ℕ, ◌<◌, List, [], length, take}
 use Rattle.iot_event.specs.Events.{Events}
 use Rattle.iot_event.specs.declared.event.Event.{Event}
-use Rattle.iot_app.specs.Machine.{Commit}
+use Rattle.iot_machine.specs.Machine.{Commit}
 use Rattle.iot_app.specs.Input.{TookInput, TookSome, IsRefused}
 use Rattle.iot_app.specs.Played.{WroteAll, WroteFirst, WroteCut}
 use Rattle.iot_app.specs.Refusals.{usage_line}

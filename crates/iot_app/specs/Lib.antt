@@ -1,9 +1,3 @@
-pub mod Parts
-pub mod Machine
-pub mod Texts
-pub mod Steps
-pub mod Allowed
-pub mod World
 pub mod Status
 pub mod Refusals
 pub mod InputFaults
@@ -11,7 +5,5 @@ pub mod Input
 pub mod Played
 pub mod Endings
 pub mod Job
-pub mod Records
 pub mod Faults
-pub mod Servers
 pub mod Disks

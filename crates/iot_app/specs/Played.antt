@@ -2,8 +2,9 @@
 -- that the server's disk holds this list.
 use Rattle.std.specs.Prelude.{◌≡◌, ℕ, ◌<◌, List, ◌∷◌, ◌++◌, length, take}
 use Rattle.iot_event.specs.declared.event.Event.{Event}
-use Rattle.iot_app.specs.Machine.{Machine, Commit, opening}
-use Rattle.iot_app.specs.Steps.{Transcript, event_part}
+use Rattle.iot_machine.specs.Machine.{Machine, Commit}
+use Rattle.iot_machine.specs.Events.{event_part}
+use Rattle.iot_machine.specs.Transcript.{Transcript}
 use Rattle.iot_app.specs.declared.status.Status.{Status}
 use Rattle.iot_app.specs.declared.status.Status.TheVariants.{Done, WriteFailed, NoMemory, DiskFailed}
 
@@ -11,16 +12,16 @@ use Rattle.iot_app.specs.declared.status.Status.TheVariants.{Done, WriteFailed, 
 pub record WroteAll (wrote : List ℕ → Type 0) (holds : List Commit → Type 0) (events : List Event) : Type 0 where
   pub text : List ℕ
   pub machine : Machine
-  pub transcript : Transcript events opening text machine
+  pub transcript : Transcript events text machine
   pub written : wrote text
-  pub kept : holds machine.commits
+  pub kept : holds machine.server.durable
 
 -- a transcript of the first so many events was written
 pub record WroteFirst (wrote : List ℕ → Type 0) (events : List Event) : Type 0 where
   pub done : ℕ
   pub text : List ℕ
   pub machine : Machine
-  pub transcript : Transcript (take done events) opening text machine
+  pub transcript : Transcript (take done events) text machine
   pub written : wrote text
 
 -- A transcript of the earlier events was written, and of what the next one says only a front. That event was done and no later one:
@@ -32,14 +33,14 @@ pub record WroteCut (wrote : List ℕ → Type 0) (holds : List Commit → Type 
   pub split : events ≡ earlier ++ event ∷ later
   pub text : List ℕ
   pub before : Machine
-  pub transcript : Transcript earlier opening text before
+  pub transcript : Transcript earlier text before
   pub says : List ℕ
   pub machine : Machine
-  pub last : event_part event before says machine
+  pub last : event_part event before says tt machine
   pub count : ℕ
   pub cut : count < length says
   pub written : wrote (text ++ take count says)
-  pub kept : holds machine.commits
+  pub kept : holds machine.server.durable
 
 -- how doing the events ended
 abbrev pub Played : Status → (List ℕ → Type 0) → (List Commit → Type 0) → List Event → Type 0

@@ -2,7 +2,7 @@
 use Rattle.std.specs.Prelude.{ℕ, List, [], ◌++◌, codes, decimal}
 use Rattle.iot_event.specs.declared.fault.EventFault.{EventFault}
 use Rattle.iot_event.specs.declared.fault.EventFault.TheVariants as faults
-use Rattle.iot_app.specs.Texts.{line}
+use Rattle.iot_machine.specs.Texts.{line}
 
 abbrev pub usage_line : List ℕ
 usage_line = line (codes "usage: iot [--json | --gen N | --save | --image]")

@@ -1,13 +1,11 @@
 //! The program as one call.
-ghost use Rattle.std.specs.Prelude.{◌≡◌, ◌<◌, ◌∷◌, [], false, length, IfOk};
+ghost use Rattle.std.specs.Prelude.{◌≡◌, ◌<◌, [], false, length, IfOk};
 ghost use Rattle.std.specs.Io.KnownBytes.{Appends, IsAtEnd};
-ghost use Rattle.std.specs.Vec.{vec_len, vec_capacity};
 ghost use Rattle.iot_io.specs.ReadAll.{Took};
-ghost use Rattle.iot_event.specs.Declarations.{AreDeclared};
+ghost use Rattle.iot_world.specs.Disks.{AreFresh, OnlyFirst, first_count};
+ghost use Rattle.iot_world.specs.Records.{FirstHolds};
 ghost use Rattle.iot_app.specs.Endings.{Ends};
-ghost use Rattle.iot_app.specs.Disks.{AreFresh, OnlyFirst, FirstHolds, first_count};
 ghost use Rattle.iot_app.specs.Job.{LineEnds, RefusalEnds};
-ghost use Rattle.iot_app.specs.Played.{Played};
 ghost use Rattle.iot_app.specs.Refusals.{fault_line, refusal_line};
 ghost use Rattle.iot_app.specs.Status.{HasStatus, SourceCounts, SinkCounts, DiskCounts};
 
@@ -15,7 +13,7 @@ use crate::input::{InputFault, read_events};
 use crate::play::play;
 use crate::status::Status;
 use iot_disk::Disk;
-use iot_event::{Event, EventFault};
+use iot_event::EventFault;
 use iot_io::{Sink, Source, write_all};
 use iot_text::{NoMemory, Text};
 use std::alloc::Global;
@@ -85,47 +83,46 @@ pub fn run<S: Source, K: Sink, D: Disk>(
     // The disks come back. Only the first may have changed, and it was not armed.
     ensures disks { OnlyFirst D.arms disks.items result.disks.items }
 {
-    let mut disks = disks;
-    let status = status_of(alloc, words, source, sink, &mut disks);
+    let (status, disks) = status_of(alloc, words, source, sink, disks);
     Outcome {
         status: status.code(),
         disks,
     }
 }
 
-/// The same, as a status.
+/// The same, with a status.
 fn status_of<S: Source, K: Sink, D: Disk>(
     alloc: Global,
     words: &[&str],
     source: &mut S,
     sink: &mut K,
-    disks: &mut Vec<D>,
-) -> Status
-    requires { AreFresh D.reads D.may_leave disks.old.items }
+    disks: Vec<D>,
+) -> (Status, Vec<D>)
+    requires { AreFresh D.reads D.may_leave disks.items }
     ensures ends { Ends (record {
       words = length words.now;
       took = Took S.left S.taken source.old source.new;
       at_end = IsAtEnd (S.left source.new);
       wrote = Appends (K.written sink.old) (K.written sink.new);
-      holds = FirstHolds D.may_leave disks.new.items;
-      untouched = disks.new.items ≡ disks.old.items;
-    }) result }
-    ensures source_faults { SourceCounts result (record { before = S.faults source.old; after = S.faults source.new }) }
-    ensures sink_faults { SinkCounts result
+      holds = FirstHolds D.may_leave result.1.items;
+      untouched = result.1.items ≡ disks.items;
+    }) result.0 }
+    ensures source_faults { SourceCounts result.0 (record { before = S.faults source.old; after = S.faults source.new }) }
+    ensures sink_faults { SinkCounts result.0
         (record { before = K.faults sink.old; after = K.faults sink.new })
         (record { before = K.empties sink.old; after = K.empties sink.new }) }
-    ensures disk_faults { DiskCounts result (record {
-      before = first_count D.faults disks.old.items;
-      after = first_count D.faults disks.new.items;
+    ensures disk_faults { DiskCounts result.0 (record {
+      before = first_count D.faults disks.items;
+      after = first_count D.faults result.1.items;
     }) }
-    ensures disks { OnlyFirst D.arms disks.old.items disks.new.items }
+    ensures disks { OnlyFirst D.arms disks.items result.1.items }
 {
     if !words.is_empty() {
-        return write_line(sink, USAGE, Status::Usage);
+        return (write_line(sink, USAGE, Status::Usage), disks);
     }
     match read_events(alloc, source) {
-        Ok(events) => do_events(alloc, &events, sink, disks),
-        Err(fault) => refuse(alloc, fault, sink),
+        Ok(events) => play(alloc, &events, sink, disks),
+        Err(fault) => (refuse(alloc, fault, sink), disks),
     }
 }
 
@@ -140,52 +137,6 @@ fn write_line<K: Sink>(sink: &mut K, line: &[u8], status: Status) -> Status
         Ok(()) => status,
         Err(_) => Status::WriteFailed,
     }
-}
-
-/// Does the events of an input, with the first of the disks as the server's.
-fn do_events<K: Sink, D: Disk>(
-    alloc: Global,
-    events: &[Event],
-    sink: &mut K,
-    disks: &mut Vec<D>,
-) -> Status
-    requires declared { AreDeclared events.now 0 0 false }
-    requires fresh { AreFresh D.reads D.may_leave disks.old.items }
-    ensures ends { Played result
-        (Appends (K.written sink.old) (K.written sink.new))
-        (FirstHolds D.may_leave disks.new.items)
-        events.now }
-    ensures sink_faults { SinkCounts result
-        (record { before = K.faults sink.old; after = K.faults sink.new })
-        (record { before = K.empties sink.old; after = K.empties sink.new }) }
-    ensures disk_faults { DiskCounts result (record {
-      before = first_count D.faults disks.old.items;
-      after = first_count D.faults disks.new.items;
-    }) }
-    ensures disks { OnlyFirst D.arms disks.old.items disks.new.items }
-{
-    let disk = take_first(disks);
-    let (status, disk) = play(alloc, events, sink, disk);
-    put_first(disks, disk);
-    status
-}
-
-/// Takes the first disk out of the others, and leaves room for it.
-fn take_first<D>(disks: &mut Vec<D>) -> D
-    requires { 0 < length disks.old.items }
-    ensures items { disks.old.items ≡ result ∷ disks.new.items }
-    ensures room { vec_len disks.new < vec_capacity disks.new }
-{
-    disks.remove(0)
-}
-
-/// Puts the first disk before the others. Room was left for it.
-fn put_first<D>(disks: &mut Vec<D>, disk: D)
-    requires { vec_len disks.old < vec_capacity disks.old }
-    ensures { disks.new.items ≡ disk ∷ disks.old.items }
-{
-    disks.push_reserved(disk);
-    disks.rotate_right(1);
 }
 
 /// Says why there are no events.

@@ -2,16 +2,10 @@
 #![tactic(auto)]
 
 mod disks;
-mod fault;
 mod input;
 mod job;
 mod play;
-mod server;
 mod status;
-#[cfg(test)]
-mod tests;
-mod texts;
-mod world;
 
 pub use disks::empty_disks;
 pub use input::INPUT_LIMIT;

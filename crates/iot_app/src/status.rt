@@ -1,6 +1,9 @@
 //! How a run of the program ends.
 ghost use Rattle.std.specs.Prelude.{◌≡◌};
+ghost use Rattle.iot_app.specs.Faults.{ended_by};
 ghost use Rattle.iot_app.specs.Status.{code_of};
+
+use iot_world::WorldFault;
 
 /// How a run ends.
 #[derive(Clone, Copy, Debug, PartialEq, Eq)]
@@ -28,6 +31,16 @@ pub(crate) enum Status {
 }
 
 impl Status {
+    /// The status of a run that ends by this fault.
+    pub(crate) fn of_fault(fault: WorldFault) -> Status
+        ensures { result ≡ ended_by fault }
+    {
+        match fault {
+            WorldFault::NoMemory => Status::NoMemory,
+            WorldFault::DiskFailed => Status::DiskFailed,
+        }
+    }
+
     /// The number that the process ends with.
     pub(crate) fn code(self) -> u8
         ensures { result ≡ code_of self }

@@ -1,7 +1,8 @@
 use Rattle.std.proofs.Common.{◌≡◌, length}
 use Rattle.std.specs.List.{AllByRecursion}
 use Rattle.iot_disk.specs.Memory.{images_of}
-use Rattle.iot_app.specs.Disks.{IsEmpty, AreUnarmed, AreFaultless}
+use Rattle.iot_world.specs.Disks.{IsEmpty}
+use Rattle.iot_app.specs.Disks.{AreUnarmed, AreFaultless}
 use Rattle.iot_app.proofs.disks.empty_disks.Given as goal
 
 abbrev pub invariant-disks : goal.invariant-disks

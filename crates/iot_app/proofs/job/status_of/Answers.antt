@@ -5,7 +5,7 @@ use Rattle.iot_io.specs.ReadAll.{Took}
 use Rattle.iot_event.specs.Events.{Events}
 use Rattle.iot_app.specs.Input.{TookInput}
 use Rattle.iot_app.proofs.EndingsLaws.{took_none, usage_ends, events_end, fault_ends}
-use Rattle.iot_app.proofs.DisksLaws.{same_disks}
+use Rattle.iot_world.proofs.DisksLaws.{same_list}
 use Rattle.iot_app.proofs.job.status_of.Goals as goal
 
 pub returns-then-not-is_empty-clause-ends : goal.returns-then-not-is_empty-clause-ends
@@ -20,7 +20,7 @@ returns-in-Ok-clause-ends g c =
     let took : List ℕ → Type 0 = Took source.left source.taken c.args.source.now c.read_events.new.source in
     let given : TookInput took (IsAtEnd (source.left c.read_events.new.source)) (Events c.deref.result.now) =
     rw c.deref.ensures.value c.in-Ok.ensures.events in
-    events_end _ c.deref.result.now c.do_events.result none given c.do_events.ensures.ends
+    events_end _ c.deref.result.now c.play.result.0 none given c.play.ensures.ends
 
 pub returns-in-Err-clause-ends : goal.returns-in-Err-clause-ends
 returns-in-Err-clause-ends g c =
@@ -28,7 +28,7 @@ returns-in-Err-clause-ends g c =
     fault_ends _ c.in-Err.fault c.refuse.result _ _ none c.in-Err.ensures.none refl c.refuse.ensures
 
 pub returns-then-not-is_empty-clause-disks : goal.returns-then-not-is_empty-clause-disks
-returns-then-not-is_empty-clause-disks g c = same_disks g.D.Disk.reads g.D.Disk.may_leave _ c.args.disks.now.items c.requires
+returns-then-not-is_empty-clause-disks g c = same_list _ g.D.Disk.faults g.D.Disk.reads g.D.Disk.may_leave c.args.disks.items c.requires
 
 pub returns-in-Err-clause-disks : goal.returns-in-Err-clause-disks
-returns-in-Err-clause-disks g c = same_disks g.D.Disk.reads g.D.Disk.may_leave _ c.args.disks.now.items c.requires
+returns-in-Err-clause-disks g c = same_list _ g.D.Disk.faults g.D.Disk.reads g.D.Disk.may_leave c.args.disks.items c.requires

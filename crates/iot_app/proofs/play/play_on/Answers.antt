@@ -1,9 +1,10 @@
 use Rattle.std.proofs.Common.{ℕ, List, ◌<◌, length, take, refl, ◌∙◌, subst}
 use Rattle.std.specs.Io.KnownBytes.{Appends}
 use Rattle.iot_count.specs.Counts.{IsSteady}
-use Rattle.iot_app.specs.Steps.{event_part}
-use Rattle.iot_app.specs.World.{Refines}
-use Rattle.iot_app.proofs.ServersLaws.{untouched, has_disk, then_done}
+use Rattle.iot_machine.specs.Events.{event_part}
+use Rattle.iot_machine.specs.Machine.{opening}
+use Rattle.iot_world.specs.World.{Steps}
+use Rattle.iot_world.proofs.DisksLaws.{untouched_disks, then_done_disks}
 use Rattle.iot_app.proofs.PlayedLaws.{plays_none, plays_more, plays_cut, appends_none}
 use Rattle.iot_app.proofs.play.play_on.Goals as goal
 
@@ -14,9 +15,9 @@ events-init g c = record {
       (appends_none _);
   faults = refl;
   empties = refl;
-  disk =
-      untouched _ _ c.args.world.now.server c.args.world.now.server IsSteady (λ n. refl)
-      (has_disk g.D.Disk.reads g.D.Disk.may_leave c.args.world.now.server _ _ c.requires.opened.stands.server) refl;
+  disks =
+      untouched_disks _ _ g.D.Disk.reads g.D.Disk.may_leave c.args.world.now c.args.world.now opening.server IsSteady (λ n. refl)
+      c.requires.opened.stands.server refl refl;
 }
 
 pub returns-in-Err-write_all-clause-ends : goal.returns-in-Err-write_all-clause-ends
@@ -26,8 +27,8 @@ returns-in-Err-write_all-clause-ends g c =
     plays_cut g.D.Disk.reads g.D.Disk.may_leave _ _ c.args.events.now c.events.world c.apply.new.self c.events.event-index
     c.event-item.result c.apply.new.out c.events.invariant.plays c.events-test.true c.event-item.is
     (subst
-    (λ (t : List ℕ). Refines g.D.Disk.reads g.D.Disk.may_leave (event_part c.event-item.result) c.events.world c.apply.new.self t
-    c.apply.new.out)
+    (λ (t : List ℕ). Steps g.D.Disk.reads g.D.Disk.may_leave (event_part c.event-item.result) c.events.world c.apply.new.self t
+    c.apply.new.out tt)
     c.clear.ensures c.in-Ok.ensures.step)
     _ prefix.0
     (subst (λ (t : List ℕ). prefix.0 < length t) out prefix.1)
@@ -40,8 +41,8 @@ events-preserved g c = record {
       plays_more g.D.Disk.reads g.D.Disk.may_leave _ _ c.args.events.now c.events.world c.apply.new.self c.events.event-index
       c.event-item.result c.apply.new.out c.events.invariant.plays c.events-test.true c.event-item.is
       (subst
-      (λ (t : List ℕ). Refines g.D.Disk.reads g.D.Disk.may_leave (event_part c.event-item.result) c.events.world c.apply.new.self t
-      c.apply.new.out)
+      (λ (t : List ℕ). Steps g.D.Disk.reads g.D.Disk.may_leave (event_part c.event-item.result) c.events.world c.apply.new.self t
+      c.apply.new.out tt)
       c.clear.ensures c.in-Ok.ensures.step)
       _
       c.in-Ok.ensures.declared c.in-Ok.ensures.counts
@@ -49,7 +50,5 @@ events-preserved g c = record {
       c.in-Ok-write_all.ensures.ok);
   faults = c.in-Ok-write_all.ensures.steady ∙ c.events.invariant.faults;
   empties = c.in-Ok-write_all.ensures.none_empty ∙ c.events.invariant.empties;
-  disk =
-      then_done _ _ c.args.world.now.server c.events.world.server c.apply.new.self.server IsSteady c.events.invariant.disk
-      c.in-Ok.ensures.disk;
+  disks = then_done_disks _ _ c.args.world.now c.events.world c.apply.new.self IsSteady c.events.invariant.disks c.in-Ok.ensures.disks;
 }

@@ -1,0 +1,45 @@
+-- Lists that are looked up and changed at a place, and lists that go together by place.
+use Rattle.std.proofs.Common.{◌≡◌, ℕ, zero, suc, ◌<◌, List, [], ◌∷◌, ◌++◌, length, slice_index_or, slice_set, refl, ap, arith}
+use Rattle.iot_world.specs.World.{Each}
+
+-- the element at a place inside does not depend on the default
+pub any_default : {A : Type 0} (xs : List A) (place : ℕ) (d e : A) → place < length xs
+    → slice_index_or xs place d ≡ slice_index_or xs place e
+any_default [] place d e within = absurd (omega arith)
+any_default (x ∷ xs) zero d e within = refl
+any_default (x ∷ xs) (suc place) d e within = any_default xs place d e (omega arith)
+
+-- the element that was set
+pub set_at : {A : Type 0} (xs : List A) (place : ℕ) (x d : A) → place < length xs → slice_index_or (slice_set xs place x) place d ≡ x
+set_at [] place x d within = absurd (omega arith)
+set_at (y ∷ ys) zero x d within = refl
+set_at (y ∷ ys) (suc place) x d within = set_at ys place x d (omega arith)
+
+module _ {W M : Type 0} (stands : W → M → Type 0) where
+  pub each_at : (ws : List W) (ms : List M) (c : ℕ) (d : W) (e : M) → c < length ws → Each stands ws ms
+      → stands (slice_index_or ws c d) (slice_index_or ms c e)
+  each_at [] ms c d e within all = absurd (omega arith)
+  each_at (w ∷ ws) [] c d e within all = absurd all
+  each_at (w ∷ ws) (m ∷ ms) zero d e within all = all.0
+  each_at (w ∷ ws) (m ∷ ms) (suc c) d e within all = each_at ws ms c d e (omega arith) all.1
+
+  pub each_set : (ws : List W) (ms : List M) (c : ℕ) (w : W) (m : M) → stands w m → Each stands ws ms
+      → Each stands (slice_set ws c w) (slice_set ms c m)
+  each_set [] [] c w m it all = tt
+  each_set [] (m' ∷ ms) c w m it all = absurd all
+  each_set (w' ∷ ws) [] c w m it all = absurd all
+  each_set (w' ∷ ws) (m' ∷ ms) zero w m it all = (it, all.1)
+  each_set (w' ∷ ws) (m' ∷ ms) (suc c) w m it all = (all.0, each_set ws ms c w m it all.1)
+
+  pub each_push : (ws : List W) (ms : List M) (w : W) (m : M) → stands w m → Each stands ws ms
+      → Each stands (ws ++ w ∷ []) (ms ++ m ∷ [])
+  each_push [] [] w m it all = (it, tt)
+  each_push [] (m' ∷ ms) w m it all = absurd all
+  each_push (w' ∷ ws) [] w m it all = absurd all
+  each_push (w' ∷ ws) (m' ∷ ms) w m it all = (all.0, each_push ws ms w m it all.1)
+
+  pub each_length : (ws : List W) (ms : List M) → Each stands ws ms → length ws ≡ length ms
+  each_length [] [] all = refl
+  each_length [] (m ∷ ms) all = absurd all
+  each_length (w ∷ ws) [] all = absurd all
+  each_length (w ∷ ws) (m ∷ ms) all = ap suc (each_length ws ms all.1)

@@ -1,0 +1,290 @@
+-- What a server does is what is said of it.
+use Rattle.std.proofs.Common.{◌≡◌, ℕ, true, false, List, [], ◌∷◌, ◌++◌, length, refl, sym, ap, subst, ◌∙◌, Err, Some, None, codes}
+use Rattle.std.proofs.lemmas.List.{append-nil, length-map}
+use Rattle.iot_disk.specs.Disk.{Arms}
+use Rattle.iot_disk.specs.Faults.{CountsJournalFault}
+use Rattle.iot_disk.specs.declared.faults.StartFault.{StartFault}
+use Rattle.iot_disk.specs.declared.faults.StartFault.TheVariants as start
+use Rattle.iot_disk.specs.declared.faults.JournalFault.{JournalFault}
+use Rattle.iot_disk.specs.declared.faults.JournalFault.TheVariants as append
+use Rattle.iot_journal.specs.Decoding.{Encodes, decoded}
+use Rattle.iot_store.specs.States.{State, opening, after_commit}
+use Rattle.iot_store.specs.Standing.{Leads, StandFor}
+use Rattle.iot_store.specs.Causes.{HasCause, TakesBytes}
+use Rattle.iot_store.specs.Store as store
+use Rattle.iot_store.specs.declared.store.Store.{Store}
+use Rattle.iot_tree.specs.Tree.{Nodes}
+use Rattle.iot_tree.specs.declared.acts.Act.{Act}
+use Rattle.iot_tree.specs.declared.labels.Label.{Label}
+use Rattle.iot_store.specs.Records.{record_spelling}
+use Rattle.iot_machine.specs.Refining.{Refines}
+use Rattle.iot_machine.specs.Nodes.{Node, opened, changed, back}
+use Rattle.iot_machine.specs.Stops.{Appends, ComesBack, Crashes, Restarts, Shows}
+use Rattle.iot_machine.specs.Machine.{Commit, add_commit, tree_after}
+use Rattle.iot_machine.specs.Events.{server_name}
+use Rattle.iot_machine.specs.Texts.{line, tree_text}
+use Rattle.iot_world.specs.Faults.{FaultCounts, of_start, of_append}
+use Rattle.iot_world.specs.Records.{IsImage, AreImages, label_of, records_of, state_of}
+use Rattle.iot_count.specs.Counts.{Counted, IsSteady}
+use Rattle.iot_world.specs.Servers.{is_up, disk_of, count_of, tree_of, Keeps, IsStore, ServerStands, ServerIsSound, Falls, AreOf}
+use Rattle.iot_world.specs.Servers.{SameDisk, HasDisk}
+use Rattle.iot_world.specs.declared.server.Server.{Server}
+use Rattle.iot_world.specs.declared.server.Server.TheVariants.{Up, Down, Between}
+use Rattle.iot_world.proofs.CallsLaws.{bind, asks, does, says, says_this}
+use Rattle.iot_world.proofs.RecordsLaws.{record_is, state_is}
+
+-- no bytes are a journal without a body
+nothing_decoded : decoded [] ≡ Encodes []
+unfolding decoded
+nothing_decoded = refl
+
+one_of : {A : Type 0} (one other : A) → Some one ≡ Some other → one ≡ other
+one_of one other e = cc
+
+same_bodies : (one other : List (List ℕ)) → Encodes one ≡ Encodes other → one ≡ other
+same_bodies one other e = cc
+
+-- an empty disk stands for the opening
+pub empty_stands : (bytes : List ℕ) → bytes ≡ [] → StandFor bytes opening
+empty_stands bytes none = record { bodies = []; read = ap decoded none ∙ nothing_decoded; leads = refl }
+
+-- bytes that are an image of a state stand for it
+pub image_stands : (records : List (List ℕ)) (state : State) (bytes : List ℕ) → IsImage records state bytes → StandFor bytes state
+image_stands records state bytes image = record { bodies = records; read = image.has_records; leads = image.leads }
+
+module _ {D : Type 0} (reads : D → List ℕ) (may_leave : D → List ℕ → Type 0) where
+  -- a store that was started from an image of records and a state has these
+  pub started : (disk : D) (it : Store D) (records : List (List ℕ)) (state : State) → decoded (reads disk) ≡ Encodes records
+      → Leads records opening state
+      → store.IsSynced reads may_leave it
+      → decoded (reads disk) ≡ Encodes (store.bodies_on reads it)
+      → ((state : State) → StandFor (reads disk) state → store.state_of it ≡ state)
+      → IsStore reads may_leave records state it
+  started disk it records state read leads synced found only = record {
+    synced = synced;
+    has_records = same_bodies _ _ (sym found ∙ read);
+    has_state = only state (record { bodies = records; read = read; leads = leads });
+  }
+
+  -- one that was started from an empty disk has nothing
+  pub opened_stands : (disk : D) (it : Store D) → reads disk ≡ []
+      → store.IsSynced reads may_leave it
+      → decoded (reads disk) ≡ Encodes (store.bodies_on reads it)
+      → ((state : State) → StandFor (reads disk) state → store.state_of it ≡ state)
+      → ServerStands reads may_leave (Up it) (opened [])
+  opened_stands disk it none synced found only = record {
+    alive = refl;
+    keeps = started disk it [] opening (ap decoded none ∙ nothing_decoded) refl synced found only;
+  }
+
+  -- each image of a synced store has its records
+  pub store_images : (it : Store D) (records : List (List ℕ)) (state : State) → IsStore reads may_leave records state it
+      → AreImages records state (may_leave (store.disk_of it))
+  store_images it records state is = record {
+    each = λ image here. record {
+      has_records = ap decoded (is.synced.journal.only.is image here) ∙ is.synced.journal.encodes ∙ ap Encodes is.has_records;
+      leads =
+          subst (λ (bodies : List (List ℕ)). Leads bodies opening state) is.has_records
+          (subst (λ (s : State). Leads (store.bodies_on reads it) opening s) is.has_state is.synced.leads);
+    };
+  }
+
+  -- ---- what a server has
+
+  pub tree_is : (server : Server D) (node : Node (List Commit)) (tree : Nodes) → tree_of server ≡ Some tree
+      → ServerStands reads may_leave server node → tree ≡ tree_after node.durable
+  tree_is (Up it) node tree has here = sym (one_of (store.state_of it).tree tree has) ∙ ap (λ (s : State). s.tree) here.keeps.has_state
+  tree_is (Down disk) node tree has here = absurd cc
+  tree_is Between node tree has here = absurd cc
+
+  pub count_is : (server : Server D) (node : Node (List Commit)) → is_up server ≡ true → ServerStands reads may_leave server node
+      → count_of server ≡ length node.durable
+  count_is (Up it) node up here = ap (λ (s : State). length s.labels) here.keeps.has_state ∙ length-map node.durable label_of
+  count_is (Down disk) node up here = absurd cc
+  count_is Between node up here = absurd cc
+
+  pub up_tree : (server : Server D) (node : Node (List Commit)) → is_up server ≡ true → ServerStands reads may_leave server node
+      → tree_of server ≡ Some (tree_after node.durable)
+  up_tree (Up it) node up here = ap (λ (s : State). Some s.tree) here.keeps.has_state
+  up_tree (Down disk) node up here = absurd cc
+  up_tree Between node up here = absurd cc
+
+  up_has : (server : Server D) (tree : Nodes) → tree_of server ≡ Some tree → is_up server ≡ true
+  up_has (Up it) tree has = refl
+  up_has (Down disk) tree has = absurd cc
+  up_has Between tree has = absurd cc
+
+  down_has : (server : Server D) → tree_of server ≡ None → is_up server ≡ false
+  down_has (Up it) none = absurd cc
+  down_has (Down disk) none = refl
+  down_has Between none = refl
+
+  -- ---- an append
+
+  pub appends : (old new : Store D) (commit : Commit) (tree : Nodes) (label : Label) (acts : List Act) (x : List ℕ)
+      → store.IsSynced reads may_leave new
+      → store.bodies_on reads new ≡ store.bodies_on reads old ++ record_spelling label acts ∷ []
+      → store.state_of new ≡ after_commit (store.state_of old) label acts
+      → Some (store.state_of old).tree ≡ Some tree → AreOf commit tree label acts
+      → Refines (ServerStands reads may_leave) (Appends server_name (add_commit commit)) (Up old) (Up new) x x true
+  appends old new commit tree label acts x synced recorded made has are = record {
+    step = λ node here.
+        let here_of : AreOf commit (tree_after node.durable) label acts =
+        subst (λ (t : Nodes). AreOf commit t label acts) (tree_is (Up old) node tree has here) are in (
+          [],
+          changed (add_commit commit) node,
+          sym (append-nil x),
+          (refl, refl, refl),
+          record {
+            alive = here.alive;
+            keeps = record {
+              synced = synced;
+              has_records =
+                  recorded ∙ ap (λ (bodies : List (List ℕ)). bodies ++ record_spelling label acts ∷ []) here.keeps.has_records
+                  ∙ sym (record_is node.durable commit label acts here_of);
+              has_state =
+                  made ∙ ap (λ (s : State). after_commit s label acts) here.keeps.has_state
+                  ∙ sym (state_is node.durable commit label acts here_of);
+            };
+          },
+        );
+  }
+
+  -- ---- a crash
+
+  pub crash_down : (server : Server D) (x y : List ℕ) → is_up server ≡ false → y ≡ x ++ line (codes "down")
+      → Refines (ServerStands reads may_leave) (Crashes server_name) server server x y tt
+  crash_down server x y down wrote =
+      bind server server server x x y false tt (asks server x false (λ node here. sym down ∙ here.alive)) (says_this _ server x y wrote)
+
+  pub crash_up : (old new : Server D) (x y : List ℕ) → Falls old new → y ≡ x ++ line (codes "crash " ++ server_name)
+      → Refines (ServerStands reads may_leave) (Crashes server_name) old new x y tt
+  crash_up old new x y falls wrote = rw (falls.was, falls.is)
+      (bind (Up falls.it) (Up falls.it) (Down _) x x y true tt (asks (Up falls.it) x true (λ node here. here.alive))
+      (does (Up falls.it) (Down _) x y
+      (λ node here. (wrote, record { alive = refl; keeps = store_images falls.it _ _ here.keeps }))))
+
+  -- ---- a restart
+
+  -- what the bytes stand for from which it starts
+  pub back_stands : (old disk : D) (sound : ServerIsSound reads may_leave (Down old)) → may_leave old (reads disk)
+      → StandFor (reads disk) (state_of sound.node.durable)
+  back_stands old disk sound image =
+      image_stands (records_of sound.node.durable) (state_of sound.node.durable) (reads disk) (sound.stands.keeps.each (reads disk) image)
+
+  pub comes_back : (old disk : D) (it : Store D) (x y : List ℕ) → may_leave old (reads disk)
+      → store.IsSynced reads may_leave it
+      → decoded (reads disk) ≡ Encodes (store.bodies_on reads it)
+      → ((state : State) → StandFor (reads disk) state → store.state_of it ≡ state)
+      → y ≡ x ++ line (codes "restart " ++ server_name)
+      → Refines (ServerStands reads may_leave) (ComesBack server_name) (Down old) (Up it) x y tt
+  comes_back old disk it x y image synced found only wrote = record {
+    step = λ node here.
+        let is : IsImage (records_of node.durable) (state_of node.durable) (reads disk) = here.keeps.each (reads disk) image in (
+          line (codes "restart " ++ server_name),
+          back node.durable node,
+          wrote,
+          (refl, refl),
+          record { alive = refl; keeps = started disk it _ _ is.has_records is.leads synced found only },
+        );
+  }
+
+  pub restart_up : (it : Store D) (old new : Server D) (x y : List ℕ) → old ≡ Up it → new ≡ Up it → y ≡ x ++ line (codes "up")
+      → Refines (ServerStands reads may_leave) (Restarts server_name) old new x y tt
+  restart_up it old new x y was is wrote = rw (was, is)
+      (bind (Up it) (Up it) (Up it) x x y true tt (asks (Up it) x true (λ node here. here.alive)) (says_this _ (Up it) x y wrote))
+
+  pub restart_down : (disk : D) (old new : Server D) (x y : List ℕ) → old ≡ Down disk
+      → Refines (ServerStands reads may_leave) (ComesBack server_name) (Down disk) new x y tt
+      → Refines (ServerStands reads may_leave) (Restarts server_name) old new x y tt
+  restart_down disk old new x y was one = rw was
+      (bind (Down disk) (Down disk) new x x y false tt (asks (Down disk) x false (λ node here. here.alive)) one)
+
+  -- ---- what it shows
+
+  pub shows_tree : (server : Server D) (tree : Nodes) (x y : List ℕ) → tree_of server ≡ Some tree → y ≡ x ++ tree_text tree
+      → Refines (ServerStands reads may_leave) (Shows (λ commits. tree_text (tree_after commits))) server server x y tt
+  shows_tree server tree x y has wrote =
+      bind server server server x x y true tt (asks server x true (λ node here. sym (up_has server tree has) ∙ here.alive))
+      (says server x y (λ node here. wrote ∙ ap (λ (t : Nodes). x ++ tree_text t) (tree_is server node tree has here)))
+
+  pub shows_down : (server : Server D) (x y : List ℕ) → tree_of server ≡ None → y ≡ x ++ line (codes "down")
+      → Refines (ServerStands reads may_leave) (Shows (λ commits. tree_text (tree_after commits))) server server x y tt
+  shows_down server x y none wrote =
+      bind server server server x x y false tt (asks server x false (λ node here. sym (down_has server none) ∙ here.alive))
+      (says_this _ server x y wrote)
+
+-- ---- faults
+
+-- the fault of a start whose bytes are not refused
+pub start_counts : (fault : StartFault) (bytes : List ℕ) (before now : ℕ) → TakesBytes fault → HasCause fault bytes before now
+    → FaultCounts (of_start fault) (record { before = before; after = now })
+start_counts start.NoMemory bytes before now takes cause = cause
+start_counts start.Stopped bytes before now takes cause = cause
+start_counts start.Foreign bytes before now takes cause = absurd takes
+start_counts (start.Damaged at) bytes before now takes cause = absurd takes
+
+-- the fault of an append
+pub append_counts : (T : Type 0) (fault : JournalFault) (before now : ℕ) → CountsJournalFault {T = T} (Err fault) before now
+    → FaultCounts (of_append fault) (record { before = before; after = now })
+append_counts T append.NoMemory before now counts = counts
+append_counts T append.Stopped before now counts = counts
+
+-- ---- disks
+
+pub one_disk : {D : Type 0} (one other : D) → Some one ≡ Some other → one ≡ other
+one_disk one other e = cc
+
+module _ {D : Type 0} (arms_of : D → Arms) (faults_of : D → ℕ) where
+  -- nothing was done to it
+  pub untouched : (old new : Server D) (counts : Counted → Type 0) → ((n : ℕ) → counts (record { before = n; after = n })) → HasDisk old
+      → new ≡ old → SameDisk arms_of faults_of counts old new
+  untouched old new counts steady has same = record {
+    was = has.disk;
+    now = has.disk;
+    old_has = has.has;
+    new_has = ap disk_of same ∙ has.has;
+    arms = refl;
+    faults = steady (faults_of has.disk);
+  }
+
+  -- the counts of a disk mean the same in other words
+  pub counted : (old new : Server D) (one other : Counted → Type 0) → ((faults : Counted) → one faults → other faults)
+      → SameDisk arms_of faults_of one old new → SameDisk arms_of faults_of other old new
+  counted old new one other means same = record {
+    was = same.was;
+    now = same.now;
+    old_has = same.old_has;
+    new_has = same.new_has;
+    arms = same.arms;
+    faults = means (record { before = faults_of same.was; after = faults_of same.now }) same.faults;
+  }
+
+  -- nothing was done to it, and then something
+  pub then_done : (old mid new : Server D) (counts : Counted → Type 0) → SameDisk arms_of faults_of IsSteady old mid
+      → SameDisk arms_of faults_of counts mid new → SameDisk arms_of faults_of counts old new
+  then_done old mid new counts first second =
+      let same : first.now ≡ second.was = one_disk first.now second.was (sym first.new_has ∙ second.old_has) in
+      record {
+        was = first.was;
+        now = second.now;
+        old_has = first.old_has;
+        new_has = second.new_has;
+        arms = second.arms ∙ ap arms_of (sym same) ∙ first.arms;
+        faults =
+            subst (λ (n : ℕ). counts (record { before = n; after = faults_of second.now })) (ap faults_of (sym same) ∙ first.faults)
+            second.faults;
+      }
+
+  -- another server with the same disk
+  pub from_same : (old same new : Server D) (counts : Counted → Type 0) → same ≡ old → SameDisk arms_of faults_of counts same new
+      → SameDisk arms_of faults_of counts old new
+  from_same old same new counts is h = subst (λ (s : Server D). SameDisk arms_of faults_of counts s new) is h
+
+-- a server that keeps something has a disk
+pub has_disk : {D : Type 0} (reads : D → List ℕ) (may_leave : D → List ℕ → Type 0) (server : Server D) (records : List (List ℕ))
+    (state : State)
+    → Keeps reads may_leave records state server → HasDisk server
+has_disk reads may_leave (Up it) records state keeps = record { disk = store.disk_of it; has = refl }
+has_disk reads may_leave (Down disk) records state keeps = record { disk = disk; has = refl }
+has_disk reads may_leave Between records state keeps = absurd keeps

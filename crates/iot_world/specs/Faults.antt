@@ -1,0 +1,29 @@
+-- Faults of a store as faults of the world.
+use Rattle.std.specs.Prelude.{Result, Ok, Err}
+use Rattle.iot_count.specs.Counts.{Counted, HasRisen, IsSteady}
+use Rattle.iot_disk.specs.declared.faults.StartFault.{StartFault}
+use Rattle.iot_disk.specs.declared.faults.StartFault.TheVariants as start
+use Rattle.iot_disk.specs.declared.faults.JournalFault.{JournalFault}
+use Rattle.iot_disk.specs.declared.faults.JournalFault.TheVariants as append
+use Rattle.iot_world.specs.declared.fault.WorldFault.{WorldFault}
+use Rattle.iot_world.specs.declared.fault.WorldFault.TheVariants.{NoMemory, DiskFailed}
+
+-- the server's own bytes are never refused
+abbrev pub of_start : StartFault → WorldFault
+of_start start.NoMemory = NoMemory
+of_start start.Stopped = DiskFailed
+of_start start.Foreign = NoMemory
+of_start (start.Damaged at) = NoMemory
+
+abbrev pub of_append : JournalFault → WorldFault
+of_append append.NoMemory = NoMemory
+of_append append.Stopped = DiskFailed
+
+-- the disk's count of faults rises in a call if the disk ended it, and only then
+abbrev pub FaultCounts : WorldFault → Counted → Type 0
+FaultCounts NoMemory faults = IsSteady faults
+FaultCounts DiskFailed faults = HasRisen faults
+
+abbrev pub CallCounts : {T : Type 0} → Result T WorldFault → Counted → Type 0
+CallCounts (Ok done) faults = IsSteady faults
+CallCounts (Err fault) faults = FaultCounts fault faults

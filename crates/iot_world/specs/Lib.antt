@@ -1,0 +1,6 @@
+pub mod Allowed
+pub mod Disks
+pub mod Records
+pub mod Faults
+pub mod Servers
+pub mod World

@@ -1,0 +1,54 @@
+-- What the server's disk keeps of the machine's list: one record for each commit.
+use Rattle.std.specs.Prelude.{◌≡◌, ℕ, List, [], ◌∷◌, map}
+use Rattle.std.specs.FinMap.{entries}
+use Rattle.iot_tree.specs.Tree.{Nodes, root_alone}
+use Rattle.iot_tree.specs.declared.nodes.Node.TheVariants.{Dir}
+use Rattle.iot_tree.specs.declared.labels.Label.{Label}
+use Rattle.iot_exec.specs.Serial.{run_entry}
+use Rattle.iot_journal.specs.Decoding.{Encodes, decoded}
+use Rattle.iot_store.specs.States.{State, opening}
+use Rattle.iot_store.specs.Records.{record_spelling}
+use Rattle.iot_store.specs.Standing.{Leads}
+use Rattle.iot_machine.specs.Machine.{Commit, tree_after}
+
+-- the label of a commit
+abbrev pub label_of : Commit → Label
+label_of commit = record {
+  client = commit.entry.client;
+  tid = commit.entry.number;
+  script = commit.script;
+  budget = commit.entry.budget;
+  way = commit.entry.way;
+  kept = entries commit.entry.kept;
+}
+
+-- the records of commits from a tree on: of each its label, and the acts of its script's run
+abbrev pub records_from : List Commit → Nodes → List (List ℕ)
+records_from [] t = []
+records_from (commit ∷ commits) t =
+    record_spelling (label_of commit) (run_entry commit.entry t).acts ∷ records_from commits (run_entry commit.entry t).tree
+
+abbrev pub records_of : List Commit → List (List ℕ)
+records_of commits = records_from commits (root_alone Dir)
+
+-- the tree and the labels of a list
+abbrev pub state_of : List Commit → State
+state_of commits = record { tree = tree_after commits; labels = map label_of commits }
+
+-- the bytes are a journal of these records, each of which can follow the ones before it, and they lead to this state
+pub record IsImage (records : List (List ℕ)) (state : State) (bytes : List ℕ) : Type 0 where
+  pub has_records : decoded bytes ≡ Encodes records
+  pub leads : Leads records opening state
+
+-- so is each image that a crash may leave
+pub record AreImages (records : List (List ℕ)) (state : State) (images : List ℕ → Type 0) : Type 0 where
+  pub each : (image : List ℕ) → images image → IsImage records state image
+
+-- each of the images has the records of this list, which lead to its tree and its labels
+abbrev pub Holds : (List ℕ → Type 0) → List Commit → Type 0
+Holds images commits = AreImages (records_of commits) (state_of commits) images
+
+-- so is it on the first of these disks
+abbrev pub FirstHolds : {D : Type 0} → (D → List ℕ → Type 0) → List D → List Commit → Type 0
+FirstHolds may_leave [] commits = ⊥
+FirstHolds may_leave (disk ∷ disks) commits = Holds (may_leave disk) commits

@@ -1,0 +1,11 @@
+//! The world: a server and its clients, on the disks that were handed in. What it does is what the plain machine does.
+#![tactic(auto)]
+
+mod disks;
+mod fault;
+mod server;
+mod texts;
+mod world;
+
+pub use fault::WorldFault;
+pub use world::World;
