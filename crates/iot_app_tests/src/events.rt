@@ -1,0 +1,40 @@
+//! Event scripts whose events, or whose first bad line, were written by hand.
+use iot_event::{Event, EventFault, parse};
+use std::test::Fail;
+
+/// A script with a comment, blank lines and blocks, and other forms of line.
+const INPUT: &[u8] =
+    b"# one client\nclient laptop\n\nscript init {\nif ok {\n# made\nmkdir /src\n}\n}\n \t\n\
+    run laptop init abort\ncrash server\n\n#\n\trestart  server\nshow server";
+
+#[test]
+fn gives_events(rt: HostRuntime) -> Result<(), Fail> {
+    let events = parse(rt.alloc(), INPUT)?;
+    let [
+        Event::Client(client),
+        Event::Script(name, _),
+        Event::Run {
+            client: 0,
+            script: 0,
+        },
+        Event::CrashServer,
+        Event::RestartServer,
+        Event::ShowServer,
+    ] = events.as_slice()
+    else {
+        return Err(Fail::new("other events"));
+    };
+    assert_eq!(rt; client.as_bytes(), b"laptop".as_slice());
+    assert_eq!(rt; name.as_bytes(), b"init".as_slice());
+    Ok(())
+}
+
+#[test]
+fn gives_the_first_fault(rt: HostRuntime) {
+    let bad = parse(rt.alloc(), b"script s {\nfrob /a\n\x01\n}\n");
+    assert!(rt; matches!(bad, Err(EventFault::BadStatement { line: 2 })));
+    let open = parse(rt.alloc(), b"script s {\necho a\n");
+    assert!(rt; matches!(open, Err(EventFault::BadLine { line: 1 })));
+    let twice = parse(rt.alloc(), b"client server\n");
+    assert!(rt; matches!(twice, Err(EventFault::Twice { line: 1 })));
+}

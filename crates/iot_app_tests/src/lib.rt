@@ -1,0 +1,7 @@
+//! The tests of what is read and run as a whole, apart from those of the libraries, so that these need no proof when it changes.
+#![tactic(auto)]
+
+#[cfg(test)]
+mod events;
+#[cfg(test)]
+mod runs;

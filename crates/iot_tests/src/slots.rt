@@ -1,0 +1,156 @@
+//! Stops at every device call, and what the starts after them find.
+ghost use Rattle.std.specs.Prelude.{◌≡◌, false, IfOk, OnOk};
+ghost use Rattle.iot_slots.specs.Layouts.{is_due};
+ghost use Rattle.iot_slots.specs.Slots.{IsSynced, layout_of, state_on};
+
+use iot_disk::{Disk, JournalFault, MemDisk, Pick, StartFault};
+use iot_slots::{Slots, Started};
+use std::alloc::Global;
+use std::test::Fail;
+
+const HEADER: [u8; 8] = *b"IOTSLOT1";
+
+const PICKS: [Pick; 3] = [Pick::Old, Pick::New, Pick::Fill(165)];
+
+/// A disk that was started with the body "ab".
+const FRESH: [u8; 62] =
+    *b"\xa5IOTSLOT1\xa5\0\0\0\0\0\0\0\x01\0\0\0\0\0\0\0\x2b\0\0\0\0\0\0\0\0\0\0\0\0\0\0\0\0\0\0\0\0\0\0\0\0\x02ab\0\0\0\0\0\0\0\0\0";
+
+/// Slots that are started after a restart.
+fn restarted<D: Disk + Drop>(alloc: Global, mut disk: D) -> Result<(Slots<D>, Started), StartFault>
+    ensures { IfOk result (λ made. IsSynced D.reads D.may_leave made.0) }
+{
+    disk.restart();
+    match Slots::start_with(alloc, disk, HEADER, b"ab") {
+        Ok(made) => Ok(made),
+        Err((_, fault)) => Err(fault),
+    }
+}
+
+/// The length of the body, the number of records and the count that a start after a restart finds.
+fn found(alloc: Global, mut disk: MemDisk) -> Result<(usize, usize, u64), StartFault> {
+    disk.restart();
+    match Slots::start(alloc, disk, HEADER) {
+        Ok((slots, started)) => {
+            let records = started.records.len();
+            Ok((started.body.into_vec().len(), records, slots.count()))
+        }
+        Err((_, fault)) => Err(fault),
+    }
+}
+
+/// A start after a restart in which this call fails, if it comes: the disk, and whether it started.
+fn stopped<D: Disk + Drop>(alloc: Global, mut disk: D, calls: u64, pick: Pick) -> (D, bool) {
+    disk.restart();
+    disk.arm(calls, pick);
+    match Slots::start_with(alloc, disk, HEADER, b"ab") {
+        Ok((slots, _)) => (slots.into_disk(), true),
+        Err((disk, _)) => (disk, false),
+    }
+}
+
+#[test]
+fn a_start_can_stop_and_start_again(rt: HostRuntime) -> Result<(), Fail> {
+    let alloc = rt.alloc();
+    for calls in 0..9 {
+        for again in 0..10 {
+            for pick in PICKS {
+                let (disk, started) = stopped(alloc, MemDisk::new(alloc), calls, pick);
+                assert_eq!(rt; started, calls == 0);
+                let (disk, _) = stopped(alloc, disk, again, pick);
+                // A call that was armed and has not come would stay armed.
+                let (disk, _) = stopped(alloc, disk, 1, pick);
+                let (slots, _) = restarted(alloc, disk)?;
+                assert_eq!(rt; slots.into_disk().bytes(), FRESH.as_slice(), "call {calls}");
+            }
+        }
+    }
+    Ok(())
+}
+
+#[test]
+fn an_append_is_whole_or_not_at_all(rt: HostRuntime) -> Result<(), Fail> {
+    let alloc = rt.alloc();
+    for calls in 0..5 {
+        for pick in PICKS {
+            let (mut slots, _) = restarted(alloc, MemDisk::new(alloc))?;
+            slots.arm(calls, pick);
+            assert!(rt; !slots.due(2));
+            assert_eq!(rt; slots.append(b"xy").is_ok(), calls == 0);
+            let written = u64::from(calls == 0 || calls > 2 && pick != Pick::Old);
+            let want = (2, written as usize, written);
+            // A start that stops in between finds nothing else.
+            let (disk, _) = stopped(alloc, slots.into_disk(), 1, pick);
+            assert_eq!(rt; found(alloc, disk)?, want, "call {calls}");
+        }
+    }
+    Ok(())
+}
+
+#[test]
+fn a_checkpoint_is_whole_or_not_at_all(rt: HostRuntime) -> Result<(), Fail> {
+    let alloc = rt.alloc();
+    for calls in 0..8 {
+        for pick in PICKS {
+            let (mut slots, _) = restarted(alloc, MemDisk::new(alloc))?;
+            assert!(rt; !slots.due(2));
+            slots.append(b"xy")?;
+            slots.arm(calls, pick);
+            assert_eq!(rt; slots.checkpoint(b"abc").is_ok(), calls == 0);
+            let written = calls == 0 || calls > 5 && pick != Pick::Old;
+            let want = if written { (3, 0, 1) } else { (2, 1, 1) };
+            let (disk, _) = stopped(alloc, slots.into_disk(), 1, pick);
+            assert_eq!(rt; found(alloc, disk)?, want, "call {calls}");
+        }
+    }
+    Ok(())
+}
+
+/// Makes the checkpoints that are due before an append of a body of so many bytes, and gives their number.
+fn make_room<D: Disk>(slots: &mut Slots<D>, size: u64) -> Result<u64, JournalFault>
+    requires { IsSynced D.reads D.may_leave slots.old }
+    ensures synced { OnOk result (IsSynced D.reads D.may_leave slots.new) }
+    ensures room { OnOk result
+        (is_due (state_on D.reads slots.new).bodies (layout_of slots.new) size ≡ false) }
+{
+    if !slots.due(size) {
+        return Ok(0);
+    }
+    slots.checkpoint(b"abcd")?;
+    if !slots.due(size) {
+        return Ok(1);
+    }
+    slots.checkpoint(b"abcd")?;
+    Ok(2)
+}
+
+/// Appends 300 records of this body, and gives the disk, the count and the number of checkpoints.
+fn fill<D: Disk + Drop>(
+    alloc: Global,
+    disk: D,
+    body: &[u8],
+) -> Result<(D, u64, u64), JournalFault> {
+    let (mut slots, started) = match restarted(alloc, disk) {
+        Ok(made) => made,
+        Err(_) => return Err(JournalFault::NoMemory),
+    };
+    drop(started);
+    let mut checkpoints = 0u64;
+    for _i in 0..300u32 {
+        checkpoints = checkpoints.wrapping_add(make_room(&mut slots, body.len() as u64)?);
+        slots.append(body)?;
+    }
+    let count = slots.count();
+    Ok((slots.into_disk(), count, checkpoints))
+}
+
+#[test]
+fn three_hundred_records_take_checkpoints(rt: HostRuntime) -> Result<(), Fail> {
+    let alloc = rt.alloc();
+    let body = vec![in alloc; 7; 8192]?;
+    let (disk, count, checkpoints) = fill(alloc, MemDisk::new(alloc), &body)?;
+    assert_eq!(rt; (count, checkpoints), (300, 2));
+    // 128 records are before each checkpoint, whose body has four bytes.
+    assert_eq!(rt; found(alloc, disk)?, (4, 300 - 2 * 128, 300));
+    Ok(())
+}

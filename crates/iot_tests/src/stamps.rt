@@ -1,0 +1,97 @@
+//! Refreshes by difference.
+use crate::fixtures::{path, tree};
+use iot_held::{MergeFault, merge_changes};
+use iot_stamp::Stamped;
+use iot_text::{NoMemory, Path, Text};
+use iot_tree::{Changes, Node, Paths, StampedRows, Tree, Update, Want};
+use std::alloc::Global;
+use std::process::Abort;
+
+/// Each row by a letter, in capitals if it is far, its path and its stamp; then the paths that are gone.
+fn spelled(alloc: Global, changes: &Changes) -> Result<Text, NoMemory> {
+    let mut text = Text::new(alloc);
+    for (path, (node, stamp)) in changes.rows.as_slice() {
+        text.push(match node {
+            Node::Dir => b'd',
+            Node::File(_) => b'f',
+            Node::FarDir => b'D',
+            Node::FarFile => b'F',
+        })?;
+        path.write_to(&mut text)?;
+        text.append_number(*stamp)?;
+    }
+    for path in changes.gone.as_slice() {
+        text.push(b' ')?;
+        path.write_to(&mut text)?;
+    }
+    Ok(text)
+}
+
+/// A server and a client as they open.
+fn opened(rt: &impl Abort, alloc: Global) -> Result<(Stamped, Stamped), NoMemory> {
+    let before = tree(rt, alloc, "mkdir /d\nwrite /d/n 1\n")?;
+    let server = Stamped::with_stamp(alloc, before, 1)?;
+    let client = Stamped::unstamped(alloc, Tree::far_root(alloc)?)?;
+    Ok((server, client))
+}
+
+/// The server moves the file, with stamp 2.
+fn move_file(rt: &impl Abort, alloc: Global, server: &mut Stamped) -> Result<(), NoMemory> {
+    let moved = Update::Move(path(rt, alloc, "/d/n"), path(rt, alloc, "/m"));
+    assert!(rt; server.tree().fits(&moved));
+    server.apply(alloc, &moved, 2)
+}
+
+/// What the server sends to the client, which merges it, is as expected.
+fn refreshes(
+    rt: &impl Abort,
+    alloc: Global,
+    server: &Stamped,
+    client: &mut Stamped,
+    want: &Want,
+    expected: &[u8],
+) -> Result<(), NoMemory> {
+    let known = client.known_with_stamps(alloc)?;
+    let changes = server.changed(alloc, known.as_slice(), want)?;
+    assert!(rt; merge_changes(alloc, client, &changes).is_ok());
+    assert_eq!(rt; spelled(alloc, &changes)?.as_bytes(), expected);
+    Ok(())
+}
+
+#[test]
+fn what_changed_is_sent_once(rt: HostRuntime) -> Result<(), NoMemory> {
+    let alloc = rt.alloc();
+    let (mut server, mut client) = opened(&rt, alloc)?;
+    let all = Want::Below(Path::root(alloc));
+    refreshes(&rt, alloc, &server, &mut client, &all, b"d/1d/d1f/d/n1")?;
+    refreshes(&rt, alloc, &server, &mut client, &all, b"")?;
+    move_file(&rt, alloc, &mut server)?;
+    refreshes(
+        &rt,
+        alloc,
+        &server,
+        &mut client,
+        &Want::Nothing,
+        b"d/2d/d2F/m0 /d/n",
+    )?;
+    assert_eq!(rt; client.stamps(), [2, 2, 0].as_slice());
+    Ok(())
+}
+
+#[test]
+fn a_row_without_its_parent_is_refused(rt: HostRuntime) -> Result<(), NoMemory> {
+    let alloc = rt.alloc();
+    let mut client = Stamped::unstamped(alloc, Tree::far_root(alloc)?)?;
+    let mut rows = StampedRows::new(alloc);
+    rows.push((path(&rt, alloc, "/d"), (Node::FarDir, 1)))?;
+    let changes = Changes {
+        rows,
+        gone: Paths::new(alloc),
+    };
+    let refused = matches!(
+        merge_changes(alloc, &mut client, &changes),
+        Err(MergeFault::NoTree)
+    );
+    assert!(rt; refused);
+    Ok(())
+}
