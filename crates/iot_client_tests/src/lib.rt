@@ -1,0 +1,5 @@
+//! The tests of the client, which say what no proof can: that a call with ample memory gives its answer.
+#![tactic(auto)]
+
+#[cfg(test)]
+mod clients;
