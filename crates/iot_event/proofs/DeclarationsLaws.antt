@@ -9,10 +9,13 @@ use Rattle.std.proofs.lemmas.Bool.{cond_both}
 use Rattle.std.proofs.lemmas.Bool.Decides.{nat_tests}
 use Rattle.iot_lines.specs.Lines.{lines}
 use Rattle.iot_lines.specs.Words.{words, is_skipped}
+use Rattle.iot_text.specs.Paths.{path_of}
+use Rattle.iot_text.proofs.PathTextsLaws.{path_of-spells}
 use Rattle.iot_lang.specs.Code.{Code}
 use Rattle.iot_event.specs.declared.declared.TheConstants.{CLIENT_LIMIT, SCRIPT_LIMIT}
 use Rattle.iot_event.specs.declared.event.Event.{Event}
-use Rattle.iot_event.specs.declared.event.Event.TheVariants.{Client, Script, CrashServer, RestartServer}
+use Rattle.iot_event.specs.declared.event.Event.TheVariants.{Client, Script, Run, Hoard, Refresh, Begin, Step, End, ShowClient}
+use Rattle.iot_event.specs.declared.event.Event.TheVariants.{CrashServer, RestartServer}
 use Rattle.iot_event.specs.declared.fault.EventFault.TheVariants as faults
 use Rattle.iot_event.specs.declared.form.Form.{Form}
 use Rattle.iot_event.specs.declared.form.Form.TheVariants as forms
@@ -21,9 +24,12 @@ use Rattle.iot_event.specs.Forms.{form_of}
 use Rattle.iot_event.specs.Closing.{Closed, closed_by}
 use Rattle.iot_event.specs.Meanings.{Scope, nothing_declared, Meaning, Refused, Skipped, Says, Opens, is_declared, place_of, client_line}
 use Rattle.iot_event.specs.Meanings.{script_line}
-use Rattle.iot_event.specs.Meanings.{run_at, is_restart, restarts_at, restarts, crash_line, restart_line, meaning_of_form, meaning_of}
-use Rattle.iot_event.specs.Events.{Step, Stops, Goes, IsStepOf, Outcome, Events, Fault, after_events, LinesGive, at_end, stop, go, Gives}
+use Rattle.iot_event.specs.Meanings.{if_known, of_client, of_script, hoard_at, is_restart, restarts_at}
+use Rattle.iot_event.specs.Meanings.{restarts, crash_line, restart_line, meaning_of_form, meaning_of}
+use Rattle.iot_event.specs.Events.{Stops, Goes, IsStepOf, Outcome, Events, Fault, after_events, LinesGive, at_end, stop, go, Gives}
+use Rattle.iot_event.specs.Events as steps
 use Rattle.iot_event.specs.Declarations.{AreDeclared}
+use Rattle.iot_event.proofs.FormsLaws.{IsCounted, form_counted}
 
 -- the events are declared, after so much as the scope says
 abbrev Allows : Scope → List Event → Type 0
@@ -64,6 +70,8 @@ is_up : (down : Bool) → (down ≡ true → false ≡ true) → down ≡ false
 is_up false waits = refl
 is_up true waits = absurd (let e = waits refl in cc)
 
+-- ---- what a line of each form means
+
 module _ (scope : Scope) (number : ℕ) (later : List (List ℕ)) where
   client_sound : (name : List ℕ) → scope.down ≡ false → IsSound scope later (client_line scope number name)
   client_sound name up =
@@ -100,13 +108,37 @@ module _ (scope : Scope) (number : ℕ) (later : List (List ℕ)) where
       })
       (λ many. tt))
 
-  run_sound : (client script : Option ℕ) → ((i : ℕ) → client ≡ Some i → i < length scope.clients)
-      → ((i : ℕ) → script ≡ Some i → i < length scope.scripts)
-      → scope.down ≡ false → IsSound scope later (run_at client script scope number)
-  run_sound None script of_client of_script up = tt
-  run_sound (Some client) None of_client of_script up = tt
-  run_sound (Some client) (Some script) of_client of_script up =
-      record { waits = up_waits scope later up; allows = λ events are. (up, of_client client refl, of_script script refl, are) }
+  known_sound : (place : Option ℕ) (says : ℕ → Meaning) → ((i : ℕ) → place ≡ Some i → IsSound scope later (says i))
+      → IsSound scope later (if_known place number says)
+  known_sound None says sound = tt
+  known_sound (Some i) says sound = sound i refl
+
+  -- an event of a client that may come after so much was declared
+  client_event_sound : (client : List ℕ) (event : ℕ → Event)
+      → ((i : ℕ) → i < length scope.clients → (events : List Event) → Allows scope events → Allows scope (event i ∷ events))
+      → scope.down ≡ false → IsSound scope later (of_client scope number client event)
+  client_event_sound client event may up =
+      known_sound (place_of client scope.clients) (λ c. Says (event c) scope)
+      (λ c is. record { waits = up_waits scope later up; allows = may c (within client scope.clients c is) })
+
+  -- the same of an event of a client and a script
+  script_event_sound : (client script : List ℕ) (event : ℕ → ℕ → Event)
+      → ((i j : ℕ) → i < length scope.clients → j < length scope.scripts
+      → (events : List Event) → Allows scope events → Allows scope (event i j ∷ events))
+      → scope.down ≡ false → IsSound scope later (of_script scope number client script event)
+  script_event_sound client script event may up =
+      known_sound (place_of client scope.clients) _
+      (λ c of_client. known_sound (place_of script scope.scripts) (λ s. Says (event c s) scope)
+      (λ s of_script. record {
+        waits = up_waits scope later up;
+        allows = may c s (within client scope.clients c of_client) (within script scope.scripts s of_script);
+      }))
+
+  hoard_sound : (client text : List ℕ) (path : Option (List (List ℕ))) → path_of text ≡ path
+      → scope.down ≡ false → IsSound scope later (hoard_at path scope number client)
+  hoard_sound client text None is up = tt
+  hoard_sound client text (Some path) is up =
+      client_event_sound client (λ c. Hoard c path) (λ c few events are. (up, few, (path_of-spells text path is).names, are)) up
 
   crash_sound : scope.down ≡ false → IsSound scope later (crash_line scope number later)
   crash_sound up =
@@ -120,19 +152,35 @@ module _ (scope : Scope) (number : ℕ) (later : List (List ℕ)) where
       (λ is. record { waits = λ down. absurd cc; allows = λ events are. (is, are) })
       (λ is. tt)
 
-  form_sound : (form : Option Form) → (scope.down ≡ true → is_restart form ≡ true)
+  form_sound : (form : Option Form) → IsCounted form → (scope.down ≡ true → is_restart form ≡ true)
       → IsSound scope later (meaning_of_form form scope number later)
-  form_sound None waits = tt
-  form_sound (Some (forms.Client name)) waits = client_sound name (is_up scope.down waits)
-  form_sound (Some (forms.Script name)) waits = script_sound name (closed_by later 0) (is_up scope.down waits)
-  form_sound (Some (forms.Run client script)) waits =
-      run_sound (place_of client scope.clients) (place_of script scope.scripts)
-      (within client scope.clients) (within script scope.scripts) (is_up scope.down waits)
-  form_sound (Some forms.ShowServer) waits =
+  form_sound None counts waits = tt
+  form_sound (Some (forms.Client name)) counts waits = client_sound name (is_up scope.down waits)
+  form_sound (Some (forms.Script name)) counts waits = script_sound name (closed_by later 0) (is_up scope.down waits)
+  form_sound (Some (forms.Run client script)) counts waits =
+      let up : scope.down ≡ false = is_up scope.down waits in
+      script_event_sound client script (λ c s. Run c s) (λ c s few some events are. (up, few, some, are)) up
+  form_sound (Some (forms.Hoard client text)) counts waits = hoard_sound client text (path_of text) refl (is_up scope.down waits)
+  form_sound (Some (forms.Refresh client)) counts waits =
+      let up : scope.down ≡ false = is_up scope.down waits in
+      client_event_sound client (λ c. Refresh c) (λ c few events are. (up, few, are)) up
+  form_sound (Some (forms.Begin client script)) counts waits =
+      let up : scope.down ≡ false = is_up scope.down waits in
+      script_event_sound client script (λ c s. Begin c s) (λ c s few some events are. (up, few, some, are)) up
+  form_sound (Some (forms.Step client count)) (least, most) waits =
+      let up : scope.down ≡ false = is_up scope.down waits in
+      client_event_sound client (λ c. Step c count) (λ c few events are. (up, few, least, most, are)) up
+  form_sound (Some (forms.End client)) counts waits =
+      let up : scope.down ≡ false = is_up scope.down waits in
+      client_event_sound client (λ c. End c) (λ c few events are. (up, few, are)) up
+  form_sound (Some forms.ShowServer) counts waits =
       let up : scope.down ≡ false = is_up scope.down waits in
       record { waits = up_waits scope later up; allows = λ events are. (up, are) }
-  form_sound (Some forms.CrashServer) waits = crash_sound (is_up scope.down waits)
-  form_sound (Some forms.RestartServer) waits = restart_sound
+  form_sound (Some (forms.ShowClient client)) counts waits =
+      let up : scope.down ≡ false = is_up scope.down waits in
+      client_event_sound client (λ c. ShowClient c) (λ c few events are. (up, few, are)) up
+  form_sound (Some forms.CrashServer) counts waits = crash_sound (is_up scope.down waits)
+  form_sound (Some forms.RestartServer) counts waits = restart_sound
 
 -- ---- each line
 
@@ -152,7 +200,7 @@ line_sound scope number line later waits =
     (λ unfit. tt)
     (λ fits. cond_both (is_skipped line) Skipped (meaning_of_form (form_of (words line)) scope number later) (IsSound scope later)
     (λ skipped down. ap restarts_at (sym (first_found line later true skipped)) ∙ waits down)
-    (λ said. form_sound scope number later (form_of (words line))
+    (λ said. form_sound scope number later (form_of (words line)) (form_counted (words line)).counted
     (λ down. second_so (fits_line line) (is_restart (form_of (words line)))
     (ap restarts_at (sym (first_found line later false said)) ∙ waits down))))
 
@@ -168,7 +216,7 @@ advanced : (scope : Scope) (event : Event) (after : Scope) (rest : List (List �
 advanced scope event after rest leads = record { waits = leads.waits; allows = leads.allows }
 
 -- the same of a step as data
-abbrev StepAdvances : Scope → Step → Type 0
+abbrev StepAdvances : Scope → steps.Step → Type 0
 StepAdvances scope (Stops fault) = Unit {0}
 StepAdvances scope (Goes event after rest number) = Advances scope event after rest
 

@@ -1,4 +1,6 @@
 pub mod ClosingLaws
+mod NumbersLaws
+mod FormsLaws
 pub mod ScriptsLaws
 pub mod DeclarationsLaws
 pub mod EventsLaws

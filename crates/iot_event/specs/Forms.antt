@@ -1,35 +1,56 @@
 -- The forms of event lines.
-use Rattle.std.specs.Prelude.{ℕ, ◌&&◌, List, [], ◌∷◌, Option, Some, None, codes, bytes_eq, if◌then◌else◌}
+use Rattle.std.specs.Prelude.{ℕ, ◌&&◌, not, List, [], ◌∷◌, Option, Some, None, codes, bytes_eq, if◌then◌else◌}
+use Rattle.std.specs.Option.{option_map, option_or}
 use Rattle.iot_text.specs.Names.{is_name}
+use Rattle.iot_event.specs.Numbers.{number_of}
+use Rattle.iot_event.specs.declared.form.TheConstants.{STEP_LIMIT}
 use Rattle.iot_event.specs.declared.form.Form.{Form}
-use Rattle.iot_event.specs.declared.form.Form.TheVariants.{Client, Script, Run, ShowServer, CrashServer, RestartServer}
+use Rattle.iot_event.specs.declared.form.Form.TheVariants.{Client, Script, Run, Hoard, Refresh, Begin, Step, End}
+use Rattle.iot_event.specs.declared.form.Form.TheVariants.{ShowServer, ShowClient, CrashServer, RestartServer}
 
--- `show server`, `crash server` or `restart server`, by the first word
-abbrev pub server_form : List ℕ → Option Form
-server_form first =
-    if bytes_eq first (codes "show") then Some ShowServer
+-- `show server`, `crash server` or `restart server`
+abbrev pub server_form : List ℕ → List ℕ → Option Form
+server_form first second =
+    if not (bytes_eq second (codes "server")) then None
+    else if bytes_eq first (codes "show") then Some ShowServer
     else if bytes_eq first (codes "crash") then Some CrashServer
     else if bytes_eq first (codes "restart") then Some RestartServer
     else None
 
--- `client N`, or what is done with the server
-abbrev pub two_words : List ℕ → List ℕ → Option Form
-two_words first second =
-    if bytes_eq first (codes "client") then (if is_name second then Some (Client second) else None)
-    else if bytes_eq second (codes "server") then server_form first
+-- `client N`, `refresh C`, `step C`, `end C` or `show C`
+abbrev pub client_form : List ℕ → (client : List ℕ) → Option Form
+client_form first client =
+    if bytes_eq first (codes "client") then Some (Client client)
+    else if bytes_eq first (codes "refresh") then Some (Refresh client)
+    else if bytes_eq first (codes "step") then Some (Step client 1)
+    else if bytes_eq first (codes "end") then Some (End client)
+    else if bytes_eq first (codes "show") then Some (ShowClient client)
     else None
 
--- `script N {`
+-- what is done with the server, else what is done with a client
+abbrev pub two_words : List ℕ → List ℕ → Option Form
+two_words first second = option_or (server_form first second) (if is_name second then client_form first second else None)
+
+-- `script N {`, `hoard C P` or `step C k`
 abbrev pub three_words : List ℕ → List ℕ → List ℕ → Option Form
 three_words first second third =
-    if bytes_eq first (codes "script") && bytes_eq third (codes "{")
-    then (if is_name second then Some (Script second) else None) else None
+    if not (is_name second) then None
+    else if bytes_eq first (codes "script") && bytes_eq third (codes "{") then Some (Script second)
+    else if bytes_eq first (codes "hoard") then Some (Hoard second third)
+    else if bytes_eq first (codes "step") then option_map (λ count. Step second count) (number_of third STEP_LIMIT)
+    else None
 
--- `run C S abort`
+-- `run C S` or `begin C S`, before its option
+abbrev pub script_form : List ℕ → (client script : List ℕ) → Option Form
+script_form first client script =
+    if bytes_eq first (codes "run") then Some (Run client script)
+    else if bytes_eq first (codes "begin") then Some (Begin client script)
+    else None
+
+-- `run C S abort` or `begin C S abort`
 abbrev pub four_words : List ℕ → List ℕ → List ℕ → List ℕ → Option Form
 four_words first second third fourth =
-    if bytes_eq first (codes "run") && bytes_eq fourth (codes "abort")
-    then (if is_name second && is_name third then Some (Run second third) else None) else None
+    if bytes_eq fourth (codes "abort") && is_name second && is_name third then script_form first second third else None
 
 -- the form of a line with these words, if it has one
 abbrev pub form_of : List (List ℕ) → Option Form

@@ -1,4 +1,5 @@
 pub mod Bytes
+pub mod Numbers
 pub mod Forms
 pub mod Closing
 pub mod Scripts

@@ -3,6 +3,7 @@ use Rattle.std.specs.Prelude.{ℕ, ◌&&◌, ◌||◌, not, nat_lt, Bool, true, 
 use Rattle.std.specs.Prelude.{codes, bytes_eq, if◌then◌else◌}
 use Rattle.std.specs.List.{find, list_any}
 use Rattle.iot_lines.specs.Words.{words, is_skipped}
+use Rattle.iot_text.specs.Paths.{path_of}
 use Rattle.iot_event.specs.Bytes.{fits_line}
 use Rattle.iot_event.specs.Forms.{form_of}
 use Rattle.iot_event.specs.Closing.{Closed, closed_by}
@@ -10,7 +11,8 @@ use Rattle.iot_event.specs.declared.declared.TheConstants.{CLIENT_LIMIT, SCRIPT_
 use Rattle.iot_event.specs.declared.form.Form.{Form}
 use Rattle.iot_event.specs.declared.form.Form.TheVariants as forms
 use Rattle.iot_event.specs.declared.event.Event.{Event}
-use Rattle.iot_event.specs.declared.event.Event.TheVariants.{Client, Run, ShowServer, CrashServer, RestartServer}
+use Rattle.iot_event.specs.declared.event.Event.TheVariants.{Client, Run, Hoard, Refresh, Begin, Step, End, ShowServer, ShowClient}
+use Rattle.iot_event.specs.declared.event.Event.TheVariants.{CrashServer, RestartServer}
 use Rattle.iot_event.specs.declared.fault.EventFault.{EventFault}
 use Rattle.iot_event.specs.declared.fault.EventFault.TheVariants.{BadLine, UnknownName, Twice, TooMany}
 
@@ -54,14 +56,46 @@ script_line scope number name (Some script) =
     then Opens name script (record scope { scripts = scope.scripts ++ name ∷ [] })
     else Refused (TooMany number)
 
--- a run at these places, if both are declared
-abbrev pub run_at : Option ℕ → Option ℕ → Scope → (number : ℕ) → Meaning
-run_at None script scope number = Refused (UnknownName number)
-run_at (Some client) None scope number = Refused (UnknownName number)
-run_at (Some client) (Some script) scope number = Says (Run client script) scope
+-- what a line says of the place of a name, if the name is declared
+abbrev pub if_known : (place : Option ℕ) (number : ℕ) → (ℕ → Meaning) → Meaning
+if_known None number says = Refused (UnknownName number)
+if_known (Some place) number says = says place
+
+-- an event of a client, if it is declared
+abbrev pub of_client : Scope → (number : ℕ) (client : List ℕ) → (ℕ → Event) → Meaning
+of_client scope number client event = if_known (place_of client scope.clients) number (λ c. Says (event c) scope)
+
+-- an event of a client and a script, if both are declared
+abbrev pub of_script : Scope → (number : ℕ) (client script : List ℕ) → (ℕ → ℕ → Event) → Meaning
+of_script scope number client script event =
+    if_known (place_of client scope.clients) number
+    (λ c. if_known (place_of script scope.scripts) number (λ s. Says (event c s) scope))
 
 abbrev pub run_line : Scope → (number : ℕ) (client script : List ℕ) → Meaning
-run_line scope number client script = run_at (place_of client scope.clients) (place_of script scope.scripts) scope number
+run_line scope number client script = of_script scope number client script (λ c s. Run c s)
+
+abbrev pub begin_line : Scope → (number : ℕ) (client script : List ℕ) → Meaning
+begin_line scope number client script = of_script scope number client script (λ c s. Begin c s)
+
+-- the hoard of a client's path, if the text is that of a path
+abbrev pub hoard_at : Option (List (List ℕ)) → Scope → (number : ℕ) (client : List ℕ) → Meaning
+hoard_at None scope number client = Refused (BadLine number)
+hoard_at (Some path) scope number client = of_client scope number client (λ c. Hoard c path)
+
+abbrev pub hoard_line : Scope → (number : ℕ) (client text : List ℕ) → Meaning
+hoard_line scope number client text = hoard_at (path_of text) scope number client
+
+abbrev pub refresh_line : Scope → (number : ℕ) (client : List ℕ) → Meaning
+refresh_line scope number client = of_client scope number client (λ c. Refresh c)
+
+abbrev pub step_line : Scope → (number : ℕ) (client : List ℕ) (count : ℕ) → Meaning
+step_line scope number client count = of_client scope number client (λ c. Step c count)
+
+abbrev pub end_line : Scope → (number : ℕ) (client : List ℕ) → Meaning
+end_line scope number client = of_client scope number client (λ c. End c)
+
+abbrev pub show_line : Scope → (number : ℕ) (client : List ℕ) → Meaning
+show_line scope number client = of_client scope number client (λ c. ShowClient c)
 
 abbrev pub is_restart : Option Form → Bool
 is_restart (Some forms.RestartServer) = true
@@ -92,7 +126,13 @@ meaning_of_form None scope number later = Refused (BadLine number)
 meaning_of_form (Some (forms.Client name)) scope number later = client_line scope number name
 meaning_of_form (Some (forms.Script name)) scope number later = script_line scope number name (closed_by later 0)
 meaning_of_form (Some (forms.Run client script)) scope number later = run_line scope number client script
+meaning_of_form (Some (forms.Hoard client path)) scope number later = hoard_line scope number client path
+meaning_of_form (Some (forms.Refresh client)) scope number later = refresh_line scope number client
+meaning_of_form (Some (forms.Begin client script)) scope number later = begin_line scope number client script
+meaning_of_form (Some (forms.Step client count)) scope number later = step_line scope number client count
+meaning_of_form (Some (forms.End client)) scope number later = end_line scope number client
 meaning_of_form (Some forms.ShowServer) scope number later = Says ShowServer scope
+meaning_of_form (Some (forms.ShowClient client)) scope number later = show_line scope number client
 meaning_of_form (Some forms.CrashServer) scope number later = crash_line scope number later
 meaning_of_form (Some forms.RestartServer) scope number later = restart_line scope number
 

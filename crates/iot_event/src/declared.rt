@@ -2,12 +2,14 @@
 ghost use Rattle.std.specs.Prelude.{◌≡◌, ◌+◌, ◌<◌, ◌≤◌, ◌^◌, length, IfOk, Some};
 ghost use Rattle.iot_lines.specs.Lines.{lines};
 ghost use Rattle.iot_lines.specs.Words.{words};
+ghost use Rattle.iot_text.specs.Paths.{path_of};
 ghost use Rattle.iot_event.specs.Forms.{form_of};
 ghost use Rattle.iot_event.specs.Closing.{closed_by};
 ghost use Rattle.iot_event.specs.Meanings.{Scope, Meaning, nothing_declared, place_of, client_line, script_line, run_line, crash_line};
+ghost use Rattle.iot_event.specs.Meanings.{hoard_line, refresh_line, begin_line, step_line, end_line, show_line};
 ghost use Rattle.iot_event.specs.Meanings.{restart_line, restarts, meaning_of_form};
 ghost use Rattle.iot_event.specs.Events.{IsStep, IsStepOf};
-ghost use Rattle.iot_event.specs.Results.{scope_of, AnswersEvent, AnswersScript, Answers};
+ghost use Rattle.iot_event.specs.Results.{scope_of, AnswersEvent, AnswersPlace, AnswersPath, AnswersScript, Answers};
 
 use crate::bytes::fits_line;
 use crate::closing::{Closed, find_closing};
@@ -17,11 +19,11 @@ use crate::form::{Form, form_of_line, is_restart};
 use crate::script::parse_script;
 use indexmap::IndexSet;
 use iot_lines::{is_skipped, split_lines};
-use iot_text::Name;
+use iot_text::{Name, Path, TextFault};
 use std::alloc::Global;
 
 /// How many clients an input declares at most.
-pub const CLIENT_LIMIT: usize = 1;
+pub const CLIENT_LIMIT: usize = 8;
 
 /// How many scripts an input declares at most.
 pub const SCRIPT_LIMIT: usize = 256;
@@ -52,6 +54,27 @@ fn restarts(text: &[u8]) -> bool
         }
     }
     false
+}
+
+/// The place of a name that a line gives, among those that were declared.
+fn place_of(names: &IndexSet<Name>, name: Name, number: u64) -> Result<u64, EventFault>
+    ensures { AnswersPlace (place_of name names.now.keys) number result }
+{
+    match names.get_index_of(&name) {
+        Some(place) => Ok(place as u64),
+        None => Err(EventFault::UnknownName { line: number }),
+    }
+}
+
+/// The path whose text a line gives.
+fn path_of(alloc: Global, text: &[u8], number: u64) -> Result<Path, EventFault>
+    ensures { AnswersPath (path_of text.now) number result }
+{
+    match Path::parse(alloc, text) {
+        Ok(path) => Ok(path),
+        Err(TextFault::NoMemory) => Err(EventFault::NoMemory),
+        Err(_) => Err(EventFault::BadLine { line: number }),
+    }
 }
 
 /// The step of a line that is this event.
@@ -128,25 +151,65 @@ impl Declared {
     fn run_line(&self, client: Name, script: Name, number: u64) -> Result<Event, EventFault>
         ensures { AnswersEvent (run_line (scope_of self.now) number client script) result self.now }
     {
-        let (Some(client), Some(script)) = (self.client_place(client), self.script_place(script))
-        else {
-            return Err(EventFault::UnknownName { line: number });
-        };
+        let client = place_of(&self.clients, client, number)?;
+        let script = place_of(&self.scripts, script, number)?;
         Ok(Event::Run { client, script })
     }
 
-    /// The place of a client.
-    fn client_place(&self, name: Name) -> Option<u64>
-        ensures { result ≡ place_of name self.now.clients.keys }
+    /// `begin C S abort`
+    fn begin_line(&self, client: Name, script: Name, number: u64) -> Result<Event, EventFault>
+        ensures { AnswersEvent (begin_line (scope_of self.now) number client script) result self.now }
     {
-        self.clients.get_index_of(&name).map(|place| place as u64)
+        let client = place_of(&self.clients, client, number)?;
+        let script = place_of(&self.scripts, script, number)?;
+        Ok(Event::Begin { client, script })
     }
 
-    /// The place of a script.
-    fn script_place(&self, name: Name) -> Option<u64>
-        ensures { result ≡ place_of name self.now.scripts.keys }
+    /// `hoard C P`
+    fn hoard_line(
+        &self,
+        alloc: Global,
+        client: Name,
+        path: &[u8],
+        number: u64,
+    ) -> Result<Event, EventFault>
+        ensures { AnswersEvent (hoard_line (scope_of self.now) number client path.now) result self.now }
     {
-        self.scripts.get_index_of(&name).map(|place| place as u64)
+        let path = path_of(alloc, path, number)?;
+        let client = place_of(&self.clients, client, number)?;
+        Ok(Event::Hoard { client, path })
+    }
+
+    /// `refresh C`
+    fn refresh_line(&self, client: Name, number: u64) -> Result<Event, EventFault>
+        ensures { AnswersEvent (refresh_line (scope_of self.now) number client) result self.now }
+    {
+        let client = place_of(&self.clients, client, number)?;
+        Ok(Event::Refresh { client })
+    }
+
+    /// `step C` or `step C k`
+    fn step_line(&self, client: Name, count: u64, number: u64) -> Result<Event, EventFault>
+        ensures { AnswersEvent (step_line (scope_of self.now) number client count) result self.now }
+    {
+        let client = place_of(&self.clients, client, number)?;
+        Ok(Event::Step { client, count })
+    }
+
+    /// `end C`
+    fn end_line(&self, client: Name, number: u64) -> Result<Event, EventFault>
+        ensures { AnswersEvent (end_line (scope_of self.now) number client) result self.now }
+    {
+        let client = place_of(&self.clients, client, number)?;
+        Ok(Event::End { client })
+    }
+
+    /// `show C`
+    fn show_line(&self, client: Name, number: u64) -> Result<Event, EventFault>
+        ensures { AnswersEvent (show_line (scope_of self.now) number client) result self.now }
+    {
+        let client = place_of(&self.clients, client, number)?;
+        Ok(Event::ShowClient { client })
     }
 
     /// `crash server`, before this text, which begins with its restart.
@@ -201,13 +264,13 @@ impl Declared {
     fn by_form<'a>(
         &mut self,
         alloc: Global,
-        form: Form,
+        form: Form<'_>,
         later: &'a [u8],
         number: u64,
     ) -> Result<Step<'a>, EventFault>
         requires { number + length later.now < 2 ^ 63 }
         ensures line { Answers
-            (IsStepOf (meaning_of_form (Some form) (scope_of self.old) number (lines later.now))
+            (IsStepOf (meaning_of_form (Some form.entry) (scope_of self.old) number (lines later.now))
             (scope_of self.old) number (lines later.now))
             result self.new }
         ensures shorter { IfOk result (λ step. length step.later.now ≤ length later.now) }
@@ -219,7 +282,25 @@ impl Declared {
             Form::Run { client, script } => {
                 after_line(self.run_line(client, script, number), later, number)
             }
+            Form::Hoard { client, path } => after_line(
+                self.hoard_line(alloc, client, path.as_bytes(), number),
+                later,
+                number,
+            ),
+            Form::Refresh { client } => {
+                after_line(self.refresh_line(client, number), later, number)
+            }
+            Form::Begin { client, script } => {
+                after_line(self.begin_line(client, script, number), later, number)
+            }
+            Form::Step { client, count } => {
+                after_line(self.step_line(client, count, number), later, number)
+            }
+            Form::End { client } => after_line(self.end_line(client, number), later, number),
             Form::ShowServer => after_line(Ok(Event::ShowServer), later, number),
+            Form::ShowClient { client } => {
+                after_line(self.show_line(client, number), later, number)
+            }
             Form::CrashServer => after_line(self.crash_line(later, number), later, number),
             Form::RestartServer => after_line(self.restart_line(number), later, number),
         }

@@ -1,6 +1,6 @@
 //! Events: what an event script asks for.
 use iot_lang::Script;
-use iot_text::{Name, NoMemory};
+use iot_text::{Name, NoMemory, Path};
 use std::alloc::Global;
 use std::marker::Model;
 use std::rc::Rc;
@@ -17,8 +17,26 @@ pub enum Event {
     /// `run C S abort`: the client runs the script, and gives up if it is in conflict.
     Run { client: u64, script: u64 },
 
+    /// `hoard C P`: the client fetches what lies on the way to the path, at it and below it.
+    Hoard { client: u64, path: Path },
+
+    /// `refresh C`: the client fetches anew what it knows.
+    Refresh { client: u64 },
+
+    /// `begin C S abort`: the client begins a transaction of the script, and gives up if it is in conflict.
+    Begin { client: u64, script: u64 },
+
+    /// `step C` or `step C k`: the client makes at most so many steps of its transaction.
+    Step { client: u64, count: u64 },
+
+    /// `end C`: the client ends its transaction.
+    End { client: u64 },
+
     /// `show server`: the server's tree is printed.
     ShowServer,
+
+    /// `show C`: the client's view is printed.
+    ShowClient { client: u64 },
 
     /// `crash server`: the server stops. Its restart is the next event.
     CrashServer,

@@ -2,18 +2,53 @@
 ghost use Rattle.std.specs.Prelude.{◌≡◌, map, if◌then◌else◌, Some, None};
 ghost use Rattle.iot_lines.specs.Words.{words};
 ghost use Rattle.iot_text.specs.Names.{is_name};
-ghost use Rattle.iot_event.specs.Forms.{form_of, server_form, two_words, three_words, four_words};
+ghost use Rattle.iot_event.specs.Forms.{form_of, server_form, client_form, two_words, three_words, script_form, four_words};
 ghost use Rattle.iot_event.specs.Meanings.{is_restart};
 
+use crate::number::number_of;
 use iot_lines::split_words;
 use iot_text::Name;
+use std::marker::Model;
+
+/// How many steps one line asks for at most.
+pub const STEP_LIMIT: u64 = 100_000;
 
 /// How many words the longest form has.
 const WORD_LIMIT: usize = 4;
 
+/// A word that belongs where a path does, and that may be none. Contracts see it as its bytes.
+#[derive(Drop)]
+pub(crate) struct PathWord<'a> {
+    bytes: &'a [u8],
+}
+
+impl<'a> Model for PathWord<'a> {
+    ghost use Rattle.std.specs.Prelude.{ℕ, List};
+
+    ghost Value = { List ℕ };
+
+    ghost view = { λ word. word.bytes.now };
+}
+
+impl<'a> PathWord<'a> {
+    /// A word as one that belongs where a path does.
+    fn new(bytes: &'a [u8]) -> PathWord<'a>
+        ensures { result ≡ bytes.now }
+    {
+        PathWord { bytes }
+    }
+
+    /// The bytes of the word.
+    pub(crate) fn as_bytes(&self) -> &'a [u8]
+        ensures { result.now ≡ self.now }
+    {
+        self.bytes
+    }
+}
+
 /// What a line says by its words alone, before it is known which names are declared.
-#[derive(Clone, Copy)]
-pub(crate) enum Form {
+#[derive(Drop)]
+pub(crate) enum Form<'a> {
     /// `client N`
     Client(Name),
 
@@ -23,8 +58,26 @@ pub(crate) enum Form {
     /// `run C S abort`
     Run { client: Name, script: Name },
 
+    /// `hoard C P`
+    Hoard { client: Name, path: PathWord<'a> },
+
+    /// `refresh C`
+    Refresh { client: Name },
+
+    /// `begin C S abort`
+    Begin { client: Name, script: Name },
+
+    /// `step C` or `step C k`
+    Step { client: Name, count: u64 },
+
+    /// `end C`
+    End { client: Name },
+
     /// `show server`
     ShowServer,
+
+    /// `show C`
+    ShowClient { client: Name },
 
     /// `crash server`
     CrashServer,
@@ -40,10 +93,13 @@ fn name_of(word: &[u8]) -> Option<Name>
     Name::parse(word).ok()
 }
 
-/// The form of `show server` and its like, by the first word.
-fn server_form(first: &[u8]) -> Option<Form>
-    ensures { result ≡ server_form first.now }
+/// The form of `show server` and its like, if the second word is `server`.
+fn server_form(first: &[u8], second: &[u8]) -> Option<Form<'static>>
+    ensures { result ≡ server_form first.now second.now }
 {
+    if second != b"server".as_slice() {
+        return None;
+    }
     if first == b"show".as_slice() {
         return Some(Form::ShowServer);
     }
@@ -56,44 +112,87 @@ fn server_form(first: &[u8]) -> Option<Form>
     None
 }
 
-/// The form of a line of two words.
-fn two_words(first: &[u8], second: &[u8]) -> Option<Form>
-    ensures { result ≡ two_words first.now second.now }
+/// The form of a line that says no more than what is done with this client.
+fn client_form(first: &[u8], client: Name) -> Option<Form<'static>>
+    ensures { result ≡ client_form first.now client }
 {
     if first == b"client".as_slice() {
-        return Some(Form::Client(name_of(second)?));
+        return Some(Form::Client(client));
     }
-    if second == b"server".as_slice() {
-        return server_form(first);
+    if first == b"refresh".as_slice() {
+        return Some(Form::Refresh { client });
+    }
+    if first == b"step".as_slice() {
+        return Some(Form::Step { client, count: 1 });
+    }
+    if first == b"end".as_slice() {
+        return Some(Form::End { client });
+    }
+    if first == b"show".as_slice() {
+        return Some(Form::ShowClient { client });
     }
     None
+}
+
+/// The form of a line of two words.
+fn two_words(first: &[u8], second: &[u8]) -> Option<Form<'static>>
+    ensures { result ≡ two_words first.now second.now }
+{
+    match server_form(first, second) {
+        Some(form) => Some(form),
+        None => client_form(first, name_of(second)?),
+    }
 }
 
 /// The form of a line of three words.
-fn three_words(first: &[u8], second: &[u8], third: &[u8]) -> Option<Form>
+fn three_words<'a>(first: &[u8], second: &[u8], third: &'a [u8]) -> Option<Form<'a>>
     ensures { result ≡ three_words first.now second.now third.now }
 {
+    let name = name_of(second)?;
     if first == b"script".as_slice() && third == b"{".as_slice() {
-        return Some(Form::Script(name_of(second)?));
+        return Some(Form::Script(name));
     }
-    None
-}
-
-/// The form of a line of four words.
-fn four_words(first: &[u8], second: &[u8], third: &[u8], fourth: &[u8]) -> Option<Form>
-    ensures { result ≡ four_words first.now second.now third.now fourth.now }
-{
-    if first == b"run".as_slice() && fourth == b"abort".as_slice() {
-        return Some(Form::Run {
-            client: name_of(second)?,
-            script: name_of(third)?,
+    if first == b"hoard".as_slice() {
+        return Some(Form::Hoard {
+            client: name,
+            path: PathWord::new(third),
+        });
+    }
+    if first == b"step".as_slice() {
+        return Some(Form::Step {
+            client: name,
+            count: number_of(third, STEP_LIMIT)?,
         });
     }
     None
 }
 
+/// The form of a line that has this client do this script.
+fn script_form(first: &[u8], client: Name, script: Name) -> Option<Form<'static>>
+    ensures { result ≡ script_form first.now client script }
+{
+    if first == b"run".as_slice() {
+        return Some(Form::Run { client, script });
+    }
+    if first == b"begin".as_slice() {
+        return Some(Form::Begin { client, script });
+    }
+    None
+}
+
+/// The form of a line of four words.
+fn four_words(first: &[u8], second: &[u8], third: &[u8], fourth: &[u8]) -> Option<Form<'static>>
+    ensures { result ≡ four_words first.now second.now third.now fourth.now }
+{
+    if fourth != b"abort".as_slice() {
+        return None;
+    }
+    script_form(first, name_of(second)?, name_of(third)?)
+}
+
 /// The form of a line with these words, if it has one.
-fn form_of(found: &[&[u8]]) -> Option<Form>
+#[tactic(auto, using(crate::proofs::FormsLaws::too_few, crate::proofs::FormsLaws::too_many))]
+fn form_of<'a>(found: &[&'a [u8]]) -> Option<Form<'a>>
     ensures { result ≡ form_of (map (λ word. word.now) found.now) }
 {
     match found {
@@ -105,7 +204,7 @@ fn form_of(found: &[&[u8]]) -> Option<Form>
 }
 
 /// The form of a line, if it has one.
-pub(crate) fn form_of_line(line: &[u8]) -> Option<Form>
+pub(crate) fn form_of_line(line: &[u8]) -> Option<Form<'_>>
     ensures { result ≡ form_of (words line.now) }
 {
     let mut found: [&[u8]; WORD_LIMIT] = [b""; WORD_LIMIT];

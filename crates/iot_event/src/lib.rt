@@ -7,6 +7,7 @@ mod declared;
 mod event;
 mod fault;
 mod form;
+mod number;
 mod parsing;
 mod script;
 
@@ -14,5 +15,6 @@ pub use bytes::LINE_LIMIT;
 pub use declared::{CLIENT_LIMIT, SCRIPT_LIMIT};
 pub use event::{Event, SharedScript};
 pub use fault::EventFault;
+pub use form::STEP_LIMIT;
 pub use iot_text::NoMemory;
 pub use parsing::parse;

@@ -12,7 +12,8 @@ use std::alloc::Global;
 
 /// Parses an event script: the events that it asks for, in order.
 ///
-/// A line has at most `LINE_LIMIT` bytes; there are at most `CLIENT_LIMIT` clients and `SCRIPT_LIMIT` scripts.
+/// A line has at most `LINE_LIMIT` bytes; there are at most `CLIENT_LIMIT` clients and `SCRIPT_LIMIT` scripts; a line asks for
+/// at most `STEP_LIMIT` steps.
 ///
 /// # Errors
 ///

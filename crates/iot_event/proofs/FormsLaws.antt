@@ -1,0 +1,103 @@
+-- Laws of the forms of event lines: a form has two to four words, and the number of its steps is within its limits.
+use Rattle.std.proofs.Common.{◌≡◌, ℕ, ◌<◌, ◌≤◌, ◌&&◌, not, nat_le, Bool, true, false, List, [], ◌∷◌, length, map, Option, Some, None}
+use Rattle.std.proofs.Common.{codes, bytes_eq, refl, arith}
+use Rattle.std.specs.Option.{option_map, option_or}
+use Rattle.std.specs.Prelude.{if◌then◌else◌}
+use Rattle.std.specs.Str.Parse.{digits_value}
+use Rattle.std.proofs.lemmas.Bool.Decides.{nat_tests}
+use Rattle.iot_text.specs.Names.{is_name}
+use Rattle.iot_event.specs.declared.form.TheConstants.{STEP_LIMIT}
+use Rattle.iot_event.specs.declared.form.Form.{Form}
+use Rattle.iot_event.specs.declared.form.Form.TheVariants as forms
+use Rattle.iot_event.specs.Numbers.{is_number, number_of}
+use Rattle.iot_event.specs.Forms.{server_form, client_form, three_words, script_form, four_words, form_of}
+
+-- ---- how many words a form has
+
+pub too_few : {X : Type 0} (word : X → List ℕ) (found : List X) → length found < 2 → None ≡ form_of (map word found)
+too_few word [] few = refl
+too_few word (a ∷ []) few = refl
+too_few word (a ∷ b ∷ more) few = absurd (omega arith)
+
+pub too_many : {X : Type 0} (word : X → List ℕ) (found : List X) → 5 ≤ length found → None ≡ form_of (map word found)
+too_many word [] many = absurd (omega arith)
+too_many word (a ∷ []) many = absurd (omega arith)
+too_many word (a ∷ b ∷ []) many = absurd (omega arith)
+too_many word (a ∷ b ∷ c ∷ []) many = absurd (omega arith)
+too_many word (a ∷ b ∷ c ∷ d ∷ []) many = absurd (omega arith)
+too_many word (a ∷ b ∷ c ∷ d ∷ e ∷ more) many = refl
+
+-- ---- the number of steps in a form
+
+-- the number of steps, if the form has one, is within its limits
+abbrev pub IsCounted : Option Form → Type 0
+IsCounted (Some (forms.Step client count)) = (1 ≤ count) × (count ≤ STEP_LIMIT)
+IsCounted _ = Unit {0}
+
+-- the same as a record, which is found by its name
+pub record Counted (form : Option Form) : Type 0 where
+  pub counted : IsCounted form
+
+counted_if : (test : Bool) (yes_ no_ : Option Form) → Counted yes_ → Counted no_ → Counted (if test then yes_ else no_)
+counted_if true yes_ no_ first second = first
+counted_if false yes_ no_ first second = second
+
+counted_or : (first second : Option Form) → Counted first → Counted second → Counted (option_or first second)
+counted_or None second one two = two
+counted_or (Some form) second one two = one
+
+counted_number : (client word : List ℕ) → Counted (option_map (λ count. forms.Step client count) (number_of word STEP_LIMIT))
+counted_number client word = by (is_number word) (nat_le 1 number) (nat_le number STEP_LIMIT) refl refl
+  where
+    number : ℕ
+    number = digits_value 10 word
+
+    by : (is least most : Bool) → nat_le 1 number ≡ least → nat_le number STEP_LIMIT ≡ most
+        → Counted (option_map (λ count. forms.Step client count) (if is && least && most then Some number else None))
+    by true true true one two = record { counted = (grind (arith, nat_tests, one), grind (arith, nat_tests, two)) }
+    by true true false one two = record { counted = tt }
+    by true false most one two = record { counted = tt }
+    by false least most one two = record { counted = tt }
+
+none_counted : Counted None
+none_counted = record { counted = tt }
+
+counted_server : (first second : List ℕ) → Counted (server_form first second)
+counted_server first second =
+    counted_if (not (bytes_eq second (codes "server"))) None _ none_counted
+    (counted_if (bytes_eq first (codes "show")) (Some forms.ShowServer) _ (record { counted = tt })
+    (counted_if (bytes_eq first (codes "crash")) (Some forms.CrashServer) _ (record { counted = tt })
+    (counted_if (bytes_eq first (codes "restart")) (Some forms.RestartServer) None (record { counted = tt }) none_counted)))
+
+counted_client : (first client : List ℕ) → Counted (client_form first client)
+counted_client first client =
+    counted_if (bytes_eq first (codes "client")) (Some (forms.Client client)) _ (record { counted = tt })
+    (counted_if (bytes_eq first (codes "refresh")) (Some (forms.Refresh client)) _ (record { counted = tt })
+    (counted_if (bytes_eq first (codes "step")) (Some (forms.Step client 1)) _ (record { counted = (omega arith, omega arith) })
+    (counted_if (bytes_eq first (codes "end")) (Some (forms.End client)) _ (record { counted = tt })
+    (counted_if (bytes_eq first (codes "show")) (Some (forms.ShowClient client)) None (record { counted = tt }) none_counted))))
+
+counted_script : (first client script : List ℕ) → Counted (script_form first client script)
+counted_script first client script =
+    counted_if (bytes_eq first (codes "run")) (Some (forms.Run client script)) _ (record { counted = tt })
+    (counted_if (bytes_eq first (codes "begin")) (Some (forms.Begin client script)) None (record { counted = tt }) none_counted)
+
+counted_three : (first second third : List ℕ) → Counted (three_words first second third)
+counted_three first second third =
+    counted_if (not (is_name second)) None _ none_counted
+    (counted_if (bytes_eq first (codes "script") && bytes_eq third (codes "{")) (Some (forms.Script second)) _ (record { counted = tt })
+    (counted_if (bytes_eq first (codes "hoard")) (Some (forms.Hoard second third)) _ (record { counted = tt })
+    (counted_if (bytes_eq first (codes "step")) _ None (counted_number second third) none_counted)))
+
+counted_four : (first second third fourth : List ℕ) → Counted (four_words first second third fourth)
+counted_four first second third fourth =
+    counted_if (bytes_eq fourth (codes "abort") && is_name second && is_name third) _ None (counted_script first second third) none_counted
+
+pub form_counted : (found : List (List ℕ)) → Counted (form_of found)
+form_counted [] = none_counted
+form_counted (a ∷ []) = none_counted
+form_counted (a ∷ b ∷ []) =
+    counted_or (server_form a b) _ (counted_server a b) (counted_if (is_name b) _ None (counted_client a b) none_counted)
+form_counted (a ∷ b ∷ c ∷ []) = counted_three a b c
+form_counted (a ∷ b ∷ c ∷ d ∷ []) = counted_four a b c d
+form_counted (a ∷ b ∷ c ∷ d ∷ e ∷ more) = none_counted
