@@ -1,5 +1,5 @@
 -- What one more act makes of a client.
-use Rattle.std.proofs.Common.{◌≡◌, ◌<◌, ℕ, Bool, List, [], ◌∷◌, Option, Some, None, sym, ap, subst, ◌∙◌, refl}
+use Rattle.std.proofs.Common.{◌≡◌, ◌<◌, ℕ, Bool, Option, Some, None, sym, ap, subst, ◌∙◌}
 use Rattle.std.specs.Prelude.{IsSome}
 use Rattle.iot_tree.specs.Tree.{Nodes}
 use Rattle.iot_tree.specs.declared.limits.TheConstants.{ACT_LIMIT}
@@ -8,17 +8,16 @@ use Rattle.iot_exec.specs.Places.{is_over}
 use Rattle.iot_exec.specs.Execs.{place}
 use Rattle.iot_client.specs.States.{State}
 use Rattle.iot_client.specs.Records.{CanFollow, after}
-use Rattle.iot_client.specs.Memory.{class_of}
 use Rattle.iot_client.specs.Ties.{Ties, Live, live, state_of}
 use Rattle.iot_client.specs.Calls.{has_ended, CanActIfAny, Notes, StepIsIfAny}
-use Rattle.iot_client.specs.Doing.{IsAble, Did, DidIfAny}
+use Rattle.iot_client.specs.Doing.{IsAble, DidIfAny}
 use Rattle.iot_client.specs.declared.client.Client.{Client}
 use Rattle.iot_client.specs.declared.interpreter.Interpreter.{Interpreter}
 use Rattle.iot_client.specs.declared.interpreter.Done.{Done}
 use Rattle.iot_client.specs.declared.record.Record.TheVariants.{Acted}
 use Rattle.iot_client.specs.declared.steps.Step.TheVariants as steps
 use Rattle.iot_client.proofs.TiesLaws.{tied_acted}
-use Rattle.iot_client.proofs.StepsLaws.{Facts, facts, there, ended_is, act_follows, runs_after, did}
+use Rattle.iot_client.proofs.StepsLaws.{Facts, facts, ended_is, act_follows, runs_after, did}
 
 pub able : (state : State) (class : Option Bool) (i : Option Interpreter) (t : Nodes) → Ties state class i t → IsSome state.running
     → CanActIfAny state (live class i) → IsAble i

@@ -1,6 +1,6 @@
 -- What the interpreter of a client tells of its script's run.
-use Rattle.std.proofs.Common.{◌≡◌, ◌⊎◌, ℕ, ◌+◌, ◌≤◌, Bool, true, false, List, [], ◌∷◌, ◌++◌, Option, Some, None, length, drop, ◌||◌}
-use Rattle.std.proofs.Common.{refl, sym, ap, subst, ◌∙◌, inl, inr, arith}
+use Rattle.std.proofs.Common.{◌≡◌, ◌⊎◌, ℕ, ◌≤◌, Bool, true, false, List, [], ◌∷◌, ◌++◌, Option, Some, None, length, drop, ◌||◌}
+use Rattle.std.proofs.Common.{refl, sym, ap, subst, ◌∙◌, inl, inr}
 use Rattle.std.proofs.lemmas.Bool.{leb-true}
 use Rattle.std.proofs.Math.Seq.{drop-append_seam}
 use Rattle.std.specs.Prelude.{IsSome, leb}
@@ -19,7 +19,7 @@ use Rattle.iot_client.specs.States.{Transaction, State, acts_of, after_items, vi
 use Rattle.iot_client.specs.Records.{CanFollow, with_acts, after}
 use Rattle.iot_client.specs.Memory.{transaction_of, class_of}
 use Rattle.iot_client.specs.Ties.{IsRun, IsRunIfAny, Ties, Live, live, live_of, state_of, count, run_of, IsTied, IsOwnRunIfAny}
-use Rattle.iot_client.specs.Calls.{has_ended, may_end, next_acts, missed, CanAct, CanActIfAny, Notes, StepIsIfAny, EndsIfAny}
+use Rattle.iot_client.specs.Calls.{has_ended, may_end, next_acts, missed, CanActIfAny, Notes, StepIsIfAny, EndsIfAny}
 use Rattle.iot_client.specs.declared.client.Client.{Client}
 use Rattle.iot_client.specs.declared.running.Running.{Running}
 use Rattle.iot_client.specs.declared.record.Record.TheVariants.{Acted}

@@ -1,5 +1,5 @@
 -- Each record keeps the tie between a client's state, its view and its interpreter.
-use Rattle.std.proofs.Common.{◌≡◌, ℕ, ◌+◌, ◌<◌, ◌≤◌, Bool, true, false, List, [], ◌∷◌, ◌++◌, Option, Some, None, length, arith}
+use Rattle.std.proofs.Common.{◌≡◌, ℕ, ◌<◌, Bool, true, false, List, [], ◌∷◌, ◌++◌, Option, Some, None, length, arith}
 use Rattle.std.proofs.Common.{refl, sym, ap, subst, ◌∙◌, length-append}
 use Rattle.std.specs.Prelude.{IsSome, IfOk, Result}
 use Rattle.std.specs.FinMap.{empty}
@@ -14,7 +14,7 @@ use Rattle.iot_exec.specs.Execs.{IsRunning, RunsOn}
 use Rattle.iot_exec.specs.declared.exec.Exec.{Exec}
 use Rattle.iot_exec.proofs.RunLaws.{goes_on}
 use Rattle.iot_queue.specs.declared.items.Item.{Item}
-use Rattle.iot_client.specs.States.{Transaction, State, acts_of, after_each, after_items, view}
+use Rattle.iot_client.specs.States.{Transaction, State, acts_of, after_each, after_items}
 use Rattle.iot_client.specs.Records.{CanFollow, with_acts, left, after}
 use Rattle.iot_client.specs.Memory.{classed}
 use Rattle.iot_client.specs.Ties.{IsRun, IsRunIfAny, Ties}

@@ -10,7 +10,7 @@ use Rattle.iot_exec.specs.Misses.{first_away}
 use Rattle.iot_queue.specs.declared.items.Item.{Item}
 use Rattle.iot_client.specs.States.{Transaction, State, view}
 use Rattle.iot_client.specs.Records.{CanFollow, after}
-use Rattle.iot_client.specs.Ties.{state_of, place_of, live_of, Live, count, run_of}
+use Rattle.iot_client.specs.Ties.{state_of, place_of, Live, count, run_of}
 use Rattle.iot_client.specs.declared.client.Client.{Client}
 use Rattle.iot_client.specs.declared.fault.ClientFault.{ClientFault}
 use Rattle.iot_client.specs.declared.fault.ClientFault.TheVariants.{NoMemory, Busy, Pending, Idle, NotAtEnd, Nothing}
@@ -46,6 +46,11 @@ empty_queue (item ∷ items) = None
 -- whether the script of the running transaction has ended
 abbrev pub has_ended : State → Code → Bool
 has_ended state code = (run_of state code (count state)).ended
+
+-- whether a transaction runs whose script has ended
+abbrev pub is_over_if_any : State → Option Live → Bool
+is_over_if_any state None = false
+is_over_if_any state (Some live) = has_ended state live.code
 
 -- whether it may be ended: its script has ended, or it may do no more acts
 abbrev pub may_end : State → Option Live → Bool

@@ -1,5 +1,5 @@
 //! The client itself.
-ghost use Rattle.std.specs.Prelude.{◌≡◌, ◌+◌, ◌<◌, ◌^◌, [], true, None, Some, IsSome, IfOk, OnOk, IfSome, IfNone};
+ghost use Rattle.std.specs.Prelude.{◌≡◌, ◌+◌, [], true, None, Some, IsSome, IfOk, OnOk, IfSome, IfNone};
 ghost use Rattle.std.specs.Option.{option_copied};
 ghost use Rattle.iot_exec.specs.Places.{is_over};
 ghost use Rattle.iot_exec.specs.Execs.{place, kept_by, act_count, next_miss};
@@ -7,7 +7,8 @@ ghost use Rattle.iot_client.specs.States.{opening, view};
 ghost use Rattle.iot_client.specs.Records.{CanFollow};
 ghost use Rattle.iot_client.specs.Memory.{transaction_of, class_of};
 ghost use Rattle.iot_client.specs.Ties.{state_of, place_of, live_of, IsTied, IsOwnRunIfAny};
-ghost use Rattle.iot_client.specs.Calls.{busy, unready, idle, may_end, unended, not_at_end, empty_queue, RefusesFor, Refuses, Notes};
+ghost use Rattle.iot_client.specs.Calls.{busy, unready, idle, is_over_if_any, may_end, unended, not_at_end, empty_queue};
+ghost use Rattle.iot_client.specs.Calls.{RefusesFor, Refuses, Notes};
 ghost use Rattle.iot_client.specs.Calls.{missed_by};
 ghost use Rattle.iot_client.specs.Calls.{first_of, second_class, IsFirstIfAny, StepIsIfAny, CanActIfAny, EndsIfAny};
 
@@ -101,6 +102,17 @@ impl Client {
         self.kept.running.as_ref()
     }
 
+    /// Whether a transaction runs whose script has ended.
+    pub fn at_end(&self) -> bool
+        requires { IsTied self.now }
+        ensures { result ≡ is_over_if_any (state_of self.now) (live_of self.now) }
+    {
+        match &self.interpreter {
+            Some(interpreter) => interpreter.exec.at_end(),
+            None => false,
+        }
+    }
+
     /// What is to be brought from the server: what is wanted. It changes nothing.
     ///
     /// # Errors
@@ -138,7 +150,7 @@ impl Client {
     ///
     /// # Errors
     ///
-    /// `Busy` if a transaction runs, `NoMemory`.
+    /// `Busy` if a transaction runs, `NoMemory`, also if there were more transactions than can be counted.
     pub fn begin(
         &mut self,
         alloc: Global,
@@ -148,7 +160,6 @@ impl Client {
         first: bool,
     ) -> Result<u64, ClientFault>
         requires tied { IsTied self.old }
-        requires number { (state_of self.old).last + 1 < 2 ^ 64 }
         requires alone { first ≡ true → (state_of self.old).items ≡ [] }
         ensures number { IfOk result (λ number. number ≡ (state_of self.old).last + 1) }
         ensures notes { IfOk result (λ number. Notes (Record.Begun number name.now option) self.old self.new) }
@@ -323,6 +334,16 @@ fn not_at_end(exec: &Exec) -> Option<ClientFault>
     Some(ClientFault::NotAtEnd)
 }
 
+/// The number of the transaction after this one.
+fn next_number(last: u64) -> Result<u64, NoMemory>
+    ensures { IfOk result (λ number. number ≡ last + 1) }
+{
+    match last.checked_add(1) {
+        Some(number) => Ok(number),
+        None => Err(NoMemory),
+    }
+}
+
 /// The path that the next act misses, if the transaction is first class.
 fn missed(alloc: Global, first: bool, exec: &Exec, view: &Tree) -> Result<Option<Path>, NoMemory>
     ensures { IfOk result (λ path. path ≡ missed_by first (next_miss (kept_by exec.now) (place exec.now) view.now)) }
@@ -357,7 +378,6 @@ impl Client {
         first: bool,
     ) -> Result<u64, NoMemory>
         requires tied { IsTied self.old }
-        requires number { (state_of self.old).last + 1 < 2 ^ 64 }
         requires idle { (state_of self.old).running ≡ None }
         requires alone { first ≡ true → (state_of self.old).items ≡ [] }
         ensures number { IfOk result (λ number. number ≡ (state_of self.old).last + 1) }
@@ -366,7 +386,7 @@ impl Client {
         ensures tied { OnOk result (IsTied self.new) }
     {
         let interpreter = Interpreter::start(alloc, code)?;
-        let number = self.kept.last + 1;
+        let number = next_number(self.kept.last)?;
         self.kept.note(
             alloc,
             Record::Begun {

@@ -57,6 +57,7 @@ fn a_transaction_waits_for_its_verdict(rt: HostRuntime) -> Result<(), ClientFaul
             }
         )
     );
+    assert!(rt; client.at_end());
     let (ended, acts) = client.end(alloc)?;
     assert!(rt; ended.tid == 1 && !ended.first && acts.len() == 1);
     assert_eq!(rt; client.queue().items().len(), 1);

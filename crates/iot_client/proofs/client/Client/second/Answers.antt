@@ -1,4 +1,4 @@
-use Rattle.iot_client.specs.Memory.{kept_state, class_of, classed}
+use Rattle.iot_client.specs.Memory.{kept_state, class_of}
 use Rattle.iot_client.proofs.TiesLaws.{carried, tied_second}
 use Rattle.iot_client.proofs.client.Client.second.Goals as goal
 
