@@ -17,7 +17,7 @@ use Rattle.iot_exec.specs.Execs.{place, kept_by, next_miss, IsNextAt, IsRunning,
 use Rattle.iot_exec.specs.declared.exec.Exec.{Exec}
 use Rattle.iot_exec.specs.declared.ran.Ran.{Ran}
 use Rattle.iot_exec.proofs.PlaceLaws.{exec_from_start, over}
-use Rattle.iot_judging.specs.Clients.{Running, so_far, next_act, next_away, one_more}
+use Rattle.iot_machine.specs.Clients.{Running, so_far, next_act, next_away, one_more}
 
 -- ---- runs that have ended
 

@@ -28,7 +28,7 @@ use Rattle.iot_exec.proofs.RunLaws.{alike_is}
 use Rattle.iot_exec.proofs.PartingLaws.{run_parts}
 use Rattle.iot_machine.specs.Machine.{Commit, tree_after}
 use Rattle.iot_machine.specs.Nodes.{Node}
-use Rattle.iot_judging.specs.Serving.{Submission, Verdict, Conflict, Parts, Commits, Certifies, holds, conflicts, reads_there}
+use Rattle.iot_machine.specs.Serving.{Submission, Verdict, Conflict, Parts, Commits, Certifies, holds, conflicts, reads_there}
 
 -- ---- the acts of a run on its own tree
 

@@ -9,9 +9,9 @@ use Rattle.iot_tree.specs.declared.limits.TheConstants.{ACT_LIMIT}
 use Rattle.iot_exec.specs.Execs.{IsRunning, RunsOn}
 use Rattle.iot_exec.specs.declared.exec.Exec.{Exec}
 use Rattle.iot_exec.specs.declared.ran.Ran.{Ran}
-use Rattle.iot_judging.specs.Clients.{Declared, Item, Running, ClientState, local_run, after_items, base, so_far, view, view_by}
-use Rattle.iot_judging.specs.Clients.{joined, end, leave, leave_by, AtEnd, AtLimit, next_away, next_by, next_step, item_of}
-use Rattle.iot_judging.specs.Clients.{begin, fetch, anew, act_once, one_more}
+use Rattle.iot_machine.specs.Clients.{Declared, Item, Running, ClientState, local_run, after_items, base, so_far, view, view_by}
+use Rattle.iot_machine.specs.Clients.{joined, end, leave, leave_by, AtEnd, AtLimit, next_away, next_by, next_step, item_of}
+use Rattle.iot_machine.specs.Clients.{begin, fetch, anew, act_once, one_more}
 use Rattle.iot_judging.proofs.BudgetLaws.{ended_stays, nothing_done, tree_is, so_far_more}
 
 -- ---- the next step

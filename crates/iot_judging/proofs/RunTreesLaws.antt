@@ -20,10 +20,11 @@ use Rattle.iot_acts.specs.Traces.{after_acts, after_update}
 use Rattle.iot_exec.specs.Commands.{Kept}
 use Rattle.iot_exec.specs.Runs.{run}
 use Rattle.iot_exec.specs.Serial.{Entry, run_entry, tree_from}
-use Rattle.iot_limits.specs.Spelled.{IsSpelledTree, AreSpelledFiles}
+use Rattle.iot_limits.specs.Spelled.{IsSpelledTree}
 use Rattle.iot_limits.proofs.SpelledLaws.{run_is_spelled, root_is_spelled}
-use Rattle.iot_judging.specs.Clients.{Item, local_run, after_items}
+use Rattle.iot_machine.specs.Clients.{Item, local_run, after_items}
 use Rattle.iot_machine.specs.Machine.{Commit, entries_of, tree_after}
+use Rattle.iot_judging.specs.Entries.{IsSpelledEntry}
 use Rattle.iot_judging.proofs.JudgingLaws.{own_acts, run_tree}
 use Rattle.iot_judging.proofs.SpelledTreesLaws.{run_spelled}
 
@@ -49,11 +50,6 @@ items_spelled (item ∷ items) t scripts tree =
 from_tree : (entries : List (Entry Way)) (t : Nodes) → IsTree t → IsTree (tree_from entries t)
 from_tree [] t tree = tree
 from_tree (entry ∷ entries) t tree = from_tree entries (run_entry entry t).tree (run_tree entry.script entry.kept t entry.budget tree)
-
--- the script of the entry is one, and its kept files have spellings
-pub record IsSpelledEntry (entry : Entry Way) : Type 0 where
-  pub script : IsScript entry.script
-  pub kept : AreSpelledFiles entry.kept
 
 from_spelled : (entries : List (Entry Way)) (t : Nodes) → AllByRecursion IsSpelledEntry entries → IsSpelledTree t
     → IsSpelledTree (tree_from entries t)

@@ -15,7 +15,7 @@ use Rattle.iot_lang.specs.Scripts.{IsScript}
 use Rattle.iot_exec.specs.Runs.{run}
 use Rattle.iot_limits.specs.Spelled.{IsSpelledNode, IsSpelledRow, IsSpelledTree}
 use Rattle.iot_limits.proofs.SpelledLaws.{run_is_spelled, no_files_are_spelled}
-use Rattle.iot_judging.specs.Clients.{snapshot}
+use Rattle.iot_machine.specs.Clients.{snapshot}
 
 -- ---- trees that are cut down
 

@@ -1,2 +1,2 @@
-//! Definitions and laws alone: what a client of the plain machine keeps and sees, and what certification says of its runs.
+//! Laws alone: what certification says of the runs of the plain machine's clients, and which trees have spellings.
 #![tactic(auto)]

@@ -1,5 +1,5 @@
 -- Calls of a machine, which say something and answer, and how they are put together, over any state.
-use Rattle.std.specs.Prelude.{◌≡◌, ℕ, Bool, true, false, List, [], ◌++◌}
+use Rattle.std.specs.Prelude.{◌≡◌, ℕ, zero, suc, Bool, true, false, List, [], ◌++◌, Option, None, Some}
 
 -- from a state, a call may say this text, give this answer, and leave the next state
 abbrev pub Call : Type 0 → Type 0 → Type 1
@@ -43,6 +43,20 @@ pub record Then {S A B : Type 0} (one : Call S A) (next : A → Call S B) (m : S
 abbrev pub either : {S A : Type 0} → Call S A → Call S A → Bool → Call S A
 either call other true = call
 either call other false = other
+
+-- a part if the answer was yes, and else nothing more
+abbrev pub goes_on : {S : Type 0} → Part S → Bool → Part S
+goes_on part on = either part Nothing on
+
+-- this answer, if there is one, and else more
+abbrev pub or_ends : {S A : Type 0} → Call S A → Option A → Call S A
+or_ends more None = more
+or_ends more (Some a) = Answers a
+
+-- a call again and again, at most so many times, as long as it answers nothing; this is the answer if it never gave one
+abbrev pub Rounds : {S A : Type 0} → ℕ → A → Call S (Option A) → Call S A
+Rounds zero last round = Answers last
+Rounds (suc n) last round = Then round (or_ends (Rounds n last round))
 
 -- ---- a call on a part of the state
 

@@ -1,79 +1,69 @@
 -- What each event does to the plain machine, and what it prints.
-use Rattle.std.specs.Prelude.{ℕ, ◌+◌, Bool, true, false, List, [], ◌∷◌, ◌++◌, Option, None, Some, length, codes}
-use Rattle.std.specs.FinMap.{empty}
-use Rattle.iot_tree.specs.declared.labels.Way.{Way}
-use Rattle.iot_tree.specs.declared.labels.Way.TheVariants.{Certified}
-use Rattle.iot_tree.specs.declared.limits.TheConstants.{ACT_LIMIT}
-use Rattle.iot_exec.specs.Serial.{Entry, run_entry}
+use Rattle.std.specs.Prelude.{ℕ, true, false, List, [], ◌∷◌, ◌++◌, Option, None, Some, codes}
+use Rattle.iot_tree.specs.declared.want.Want.TheVariants as wanted
 use Rattle.iot_event.specs.declared.event.Event.{Event}
 use Rattle.iot_event.specs.declared.event.Event.TheVariants as events
-use Rattle.iot_machine.specs.Calls.{Call, Part, Gets, Asks, Answers, Does, Says, Nothing, Then, At}
-use Rattle.iot_machine.specs.Nodes.{Node}
-use Rattle.iot_machine.specs.Stops.{Appends, Crashes, Restarts, Shows}
-use Rattle.iot_machine.specs.Machine.{Machine, Commit, Client, Declared, tree_after, add_commit, server, client_at, script_at}
-use Rattle.iot_machine.specs.Texts.{client_line, end_line, commit_line, settled_line, transaction_name, acts_output, tree_text}
+use Rattle.iot_machine.specs.Calls.{Part, Does, Says, Then, At, goes_on}
+use Rattle.iot_machine.specs.Clients.{Declared, Running, Next, AtEnd, AtLimit, Acts, Fetches, new_client, view}
+use Rattle.iot_machine.specs.Machine.{Machine, client_in, node_at, kept_by, server, tree_after}
+use Rattle.iot_machine.specs.Nodes.{opened}
+use Rattle.iot_machine.specs.Serving.{server_name}
+use Rattle.iot_machine.specs.Stops.{Crashes, Restarts, Shows}
+use Rattle.iot_machine.specs.Texts.{client_line, hoard_line, refresh_line, begin_line, step_line, transaction_name, tree_text}
+use Rattle.iot_machine.specs.Transactions.{IfRuns, Takes, Begins, StepsAll, next_of, Ends}
 
 -- ---- declarations
 
 abbrev pub declare_client : List ℕ → Machine → Machine
-declare_client name m = record m { clients = m.clients ++ record { name = name; last = 0 } ∷ [] }
+declare_client name m = record m { clients = m.clients ++ record { name = name; node = opened new_client; first = false } ∷ [] }
 
 abbrev pub declare_script : Declared → Machine → Machine
 declare_script script m = record m { scripts = m.scripts ++ script ∷ [] }
 
--- ---- the server
+-- ---- a client's events
 
-abbrev pub server_name : List ℕ
-server_name = codes "server"
+abbrev pub name_of : ℕ → Machine → List ℕ
+name_of c m = (client_in m c).name
 
--- what a commit of a transaction of this name says after this list: its line, and what its script prints on the list's tree
-abbrev pub commit_text : List ℕ → Commit → List Commit → List ℕ
-commit_text name commit commits =
-    commit_line (length commits + 1) name commit.entry.way ++ acts_output (run_entry commit.entry (tree_after commits)).acts
+abbrev pub Hoards : ℕ → List (List ℕ) → Part Machine
+Hoards c path = Then (Takes c (wanted.Below path)) (goes_on (Says (λ m. hoard_line (name_of c m) path)))
 
--- it is appended, and says so, and its number is the answer; a server that stops answers none
-abbrev pub committed : List ℕ → Bool → Call (Node (List Commit)) (Option ℕ)
-committed text false = Answers None
-committed text true = Then (Says (λ _. text)) (λ _. Asks (λ node. Some (length node.durable)))
+abbrev pub Refreshes : ℕ → Part Machine
+Refreshes c = Then (Takes c wanted.Nothing) (goes_on (Says (λ m. refresh_line (name_of c m))))
 
-abbrev pub Commits : List ℕ → Commit → Call (Node (List Commit)) (Option ℕ)
-Commits name commit =
-    Then (Asks (λ node. commit_text name commit node.durable)) (λ text.
-    Then (Appends server_name (add_commit commit)) (committed text))
+-- what is said of the transaction that runs
+abbrev pub said_of : (Running → List ℕ) → Option Running → List ℕ
+said_of text None = []
+said_of text (Some it) = text it
 
--- ---- a run
+abbrev pub begin_text : ℕ → Machine → List ℕ
+begin_text c m =
+    said_of (λ it. begin_line (transaction_name (name_of c m) it.number) it.script.name (client_in m c).first) (kept_by c m).running
 
--- a client's next transaction begins, and its name is the answer
-abbrev pub Begins : Call Client (List ℕ)
-Begins = Gets (λ client. transaction_name client.name (client.last + 1)) (λ client. record client { last = client.last + 1 })
+abbrev pub BeginsAloud : (client script : ℕ) → Part Machine
+BeginsAloud c s = Then (Begins c s) (goes_on (Says (begin_text c)))
 
--- the client's last transaction as the run of a script, for which `keep` found nothing
-abbrev pub entry_of : (client script : ℕ) → Machine → Entry Way
-entry_of client script m = record {
-  client = client;
-  number = ((client_at client).get m).last;
-  script = (script_at script m).code;
-  budget = ACT_LIMIT;
-  way = Certified;
-  kept = empty;
-}
+abbrev pub place_text : Next → List ℕ
+place_text AtEnd = codes ", at end"
+place_text AtLimit = codes ", at limit"
+place_text Acts = []
+place_text (Fetches path) = []
 
-abbrev pub commit_of : (client script : ℕ) → Machine → Commit
-commit_of client script m = record { script = (script_at script m).name; entry = entry_of client script m }
+abbrev pub step_text : ℕ → Machine → List ℕ
+step_text c m =
+    said_of (λ it. step_line (transaction_name (name_of c m) it.number) it.acts (place_text (next_of c it m))) (kept_by c m).running
 
--- the client learns the number of its commit
-abbrev pub settled : List ℕ → Option ℕ → Part Machine
-settled name None = Nothing
-settled name (Some number) = Says (λ _. settled_line name number)
+-- at most so many single steps, and how far it is then
+abbrev pub StepsAloud : ℕ → (most : ℕ) → Part Machine
+StepsAloud c most = IfRuns c (λ _. Then (StepsAll c true most) (λ _. Says (step_text c)))
 
--- A run of a script: the client's next transaction begins and ends, and is submitted. With one client that is always
--- connected nothing comes between, so the server's tree answers what the client's did, and the transaction is certified.
+-- the single steps that one run makes
+abbrev pub run_steps : ℕ
+run_steps = 100000
+
+-- begin, steps, of which nothing is said, and end
 abbrev pub Runs : (client script : ℕ) → Part Machine
-Runs client script =
-    Then (At (client_at client) Begins) (λ name.
-    Then (Says (λ _. end_line name)) (λ _.
-    Then (Asks (commit_of client script)) (λ commit.
-    Then (At server (Commits name commit)) (settled name))))
+Runs c s = Then (Begins c s) (goes_on (Then (StepsAll c false run_steps) (λ _. Ends c)))
 
 -- ---- the events
 
@@ -81,6 +71,12 @@ abbrev pub event_part : Event → Part Machine
 event_part (events.Client name) = Does (λ _. client_line name) (declare_client name)
 event_part (events.Script name code) = Does (λ _. []) (declare_script (record { name = name; code = code }))
 event_part (events.Run client script) = Runs client script
+event_part (events.Hoard client path) = Hoards client path
+event_part (events.Refresh client) = Refreshes client
+event_part (events.Begin client script) = BeginsAloud client script
+event_part (events.Step client count) = StepsAloud client count
+event_part (events.End client) = Ends client
 event_part events.ShowServer = At server (Shows (λ commits. tree_text (tree_after commits)))
+event_part (events.ShowClient client) = At (node_at client) (Shows (λ state. tree_text (view state)))
 event_part events.CrashServer = At server (Crashes server_name)
 event_part events.RestartServer = At server (Restarts server_name)

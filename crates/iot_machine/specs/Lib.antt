@@ -2,8 +2,10 @@ pub mod Calls
 pub mod Refining
 pub mod Nodes
 pub mod Stops
+pub mod Clients
 pub mod Machine
-pub mod Sound
+pub mod Serving
 pub mod Texts
+pub mod Transactions
 pub mod Events
 pub mod Transcript

@@ -1,27 +1,24 @@
--- The plain machine: the server's list of committed scripts, what each client knows, and the scripts. It has no tree of its
--- own: the server's tree is what its list gives when it is run from the start.
-use Rattle.std.specs.Prelude.{ℕ, List, [], ◌∷◌, ◌++◌, map, slice_index_or, slice_set}
+-- The plain machine: the server's list of committed scripts, the clients, and the scripts. The server has no tree of its own: its
+-- tree is what its list gives when it is run from the start. Nor has a client a view: it is what its transactions make of its tree.
+use Rattle.std.specs.Prelude.{ℕ, Bool, false, List, [], ◌∷◌, ◌++◌, map, slice_index_or, slice_set}
 use Rattle.iot_tree.specs.Tree.{Nodes}
 use Rattle.iot_tree.specs.declared.labels.Way.{Way}
-use Rattle.iot_lang.specs.Code.{Code, End}
+use Rattle.iot_lang.specs.Code.{End}
 use Rattle.iot_exec.specs.Serial.{Entry, serial_tree}
 use Rattle.iot_machine.specs.Calls.{Lens}
+use Rattle.iot_machine.specs.Clients.{Declared, ClientState, new_client}
 use Rattle.iot_machine.specs.Nodes.{Node, opened}
-
--- a script as it was declared
-pub record Declared : Type 0 where
-  pub name : List ℕ
-  pub code : Code
 
 -- a committed transaction, and the name of its script
 pub record Commit : Type 0 where
   pub script : List ℕ
   pub entry : Entry Way
 
--- a client: its name, and the number of its last transaction
+-- a client: its name, its node, and whether its running transaction is first class, which it forgets when it stops
 pub record Client : Type 0 where
   pub name : List ℕ
-  pub last : ℕ
+  pub node : Node ClientState
+  pub first : Bool
 
 -- the server, whose durable state is its list; the clients; the scripts
 pub record Machine : Type 0 where
@@ -48,7 +45,7 @@ add_commit commit commits = commits ++ commit ∷ []
 -- ---- looking up by place
 
 abbrev pub no_client : Client
-no_client = record { name = []; last = 0 }
+no_client = record { name = []; node = opened new_client; first = false }
 
 abbrev pub no_script : Declared
 no_script = record { name = []; code = End }
@@ -56,11 +53,26 @@ no_script = record { name = []; code = End }
 abbrev pub server : Lens Machine (Node (List Commit))
 server = record { get = λ m. m.server; set = λ node m. record m { server = node } }
 
-abbrev pub client_at : ℕ → Lens Machine Client
-client_at c = record {
-  get = λ m. slice_index_or m.clients c no_client;
-  set = λ client m. record m { clients = slice_set m.clients c client };
+abbrev pub client_in : Machine → ℕ → Client
+client_in m c = slice_index_or m.clients c no_client
+
+abbrev pub put_client : ℕ → Client → Machine → Machine
+put_client c client m = record m { clients = slice_set m.clients c client }
+
+-- a client's node
+abbrev pub node_at : ℕ → Lens Machine (Node ClientState)
+node_at c = record {
+  get = λ m. (client_in m c).node;
+  set = λ node m. put_client c (record (client_in m c) { node = node }) m;
 }
+
+-- what a client keeps
+abbrev pub kept_by : ℕ → Machine → ClientState
+kept_by c m = (client_in m c).node.durable
+
+-- its running transaction is first class from now on, or second class
+abbrev pub set_class : ℕ → (first : Bool) → Machine → Machine
+set_class c first m = put_client c (record (client_in m c) { first = first }) m
 
 abbrev pub script_at : ℕ → Machine → Declared
 script_at s m = slice_index_or m.scripts s no_script

@@ -1,5 +1,5 @@
 -- The lines that events print.
-use Rattle.std.specs.Prelude.{ℕ, List, [], ◌∷◌, ◌++◌, codes, decimal}
+use Rattle.std.specs.Prelude.{ℕ, Bool, true, false, List, [], ◌∷◌, ◌++◌, codes, decimal}
 use Rattle.std.specs.FinMap.{entries}
 use Rattle.std.specs.List.{flat_map}
 use Rattle.iot_text.specs.Paths.{path_text}
@@ -8,6 +8,8 @@ use Rattle.iot_tree.specs.Tree.{Nodes}
 use Rattle.iot_tree.specs.declared.nodes.Node.{Node}
 use Rattle.iot_tree.specs.declared.nodes.Node.TheVariants.{Dir, File, FarDir, FarFile}
 use Rattle.iot_tree.specs.declared.acts.Act.{Act}
+use Rattle.iot_tree.specs.declared.questions.Question.{Question}
+use Rattle.iot_tree.specs.declared.questions.Question.TheVariants.{Kind, Content, Names}
 use Rattle.iot_tree.specs.declared.labels.Way.{Way}
 use Rattle.iot_tree.specs.declared.labels.Way.TheVariants.{Certified, Reexecuted, Resolved}
 
@@ -64,3 +66,41 @@ settled_line tid number = line (codes "settled " ++ tid ++ 32 ∷ decimal number
 
 abbrev pub client_line : List ℕ → List ℕ
 client_line name = line (codes "client " ++ name)
+
+abbrev pub hoard_line : List ℕ → List (List ℕ) → List ℕ
+hoard_line name path = line (codes "hoard " ++ name ++ 32 ∷ path_text path)
+
+abbrev pub refresh_line : List ℕ → List ℕ
+refresh_line name = line (codes "refresh " ++ name)
+
+abbrev pub class_text : (first : Bool) → List ℕ
+class_text true = codes "first"
+class_text false = codes "second"
+
+abbrev pub begin_line : List ℕ → List ℕ → (first : Bool) → List ℕ
+begin_line tid script first = line (codes "begin " ++ tid ++ 32 ∷ script ++ 32 ∷ class_text first)
+
+abbrev pub away_text : (away : Bool) → List ℕ
+away_text true = codes " away"
+away_text false = []
+
+abbrev pub fetch_line : List (List ℕ) → (away : Bool) → List ℕ
+fetch_line path away = line (codes "fetch " ++ path_text path ++ away_text away)
+
+-- so many acts were done; and this is said of the place
+abbrev pub step_line : List ℕ → ℕ → List ℕ → List ℕ
+step_line tid acts place = line (codes "step " ++ tid ++ 32 ∷ decimal acts ++ codes " acts" ++ place)
+
+abbrev pub question_text : Question → List ℕ
+question_text (Kind p) = codes "kind " ++ path_text p
+question_text (Content p) = codes "content " ++ path_text p
+question_text (Names p) = codes "names " ++ path_text p
+
+abbrev pub conflict_line : List ℕ → ℕ → Question → List ℕ
+conflict_line tid read question = line (codes "conflict " ++ tid ++ codes " read " ++ decimal read ++ 32 ∷ question_text question)
+
+abbrev pub abort_line : List ℕ → List ℕ
+abort_line tid = line (codes "abort " ++ tid)
+
+abbrev pub pending_line : List ℕ → List ℕ
+pending_line tid = line (codes "pending " ++ tid)

@@ -10,7 +10,7 @@ use Rattle.iot_acts.specs.Turns.{reads_of}
 use Rattle.iot_exec.specs.Parting.{PartsAt}
 use Rattle.iot_exec.specs.Serial.{run_entry}
 use Rattle.iot_machine.specs.Calls.{Call, Answers, Asks, Says, Then}
-use Rattle.iot_judging.specs.Clients.{snapshot}
+use Rattle.iot_machine.specs.Clients.{snapshot}
 use Rattle.iot_machine.specs.Machine.{Commit, add_commit, tree_after}
 use Rattle.iot_machine.specs.Nodes.{Node}
 use Rattle.iot_machine.specs.Stops.{Appends}
