@@ -1,7 +1,7 @@
 -- Events that are done one by one.
 use Rattle.std.proofs.Common.{◌≡◌, ℕ, suc, ◌+◌, ◌<◌, ◌≤◌, Bool, true, false, not, List, [], ◌∷◌, ◌++◌, length, take, drop, slice_index_or}
 use Rattle.std.proofs.Common.{Option, Some, None}
-use Rattle.std.proofs.Common.{refl, sym, ap, subst, ◌∙◌, arith, append_assoc, add-one}
+use Rattle.std.proofs.Common.{refl, sym, ap, subst, ◌∙◌, append_assoc, add-one}
 use Rattle.std.proofs.lemmas.List.{append-nil, take_all, take-append-drop}
 use Rattle.std.proofs.Math.Seq.{drop-cons, take-suc}
 use Rattle.std.specs.Io.KnownBytes.{Appends}
@@ -16,7 +16,7 @@ use Rattle.iot_machine.specs.Transcript.{InTurn, Transcript}
 use Rattle.iot_world.specs.Allowed.{IsAllowed}
 use Rattle.iot_world.specs.Faults.{FaultCounts}
 use Rattle.iot_world.specs.Records.{FirstHolds}
-use Rattle.iot_world.specs.World.{StandsFor, Steps, NumbersAtMost, DeclaredOn, IsOpened, client_count, script_count, server_is_up, disks_of}
+use Rattle.iot_world.specs.World.{StandsFor, Steps, DeclaredOn, IsOpened, client_count, script_count, server_is_up, disks_of}
 use Rattle.iot_world.specs.declared.fault.WorldFault.{WorldFault}
 use Rattle.iot_world.specs.declared.fault.WorldFault.TheVariants as world
 use Rattle.iot_world.specs.declared.world.World.{World}
@@ -60,10 +60,16 @@ not_false false is = refl
 -- the first of events that are declared may come
 allowed : {D : Type 0} (event : Event) (later : List Event) (world : World D) → DeclaredOn (event ∷ later) world
     → IsAllowed event (client_count world) (script_count world) (server_is_up world)
-allowed (events.Client name) later world declared = omega (arith, declared.1)
+allowed (events.Client name) later world declared = declared.1
 allowed (events.Script name code) later world declared = tt
 allowed (events.Run client script) later world declared = (declared.1, declared.2, not_true (server_is_up world) declared.0)
+allowed (events.Hoard client path) later world declared = (declared.1, not_true (server_is_up world) declared.0)
+allowed (events.Refresh client) later world declared = (declared.1, not_true (server_is_up world) declared.0)
+allowed (events.Begin client script) later world declared = (declared.1, declared.2, not_true (server_is_up world) declared.0)
+allowed (events.Step client count) later world declared = (declared.1, not_true (server_is_up world) declared.0)
+allowed (events.End client) later world declared = (declared.1, not_true (server_is_up world) declared.0)
 allowed events.ShowServer later world declared = tt
+allowed (events.ShowClient client) later world declared = (declared.1, not_true (server_is_up world) declared.0)
 allowed events.CrashServer later world declared = not_true (server_is_up world) declared.0
 allowed events.RestartServer later world declared = not_false (server_is_up world) declared.0
 
@@ -76,11 +82,6 @@ pub record PlaysOn {D : Type 0} (reads : D → List ℕ) (may_leave : D → List
   pub stands : StandsFor reads may_leave world machine
   pub written : Appends before after text
   pub declared : DeclaredOn (drop done events) world
-  pub counts : NumbersAtMost done world
-
--- counts that are at most this are at most that
-pub counts_within : {D : Type 0} (n limit : ℕ) (world : World D) → n ≤ limit → NumbersAtMost n world → NumbersAtMost limit world
-counts_within n limit world within counts = record { clients = λ k d there. omega (arith, within, counts.clients k d there) }
 
 pub appends_none : (written : Option (List ℕ)) → Appends written written []
 appends_none None = tt
@@ -101,7 +102,6 @@ plays_none reads may_leave before after events world is declared written = recor
       subst (λ (n : ℕ). AreDeclared events n (script_count world) (not (server_is_up world))) (sym is.no_clients)
       (subst (λ (n : ℕ). AreDeclared events 0 n (not (server_is_up world))) (sym is.no_scripts)
       (subst (λ (up : Bool). AreDeclared events 0 0 (not up)) (sym is.up) declared));
-  counts = is.counts;
 }
 
 -- the event that is done next, and its text
@@ -137,10 +137,9 @@ module _ {D : Type 0} (reads : D → List ℕ) (may_leave : D → List ℕ → T
   -- it is done, and what it says is written
   pub plays_more : (after : Option (List ℕ))
       → ((later : List Event) → DeclaredOn (event ∷ later) old → DeclaredOn later new)
-      → ((limit : ℕ) → NumbersAtMost limit old → NumbersAtMost (limit + 1) new)
       → Appends mid after out
       → PlaysOn reads may_leave before after events new (done + 1)
-  plays_more after declares counts appends = record {
+  plays_more after declares appends = record {
     text = plays.text ++ out;
     machine = next.machine;
     transcript =
@@ -149,7 +148,6 @@ module _ {D : Type 0} (reads : D → List ℕ) (may_leave : D → List ℕ → T
     stands = next.stands;
     written = Appends-trans before mid after plays.text out plays.written appends;
     declared = declares (drop (done + 1) events) (subst (λ (es : List Event). DeclaredOn es old) rest plays.declared);
-    counts = counts done plays.counts;
   }
 
   -- it is done, and only a front of what it says is written

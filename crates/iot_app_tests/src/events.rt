@@ -4,19 +4,26 @@ use std::test::Fail;
 
 /// A script with a comment, blank lines and blocks, and other forms of line.
 const INPUT: &[u8] =
-    b"# one client\nclient laptop\n\nscript init {\nif ok {\n# made\nmkdir /src\n}\n}\n \t\n\
-    run laptop init abort\ncrash server\n\n#\n\trestart  server\nshow server";
+    b"# two clients\nclient laptop\nclient desk\n\nscript init {\nif ok {\n# made\nmkdir /src\n}\n}\n \t\n\
+    run laptop init abort\nhoard desk /src\nstep desk 7\nshow desk\ncrash server\n\n#\n\trestart  server\nshow server";
 
 #[test]
 fn gives_events(rt: HostRuntime) -> Result<(), Fail> {
     let events = parse(rt.alloc(), INPUT)?;
     let [
         Event::Client(client),
+        Event::Client(other),
         Event::Script(name, _),
         Event::Run {
             client: 0,
             script: 0,
         },
+        Event::Hoard { client: 1, .. },
+        Event::Step {
+            client: 1,
+            count: 7,
+        },
+        Event::ShowClient { client: 1 },
         Event::CrashServer,
         Event::RestartServer,
         Event::ShowServer,
@@ -25,6 +32,7 @@ fn gives_events(rt: HostRuntime) -> Result<(), Fail> {
         return Err(Fail::new("other events"));
     };
     assert_eq!(rt; client.as_bytes(), b"laptop".as_slice());
+    assert_eq!(rt; other.as_bytes(), b"desk".as_slice());
     assert_eq!(rt; name.as_bytes(), b"init".as_slice());
     Ok(())
 }
@@ -37,4 +45,9 @@ fn gives_the_first_fault(rt: HostRuntime) {
     assert!(rt; matches!(open, Err(EventFault::BadLine { line: 1 })));
     let twice = parse(rt.alloc(), b"client server\n");
     assert!(rt; matches!(twice, Err(EventFault::Twice { line: 1 })));
+    let nine = parse(
+        rt.alloc(),
+        b"client a\nclient b\nclient c\nclient d\nclient e\nclient f\nclient g\nclient h\nclient i\n",
+    );
+    assert!(rt; matches!(nine, Err(EventFault::TooMany { line: 9 })));
 }

@@ -1,4 +1,4 @@
-//! Runs on sources, sinks and disks that fail, and one on which nothing fails; and what a store finds on the disk after it.
+//! Runs on sources, sinks and disks that fail, and two on which nothing fails; and what a store finds on the disk after one.
 ghost use Rattle.std.specs.Prelude.{IfOk};
 ghost use Rattle.iot_app.specs.Disks.{AreEmptyDisks};
 
@@ -31,6 +31,26 @@ const RECORDED: &[u8] = b"\xa5IOTJRNL1\xa5\0\0\0\0\0\0\0\xae\x01\
     \0\0\0\0\0\0\0\x01\x02\0\0\0\0\0\0\0\x01\0\0\0\0\0\0\0\x01x\x02\
     \0\0\0\0\0\0\0\0\x01\0\0\0\0\0\0\0\x10cat: /x: no file\0";
 
+/// Two clients. One of them lists a directory in which the other then makes a file, and its transaction is aborted.
+const CONFLICT: &[u8] = b"client laptop\nclient desk\n\
+    script init {\nmkdir /d\nwrite /d/n 1\n}\n\
+    script put {\nwrite /d/a A\n}\n\
+    script list {\nls /d\nwrite /d/b B\n}\n\
+    run laptop init abort\nhoard desk /d\nbegin desk list abort\nstep desk 1\nend desk\nrefresh desk\n\
+    run laptop put abort\nstep desk 2\nend desk\nend desk\nrefresh laptop\nrun laptop list abort\n\
+    show laptop\nshow desk\nshow server\n";
+
+/// What it says.
+const CONFLICTED: &[u8] =
+    b"client laptop\nclient desk\nend laptop.1\ncommit 1 laptop.1 certified\nsettled laptop.1 1\n\
+    hoard desk /d\nbegin desk.1 list first\nstep desk.1 1 acts\nnot at end\nbusy\n\
+    end laptop.2\ncommit 2 laptop.2 certified\nsettled laptop.2 2\n\
+    step desk.1 2 acts, at end\nend desk.1\nconflict desk.1 read 1 names /d\nabort desk.1\nidle\n\
+    refresh laptop\nend laptop.3\ncommit 3 laptop.3 certified\n|a\n|n\nsettled laptop.3 3\n\
+    dir /\ndir /d\nfile /d/a \"A\"\nfile /d/b \"B\"\nfile /d/n \"1\"\n\
+    dir /\ndir /d\nfile /d/b \"B\"\nfile /d/n \"1\"\n\
+    dir /\ndir /d\nfile /d/a \"A\"\nfile /d/b \"B\"\nfile /d/n \"1\"\n";
+
 /// Which calls of a run's objects fail: of its source and of its sink the ones with this number, and of its first disk
 /// the one with this number. There is no call 0.
 #[derive(Clone, Copy)]
@@ -58,14 +78,15 @@ fn armed_disks(alloc: Global, failing: Failing) -> Result<Vec<MemDisk>, NoMemory
     Ok(disks)
 }
 
-/// How a run on these words ends, and what it writes.
+/// How a run on this input and these words ends, and what it writes.
 fn ran(
     alloc: Global,
+    input: &[u8],
     words: &[&str],
     failing: Failing,
 ) -> Result<(Outcome<MemDisk>, Vec<u8>), NoMemory> {
     let reads = Vec::from_slice(alloc, &[failing.read])?;
-    let mut source = MemSource::new(Vec::from_slice(alloc, CRASH)?, reads);
+    let mut source = MemSource::new(Vec::from_slice(alloc, input)?, reads);
     let writes = Vec::from_slice(alloc, &[failing.write])?;
     let mut sink = MemSink::new(alloc, 4096, writes, Vec::new(alloc))?;
     let disks = armed_disks(alloc, failing)?;
@@ -91,7 +112,7 @@ fn lines_in(written: &[u8]) -> usize {
 #[test]
 fn a_run_keeps_its_commit(rt: HostRuntime) -> Result<(), Fail> {
     let alloc = rt.alloc();
-    let (ended, written) = ran(alloc, &[], NONE)?;
+    let (ended, written) = ran(alloc, CRASH, &[], NONE)?;
     assert_eq!(rt; ended.status, 0);
     assert!(rt; written.starts_with(COMMITTED) && written.ends_with(CRASHED));
     assert_eq!(rt; written.len(), COMMITTED.len() + CRASHED.len());
@@ -102,6 +123,14 @@ fn a_run_keeps_its_commit(rt: HostRuntime) -> Result<(), Fail> {
     let made = Path::parse(alloc, b"/d")?;
     assert!(rt; store.tree().kind(&made) == Kind::IsDir);
     assert_eq!(rt; store.into_disk().bytes(), RECORDED);
+    Ok(())
+}
+
+#[test]
+fn a_client_aborts_by_what_another_did(rt: HostRuntime) -> Result<(), Fail> {
+    let (ended, written) = ran(rt.alloc(), CONFLICT, &[], NONE)?;
+    assert_eq!(rt; ended.status, 0);
+    assert_eq!(rt; written.as_slice(), CONFLICTED);
     Ok(())
 }
 
@@ -120,7 +149,7 @@ fn a_read_or_a_write_that_fails_ends_the_run(rt: HostRuntime) -> Result<(), Fail
             write,
             ..NONE
         };
-        let (ended, written) = ran(rt.alloc(), words, failing)?;
+        let (ended, written) = ran(rt.alloc(), CRASH, words, failing)?;
         assert_eq!(rt; ended.status, status);
         assert_eq!(rt; lines_in(&written), lines);
     }
@@ -138,7 +167,7 @@ fn a_disk_that_fails_ends_the_run(rt: HostRuntime) -> Result<(), Fail> {
                 pick,
                 ..NONE
             };
-            let (ended, written) = ran(alloc, &[], failing)?;
+            let (ended, written) = ran(alloc, CRASH, &[], failing)?;
             assert_eq!(rt; ended.status, 7, "call {device}");
             let lines = match device {
                 1..=6 => 0,

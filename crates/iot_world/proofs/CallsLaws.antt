@@ -1,8 +1,8 @@
 -- How steps go together, over any world and any machine.
-use Rattle.std.proofs.Common.{◌≡◌, ℕ, List, [], ◌++◌, refl, sym, ap, ◌∙◌, append_assoc}
+use Rattle.std.proofs.Common.{◌≡◌, ℕ, suc, List, [], ◌++◌, Option, Some, None, refl, sym, ap, ◌∙◌, append_assoc}
 use Rattle.std.proofs.lemmas.List.{append-nil}
-use Rattle.iot_machine.specs.Calls.{Call, Asks, Answers, Does, Says, Nothing, Then}
-use Rattle.iot_machine.specs.Refining.{Refines}
+use Rattle.iot_machine.specs.Calls.{Call, Asks, Answers, Does, Says, Nothing, Then, Rounds}
+use Rattle.iot_machine.specs.Refining.{Refines, Leads}
 
 module _ {W M : Type 0} {stands : W → M → Type 0} where
   pub bind : {A B : Type 0} {one : Call M A} {next : A → Call M B} (u v w : W) (x y z : List ℕ) (a : A) (b : B)
@@ -39,3 +39,40 @@ module _ {W M : Type 0} {stands : W → M → Type 0} where
 
   pub nothing : (u : W) (x : List ℕ) → Refines stands Nothing u u x x tt
   nothing u x = says_this [] u x x (sym (append-nil x))
+
+  -- ---- rounds
+
+  pub leads_all : {A : Type 0} {call : Call M A} (u : W) (x : List ℕ) → Leads stands call call u u x x
+  leads_all u x = record { from = λ v y a one. one }
+
+  -- one more round, which answered nothing
+  pub leads_on : {A : Type 0} {whole : Call M A} (n : ℕ) (last : A) (round : Call M (Option A)) (t u v : W) (x y z : List ℕ) (o : Option A)
+      → o ≡ None → Leads stands whole (Rounds (suc n) last round) t u x y → Refines stands round u v y z o
+      → Leads stands whole (Rounds n last round) t v x z
+  leads_on n last round t u v x y z o none so_far one = record {
+    from = λ w end a more. so_far.from w end a (bind u v w y z end o a one (rw none more));
+  }
+
+  -- the last round, which answered
+  pub leads_out : {A : Type 0} {whole : Call M A} (n : ℕ) (last : A) (round : Call M (Option A)) (t u v : W) (x y z : List ℕ)
+      (o : Option A) (a : A)
+      → o ≡ Some a → Leads stands whole (Rounds (suc n) last round) t u x y → Refines stands round u v y z o
+      → Refines stands whole t v x z a
+  leads_out n last round t u v x y z o a some so_far one = so_far.from v z a (bind u v v y z z o a one (rw some (answers v z a)))
+
+  -- ---- answers that are not known
+
+  -- whatever is answered that is so, the rest is a step
+  pub asks_any : {A B : Type 0} {ask : M → A} {next : A → Call M B} (P : A → Type 0) (u v : W) (x y : List ℕ) (b : B)
+      → ((m : M) → stands u m → P (ask m)) → ((a : A) → P a → Refines stands (next a) u v x y b)
+      → Refines stands (Then (Asks ask) next) u v x y b
+  asks_any {ask} P u v x y b is more = record {
+    step = λ m here.
+        let s = (more (ask m) (is m here)).step m here in (
+          s.0,
+          s.1,
+          s.2,
+          record { mid = m; front = []; rest = s.0; answer = ask m; first = (refl, refl, refl); second = s.3; whole = refl },
+          s.4,
+        );
+  }

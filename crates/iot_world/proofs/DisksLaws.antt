@@ -8,7 +8,7 @@ use Rattle.iot_machine.specs.Machine.{Commit}
 use Rattle.iot_world.specs.Disks.{AreFresh, OnlyFirst, first_count}
 use Rattle.iot_world.specs.Faults.{FaultCounts}
 use Rattle.iot_world.specs.Records.{FirstHolds, records_of, state_of}
-use Rattle.iot_world.specs.Servers.{disk_of, KeepsList, ServerStands, HandsBack}
+use Rattle.iot_world.specs.Servers.{disk_of, KeepsList, SameDisk, ServerStands, HandsBack}
 use Rattle.iot_world.specs.World.{with_first, disks_of, HasDisks, SameDisks, Opens, HandsAllBack}
 use Rattle.iot_world.specs.declared.fault.WorldFault.{WorldFault}
 use Rattle.iot_world.specs.declared.fault.WorldFault.TheVariants as world
@@ -46,6 +46,14 @@ module _ {D : Type 0} (arms_of : D → Arms) (faults_of : D → ℕ) where
   then_done_disks old mid new counts one other = record {
     first = then_done arms_of faults_of old.server mid.server new.server counts one.first other.first;
     others = other.others ∙ one.others;
+  }
+
+  -- only clients had changed, and then something was done to them
+  pub apart_disks : (old mid new : World D) (counts : Counted → Type 0) → mid.server ≡ old.server → mid.spare ≡ old.spare
+      → SameDisks arms_of faults_of counts mid new → SameDisks arms_of faults_of counts old new
+  apart_disks old mid new counts server spare other = record {
+    first = subst (λ (s : Server D). SameDisk arms_of faults_of counts s new.server) server other.first;
+    others = other.others ∙ spare;
   }
 
   -- their counts mean the same in other words

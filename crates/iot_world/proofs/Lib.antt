@@ -2,6 +2,14 @@ pub mod CallsLaws
 pub mod ListLaws
 pub mod RecordsLaws
 pub mod ServersLaws
-pub mod WorldLaws
+pub mod LendingLaws
+pub mod JudgesLaws
+pub mod LaptopsLaws
+pub mod LaptopStepsLaws
+pub mod LaptopCallsLaws
 pub mod StepsLaws
+pub mod ReadyLaws
+pub mod TransactionsLaws
+pub mod EndsLaws
+pub mod EventsLaws
 pub mod DisksLaws

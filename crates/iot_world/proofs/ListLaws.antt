@@ -1,5 +1,7 @@
 -- Lists that are looked up and changed at a place, and lists that go together by place.
-use Rattle.std.proofs.Common.{◌≡◌, ℕ, zero, suc, ◌<◌, List, [], ◌∷◌, ◌++◌, length, slice_index_or, slice_set, refl, ap, arith}
+use Rattle.std.proofs.Common.{◌≡◌, ℕ, zero, suc, ◌<◌, List, [], ◌∷◌, ◌++◌, length, refl, ap, subst, arith}
+use Rattle.std.proofs.Common.{slice_get, slice_index_or, slice_set, Some}
+use Rattle.std.proofs.lemmas.Option.{same_Some}
 use Rattle.iot_world.specs.World.{Each}
 
 -- the element at a place inside does not depend on the default
@@ -43,3 +45,42 @@ module _ {W M : Type 0} (stands : W → M → Type 0) where
   each_length [] (m ∷ ms) all = absurd all
   each_length (w ∷ ws) [] all = absurd all
   each_length (w ∷ ws) (m ∷ ms) all = ap suc (each_length ws ms all.1)
+
+-- what was set last is there
+pub set_twice : {A : Type 0} (xs : List A) (place : ℕ) (x y : A) → slice_set (slice_set xs place x) place y ≡ slice_set xs place y
+set_twice [] place x y = refl
+set_twice (z ∷ zs) zero x y = refl
+set_twice (z ∷ zs) (suc place) x y = ap (λ zs. z ∷ zs) (set_twice zs place x y)
+
+module _ {W M : Type 0} (stands : W → M → Type 0) where
+  -- the elements at one place go together
+  pub each_get : (ws : List W) (ms : List M) (c : ℕ) (w : W) (e : M) → slice_get ws c ≡ Some w → Each stands ws ms
+      → stands w (slice_index_or ms c e)
+  each_get [] ms c w e at all = absurd cc
+  each_get (w' ∷ ws) [] c w e at all = absurd all
+  each_get (w' ∷ ws) (m ∷ ms) zero w e at all = subst (λ (v : W). stands v m) (same_Some w' w at) all.0
+  each_get (w' ∷ ws) (m ∷ ms) (suc c) w e at all = each_get ws ms c w e at all.1
+
+  pub get_inside : (ws : List W) (ms : List M) (c : ℕ) (w : W) → slice_get ws c ≡ Some w → Each stands ws ms → c < length ms
+  get_inside [] ms c w at all = absurd cc
+  get_inside (w' ∷ ws) [] c w at all = absurd all
+  get_inside (w' ∷ ws) (m ∷ ms) zero w at all = omega arith
+  get_inside (w' ∷ ws) (m ∷ ms) (suc c) w at all = let e : c < length ms = get_inside ws ms c w at all.1 in omega (arith, e)
+
+-- what was set is there
+pub get_set : {A : Type 0} (xs : List A) (c : ℕ) (x y : A) → slice_get (slice_set xs c x) c ≡ Some y → x ≡ y
+get_set [] c x y at = absurd cc
+get_set (z ∷ zs) zero x y at = same_Some x y at
+get_set (z ∷ zs) (suc c) x y at = get_set zs c x y at
+
+-- what was set is there, inside
+pub get_here : {A : Type 0} (xs : List A) (c : ℕ) (x y : A) → slice_get xs c ≡ Some y → slice_get (slice_set xs c x) c ≡ Some x
+get_here [] c x y at = absurd cc
+get_here (z ∷ zs) zero x y at = refl
+get_here (z ∷ zs) (suc c) x y at = get_here zs c x y at
+
+-- setting what is there changes nothing
+pub set_same : {A : Type 0} (xs : List A) (c : ℕ) (d : A) → slice_set xs c (slice_index_or xs c d) ≡ xs
+set_same [] c d = refl
+set_same (z ∷ zs) zero d = refl
+set_same (z ∷ zs) (suc c) d = ap (λ zs. z ∷ zs) (set_same zs c d)

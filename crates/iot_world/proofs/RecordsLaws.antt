@@ -1,6 +1,7 @@
 -- One more entry in a list of commits.
 use Rattle.std.proofs.Common.{◌≡◌, ℕ, List, [], ◌∷◌, ◌++◌, refl, sym, ap, ◌∙◌}
 use Rattle.std.proofs.lemmas.List.{map-append}
+use Rattle.std.specs.List.{AllByRecursion}
 use Rattle.iot_tree.specs.Tree.{Nodes, root_alone}
 use Rattle.iot_tree.specs.declared.nodes.Node.TheVariants.{Dir}
 use Rattle.iot_tree.specs.declared.labels.Label.{Label}
@@ -9,6 +10,7 @@ use Rattle.iot_acts.specs.Traces.{after_acts}
 use Rattle.iot_exec.specs.Serial.{Entry, run_entry, tree_from}
 use Rattle.iot_store.specs.States.{State, after_commit}
 use Rattle.iot_store.specs.Records.{record_spelling}
+use Rattle.iot_judging.specs.Entries.{IsSpelledEntry}
 use Rattle.iot_machine.specs.Machine.{Commit, entries_of, tree_after}
 use Rattle.iot_world.specs.Records.{label_of, records_from, records_of, state_of}
 use Rattle.iot_world.specs.Servers.{AreOf}
@@ -71,3 +73,10 @@ module _ (commits : List Commit) (commit : Commit) (label : Label) (acts : List 
       state_of-append commits commit (are.made ∙ ap (after_acts (tree_after commits)) (sym are.has_acts))
       ∙ ap (λ (l : Label). after_commit (state_of commits) l (run_entry commit.entry (tree_after commits)).acts) are.has_label
       ∙ ap (after_commit (state_of commits) label) are.has_acts
+
+-- one more entry that has a spelling
+pub list_spelled_more : (commits : List Commit) (commit : Commit) → AllByRecursion IsSpelledEntry (entries_of commits)
+    → IsSpelledEntry commit.entry
+    → AllByRecursion IsSpelledEntry (entries_of (commits ++ commit ∷ []))
+list_spelled_more [] commit all one = (one, tt)
+list_spelled_more (first ∷ later) commit all one = (all.0, list_spelled_more later commit all.1 one)

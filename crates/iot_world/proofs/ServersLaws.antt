@@ -21,7 +21,7 @@ use Rattle.iot_machine.specs.Refining.{Refines}
 use Rattle.iot_machine.specs.Nodes.{Node, opened, changed, back}
 use Rattle.iot_machine.specs.Stops.{Appends, ComesBack, Crashes, Restarts, Shows}
 use Rattle.iot_machine.specs.Machine.{Commit, add_commit, tree_after}
-use Rattle.iot_machine.specs.Events.{server_name}
+use Rattle.iot_machine.specs.Serving.{server_name}
 use Rattle.iot_machine.specs.Texts.{line, tree_text}
 use Rattle.iot_world.specs.Faults.{FaultCounts, of_start, of_append}
 use Rattle.iot_world.specs.Records.{IsImage, AreImages, label_of, records_of, state_of}
@@ -31,7 +31,7 @@ use Rattle.iot_world.specs.Servers.{SameDisk, HasDisk}
 use Rattle.iot_world.specs.declared.server.Server.{Server}
 use Rattle.iot_world.specs.declared.server.Server.TheVariants.{Up, Down, Between}
 use Rattle.iot_world.proofs.CallsLaws.{bind, asks, does, says, says_this}
-use Rattle.iot_world.proofs.RecordsLaws.{record_is, state_is}
+use Rattle.iot_world.proofs.RecordsLaws.{record_is, state_is, list_spelled_more}
 
 -- no bytes are a journal without a body
 nothing_decoded : decoded [] ≡ Encodes []
@@ -75,6 +75,7 @@ module _ {D : Type 0} (reads : D → List ℕ) (may_leave : D → List ℕ → T
   opened_stands disk it none synced found only = record {
     alive = refl;
     keeps = started disk it [] opening (ap decoded none ∙ nothing_decoded) refl synced found only;
+    spelled = tt;
   }
 
   -- each image of a synced store has its records
@@ -146,6 +147,7 @@ module _ {D : Type 0} (reads : D → List ℕ) (may_leave : D → List ℕ → T
                   made ∙ ap (λ (s : State). after_commit s label acts) here.keeps.has_state
                   ∙ sym (state_is node.durable commit label acts here_of);
             };
+            spelled = list_spelled_more node.durable commit here.spelled are.spelled;
           },
         );
   }
@@ -162,7 +164,7 @@ module _ {D : Type 0} (reads : D → List ℕ) (may_leave : D → List ℕ → T
   crash_up old new x y falls wrote = rw (falls.was, falls.is)
       (bind (Up falls.it) (Up falls.it) (Down _) x x y true tt (asks (Up falls.it) x true (λ node here. here.alive))
       (does (Up falls.it) (Down _) x y
-      (λ node here. (wrote, record { alive = refl; keeps = store_images falls.it _ _ here.keeps }))))
+      (λ node here. (wrote, record { alive = refl; keeps = store_images falls.it _ _ here.keeps; spelled = here.spelled }))))
 
   -- ---- a restart
 
@@ -185,7 +187,7 @@ module _ {D : Type 0} (reads : D → List ℕ) (may_leave : D → List ℕ → T
           back node.durable node,
           wrote,
           (refl, refl),
-          record { alive = refl; keeps = started disk it _ _ is.has_records is.leads synced found only },
+          record { alive = refl; keeps = started disk it _ _ is.has_records is.leads synced found only; spelled = here.spelled },
         );
   }
 

@@ -1,312 +1,286 @@
--- What the world does is what the machine does.
-use Rattle.std.proofs.Common.{◌≡◌, ℕ, ◌+◌, ◌<◌, Bool, true, false, List, [], ◌∷◌, ◌++◌, length, Option, None, Some}
-use Rattle.std.proofs.Common.{refl, sym, ap, subst, ◌∙◌, arith, length-append}
+-- What a world does to its clients is what the machine does to its own.
+use Rattle.std.proofs.Common.{◌≡◌, ℕ, ◌<◌, Bool, true, false, List, [], ◌++◌, length, Option, Some, None, is_some}
+use Rattle.std.proofs.Common.{slice_get, slice_set, refl, sym, ap, subst, ◌∙◌, arith, codes}
 use Rattle.std.proofs.lemmas.List.{append-nil, length-set}
-use Rattle.std.specs.FinMap.{empty}
-use Rattle.iot_tree.specs.Tree.{Nodes}
-use Rattle.iot_tree.specs.declared.acts.Act.{Act}
-use Rattle.iot_tree.specs.declared.limits.TheConstants.{ACT_LIMIT}
-use Rattle.iot_tree.specs.declared.labels.Way.TheVariants.{Certified}
-use Rattle.iot_lang.specs.Code.{Code}
+use Rattle.iot_tree.specs.Tree.{Nodes, IsTree}
+use Rattle.iot_tree.specs.declared.want.Want.{Want}
 use Rattle.iot_limits.specs.Spelled.{IsSpelledTree}
-use Rattle.iot_exec.specs.Serial.{run_entry}
-use Rattle.iot_event.specs.declared.event.Event.TheVariants as events
-use Rattle.iot_machine.specs.Calls.{Part, At, Asks, Does, Says, Then, either}
-use Rattle.iot_machine.specs.Refining.{Refines}
-use Rattle.iot_machine.specs.Nodes.{Node, changed, fallen}
-use Rattle.iot_machine.specs.Stops.{Appends, ComesBack, Crashes, Restarts, Shows}
+use Rattle.iot_client.specs.States.{Transaction}
+use Rattle.iot_client.specs.Ties.{Live, state_of, live_of}
+use Rattle.iot_machine.specs.Calls.{Call, Asks}
+use Rattle.iot_machine.specs.Nodes.{Node, changed}
+use Rattle.iot_machine.specs.Clients as clients
+use Rattle.iot_machine.specs.Clients.{Declared, ClientState, Next, AtEnd, AtLimit, Acts, Fetches, snapshot, begin, act_once, fetch, hold}
 use Rattle.iot_machine.specs.Machine as machine
-use Rattle.iot_machine.specs.Machine.{Machine, Commit, server, client_at, script_at, add_commit, tree_after}
-use Rattle.iot_machine.specs.Sound.{AreNumbered}
-use Rattle.iot_machine.specs.Events.{event_part, declare_client, declare_script, server_name, commit_text, Commits}
-use Rattle.iot_machine.specs.Events.{Begins as Beginning, commit_of, settled, Runs}
-use Rattle.iot_machine.specs.Texts.{client_line, end_line, commit_line, settled_line, acts_output, transaction_name}
-use Rattle.iot_world.specs.Servers.{is_up, count_of, ServerStands}
-use Rattle.iot_world.specs.World.{Each, ClientStands, ScriptStands, StandsFor, Steps, Begins, AddsClient, AddsScript}
-use Rattle.iot_world.specs.World.{client_in, script_in, commit_in, transaction_of, next_client}
-use Rattle.iot_world.specs.declared.world.World.{World}
-use Rattle.iot_world.specs.declared.world.Client.{Client}
-use Rattle.iot_world.specs.declared.world.DeclaredScript.{DeclaredScript}
+use Rattle.iot_machine.specs.Machine.{Machine, Commit, server, tree_after, client_in, put_client, node_at, kept_by, set_class, no_client}
+use Rattle.iot_machine.specs.Serving.{Lends}
+use Rattle.iot_machine.specs.Texts.{line}
+use Rattle.iot_machine.specs.Transactions.{Notes, Exchange, Refuses, runs, pends, IfIdle, IfNonePends, Held, Holds, Starts}
+use Rattle.iot_judging.proofs.RunTreesLaws.{list_tree, list_spelled}
+use Rattle.iot_judging.proofs.SpelledTreesLaws.{snapshot_tree, snapshot_spelled}
+use Rattle.iot_world.specs.Laptops.{LaptopStands, RunningStands, RunningStandsIfAny, Noted, Begun, waits_of}
+use Rattle.iot_world.specs.Servers.{is_up, tree_of, ServerStands}
+use Rattle.iot_world.specs.World.{Each, StandsFor, Steps, ScriptStands}
+use Rattle.iot_world.specs.declared.laptop.Laptop.{Laptop}
 use Rattle.iot_world.specs.declared.server.Server.{Server}
-use Rattle.iot_world.specs.declared.texts.Transaction.{Transaction}
-use Rattle.iot_world.proofs.CallsLaws.{bind, asks, says_this, nothing}
-use Rattle.iot_world.proofs.ListLaws.{each_push, each_length}
-use Rattle.iot_world.proofs.RecordsLaws.{tree_after-append}
-use Rattle.iot_world.proofs.ServersLaws.{count_is}
-use Rattle.iot_world.proofs.WorldLaws.{client_stands, script_stands, begun, begin_stands, begun_is, numbered_append, numbered_first}
+use Rattle.iot_world.specs.declared.world.DeclaredScript.{DeclaredScript}
+use Rattle.iot_world.specs.declared.world.World.{World}
+use Rattle.iot_world.proofs.CallsLaws.{bind, asks, answers, says_this}
+use Rattle.iot_world.proofs.ListLaws.{each_get, each_set, get_inside, set_at, set_twice}
+use Rattle.iot_world.proofs.ServersLaws.{up_tree}
+use Rattle.iot_world.proofs.LaptopsLaws.{runs_is, waits_is}
 
--- ---- the calls of the server that leave its list
+-- the client at this place of a world
+abbrev pub IsAt : {D : Type 0} → World D → ℕ → Laptop → Type 0
+IsAt world c laptop = slice_get world.clients.items c ≡ Some laptop
 
--- such a call
-pub record KeepsList (call : Part (Node (List Commit))) : Type 0 where
-  pub same : (node n : Node (List Commit)) (text : List ℕ) → call node text tt n → n.durable ≡ node.durable
+-- this client stands at its place now; else nothing but disks has changed
+pub record Puts {D : Type 0} (c : ℕ) (laptop : Laptop) (old new : World D) : Type 0 where
+  pub server : new.server ≡ old.server
+  pub scripts : new.scripts.items ≡ old.scripts.items
+  pub clients : new.clients.items ≡ slice_set old.clients.items c laptop
 
-asks_keeps : {A : Type 0} {ask : Node (List Commit) → A} (next : A → Part (Node (List Commit))) → ((a : A) → KeepsList (next a))
-    → KeepsList (Then (Asks ask) next)
-asks_keeps next keeps = record {
-  same = λ node n text call.
-      (keeps call.answer).same call.mid n call.rest call.second ∙ ap (λ (k : Node (List Commit)). k.durable) call.first.2;
-}
+-- ---- the running transaction
 
-either_keeps : (one other : Part (Node (List Commit))) → KeepsList one → KeepsList other → (test : Bool) → KeepsList (either one other test)
-either_keeps one other first second true = first
-either_keeps one other first second false = second
+-- the machine's running transaction
+abbrev pub running_of : Option Transaction → Option Live → Option clients.Running
+running_of (Some running) (Some live) = Some (record {
+  number = running.number;
+  script = record { name = running.script; code = live.code };
+  acts = length running.acts;
+})
+running_of (Some running) None = None
+running_of None live = None
 
-does_keeps : {text : Node (List Commit) → List ℕ} (change : Node (List Commit) → Node (List Commit))
-    → ((node : Node (List Commit)) → (change node).durable ≡ node.durable) → KeepsList (Does text change)
-does_keeps change keeps = record { same = λ node n text call. ap (λ (k : Node (List Commit)). k.durable) call.1 ∙ keeps node }
+running_with : (number : ℕ) (name : List ℕ) (running : Transaction) (live : Live) (first : Bool) (it : clients.Running)
+    → RunningStands running live first it
+    → Some it ≡ running_of (Some running) (Some live)
+running_with number name running live first it stands =
+    ap (λ (n : ℕ). Some (record { number = n; script = it.script; acts = it.acts })) (sym stands.number)
+    ∙ ap (λ (n : List ℕ). Some (record { number = running.number; script = record { name = n; code = it.script.code }; acts = it.acts }))
+    (sym stands.name)
+    ∙ ap (λ (a : ℕ). Some (record { number = running.number; script = record { name = running.script; code = it.script.code }; acts = a }))
+    (sym stands.acts)
+    ∙ ap (λ c. running_of (Some running) (Some (record live { code = c }))) (sym stands.code)
 
-says_keeps : {text : Node (List Commit) → List ℕ} → KeepsList (Says text)
-says_keeps = does_keeps (λ node. node) (λ node. refl)
+running_by : (running : Option Transaction) (live : Option Live) (first : Bool) (it : Option clients.Running)
+    → RunningStandsIfAny running live first it → it ≡ running_of running live
+running_by None live first None stands = refl
+running_by None live first (Some it) stands = absurd stands
+running_by (Some running) None first None stands = absurd stands
+running_by (Some running) (Some live) first None stands = absurd stands
+running_by (Some running) None first (Some it) stands = absurd stands
+running_by (Some running) (Some live) first (Some it) stands = running_with 0 [] running live first it stands
 
-comes_back_keeps : (name : List ℕ) → KeepsList (ComesBack name)
-comes_back_keeps name = record { same = λ node n text call. ap (λ (k : Node (List Commit)). k.durable) call.1 }
+abbrev pub running_in : Laptop → Option clients.Running
+running_in laptop = running_of (state_of laptop.client).running (live_of laptop.client)
 
-pub shows_keeps : (text : List Commit → List ℕ) → KeepsList (Shows text)
-shows_keeps text = asks_keeps _ (either_keeps _ _ says_keeps says_keeps)
+pub running_is : (laptop : Laptop) (m : machine.Client) → LaptopStands laptop m → m.node.durable.running ≡ running_in laptop
+running_is laptop m here =
+    running_by (state_of laptop.client).running (live_of laptop.client) m.first m.node.durable.running here.state.running
 
-pub crashes_keeps : (name : List ℕ) → KeepsList (Crashes name)
-crashes_keeps name = asks_keeps _ (either_keeps _ _ (does_keeps fallen (λ node. refl)) says_keeps)
+pub record Runs (laptop : Laptop) : Type 0 where
+  pub it : clients.Running
+  pub is : running_in laptop ≡ Some it
 
-pub restarts_keeps : (name : List ℕ) → KeepsList (Restarts name)
-restarts_keeps name = asks_keeps _ (either_keeps _ _ says_keeps (comes_back_keeps name))
+runs_by : (running : Option Transaction) (live : Option Live) (first : Bool) (it : Option clients.Running) → is_some running ≡ true
+    → RunningStandsIfAny running live first it
+    → (one : clients.Running) × (running_of running live ≡ Some one)
+runs_by None live first it is stands = absurd cc
+runs_by (Some running) (Some live) first it is stands = (
+  record {
+    number = running.number;
+    script = record { name = running.script; code = live.code };
+    acts = length running.acts;
+  },
+  refl,
+)
+runs_by (Some running) None first None is stands = absurd stands
+runs_by (Some running) None first (Some it) is stands = absurd stands
 
--- a commit that found nothing to keep
-abbrev commit_with : List ℕ → ℕ → ℕ → Code → Commit
-commit_with name client number code = record {
-  script = name;
-  entry = record { client = client; number = number; script = code; budget = ACT_LIMIT; way = Certified; kept = empty };
-}
+-- if a transaction runs, it is one of the machine's
+pub it_runs : (laptop : Laptop) (m : machine.Client) → LaptopStands laptop m → is_some (state_of laptop.client).running ≡ true → Runs laptop
+it_runs laptop m here is =
+    let one = runs_by (state_of laptop.client).running (live_of laptop.client) m.first m.node.durable.running is here.state.running in
+    record { it = one.0; is = one.1 }
+
+none_by : (running : Option Transaction) (live : Option Live) → is_some running ≡ false → running_of running live ≡ None
+none_by None live is = refl
+none_by (Some running) live is = absurd cc
+
+pub none_runs : (laptop : Laptop) → is_some (state_of laptop.client).running ≡ false → running_in laptop ≡ None
+none_runs laptop is = none_by (state_of laptop.client).running (live_of laptop.client) is
 
 module _ {D : Type 0} (reads : D → List ℕ) (may_leave : D → List ℕ → Type 0) where
-  pub at_server : (call : Part (Node (List Commit))) (old new : World D) (x y : List ℕ) → KeepsList call → new.view ≡ old.view
-      → new.clients.items ≡ old.clients.items → new.scripts.items ≡ old.scripts.items
-      → Refines (ServerStands reads may_leave) call old.server new.server x y tt
-      → Steps reads may_leave (At server call) old new x y tt
-  at_server call old new x y keeps view clients scripts one = record {
+  -- ---- one client
+
+  pub laptop_stands : (world : World D) (m : Machine) (c : ℕ) (laptop : Laptop) → IsAt world c laptop → StandsFor reads may_leave world m
+      → LaptopStands laptop (client_in m c)
+  laptop_stands world m c laptop at here = each_get LaptopStands world.clients.items m.clients c laptop no_client at here.clients
+
+  pub inside : (world : World D) (m : Machine) (c : ℕ) (laptop : Laptop) → IsAt world c laptop → StandsFor reads may_leave world m
+      → c < length m.clients
+  inside world m c laptop at here = get_inside LaptopStands world.clients.items m.clients c laptop at here.clients
+
+  pub puts_stands : (old new : World D) (m : Machine) (c : ℕ) (laptop : Laptop) (client : machine.Client) → Puts c laptop old new
+      → LaptopStands laptop client → StandsFor reads may_leave old m → StandsFor reads may_leave new (put_client c client m)
+  puts_stands old new m c laptop client puts stands here = record {
+    server = subst (λ (s : Server D). ServerStands reads may_leave s m.server) (sym puts.server) here.server;
+    clients =
+        subst (λ (ls : List Laptop). Each LaptopStands ls (slice_set m.clients c client)) (sym puts.clients)
+        (each_set LaptopStands old.clients.items m.clients c laptop client stands here.clients);
+    scripts = subst (λ (ss : List DeclaredScript). Each ScriptStands ss m.scripts) (sym puts.scripts) here.scripts;
+    few = omega (arith, here.few, ap length puts.clients, length-set old.clients.items c laptop);
+  }
+
+  -- a change of what a client keeps
+  pub notes : (c : ℕ) (old new : World D) (was laptop : Laptop) (change : ClientState → ClientState) (x : List ℕ) → IsAt old c was
+      → Puts c laptop old new → Noted change was laptop → Steps reads may_leave (Notes c change) old new x x true
+  notes c old new was laptop change x at puts noted = record {
     step = λ m here.
-        let s = one.step m.server here.server in
-        let same : s.1.durable ≡ m.server.durable = keeps.same m.server s.1 s.0 s.3 in (
-          s.0,
-          server.set s.1 m,
-          s.2,
-          record { inner = s.1; step = s.3; is = refl },
-          record {
-            server = s.4;
-            clients = subst (λ (cs : List Client). Each ClientStands cs m.clients) (sym clients) here.clients;
-            scripts = subst (λ (ss : List DeclaredScript). Each ScriptStands ss m.scripts) (sym scripts) here.scripts;
-            view = view ∙ here.view ∙ ap tree_after (sym same);
-            spelled = subst IsSpelledTree (sym view) here.spelled;
-            few = omega (arith, here.few, ap length clients);
-            sound = record { numbered = subst (AreNumbered m) (sym same) here.sound.numbered };
-          },
+        let node : Node ClientState = changed change (client_in m c).node in (
+          [],
+          (node_at c).set node m,
+          sym (append-nil x),
+          record { inner = node; step = (refl, refl, refl); is = refl },
+          puts_stands old new m c laptop (record (client_in m c) { node = node }) puts
+              (noted.stands (client_in m c) (laptop_stands old m c was at here)) here,
         );
   }
 
-  -- ---- declarations
+  -- ---- what is asked of a client
 
-  pub declares_client : (name : List ℕ) (old new : World D) (x y : List ℕ) → length old.clients.items ≡ 0 → AddsClient name old new
-      → y ≡ x ++ client_line name → Steps reads may_leave (event_part (events.Client name)) old new x y tt
-  declares_client name old new x y none adds wrote = record {
-    step = λ m here. (
-      client_line name,
-      declare_client name m,
-      wrote,
-      (refl, refl),
-      record {
-        server = subst (λ (s : Server D). ServerStands reads may_leave s m.server) (sym adds.server) here.server;
-        clients =
-            subst (λ (cs : List Client). Each ClientStands cs (m.clients ++ record { name = name; last = 0 } ∷ [])) (sym adds.clients)
-            (each_push ClientStands old.clients.items m.clients (record { name = name; last = 0 }) (record { name = name; last = 0 })
-            (record { name = refl; last = refl }) here.clients);
-        scripts = subst (λ (ss : List DeclaredScript). Each ScriptStands ss m.scripts) (sym adds.scripts) here.scripts;
-        view = adds.view ∙ here.view;
-        spelled = subst IsSpelledTree (sym adds.view) here.spelled;
-        few = omega (arith, none, ap length adds.clients, length-append old.clients.items (record { name = name; last = 0 } ∷ []));
-        sound = record {
-          numbered =
-              numbered_first m (declare_client name m) m.server.durable
-              (no_clients m.clients (omega (arith, none, each_length ClientStands old.clients.items m.clients here.clients)))
-              here.sound.numbered;
-        };
-      },
-    );
-  }
-    where
-      no_clients : (cs : List machine.Client) → length cs ≡ 0 → cs ≡ []
-      no_clients [] is = refl
-      no_clients (c ∷ cs) is = absurd (omega (arith, is))
+  module _ (c : ℕ) (world : World D) (laptop : Laptop) (x : List ℕ) (at : IsAt world c laptop) where
+    pub asks_runs : Steps reads may_leave (Asks (runs c)) world world x x (is_some (state_of laptop.client).running)
+    asks_runs =
+        asks world x (is_some (state_of laptop.client).running)
+        (λ m here. runs_is _ _ _ _ (laptop_stands world m c laptop at here).state)
 
-  pub declares_script : (name : List ℕ) (code : Code) (old new : World D) (x : List ℕ) → AddsScript name code old new
-      → Steps reads may_leave (event_part (events.Script name code)) old new x x tt
-  declares_script name code old new x adds = record {
+    pub asks_pends : Steps reads may_leave (Asks (pends c)) world world x x (waits_of (state_of laptop.client).items)
+    asks_pends =
+        asks world x (waits_of (state_of laptop.client).items)
+        (λ m here. waits_is _ _ _ _ (laptop_stands world m c laptop at here).state)
+
+    pub asks_held : Steps reads may_leave (Asks (λ m. (kept_by c m).held)) world world x x (state_of laptop.client).held
+    asks_held = asks world x (state_of laptop.client).held (λ m here. (laptop_stands world m c laptop at here).state.held)
+
+    pub asks_running : Steps reads may_leave (Asks (λ m. (kept_by c m).running)) world world x x (running_in laptop)
+    asks_running =
+        asks world x (running_in laptop)
+        (λ m here. sym (running_is laptop (client_in m c) (laptop_stands world m c laptop at here)))
+
+    -- ---- refusals
+
+    pub refuses : (word y : List ℕ) → y ≡ x ++ line word → Steps reads may_leave (Refuses word) world world x y false
+    refuses word y wrote = bind world world world x y y tt false (says_this (line word) world x y wrote) (answers world y false)
+
+    pub is_busy : {call : Call Machine Bool} (y : List ℕ) → is_some (state_of laptop.client).running ≡ true
+        → y ≡ x ++ line (codes "busy") → Steps reads may_leave (IfIdle c call) world world x y false
+    is_busy {call} y is wrote =
+        bind world world world x x y true false
+        (subst (λ (b : Bool). Steps reads may_leave (Asks (runs c)) world world x x b) is asks_runs)
+        (refuses (codes "busy") y wrote)
+
+    pub is_idle : {call : Call Machine Bool} (new : World D) (y : List ℕ) (b : Bool) → is_some (state_of laptop.client).running ≡ false
+        → Steps reads may_leave call world new x y b → Steps reads may_leave (IfIdle c call) world new x y b
+    is_idle {call} new y b is one =
+        bind world world new x x y false b
+        (subst (λ (b : Bool). Steps reads may_leave (Asks (runs c)) world world x x b) is asks_runs)
+        one
+
+    pub is_pending : {call : Call Machine Bool} (y : List ℕ) → waits_of (state_of laptop.client).items ≡ true
+        → y ≡ x ++ line (codes "pending") → Steps reads may_leave (IfNonePends c call) world world x y false
+    is_pending {call} y is wrote =
+        bind world world world x x y true false
+        (subst (λ (b : Bool). Steps reads may_leave (Asks (pends c)) world world x x b) is asks_pends)
+        (refuses (codes "pending") y wrote)
+
+    pub none_pends : {call : Call Machine Bool} (new : World D) (y : List ℕ) (b : Bool) → waits_of (state_of laptop.client).items ≡ false
+        → Steps reads may_leave call world new x y b → Steps reads may_leave (IfNonePends c call) world new x y b
+    none_pends {call} new y b is one =
+        bind world world new x x y false b
+        (subst (λ (b : Bool). Steps reads may_leave (Asks (pends c)) world world x x b) is asks_pends)
+        one
+
+  -- ---- objects
+
+  -- what a server lends is its tree cut down, which is a tree and has a spelling
+  module _ (world : World D) (m : Machine) (held t : Nodes) (want : Want) (up : is_up world.server ≡ true)
+      (lends : (tree : Nodes) → tree_of world.server ≡ Some tree → t ≡ snapshot held want tree)
+      (here : StandsFor reads may_leave world m) where
+    pub lent_is : t ≡ snapshot held want (tree_after m.server.durable)
+    lent_is = lends (tree_after m.server.durable) (up_tree reads may_leave world.server m.server up here.server)
+
+    pub lent_tree : IsTree t
+    lent_tree = subst IsTree (sym lent_is) (snapshot_tree held want (tree_after m.server.durable) (list_tree m.server.durable))
+
+    pub lent_spelled : IsSpelledTree t
+    lent_spelled =
+        subst IsSpelledTree (sym lent_is)
+        (snapshot_spelled held want (tree_after m.server.durable) (list_spelled m.server.durable here.server.spelled))
+
+  pub lent : (c : ℕ) (world : World D) (held t : Nodes) (want : Want) (x : List ℕ) → is_up world.server ≡ true
+      → ((tree : Nodes) → tree_of world.server ≡ Some tree → t ≡ snapshot held want tree)
+      → Steps reads may_leave (Exchange c (Lends held want)) world world x x (Some t)
+  lent c world held t want x up lends = record {
     step = λ m here. (
       [],
-      declare_script (record { name = name; code = code }) m,
+      m,
       sym (append-nil x),
-      (refl, refl),
-      record {
-        server = subst (λ (s : Server D). ServerStands reads may_leave s m.server) (sym adds.server) here.server;
-        clients = subst (λ (cs : List Client). Each ClientStands cs m.clients) (sym adds.clients) here.clients;
-        scripts =
-            subst (λ (ss : List DeclaredScript). Each ScriptStands ss (m.scripts ++ record { name = name; code = code } ∷ []))
-            (sym adds.scripts)
-            (each_push ScriptStands old.scripts.items m.scripts (record { name = name; script = code })
-            (record { name = name; code = code })
-            (record { name = refl; code = refl }) here.scripts);
-        view = adds.view ∙ here.view;
-        spelled = subst IsSpelledTree (sym adds.view) here.spelled;
-        few = omega (arith, here.few, ap length adds.clients);
-        sound = record { numbered = here.sound.numbered };
-      },
+      record { inner = m.server; step = (refl, ap Some (lent_is world m held t want up lends here), refl); is = refl },
+      here,
     );
   }
 
-  -- ---- a run
+  -- what is wanted is brought and held
+  pub brings : (c : ℕ) (old new : World D) (was laptop : Laptop) (change : Nodes → ClientState → ClientState) (want : Want) (t : Nodes)
+      (x : List ℕ)
+      → IsAt old c was → is_up old.server ≡ true
+      → ((tree : Nodes) → tree_of old.server ≡ Some tree → t ≡ snapshot (state_of was.client).held want tree) → Puts c laptop old new
+      → Noted (change t) was laptop → Steps reads may_leave (Holds c change want) old new x x Held
+  brings c old new was laptop change want t x at up lends puts noted =
+      bind old old new x x x (Some t) Held
+      (bind old old old x x x (state_of was.client).held (Some t) (asks_held c old was x at)
+      (lent c old (state_of was.client).held t want x up lends))
+      (bind old new new x x x true Held (notes c old new was laptop (change t) x at puts noted) (answers new x Held))
 
-  -- a client's next transaction has begun
-  pub begins_step : (client : ℕ) (old mid : World D) (x : List ℕ) (t : Transaction) → client < length old.clients.items
-      → Begins client old mid → t ≡ transaction_of (client_in mid client)
-      → Steps reads may_leave (At (client_at client) Beginning) old mid x x (transaction_name t.client t.number)
-  begins_step client old mid x t within begins is = record {
+  -- ---- begin
+
+  -- its next transaction has begun
+  pub starts : (c : ℕ) (old new : World D) (was laptop : Laptop) (script : Declared) (first : Bool) (x : List ℕ) → IsAt old c was
+      → Puts c laptop old new → Begun script first was laptop → Steps reads may_leave (Starts c script first) old new x x true
+  starts c old new was laptop script first x at puts begun = record {
     step = λ m here.
-        let it : ClientStands (client_in old client) ((client_at client).get m) = client_stands reads may_leave old m client here within in
-        let named : transaction_name t.client t.number
-        ≡ transaction_name ((client_at client).get m).name (((client_at client).get m).last + 1) =
-        ap (λ (t : Transaction). transaction_name t.client t.number) is
-        ∙ ap (λ (c : Client). transaction_name c.name c.last) (begun_is reads may_leave client old mid within begins)
-        ∙ ap (λ (n : List ℕ). transaction_name n ((client_in old client).last + 1)) it.name
-        ∙ ap (λ (n : ℕ). transaction_name ((client_at client).get m).name (n + 1)) it.last in (
+        let node : Node ClientState = changed (begin script) (client_in m c).node in
+        let mid : Machine = (node_at c).set node m in
+        let client : machine.Client = record (client_in m c) { node = node } in
+        let same : set_class c first mid ≡ put_client c (record client { first = first }) m =
+        ap (λ (k : machine.Client). put_client c (record k { first = first }) mid)
+        (set_at m.clients c client no_client (inside old m c was at here))
+        ∙ ap (λ (cs : List machine.Client). record m { clients = cs })
+        (set_twice m.clients c client (record client { first = first })) in (
           [],
-          (client_at client).set (begun client m) m,
+          set_class c first mid,
           sym (append-nil x),
-          record { inner = begun client m; step = (refl, named, refl); is = refl },
-          begin_stands reads may_leave client old mid m within begins here,
+          record {
+            mid = mid;
+            front = [];
+            rest = [];
+            answer = true;
+            first = record { inner = node; step = (refl, refl, refl); is = refl };
+            second = (refl, refl, refl);
+            whole = refl;
+          },
+          subst (StandsFor reads may_leave new) (sym same)
+              (puts_stands old new m c laptop (record client { first = first }) puts
+              (begun.stands (client_in m c) (laptop_stands old m c was at here)) here),
         );
   }
 
-  -- the machine's commit is the world's
-  commit_is : (client script : ℕ) (world : World D) (m : Machine) → client < length world.clients.items
-      → script < length world.scripts.items → StandsFor reads may_leave world m → commit_in world client script ≡ commit_of client script m
-  commit_is client script world m in_clients in_scripts here =
-      let c : ClientStands (client_in world client) ((client_at client).get m) =
-      client_stands reads may_leave world m client here in_clients in
-      let s : ScriptStands (script_in world script) (script_at script m) = script_stands reads may_leave world m script here in_scripts in
-      ap (λ (n : ℕ). commit_with (script_in world script).name client n (script_in world script).script) c.last
-      ∙ ap (λ (n : List ℕ). commit_with n client ((client_at client).get m).last (script_in world script).script) s.name
-      ∙ ap (λ (code : Code). commit_with (script_at script m).name client ((client_at client).get m).last code) s.code
-
-  -- the server was asked to append it, and has not stopped
-  pub submits : (client script : ℕ) (name : List ℕ) (number : ℕ) (acts : List Act) (on : Bool) (world new : World D) (x y : List ℕ)
-      → client < length world.clients.items → on ≡ true
-      → Refines (ServerStands reads may_leave) (Appends server_name (add_commit (commit_in world client script)))
-      world.server new.server x x on
-      → is_up new.server ≡ true → number ≡ count_of new.server
-      → new.view ≡ (run_entry (commit_in world client script).entry world.view).tree
-      → acts ≡ (run_entry (commit_in world client script).entry world.view).acts
-      → IsSpelledTree new.view → new.clients.items ≡ world.clients.items → new.scripts.items ≡ world.scripts.items
-      → y ≡ x ++ (commit_line number name Certified ++ acts_output acts)
-      → Steps reads may_leave (At server (Commits name (commit_in world client script))) world new x y (Some number)
-  submits client script name number acts on world new x y within goes one up counted view ran spelled clients scripts wrote = record {
-    step = λ m here.
-        let commit : Commit = commit_in world client script in
-        let s = one.step m.server here.server in
-        let after : Node (List Commit) = changed (add_commit commit) m.server in
-        let stands : ServerStands reads may_leave new.server after = subst (ServerStands reads may_leave new.server) s.3.2 s.4 in
-        let count : number ≡ length after.durable = counted ∙ count_is reads may_leave new.server after up stands in
-        let next : length m.server.durable + 1 ≡ number = omega (arith, count, length-append m.server.durable (commit ∷ [])) in
-        let text : List ℕ = commit_text name commit m.server.durable in
-        let same : text ≡ commit_line number name Certified ++ acts_output acts =
-        ap (λ (n : ℕ). commit_line n name Certified ++ acts_output (run_entry commit.entry (tree_after m.server.durable)).acts) next
-        ∙ ap (λ (t : Nodes). commit_line number name Certified ++ acts_output (run_entry commit.entry t).acts) (sym here.view)
-        ∙ ap (λ (them : List Act). commit_line number name Certified ++ acts_output them) (sym ran) in (
-          text,
-          server.set after m,
-          wrote ∙ ap (λ (t : List ℕ). x ++ t) (sym same),
-          record {
-            inner = after;
-            is = refl;
-            step = record {
-              mid = m.server;
-              front = [];
-              rest = text;
-              answer = text;
-              first = (refl, refl, refl);
-              whole = refl;
-              second = record {
-                mid = after;
-                front = [];
-                rest = text;
-                answer = true;
-                first = (refl, refl, refl);
-                whole = refl;
-                second = record {
-                  mid = after;
-                  front = text;
-                  rest = [];
-                  answer = tt;
-                  first = (refl, refl);
-                  second = (refl, ap Some count, refl);
-                  whole = sym (append-nil text);
-                };
-              };
-            };
-          },
-          record {
-            server = stands;
-            clients = subst (λ (cs : List Client). Each ClientStands cs m.clients) (sym clients) here.clients;
-            scripts = subst (λ (ss : List DeclaredScript). Each ScriptStands ss m.scripts) (sym scripts) here.scripts;
-            view =
-                view ∙ ap (λ (t : Nodes). (run_entry commit.entry t).tree) here.view ∙ sym (tree_after-append m.server.durable commit);
-            spelled = spelled;
-            few = omega (arith, here.few, ap length clients);
-            sound = record {
-              numbered =
-                  numbered_append m m.server.durable commit here.sound.numbered
-                  (omega (arith, (client_stands reads may_leave world m client here within).last));
-            };
-          },
-        );
-  }
-
-  -- it never stops yet
-  pub submit_stops : (client script : ℕ) (name : List ℕ) (on : Bool) (world new : World D) (x : List ℕ) → on ≡ false
-      → Refines (ServerStands reads may_leave) (Appends server_name (add_commit (commit_in world client script)))
-      world.server new.server x x on
-      → Steps reads may_leave (At server (Commits name (commit_in world client script))) world new x x None
-  submit_stops client script name on world new x stops one = record {
-    step = λ m here. absurd (let e : false ≡ true = sym stops ∙ (one.step m.server here.server).3.1 in cc);
-  }
-
-  module _ (client script : ℕ) (t : Transaction) (old mid new : World D) (x y z : List ℕ)
-      (in_clients : client < length old.clients.items) (in_scripts : script < length mid.scripts.items)
-      (begins : Begins client old mid) (is : t ≡ transaction_of (client_in mid client))
-      (ended : y ≡ x ++ end_line (transaction_name t.client t.number)) where
-    -- what is left of a run after its submission makes the whole of it
-    from_submit : (w : List ℕ) (number : Option ℕ)
-        → Steps reads may_leave (At server (Commits (transaction_name t.client t.number) (commit_in mid client script))) mid new y z number
-        → Steps reads may_leave (settled (transaction_name t.client t.number) number) new new z w tt
-        → Steps reads may_leave (Runs client script) old new x w tt
-    from_submit w number submitted last =
-        let name : List ℕ = transaction_name t.client t.number in
-        let same : length mid.clients.items ≡ length old.clients.items =
-        ap length begins.clients ∙ length-set old.clients.items client (next_client (client_in old client)) in
-        bind old mid new x x w name tt (begins_step client old mid x t in_clients begins is)
-        (bind mid mid new x y w tt tt (says_this (end_line name) mid x y ended)
-        (bind mid mid new y y w (commit_in mid client script) tt
-        (asks mid y (commit_in mid client script)
-        (λ m here. commit_is client script mid m (omega (arith, same, in_clients)) in_scripts here))
-        (bind mid new new y z w number tt submitted last)))
-
-    abbrev submitting : Option ℕ → Type 0
-    submitting number =
-        Steps reads may_leave (At server (Commits (transaction_name t.client t.number) (commit_in mid client script))) mid new y z number
-
-    pub runs : (w : List ℕ) (got : Option ℕ) (number : ℕ) → got ≡ Some number → submitting got
-        → w ≡ z ++ settled_line (transaction_name t.client t.number) number
-        → Steps reads may_leave (Runs client script) old new x w tt
-    runs w got number is submitted wrote =
-        from_submit w (Some number) (subst submitting is submitted) (says_this _ new z w wrote)
-
-    pub run_stops : (got : Option ℕ) → got ≡ None → submitting got → Steps reads may_leave (Runs client script) old new x z tt
-    run_stops got is submitted = from_submit z None (subst submitting is submitted) (nothing new z)
+  -- of a script that is the same
+  pub starts_as : (c : ℕ) (old new : World D) (was laptop : Laptop) (script other : Declared) (first : Bool) (x : List ℕ) → script ≡ other
+      → IsAt old c was → Puts c laptop old new → Begun script first was laptop
+      → Steps reads may_leave (Starts c other first) old new x x true
+  starts_as c old new was laptop script other first x is at puts begun =
+      subst (λ (s : Declared). Steps reads may_leave (Starts c s first) old new x x true) is
+      (starts c old new was laptop script first x at puts begun)

@@ -1,23 +1,34 @@
 -- A server, alive or down, over its disk.
 use Rattle.std.specs.Prelude.{◌≡◌, ℕ, Bool, true, false, List, length, Option, Some, None}
-use Rattle.iot_tree.specs.Tree.{Nodes}
+use Rattle.std.specs.List.{AllByRecursion}
+use Rattle.iot_tree.specs.Tree.{Nodes, IsTree}
 use Rattle.iot_tree.specs.declared.acts.Act.{Act}
 use Rattle.iot_tree.specs.declared.labels.Label.{Label}
+use Rattle.iot_tree.specs.declared.labels.Way.TheVariants.{Certified}
 use Rattle.iot_count.specs.Counts.{Counted}
 use Rattle.iot_disk.specs.Disk.{Arms}
 use Rattle.iot_codec.specs.Rules.{IsLabel, AreActs}
 use Rattle.iot_store.specs.States.{State, CanFollow}
+use Rattle.iot_store.specs.Numbers.{number_in}
 use Rattle.iot_store.specs.Store as store
 use Rattle.iot_store.specs.declared.store.Store.{Store}
 use Rattle.iot_acts.specs.Traces.{after_acts}
+use Rattle.iot_acts.specs.Turns.{reads_of}
 use Rattle.iot_exec.specs.Serial.{run_entry}
 use Rattle.iot_machine.specs.Nodes.{Node}
-use Rattle.iot_machine.specs.Machine.{Commit}
+use Rattle.iot_machine.specs.Machine.{Commit, entries_of}
+use Rattle.iot_machine.specs.Serving as serving
+use Rattle.iot_machine.specs.Serving.{Submission}
+use Rattle.iot_machine.specs.Texts.{transaction_name}
+use Rattle.iot_judging.specs.Entries.{IsSpelledEntry}
 use Rattle.iot_world.specs.Records.{AreImages, label_of, records_of, state_of}
 use Rattle.iot_world.specs.Faults.{FaultCounts}
 use Rattle.iot_world.specs.declared.server.Server.{Server}
 use Rattle.iot_world.specs.declared.server.Server.TheVariants.{Up, Down, Between}
 use Rattle.iot_world.specs.declared.fault.WorldFault.{WorldFault}
+use Rattle.iot_world.specs.declared.texts.Transaction.{Transaction}
+use Rattle.iot_world.specs.declared.verdict.Verdict.{Verdict}
+use Rattle.iot_world.specs.declared.verdict.Verdict.TheVariants.{Settled, Conflict}
 
 abbrev pub is_up : {D : Type 0} → Server D → Bool
 is_up (Up it) = true
@@ -64,6 +75,8 @@ pub record ServerStands {D : Type 0} (reads : D → List ℕ) (may_leave : D →
     (node : Node (List Commit)) : Type 0 where
   pub alive : is_up server ≡ node.alive
   pub keeps : KeepsList reads may_leave server node.durable
+  -- so that what its tree holds has a spelling
+  pub spelled : AllByRecursion IsSpelledEntry (entries_of node.durable)
 
 -- it stands for some node
 pub record ServerIsSound {D : Type 0} (reads : D → List ℕ) (may_leave : D → List ℕ → Type 0) (server : Server D) : Type 0 where
@@ -75,6 +88,33 @@ pub record AreOf (commit : Commit) (tree : Nodes) (label : Label) (acts : List A
   pub has_label : label_of commit ≡ label
   pub has_acts : (run_entry commit.entry tree).acts ≡ acts
   pub made : (run_entry commit.entry tree).tree ≡ after_acts tree acts
+  -- so that the tree that it makes has a spelling
+  pub spelled : IsSpelledEntry commit.entry
+
+-- ---- submissions
+
+-- the number of a client's transaction in the list of a live server
+abbrev pub number_for : {D : Type 0} → Server D → (client tid : ℕ) → Option ℕ
+number_for (Up it) client tid = number_in (store.state_of it).labels client tid
+number_for (Down disk) client tid = None
+number_for Between client tid = None
+
+abbrev pub verdict_of : Verdict → serving.Verdict
+verdict_of (Settled number) = serving.Settled number
+verdict_of (Conflict read question) = serving.Conflict read question
+
+-- this label, these acts and this name are those of a submission, whose script was run on some tree
+pub record IsSubmission (label : Label) (acts : List Act) (transaction : Transaction) (it : Submission) : Type 0 where
+  pub name : it.name ≡ transaction_name transaction.client transaction.number
+  pub has_label : label_of it.commit ≡ label
+  pub way : it.commit.entry.way ≡ Certified
+  pub base : Nodes
+  pub tree : IsTree base
+  pub has_acts : acts ≡ (run_entry it.commit.entry base).acts
+  pub reads : it.reads ≡ reads_of acts
+  pub spelled : IsSpelledEntry it.commit.entry
+
+-- ---- how a server changes
 
 -- a live server is down then, and its disk is left
 pub record Falls {D : Type 0} (old new : Server D) : Type 0 where

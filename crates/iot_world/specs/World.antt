@@ -1,33 +1,28 @@
 -- Which plain machine a world stands for, node by node, and how a world changes.
-use Rattle.std.specs.Prelude.{◌≡◌, ℕ, ◌+◌, ◌≤◌, ◌<◌, Bool, true, false, not, List, [], ◌∷◌, ◌++◌, length, map, All, Option, Some, None}
-use Rattle.std.specs.Prelude.{slice_index_or, slice_set}
-use Rattle.std.specs.List.{list_any}
-use Rattle.std.specs.FinMap.{empty}
+use Rattle.std.specs.Prelude.{◌≡◌, ℕ, ◌≤◌, ◌<◌, Bool, true, false, not, List, [], ◌∷◌, ◌++◌, length, Option, Some, None}
+use Rattle.std.specs.Prelude.{slice_get, slice_index_or}
 use Rattle.std.specs.Vec.{vec_len, vec_capacity}
 use Rattle.iot_count.specs.Counts.{Counted}
 use Rattle.iot_disk.specs.Disk.{Arms}
-use Rattle.iot_tree.specs.declared.limits.TheConstants.{ACT_LIMIT}
 use Rattle.iot_tree.specs.declared.labels.Label.{Label}
 use Rattle.iot_tree.specs.declared.labels.Way.TheVariants.{Certified}
 use Rattle.iot_lang.specs.Code.{Code, End}
-use Rattle.iot_limits.specs.Spelled.{IsSpelledTree}
-use Rattle.iot_store.specs.States.{is_of}
+use Rattle.iot_client.specs.Ties.{state_of}
 use Rattle.iot_event.specs.Declarations.{AreDeclared}
 use Rattle.iot_event.specs.declared.event.Event.{Event}
 use Rattle.iot_machine.specs.Calls.{Call}
 use Rattle.iot_machine.specs.Refining.{Refines}
-use Rattle.iot_machine.specs.Machine as machine
-use Rattle.iot_machine.specs.Machine.{Machine, Commit, opening, tree_after}
-use Rattle.iot_machine.specs.Sound.{Sound}
+use Rattle.iot_machine.specs.Clients.{Declared}
+use Rattle.iot_machine.specs.Machine.{Machine, opening}
+use Rattle.iot_machine.specs.Transactions.{Stepped, Went, Over}
 use Rattle.iot_world.specs.Disks.{OnlyFirst, first_count}
 use Rattle.iot_world.specs.Faults.{FaultCounts}
-use Rattle.iot_world.specs.Records.{label_of}
+use Rattle.iot_world.specs.Laptops.{LaptopStands, new_laptop}
 use Rattle.iot_world.specs.Servers.{is_up, disk_of, ServerStands, SameDisk, Starts, HasDisk}
 use Rattle.iot_world.specs.declared.fault.WorldFault.{WorldFault}
+use Rattle.iot_world.specs.declared.laptop.Laptop.{Laptop}
 use Rattle.iot_world.specs.declared.world.World.{World}
-use Rattle.iot_world.specs.declared.world.Client.{Client}
 use Rattle.iot_world.specs.declared.world.DeclaredScript.{DeclaredScript}
-use Rattle.iot_world.specs.declared.texts.Transaction.{Transaction}
 
 -- ---- what a world stands for
 
@@ -38,24 +33,18 @@ Each stands [] (m ∷ ms) = ⊥
 Each stands (w ∷ ws) [] = ⊥
 Each stands (w ∷ ws) (m ∷ ms) = stands w m × Each stands ws ms
 
-pub record ClientStands (client : Client) (m : machine.Client) : Type 0 where
-  pub name : client.name ≡ m.name
-  pub last : client.last ≡ m.last
+-- a script as it was declared
+abbrev pub script_of : DeclaredScript → Declared
+script_of script = record { name = script.name; code = script.script }
 
-pub record ScriptStands (script : DeclaredScript) (m : machine.Declared) : Type 0 where
-  pub name : script.name ≡ m.name
-  pub code : script.script ≡ m.code
+abbrev pub ScriptStands : DeclaredScript → Declared → Type 0
+ScriptStands script m = m ≡ script_of script
 
 pub record StandsFor {D : Type 0} (reads : D → List ℕ) (may_leave : D → List ℕ → Type 0) (world : World D) (m : Machine) : Type 0 where
   pub server : ServerStands reads may_leave world.server m.server
-  pub clients : Each ClientStands world.clients.items m.clients
+  pub clients : Each LaptopStands world.clients.items m.clients
   pub scripts : Each ScriptStands world.scripts.items m.scripts
-  -- the client sees the tree of the server's list
-  pub view : world.view ≡ tree_after m.server.durable
-  -- so that its transactions have records that can follow
-  pub spelled : IsSpelledTree world.view
   pub few : length world.clients.items ≤ 8
-  pub sound : Sound m
 
 -- it stands for some machine
 pub record StandsForSome {D : Type 0} (reads : D → List ℕ) (may_leave : D → List ℕ → Type 0) (world : World D) : Type 0 where
@@ -82,53 +71,39 @@ server_is_up world = is_up world.server
 abbrev pub DeclaredOn : {D : Type 0} → List Event → World D → Type 0
 DeclaredOn events world = AreDeclared events (client_count world) (script_count world) (not (server_is_up world))
 
--- no count of the world is above this one
-pub record NumbersAtMost {D : Type 0} (limit : ℕ) (world : World D) : Type 0 where
-  pub clients : All (λ client. client.last ≤ limit) world.clients.items
+-- the client at this place is so
+abbrev pub ClientIs : {D : Type 0} → (Laptop → Type 0) → ℕ → World D → Type 0
+ClientIs P place world = (laptop : Laptop) → slice_get world.clients.items place ≡ Some laptop → P laptop
 
-abbrev pub no_client : Client
-no_client = record { name = []; last = 0 }
+abbrev pub IsIdle : Laptop → Type 0
+IsIdle laptop = (state_of laptop.client).running ≡ None
+
+-- nothing runs there, and nothing waits
+abbrev pub CanHold : {D : Type 0} → ℕ → World D → Type 0
+CanHold place world = ClientIs (λ laptop. IsIdle laptop × ((state_of laptop.client).items ≡ [])) place world
 
 abbrev pub no_script : DeclaredScript
 no_script = record { name = []; script = End }
 
-abbrev pub client_in : {D : Type 0} → World D → ℕ → Client
-client_in world place = slice_index_or world.clients.items place no_client
+abbrev pub declared_in : {D : Type 0} → World D → ℕ → Declared
+declared_in world place = script_of (slice_index_or world.scripts.items place no_script)
 
-abbrev pub script_in : {D : Type 0} → World D → ℕ → DeclaredScript
-script_in world place = slice_index_or world.scripts.items place no_script
-
--- a client's last transaction
-abbrev pub transaction_of : Client → Transaction
-transaction_of client = record { client = client.name; number = client.last }
-
--- the client's last transaction, as the run of a script
-abbrev pub commit_in : {D : Type 0} → World D → (client script : ℕ) → Commit
-commit_in world client script = record {
-  script = (script_in world script).name;
-  entry = record {
-    client = client;
-    number = (client_in world client).last;
-    script = (script_in world script).script;
-    budget = ACT_LIMIT;
-    way = Certified;
-    kept = empty;
-  };
-}
-
--- the label of a transaction whose script was run
-abbrev pub label_in : ℕ → ℕ → List ℕ → Label
-label_in client number script = record { client = client; tid = number; script = script; budget = ACT_LIMIT; way = Certified; kept = [] }
-
--- none of these commits is that of this transaction
-abbrev pub IsNew : ℕ → ℕ → List Commit → Type 0
-IsNew client number commits = list_any (is_of client number) (map label_of commits) ≡ false
-
--- the world stands for some machine that has not committed this client's last transaction
-pub record IsReady {D : Type 0} (reads : D → List ℕ) (may_leave : D → List ℕ → Type 0) (client : ℕ) (world : World D) : Type 0 where
+-- it stands for some machine, its server is alive, and there is a client at this place
+pub record IsReady {D : Type 0} (reads : D → List ℕ) (may_leave : D → List ℕ → Type 0) (place : ℕ) (world : World D) : Type 0 where
   pub machine : Machine
   pub stands : StandsFor reads may_leave world machine
-  pub is_new : IsNew client (client_in world client).last machine.server.durable
+  pub up : is_up world.server ≡ true
+  pub inside : place < length world.clients.items
+
+-- how a single step went: it went on, or not
+abbrev pub stepped_of : Bool → Stepped
+stepped_of true = Went
+stepped_of false = Over
+
+-- the label of a transaction that is submitted as it ran
+abbrev pub label_in : (client number : ℕ) (script : List ℕ) (budget : ℕ) → Label
+label_in client number script budget =
+    record { client = client; tid = number; script = script; budget = budget; way = Certified; kept = [] }
 
 -- ---- its disks
 
@@ -155,7 +130,6 @@ pub record SameDisks {D : Type 0} (arms_of : D → Arms) (faults_of : D → ℕ)
 -- a new world
 pub record IsOpened {D : Type 0} (reads : D → List ℕ) (may_leave : D → List ℕ → Type 0) (world : World D) : Type 0 where
   pub stands : StandsFor reads may_leave world opening
-  pub counts : NumbersAtMost 0 world
   pub no_clients : client_count world ≡ 0
   pub no_scripts : script_count world ≡ 0
   pub up : server_is_up world ≡ true
@@ -180,36 +154,32 @@ pub record HandsAllBack {D : Type 0} (arms_of : D → Arms) (faults_of : D → �
 -- a client joins
 pub record AddsClient {D : Type 0} (name : List ℕ) (old new : World D) : Type 0 where
   pub server : new.server ≡ old.server
-  pub view : new.view ≡ old.view
-  pub clients : new.clients.items ≡ old.clients.items ++ record { name = name; last = 0 } ∷ []
+  pub laptop : Laptop
+  pub stands : LaptopStands laptop (new_laptop name)
+  pub clients : new.clients.items ≡ old.clients.items ++ laptop ∷ []
   pub scripts : new.scripts.items ≡ old.scripts.items
 
 -- a script joins
 pub record AddsScript {D : Type 0} (name : List ℕ) (code : Code) (old new : World D) : Type 0 where
   pub server : new.server ≡ old.server
-  pub view : new.view ≡ old.view
   pub clients : new.clients.items ≡ old.clients.items
   pub scripts : new.scripts.items ≡ old.scripts.items ++ record { name = name; script = code } ∷ []
 
--- the server is alive or down then, and nothing was declared
-pub record Sets {D : Type 0} (to : Bool) (old new : World D) : Type 0 where
+-- the server is alive or down then, and the clients are as they were
+pub record SetsServer {D : Type 0} (to : Bool) (old new : World D) : Type 0 where
   pub alive : is_up new.server ≡ to
   pub clients : new.clients.items ≡ old.clients.items
   pub scripts : new.scripts.items ≡ old.scripts.items
 
-abbrev pub next_client : Client → Client
-next_client client = record client { last = client.last + 1 }
-
--- the client's next transaction has begun
-pub record Begins {D : Type 0} (place : ℕ) (old new : World D) : Type 0 where
-  pub server : new.server ≡ old.server
-  pub view : new.view ≡ old.view
-  pub clients : new.clients.items ≡ slice_set old.clients.items place (next_client (client_in old place))
-  pub scripts : new.scripts.items ≡ old.scripts.items
-  pub spare : new.spare ≡ old.spare
-
--- the client has run its next transaction
-pub record Ran {D : Type 0} (place : ℕ) (old new : World D) : Type 0 where
+-- nothing was declared, and the server is alive or down as before
+pub record SameCounts {D : Type 0} (old new : World D) : Type 0 where
   pub alive : is_up new.server ≡ is_up old.server
-  pub clients : new.clients.items ≡ slice_set old.clients.items place (next_client (client_in old place))
+  pub clients : client_count new ≡ client_count old
+  pub scripts : new.scripts.items ≡ old.scripts.items
+
+-- only clients have changed
+pub record IsApart {D : Type 0} (old new : World D) : Type 0 where
+  pub server : new.server ≡ old.server
+  pub spare : new.spare ≡ old.spare
+  pub clients : client_count new ≡ client_count old
   pub scripts : new.scripts.items ≡ old.scripts.items

@@ -3,8 +3,10 @@
 
 mod disks;
 mod fault;
+mod laptop;
 mod server;
 mod texts;
+mod verdict;
 mod world;
 
 pub use fault::WorldFault;

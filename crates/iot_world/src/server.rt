@@ -1,21 +1,28 @@
 //! The server over its disk.
 ghost use Rattle.std.specs.Prelude.{◌≡◌, ◌++◌, [], ℕ, List, true, false, IfOk, IfErr, OnOk, Some};
 ghost use Rattle.std.specs.Option.{option_copied};
+ghost use Rattle.iot_codec.specs.Rules.{IsLabel, AreActs};
+ghost use Rattle.iot_acts.specs.Guards.{AllGuarded};
 ghost use Rattle.iot_disk.specs.Disk.{Only};
 ghost use Rattle.iot_tree.specs.Tree.{Nodes};
 ghost use Rattle.iot_machine.specs.Refining.{Refines};
 ghost use Rattle.iot_machine.specs.Nodes.{opened};
 ghost use Rattle.iot_machine.specs.Stops.{Appends, ComesBack, Crashes, Restarts, Shows};
 ghost use Rattle.iot_machine.specs.Machine.{Commit, add_commit, tree_after};
-ghost use Rattle.iot_machine.specs.Events.{server_name};
+ghost use Rattle.iot_machine.specs.Clients.{snapshot};
+ghost use Rattle.iot_machine.specs.Serving.{Submission, Judges, Commits, server_name};
+ghost use Rattle.iot_certify.specs.Verdicts.{IsVerdictOnActs};
 ghost use Rattle.iot_machine.specs.Texts.{tree_text};
 
 use crate::fault::WorldFault;
-use crate::texts::{say, say_tree};
+use crate::texts::{Transaction, say, say_commit, say_tree};
+use crate::verdict::{Verdict, question_at};
+use iot_certify::{Verdict as Certified, certify_acts};
 use iot_disk::Disk;
+use iot_prune::{known, prune, widen};
 use iot_store::Store;
 use iot_text::{NoMemory, Text};
-use iot_tree::{Acts, Label, Tree};
+use iot_tree::{Acts, Label, Tree, Want};
 use std::alloc::Global;
 use std::mem;
 
@@ -34,6 +41,7 @@ pub(crate) enum Server<D: Disk> {
 
 impl<D: Disk> Server<D> {
     ghost use Rattle.iot_world.specs.Servers.{is_up, disk_of, count_of, tree_of, ServerStands, ServerIsSound, Falls, CanTake, AreOf};
+    ghost use Rattle.iot_world.specs.Servers.{number_for, IsSubmission, verdict_of};
     ghost use Rattle.iot_world.specs.Servers.{SameDisk, HasDisk, Starts, HandsBack};
     ghost use Rattle.iot_world.specs.Faults.{CallCounts};
     ghost use Rattle.iot_count.specs.Counts.{IsSteady};
@@ -73,6 +81,97 @@ impl<D: Disk> Server<D> {
                 Ok(true)
             }
             Server::Down(_) | Server::Between => unreachable!(),
+        }
+    }
+
+    /// Its tree, cut down to what a client that holds this tree knows and wants.
+    pub(crate) fn lend(&self, alloc: Global, held: &Tree, want: &Want) -> Result<Tree, NoMemory>
+        requires { is_up self.now ≡ true }
+        ensures { IfOk result (λ t. (tree : Nodes) → tree_of self.now ≡ Some tree → t ≡ snapshot held.now want.now tree) }
+    {
+        match self.tree() {
+            Some(tree) => {
+                let paths = widen(alloc, known(alloc, held)?, tree, want)?;
+                prune(alloc, tree, &paths)
+            }
+            None => unreachable!(),
+        }
+    }
+
+    /// Judges a transaction by what it read: it commits if each of its reads is what the tree answers in its turn. One that is in
+    /// the list is not committed again.
+    pub(crate) fn judge(
+        &mut self,
+        alloc: Global,
+        label: Label,
+        acts: &Acts,
+        transaction: &Transaction,
+        out: &mut Text,
+    ) -> Result<Verdict, WorldFault>
+        requires up { is_up self.old ≡ true }
+        requires sound { ServerIsSound D.reads D.may_leave self.old }
+        requires label { IsLabel label }
+        requires acts { AreActs acts.now }
+
+        // So that it is always a read that differs first.
+        requires guarded { AllGuarded acts.now }
+        ensures up { OnOk result (is_up self.new ≡ true) }
+        ensures step { IfOk result (λ verdict. (it : Submission) → IsSubmission label acts.now transaction.now it
+            → Refines (ServerStands D.reads D.may_leave) (Judges it) self.old self.new out.old out.new (Some (verdict_of verdict))) }
+        ensures disk { SameDisk D.arms D.faults (CallCounts result) self.old self.new }
+    {
+        if let Some(number) = self.number_of(label.client, label.tid) {
+            return Ok(Verdict::Settled { number });
+        }
+        match self.certify(alloc, acts)? {
+            Certified::Holds => self.commit(alloc, label, acts, transaction, out),
+            Certified::Differs { read, .. } => Ok(Verdict::Conflict {
+                read,
+                question: question_at(alloc, acts.as_slice(), read)?,
+            }),
+        }
+    }
+
+    /// Whether these acts hold on its tree, and if not, which read differs first.
+    fn certify(&self, alloc: Global, acts: &Acts) -> Result<Certified, NoMemory>
+        requires { is_up self.now ≡ true }
+        ensures { IfOk result (λ verdict. (tree : Nodes) → tree_of self.now ≡ Some tree → IsVerdictOnActs tree acts.now verdict) }
+    {
+        match self.tree() {
+            Some(tree) => certify_acts(alloc, tree, acts),
+            None => unreachable!(),
+        }
+    }
+
+    /// Commits a transaction whose acts hold: its record is on the disk, and its line and what it printed are said.
+    fn commit(
+        &mut self,
+        alloc: Global,
+        label: Label,
+        acts: &Acts,
+        transaction: &Transaction,
+        out: &mut Text,
+    ) -> Result<Verdict, WorldFault>
+        requires take { CanTake D.reads D.may_leave label acts.now self.old }
+        ensures up { OnOk result (is_up self.new ≡ true) }
+        ensures step { IfOk result (λ verdict. (it : Submission) → IsSubmission label acts.now transaction.now it
+            → Refines (ServerStands D.reads D.may_leave) (Commits it.name it.commit) self.old self.new out.old out.new
+            (Some (verdict_of verdict))) }
+        ensures disk { SameDisk D.arms D.faults (CallCounts result) self.old self.new }
+    {
+        self.append(alloc, label, acts)?;
+        let number = self.number();
+        say_commit(number, transaction, acts.as_slice(), out)?;
+        Ok(Verdict::Settled { number })
+    }
+
+    /// The number in the list of a client's transaction, if it is there.
+    fn number_of(&self, client: u64, tid: u64) -> Option<u64>
+        ensures { result ≡ number_for self.now client tid }
+    {
+        match self {
+            Server::Up(store) => store.number_of(client, tid),
+            Server::Down(_) | Server::Between => None,
         }
     }
 

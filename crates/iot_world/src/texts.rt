@@ -1,12 +1,18 @@
 //! The lines that events print.
-ghost use Rattle.std.specs.Prelude.{◌≡◌, ◌++◌, ◌∷◌, [], OnOk};
+ghost use Rattle.std.specs.Prelude.{◌≡◌, ◌++◌, ◌∷◌, [], false, OnOk};
 ghost use Rattle.std.specs.FinMap.{entries};
 ghost use Rattle.iot_tree.specs.declared.labels.Way.TheVariants.{Certified};
 ghost use Rattle.iot_machine.specs.Texts.{line, client_line, end_line, commit_line, settled_line, transaction_name, output, acts_output};
 ghost use Rattle.iot_machine.specs.Texts.{output_line, row_line, row_text, tree_text};
+ghost use Rattle.iot_machine.specs.Texts.{hoard_line, refresh_line, begin_line, fetch_line, step_line, conflict_line, question_text};
+ghost use Rattle.iot_machine.specs.Texts.{abort_line, pending_line};
+ghost use Rattle.iot_machine.specs.Transactions.{verdict_text};
+ghost use Rattle.iot_world.specs.Servers.{verdict_of};
+ghost use Rattle.iot_world.specs.Saying.{place_said};
 
+use crate::verdict::Verdict;
 use iot_text::{Name, NoMemory, Path, Text, quote};
-use iot_tree::{Act, Node, Tree};
+use iot_tree::{ACT_LIMIT, Act, Node, Question, Tree};
 
 /// The name of a transaction: its client's name and its number there.
 #[derive(Clone, Copy)]
@@ -42,6 +48,83 @@ pub(crate) fn say_client(name: &Name, out: &mut Text) -> Result<(), NoMemory>
     out.push(b'\n')
 }
 
+/// `hoard C P`
+pub(crate) fn say_hoard(name: &Name, path: &Path, out: &mut Text) -> Result<(), NoMemory>
+    ensures { OnOk result (out.new ≡ out.old ++ hoard_line name.now path.now) }
+{
+    out.append(b"hoard ")?;
+    out.append(name.as_bytes())?;
+    out.push(b' ')?;
+    path.write_to(out)?;
+    out.push(b'\n')
+}
+
+/// `refresh C`
+pub(crate) fn say_refresh(name: &Name, out: &mut Text) -> Result<(), NoMemory>
+    ensures { OnOk result (out.new ≡ out.old ++ refresh_line name.now) }
+{
+    out.append(b"refresh ")?;
+    out.append(name.as_bytes())?;
+    out.push(b'\n')
+}
+
+/// `begin TID S first`, or `second`
+pub(crate) fn say_begin(
+    transaction: &Transaction,
+    script: &Name,
+    first: bool,
+    out: &mut Text,
+) -> Result<(), NoMemory>
+    ensures { OnOk result (out.new ≡ out.old
+        ++ begin_line (transaction_name transaction.now.client transaction.now.number) script.now first) }
+{
+    out.append(b"begin ")?;
+    transaction.write_to(out)?;
+    out.push(b' ')?;
+    out.append(script.as_bytes())?;
+    out.append(if first { b" first\n" } else { b" second\n" })
+}
+
+/// `fetch P`
+pub(crate) fn say_fetch(path: &Path, out: &mut Text) -> Result<(), NoMemory>
+    ensures { OnOk result (out.new ≡ out.old ++ fetch_line path.now false) }
+{
+    out.append(b"fetch ")?;
+    path.write_to(out)?;
+    out.push(b'\n')
+}
+
+/// `step TID K acts`, and whether it is at its end or at its limit.
+pub(crate) fn say_step(
+    transaction: &Transaction,
+    acts: u64,
+    at_end: bool,
+    out: &mut Text,
+) -> Result<(), NoMemory>
+    ensures { OnOk result (out.new ≡ out.old
+        ++ step_line (transaction_name transaction.now.client transaction.now.number) acts (place_said at_end acts)) }
+{
+    out.append(b"step ")?;
+    transaction.write_to(out)?;
+    out.push(b' ')?;
+    out.append_number(acts)?;
+    out.append(b" acts")?;
+    say_place(acts, at_end, out)?;
+    out.push(b'\n')
+}
+
+fn say_place(acts: u64, at_end: bool, out: &mut Text) -> Result<(), NoMemory>
+    ensures { OnOk result (out.new ≡ out.old ++ place_said at_end acts) }
+{
+    if at_end {
+        return out.append(b", at end");
+    }
+    if acts >= ACT_LIMIT {
+        return out.append(b", at limit");
+    }
+    Ok(())
+}
+
 /// `end TID`
 pub(crate) fn say_end(transaction: &Transaction, out: &mut Text) -> Result<(), NoMemory>
     ensures { OnOk result (out.new ≡ out.old ++ end_line (transaction_name transaction.now.client transaction.now.number)) }
@@ -64,11 +147,7 @@ fn say_commit_line(number: u64, transaction: &Transaction, out: &mut Text) -> Re
 }
 
 /// `settled TID N`
-pub(crate) fn say_settled(
-    transaction: &Transaction,
-    number: u64,
-    out: &mut Text,
-) -> Result<(), NoMemory>
+fn say_settled(transaction: &Transaction, number: u64, out: &mut Text) -> Result<(), NoMemory>
     ensures { OnOk result (out.new ≡ out.old ++ settled_line (transaction_name transaction.now.client transaction.now.number) number) }
 {
     out.append(b"settled ")?;
@@ -76,6 +155,86 @@ pub(crate) fn say_settled(
     out.push(b' ')?;
     out.append_number(number)?;
     out.push(b'\n')
+}
+
+/// What a client is told of its transaction, which it gives up if it conflicts.
+pub(crate) fn say_verdict(
+    transaction: &Transaction,
+    verdict: &Verdict,
+    out: &mut Text,
+) -> Result<(), NoMemory>
+    ensures { OnOk result (out.new ≡ out.old
+        ++ verdict_text (transaction_name transaction.now.client transaction.now.number) (verdict_of verdict.now)) }
+{
+    match verdict {
+        Verdict::Settled { number } => say_settled(transaction, *number, out),
+        Verdict::Conflict { read, question } => {
+            say_conflict(transaction, *read, question, out)?;
+            say_abort(transaction, out)
+        }
+    }
+}
+
+/// `conflict TID read I QUESTION`
+fn say_conflict(
+    transaction: &Transaction,
+    read: u64,
+    question: &Question,
+    out: &mut Text,
+) -> Result<(), NoMemory>
+    ensures { OnOk result (out.new ≡ out.old
+        ++ conflict_line (transaction_name transaction.now.client transaction.now.number) read question.now) }
+{
+    out.append(b"conflict ")?;
+    transaction.write_to(out)?;
+    out.append(b" read ")?;
+    out.append_number(read)?;
+    out.push(b' ')?;
+    say_question(question, out)?;
+    out.push(b'\n')
+}
+
+fn say_question(question: &Question, out: &mut Text) -> Result<(), NoMemory>
+    ensures { OnOk result (out.new ≡ out.old ++ question_text question.now) }
+{
+    match question {
+        Question::Kind(path) => {
+            out.append(b"kind ")?;
+            path.write_to(out)
+        }
+        Question::Content(path) => {
+            out.append(b"content ")?;
+            path.write_to(out)
+        }
+        Question::Names(path) => {
+            out.append(b"names ")?;
+            path.write_to(out)
+        }
+    }
+}
+
+/// `abort TID`
+fn say_abort(transaction: &Transaction, out: &mut Text) -> Result<(), NoMemory>
+    ensures { OnOk result (out.new ≡ out.old ++ abort_line (transaction_name transaction.now.client transaction.now.number)) }
+{
+    out.append(b"abort ")?;
+    transaction.write_to(out)?;
+    out.push(b'\n')
+}
+
+/// `pending TID`, and what it printed.
+pub(crate) fn say_pending(
+    transaction: &Transaction,
+    acts: &[Act],
+    out: &mut Text,
+) -> Result<(), NoMemory>
+    ensures { OnOk result (out.new ≡ out.old
+        ++ (pending_line (transaction_name transaction.now.client transaction.now.number) ++ acts_output acts.now)) }
+{
+    out.append(b"pending ")?;
+    transaction.write_to(out)?;
+    out.push(b'\n')?;
+    say_output(acts, out)
 }
 
 /// One line that a script printed, after its bar.

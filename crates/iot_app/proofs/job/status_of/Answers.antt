@@ -11,7 +11,7 @@ use Rattle.iot_app.proofs.job.status_of.Goals as goal
 pub returns-then-not-is_empty-clause-ends : goal.returns-then-not-is_empty-clause-ends
 returns-then-not-is_empty-clause-ends g c =
     let some : 0 < length c.args.words.now = grind (arith, nat_tests) in
-    usage_ends _ c.write_line.result _ _ some (took_none _ _ _) refl c.write_line.ensures
+    usage_ends _ c.write_line.result _ _ some (took_none _ _ _) (refl {A = List g.row.D.Denot}) c.write_line.ensures
 
 pub returns-in-Ok-clause-ends : goal.returns-in-Ok-clause-ends
 returns-in-Ok-clause-ends g c =
@@ -25,7 +25,7 @@ returns-in-Ok-clause-ends g c =
 pub returns-in-Err-clause-ends : goal.returns-in-Err-clause-ends
 returns-in-Err-clause-ends g c =
     let none : length c.args.words.now ≡ 0 = grind (arith, nat_tests) in
-    fault_ends _ c.in-Err.fault c.refuse.result _ _ none c.in-Err.ensures.none refl c.refuse.ensures
+    fault_ends _ c.in-Err.fault c.refuse.result _ _ none c.in-Err.ensures.none (refl {A = List g.row.D.Denot}) c.refuse.ensures
 
 pub returns-then-not-is_empty-clause-disks : goal.returns-then-not-is_empty-clause-disks
 returns-then-not-is_empty-clause-disks g c = same_list _ g.D.Disk.faults g.D.Disk.reads g.D.Disk.may_leave c.args.disks.items c.requires

@@ -45,7 +45,7 @@ events-preserved g c = record {
       c.apply.new.out tt)
       c.clear.ensures c.in-Ok.ensures.step)
       _
-      c.in-Ok.ensures.declared c.in-Ok.ensures.counts
+      c.in-Ok.ensures.declared
       (subst (λ (t : List ℕ). Appends (g.K.Sink.written c.events.sink) (g.K.Sink.written c.write_all.new.sink) t) c.as_bytes.ensures
       c.in-Ok-write_all.ensures.ok);
   faults = c.in-Ok-write_all.ensures.steady ∙ c.events.invariant.faults;

@@ -1,0 +1,259 @@
+-- The events of a world's clients are those of the machine's.
+use Rattle.std.proofs.Common.{◌≡◌, ℕ, ◌<◌, Bool, true, false, List, [], ◌∷◌, ◌++◌, length, Option, Some, None}
+use Rattle.std.proofs.Common.{not, refl, sym, ap, subst, ◌∙◌, arith, codes}
+use Rattle.std.proofs.lemmas.List.{append-nil, length-append}
+use Rattle.std.proofs.lemmas.Option.{same_Some}
+use Rattle.iot_tree.specs.Tree.{Nodes}
+use Rattle.iot_lang.specs.Code.{Code}
+use Rattle.iot_client.specs.States.{Transaction}
+use Rattle.iot_client.specs.Ties.{state_of, live_of}
+use Rattle.iot_client.specs.Calls.{first_of, is_over_if_any}
+use Rattle.iot_event.specs.Declarations.{AreDeclared}
+use Rattle.iot_event.specs.declared.event.Event.{Event}
+use Rattle.iot_event.specs.declared.event.Event.TheVariants as events
+use Rattle.iot_machine.specs.Calls.{Call, Part, Asks, Says, Then, goes_on}
+use Rattle.iot_machine.specs.Clients as clients
+use Rattle.iot_machine.specs.Clients.{ClientState, view, base, next_step}
+use Rattle.iot_machine.specs.Machine as machine
+use Rattle.iot_machine.specs.Machine.{Machine, Commit, client_in, node_at, kept_by, no_client}
+use Rattle.iot_machine.specs.Events.{StepsAloud, Runs, event_part, begin_text, step_text, run_steps}
+use Rattle.iot_machine.specs.Events.{declare_client, declare_script, name_of, said_of, place_text}
+use Rattle.iot_machine.specs.Texts.{line, client_line, begin_line, step_line, transaction_name, tree_text}
+use Rattle.iot_machine.specs.Transactions.{Begins, StepsAll, Stepped, Ends, next_of}
+use Rattle.iot_world.specs.Laptops.{LaptopStands, RunningStandsIfAny, IsView, new_laptop}
+use Rattle.iot_world.specs.Saying.{place_said}
+use Rattle.iot_world.specs.Servers.{ServerStands}
+use Rattle.iot_world.specs.World.{Each, ScriptStands, StandsFor, Steps, AddsClient, AddsScript, SameCounts, DeclaredOn}
+use Rattle.iot_world.specs.World.{client_count, script_count, server_is_up}
+use Rattle.iot_world.specs.declared.laptop.Laptop.{Laptop}
+use Rattle.iot_world.specs.declared.server.Server.{Server}
+use Rattle.iot_world.specs.declared.world.DeclaredScript.{DeclaredScript}
+use Rattle.iot_world.specs.declared.world.World.{World}
+use Rattle.iot_world.proofs.CallsLaws.{bind, says, says_this, nothing}
+use Rattle.iot_world.proofs.LaptopsLaws as laptops
+use Rattle.iot_world.proofs.LaptopsLaws.{Running, place_is}
+use Rattle.iot_world.proofs.ListLaws.{each_push, set_same}
+use Rattle.iot_world.proofs.ReadyLaws.{none_stands}
+use Rattle.iot_world.proofs.StepsLaws.{IsAt, running_in, running_is, laptop_stands, asks_running}
+
+-- events that were declared are so after one that declares nothing
+pub declared_after : {D : Type 0} (old new : World D) (later : List Event) → SameCounts old new
+    → AreDeclared later (client_count old) (script_count old) (not (server_is_up old)) → DeclaredOn later new
+declared_after old new later same declared =
+    subst (λ (n : ℕ). AreDeclared later n (script_count new) (not (server_is_up new))) (sym same.clients)
+    (subst (λ (n : ℕ). AreDeclared later (client_count old) n (not (server_is_up new))) (sym (ap length same.scripts))
+    (subst (λ (up : Bool). AreDeclared later (client_count old) (script_count old) (not up)) (sym same.alive) declared))
+
+-- ---- what is said of a transaction that runs
+
+module _ (laptop : Laptop) (m : machine.Client) (r : Transaction) (here : LaptopStands laptop m)
+    (is : (state_of laptop.client).running ≡ Some r) where
+  module _ (it : clients.Running) (runs : m.node.durable.running ≡ Some it) where
+    known : Running (state_of laptop.client).running (live_of laptop.client) m.first it
+    known = laptops.running_is (state_of laptop.client) (live_of laptop.client) m.first m.node.durable here.state it runs
+
+    own_is : known.own ≡ r
+    own_is = same_Some known.own r (sym known.is ∙ is)
+
+    named : transaction_name laptop.name r.number ≡ transaction_name m.name it.number
+    named =
+        ap (λ (n : List ℕ). transaction_name n r.number) here.name
+        ∙ ap (λ (t : Transaction). transaction_name m.name t.number) (sym own_is)
+        ∙ ap (transaction_name m.name) known.stands.number
+
+  by_running : (text : clients.Running → List ℕ) (said : List ℕ)
+      → ((it : clients.Running) → m.node.durable.running ≡ Some it → said ≡ text it) → said ≡ said_of text m.node.durable.running
+  by_running text said each = by m.node.durable.running refl here.state.running
+    where
+      by : (o : Option clients.Running) → o ≡ m.node.durable.running
+          → RunningStandsIfAny (state_of laptop.client).running (live_of laptop.client) m.first o
+          → said ≡ said_of text o
+      by None same stands =
+          absurd (none_stands (state_of laptop.client).running (live_of laptop.client) m.first stands r is)
+      by (Some it) same stands = each it (sym same)
+
+  pub begin_said : (first : Bool) → first_of (live_of laptop.client) ≡ Some first
+      → begin_line (transaction_name laptop.name r.number) r.script first
+      ≡ said_of (λ it. begin_line (transaction_name m.name it.number) it.script.name m.first) m.node.durable.running
+  begin_said first class =
+      by_running (λ it. begin_line (transaction_name m.name it.number) it.script.name m.first) _
+      (λ it runs.
+      ap (λ (n : List ℕ). begin_line n r.script first) (named it runs)
+      ∙ ap (λ (n : List ℕ). begin_line (transaction_name m.name it.number) n first)
+      (ap (λ (t : Transaction). t.script) (sym (own_is it runs)) ∙ (known it runs).stands.name)
+      ∙ ap (begin_line (transaction_name m.name it.number) it.script.name)
+      (same_Some first (known it runs).besides.first (sym class ∙ ap first_of (known it runs).lives) ∙ (known it runs).stands.class))
+
+  pub step_said : step_line (transaction_name laptop.name r.number) (length r.acts)
+      (place_said (is_over_if_any (state_of laptop.client) (live_of laptop.client)) (length r.acts))
+      ≡ said_of (λ it. step_line (transaction_name m.name it.number) it.acts (place_text (next_step m.first (base m.node.durable) it)))
+      m.node.durable.running
+  step_said =
+      by_running (λ it. step_line (transaction_name m.name it.number) it.acts (place_text (next_step m.first (base m.node.durable) it))) _
+      (λ it runs.
+      let over : Bool = is_over_if_any (state_of laptop.client) (live_of laptop.client) in
+      ap (λ (n : List ℕ). step_line n (length r.acts) (place_said over (length r.acts))) (named it runs)
+      ∙ ap (λ (n : ℕ). step_line (transaction_name m.name it.number) n (place_said over (length r.acts)))
+      (ap (λ (t : Transaction). length t.acts) (sym (own_is it runs)) ∙ (known it runs).stands.acts)
+      ∙ ap (step_line (transaction_name m.name it.number) it.acts)
+      (sym (place_is (state_of laptop.client) (live_of laptop.client) m.first m.node.durable here.state it runs r is)))
+
+module _ {D : Type 0} (reads : D → List ℕ) (may_leave : D → List ℕ → Type 0) where
+  -- ---- declarations
+
+  pub declares_client : (name : List ℕ) (old new : World D) (x y : List ℕ) → length old.clients.items < 8 → AddsClient name old new
+      → y ≡ x ++ client_line name → Steps reads may_leave (event_part (events.Client name)) old new x y tt
+  declares_client name old new x y few adds wrote = record {
+    step = λ m here. (
+      client_line name,
+      declare_client name m,
+      wrote,
+      (refl, refl),
+      record {
+        server = subst (λ (s : Server D). ServerStands reads may_leave s m.server) (sym adds.server) here.server;
+        clients =
+            subst (λ (ls : List Laptop). Each LaptopStands ls (m.clients ++ new_laptop name ∷ [])) (sym adds.clients)
+            (each_push LaptopStands old.clients.items m.clients adds.laptop (new_laptop name) adds.stands here.clients);
+        scripts = subst (λ (ss : List DeclaredScript). Each ScriptStands ss m.scripts) (sym adds.scripts) here.scripts;
+        few = omega (arith, few, ap length adds.clients, length-append old.clients.items (adds.laptop ∷ []));
+      },
+    );
+  }
+
+  pub declares_script : (name : List ℕ) (code : Code) (old new : World D) (x : List ℕ) → AddsScript name code old new
+      → Steps reads may_leave (event_part (events.Script name code)) old new x x tt
+  declares_script name code old new x adds = record {
+    step = λ m here. (
+      [],
+      declare_script (record { name = name; code = code }) m,
+      sym (append-nil x),
+      (refl, refl),
+      record {
+        server = subst (λ (s : Server D). ServerStands reads may_leave s m.server) (sym adds.server) here.server;
+        clients = subst (λ (ls : List Laptop). Each LaptopStands ls m.clients) (sym adds.clients) here.clients;
+        scripts =
+            subst (λ (ss : List DeclaredScript). Each ScriptStands ss (m.scripts ++ record { name = name; code = code } ∷ []))
+            (sym adds.scripts)
+            (each_push ScriptStands old.scripts.items m.scripts (record { name = name; script = code })
+            (record { name = name; code = code }) refl here.scripts);
+        few = omega (arith, here.few, ap length adds.clients);
+      },
+    );
+  }
+
+  -- ---- a part that is done if the call before it went on
+
+  pub goes : (call : Call Machine Bool) (part : Part Machine) (old mid new : World D) (x y z : List ℕ) (on : Bool) → on ≡ true
+      → Steps reads may_leave call old mid x y on → Steps reads may_leave part mid new y z tt
+      → Steps reads may_leave (Then call (goes_on part)) old new x z tt
+  goes call part old mid new x y z on is one two =
+      bind old mid new x y z true tt (subst (λ (b : Bool). Steps reads may_leave call old mid x y b) is one) two
+
+  pub stays : (call : Call Machine Bool) (part : Part Machine) (old mid : World D) (x y : List ℕ) (on : Bool) → on ≡ false
+      → Steps reads may_leave call old mid x y on → Steps reads may_leave (Then call (goes_on part)) old mid x y tt
+  stays call part old mid x y on is one =
+      bind old mid mid x y y false tt (subst (λ (b : Bool). Steps reads may_leave call old mid x y b) is one) (nothing mid y)
+
+  -- ---- what is said of a client
+
+  module _ (c : ℕ) (world : World D) (laptop : Laptop) (at : IsAt world c laptop) (x y : List ℕ) where
+    pub says_name : (text : List ℕ → List ℕ) → y ≡ x ++ text laptop.name
+        → Steps reads may_leave (Says (λ m. text (name_of c m))) world world x y tt
+    says_name text wrote =
+        says world x y
+        (λ m here. wrote ∙ ap (λ (n : List ℕ). x ++ text n) (laptop_stands reads may_leave world m c laptop at here).name)
+
+    -- none runs, so nothing is said of it
+    module _ (none : running_in laptop ≡ None) (same : y ≡ x) where
+      none_said : (m : Machine) (text : clients.Running → List ℕ) → StandsFor reads may_leave world m
+          → y ≡ x ++ said_of text (kept_by c m).running
+      none_said m text here =
+          same ∙ sym (append-nil x)
+          ∙ ap (λ (it : Option clients.Running). x ++ said_of text it)
+          (sym (running_is laptop (client_in m c) (laptop_stands reads may_leave world m c laptop at here) ∙ none))
+
+      pub no_begin : Steps reads may_leave (Says (begin_text c)) world world x y tt
+      no_begin =
+          says world x y
+          (λ m. none_said m (λ it. begin_line (transaction_name (name_of c m) it.number) it.script.name (client_in m c).first))
+
+      pub no_step : Steps reads may_leave (Says (step_text c)) world world x y tt
+      no_step =
+          says world x y
+          (λ m. none_said m (λ it. step_line (transaction_name (name_of c m) it.number) it.acts (place_text (next_of c it m))))
+
+    -- of the one that runs it is said what it is
+    module _ (r : Transaction) (is : (state_of laptop.client).running ≡ Some r) where
+      pub says_begun : (first : Bool) → first_of (live_of laptop.client) ≡ Some first
+          → y ≡ x ++ begin_line (transaction_name laptop.name r.number) r.script first
+          → Steps reads may_leave (Says (begin_text c)) world world x y tt
+      says_begun first class wrote =
+          says world x y
+          (λ m here.
+          wrote ∙ ap (λ (t : List ℕ). x ++ t)
+          (begin_said laptop (client_in m c) r (laptop_stands reads may_leave world m c laptop at here) is first class))
+
+      pub says_stepped : y ≡ x ++ step_line (transaction_name laptop.name r.number) (length r.acts)
+          (place_said (is_over_if_any (state_of laptop.client) (live_of laptop.client)) (length r.acts))
+          → Steps reads may_leave (Says (step_text c)) world world x y tt
+      says_stepped wrote =
+          says world x y
+          (λ m here.
+          wrote ∙ ap (λ (t : List ℕ). x ++ t)
+          (step_said laptop (client_in m c) r (laptop_stands reads may_leave world m c laptop at here) is))
+
+    -- what it sees
+    pub shows_view : (t : Nodes) → IsView t laptop → y ≡ x ++ tree_text t
+        → Steps reads may_leave (event_part (events.ShowClient c)) world world x y tt
+    shows_view t is wrote = record {
+      step = λ m here.
+          let there : LaptopStands laptop (client_in m c) = laptop_stands reads may_leave world m c laptop at here in
+          let text : List ℕ = tree_text (view (kept_by c m)) in (
+            text,
+            m,
+            wrote ∙ ap (λ (t : Nodes). x ++ tree_text t) (is (client_in m c) there),
+            record {
+              inner = (client_in m c).node;
+              step = record {
+                mid = (client_in m c).node;
+                front = [];
+                rest = text;
+                answer = true;
+                first = (refl, sym there.alive, refl);
+                second = (refl, refl);
+                whole = refl;
+              };
+              is = ap (λ (cs : List machine.Client). record m { clients = cs }) (sym (set_same m.clients c no_client));
+            },
+            here,
+          );
+    }
+
+  -- ---- begin, steps and run
+
+  pub steps_aloud : (c most : ℕ) (old mid : World D) (was : Laptop) (x y z : List ℕ) (it : clients.Running) (answer : Stepped)
+      → IsAt old c was → running_in was ≡ Some it
+      → Steps reads may_leave (StepsAll c true most) old mid x y answer
+      → Steps reads may_leave (Says (step_text c)) mid mid y z tt
+      → Steps reads may_leave (StepsAloud c most) old mid x z tt
+  steps_aloud c most old mid was x y z it answer at is all said =
+      bind old old mid x x z (Some it) tt
+      (subst (λ (it : Option clients.Running). Steps reads may_leave (Asks (λ m. (kept_by c m).running)) old old x x it) is
+      (asks_running reads may_leave c old was x at))
+      (bind old mid mid x y z answer tt all said)
+
+  pub none_to_step : (c most : ℕ) (old : World D) (was : Laptop) (x y : List ℕ) → IsAt old c was → running_in was ≡ None
+      → y ≡ x ++ line (codes "idle") → Steps reads may_leave (StepsAloud c most) old old x y tt
+  none_to_step c most old was x y at none wrote =
+      bind old old old x x y None tt
+      (subst (λ (it : Option clients.Running). Steps reads may_leave (Asks (λ m. (kept_by c m).running)) old old x x it) none
+      (asks_running reads may_leave c old was x at))
+      (says_this (line (codes "idle")) old x y wrote)
+
+  pub run_on : (c s : ℕ) (old mid next new : World D) (w x y z : List ℕ) (on : Bool) (answer : Stepped) → on ≡ true
+      → Steps reads may_leave (Begins c s) old mid w x on
+      → Steps reads may_leave (StepsAll c false run_steps) mid next x y answer → Steps reads may_leave (Ends c) next new y z tt
+      → Steps reads may_leave (Runs c s) old new w z tt
+  run_on c s old mid next new w x y z on answer is begun all ended =
+      goes (Begins c s) (Then (StepsAll c false run_steps) (λ _. Ends c)) old mid new w x z on is begun
+      (bind mid next new x y z answer tt all ended)

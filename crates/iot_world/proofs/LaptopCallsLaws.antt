@@ -1,0 +1,157 @@
+-- How each call of a laptop changes the client of the machine for which it stands.
+use Rattle.std.proofs.Common.{◌≡◌, Bool, true, false, List, Option, Some, None, refl, sym, ap, subst, ◌∙◌, ℕ}
+use Rattle.iot_tree.specs.Tree.{IsTree, root_alone}
+use Rattle.iot_tree.specs.declared.acts.Act.{Act}
+use Rattle.iot_tree.specs.declared.nodes.Node.TheVariants.{FarDir}
+use Rattle.iot_tree.proofs.RowLaws.{root_rows, root_map}
+use Rattle.iot_exec.specs.declared.ran.Ran.{Ran}
+use Rattle.iot_client.specs.States.{Transaction, State, acts_of, opening}
+use Rattle.iot_client.specs.Ties.{Live, state_of, live_of, IsTied, IsOwnRunIfAny}
+use Rattle.iot_client.specs.Calls.{Notes, StepIsIfAny, Ends, EndsIfAny, may_end}
+use Rattle.iot_client.specs.declared.client.Client.{Client}
+use Rattle.iot_client.specs.declared.record.Record.TheVariants.{Acted, Ended, Left}
+use Rattle.iot_client.specs.declared.running.Ended as client
+use Rattle.iot_client.specs.declared.steps.Step.{Step}
+use Rattle.iot_client.specs.declared.steps.Step.TheVariants as steps
+use Rattle.iot_client.proofs.StepsLaws.{own}
+use Rattle.iot_machine.specs.Clients as clients
+use Rattle.iot_machine.specs.Clients.{ClientState, base, act_once, end, leave, new_client}
+use Rattle.iot_machine.specs.Machine as machine
+use Rattle.iot_judging.proofs.SpelledTreesLaws.{far_root_spelled}
+use Rattle.iot_world.specs.Laptops as laptops
+use Rattle.iot_world.specs.Laptops.{StateStands, LaptopStands, Noted, StepNoted, Stepped, IsEndOf, IsFirstOf, waits_of, new_laptop}
+use Rattle.iot_world.specs.declared.laptop.Laptop.{Laptop}
+use Rattle.iot_world.proofs.LaptopsLaws.{Running, running_is, so_far_is, may_end_is}
+use Rattle.iot_world.proofs.LaptopStepsLaws.{acted_stands, ended_stands, left_stands}
+use Rattle.iot_world.proofs.LaptopStepsLaws.{joined_waits, next_is}
+
+-- the same state and class by other names
+carried : (a b : State) (x y : Option Live) (first : Bool) (m : ClientState) → b ≡ a → y ≡ x → StateStands a x first m
+    → StateStands b y first m
+carried a b x y first m same lives stands =
+    subst (λ (s : State). StateStands s y first m) (sym same) (subst (λ (l : Option Live). StateStands a l first m) (sym lives) stands)
+
+-- ---- a new laptop
+
+far_root_is_tree : IsTree (root_alone FarDir)
+far_root_is_tree = subst IsTree (root_map FarDir) (root_rows FarDir refl).tree
+
+pub new_stands : (name : List ℕ) (client : Client) → state_of client ≡ opening → live_of client ≡ None → IsTied client
+    → LaptopStands (record { name = name; client = client }) (new_laptop name)
+new_stands name client is lives tied = record {
+  name = refl;
+  alive = refl;
+  tied = tied;
+  state = carried opening (state_of client) None (live_of client) false new_client is lives (record {
+    held = refl;
+    items = tt;
+    running = refl;
+    last = refl;
+    tree = far_root_is_tree;
+    spelled = far_root_spelled;
+  });
+}
+
+-- ---- the transaction that ends
+
+module _ (old : Laptop) (m : machine.Client) (it : clients.Running) (here : LaptopStands old m)
+    (runs : m.node.durable.running ≡ Some it) where
+  ends_own : (gone : client.Ended) (acts : List Act) (known : Running (state_of old.client).running (live_of old.client) m.first it)
+      → EndsIfAny (state_of old.client) (state_of old.client).running (live_of old.client) gone acts
+      → Ends (state_of old.client) known.own known.besides gone acts
+  ends_own gone acts known ends =
+      subst (λ (l : Option Live). EndsIfAny (state_of old.client) (Some known.own) l gone acts) known.lives
+      (subst (λ (r : Option Transaction). EndsIfAny (state_of old.client) r (live_of old.client) gone acts) known.is ends)
+
+  end_of : (gone : client.Ended) (acts : List Act) → may_end (state_of old.client) (live_of old.client) ≡ true
+      → EndsIfAny (state_of old.client) (state_of old.client).running (live_of old.client) gone acts → IsEndOf gone acts m it
+  end_of gone acts over ends =
+      let known : Running (state_of old.client).running (live_of old.client) m.first it =
+      running_is (state_of old.client) (live_of old.client) m.first m.node.durable here.state it runs in
+      let ended : Ends (state_of old.client) known.own known.besides gone acts = ends_own gone acts known ends in
+      record {
+        over = (may_end_is (state_of old.client) (live_of old.client) m.first m.node.durable here.state it runs).0 over;
+        number = ended.number ∙ known.stands.number;
+        class = ended.class ∙ known.stands.class;
+        did =
+            ended.recorded ∙ sym (ap acts_of known.is)
+            ∙ sym (subst (IsOwnRunIfAny (state_of old.client)) known.lives (own old.client here.tied)).acts
+            ∙ ap (λ (ran : Ran). ran.acts)
+            (so_far_is (state_of old.client) (live_of old.client) m.first m.node.durable here.state it runs);
+      }
+
+module _ (old new : Laptop) (same : new.name ≡ old.name) (tied : IsTied new.client) where
+  -- ---- changes
+
+  abbrev is_noted : (ClientState → ClientState) → State → Option Live → Type 0
+  is_noted change next live = (m : machine.Client) → LaptopStands old m → StateStands next live m.first (change m.node.durable)
+
+  noted : (change : ClientState → ClientState) (next : State) (live : Option Live) → state_of new.client ≡ next
+      → live_of new.client ≡ live → is_noted change next live → Noted change old new
+  noted change next live is lives each = record {
+    stands = λ m here. record {
+      name = same ∙ here.name;
+      alive = here.alive;
+      tied = tied;
+      state = carried next (state_of new.client) live (live_of new.client) m.first (change m.node.durable) is lives (each m here);
+    };
+  }
+
+  pub noted_left : Notes Left old.client new.client → live_of new.client ≡ live_of old.client → Noted leave old new
+  noted_left notes lives =
+      noted leave _ (live_of old.client) notes.state lives
+      (λ m here. left_stands (state_of old.client) (live_of old.client) m.first m.node.durable here.state notes.follows)
+
+  noted_acted : (act : Act) → Notes (Acted act) old.client new.client → live_of new.client ≡ live_of old.client → Noted act_once old new
+  noted_acted act notes lives =
+      noted act_once _ (live_of old.client) notes.state lives
+      (λ m here. acted_stands (state_of old.client) (live_of old.client) m.first m.node.durable here.state act)
+
+  noted_ended : (gone : client.Ended) (acts : List Act) → EndsIfAny (state_of old.client) (state_of old.client).running
+      (live_of old.client) gone acts → Notes Ended old.client new.client → live_of new.client ≡ None → Noted end old new
+  noted_ended gone acts ends notes lives =
+      noted end _ None notes.state lives
+      (λ m here. ended_stands (state_of old.client) (live_of old.client) m.first m.node.durable here.state gone acts ends)
+
+  -- ---- steps
+
+  stays : new.client ≡ old.client → new ≡ old
+  stays is = ap (λ (name : List ℕ). laptop name new.client) same ∙ ap (laptop old.name) is
+    where
+      laptop : List ℕ → Client → Laptop
+      laptop name client = record { name = name; client = client }
+
+  step_noted : (live : Option Live) → live ≡ live_of old.client → live_of new.client ≡ live_of old.client → (step : Step)
+      → StepIsIfAny old.client live step new.client → StepNoted step old new
+  step_noted None is lives step does = absurd does
+  step_noted (Some l) is lives (steps.Acted acts over) does = noted_acted does.act does.notes lives
+  step_noted (Some l) is lives (steps.Fetch want path) does =
+      (stays does.1.stays, does.0, subst IsFirstOf is does.1.first)
+  step_noted (Some l) is lives (steps.AtEnd acts) does = stays does.2
+  step_noted (Some l) is lives (steps.AtLimit acts) does = stays does.3
+
+  step_next : (live : Option Live) → live ≡ live_of old.client → (step : Step) → StepIsIfAny old.client live step new.client
+      → (m : machine.Client) (it : clients.Running) → LaptopStands old m → m.node.durable.running ≡ Some it
+      → clients.next_step m.first (base m.node.durable) it ≡ laptops.next_as step
+  step_next None is step does m it here runs = absurd does
+  step_next (Some l) is step does m it here runs =
+      next_is old.client new.client m.first m.node.durable here.state it runs l (sym is) step does
+
+  pub stepped : (step : Step) → live_of new.client ≡ live_of old.client
+      → StepIsIfAny old.client (live_of old.client) step new.client → Stepped step old new
+  stepped step lives does = record {
+    next = step_next (live_of old.client) refl step does;
+    noted = step_noted (live_of old.client) refl lives step does;
+  }
+
+  -- ---- the end
+
+  pub gone_is : (gone : client.Ended) (acts : List Act) → may_end (state_of old.client) (live_of old.client) ≡ true
+      → EndsIfAny (state_of old.client) (state_of old.client).running (live_of old.client) gone acts
+      → Notes Ended old.client new.client → live_of new.client ≡ None → laptops.Ended gone acts old new
+  gone_is gone acts over ends notes lives = record {
+    noted = noted_ended gone acts ends notes lives;
+    ends = λ m it here runs. end_of old m it here runs gone acts over ends;
+    waits = ap (λ (s : State). waits_of s.items) notes.state
+        ∙ joined_waits (state_of old.client).items (state_of old.client).running notes.follows;
+  }

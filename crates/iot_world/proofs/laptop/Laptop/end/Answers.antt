@@ -1,0 +1,8 @@
+use Rattle.std.proofs.Common.{refl}
+use Rattle.iot_world.proofs.LaptopCallsLaws.{gone_is}
+use Rattle.iot_world.proofs.laptop.Laptop.end.Goals as goal
+
+pub returns-in-Ok : goal.returns-in-Ok
+returns-in-Ok c =
+    gone_is c.args.self.now (record { name = c.args.self.now.name; client = c.end.new.self }) refl c.in-Ok.ensures.tied c.in-Ok.gone.0
+    c.in-Ok.gone.1 c.requires.over c.in-Ok.ensures.ends c.in-Ok.ensures.notes c.in-Ok.ensures.live

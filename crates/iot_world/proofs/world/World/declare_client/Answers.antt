@@ -1,0 +1,11 @@
+use Rattle.std.proofs.Common.{refl}
+use Rattle.iot_world.proofs.world.World.declare_client.Goals as goal
+
+pub returns-clause-world : goal.returns-clause-world
+returns-clause-world g c = record {
+  server = refl;
+  laptop = c.in_ok-new.field-0;
+  stands = c.in_ok-new.ensures;
+  clients = c.in_ok-push.ensures.items;
+  scripts = refl;
+}

@@ -1,0 +1,149 @@
+use Rattle.std.proofs.Common.{ℕ, List, ◌++◌, refl, sym, ap, ◌∙◌}
+use Rattle.std.proofs.lemmas.Result.{err_from_is_err_and}
+use Rattle.std.specs.Vec.{with_item}
+use Rattle.iot_tree.specs.declared.acts.Act.{Act}
+use Rattle.iot_machine.specs.Clients as clients
+use Rattle.iot_machine.specs.Texts.{acts_output, end_line, pending_line, transaction_name}
+use Rattle.iot_world.specs.declared.world.World.{World}
+use Rattle.iot_world.proofs.DisksLaws.{untouched_disks}
+use Rattle.iot_world.proofs.EndsLaws.{ended_name, ends_idle, ends_early, ends_synced, ends_waiting, ready_noted, unended}
+use Rattle.iot_world.proofs.ReadyLaws.{found, found_stands, found_some}
+use Rattle.iot_world.proofs.StepsLaws.{it_runs, none_runs}
+use Rattle.iot_world.proofs.TransactionsLaws.{to_same, put_back}
+use Rattle.iot_world.proofs.world.World.end.Goals as goal
+
+pub runs-requires : goal.runs-requires
+runs-requires g c =
+    found_some _ _ c.args.client c.args.self.now c.index_mut-laptop.result.now c.requires.ready c.index_mut-laptop.ensures.value
+
+pub returns-in_err-say-clause-disks : goal.returns-in_err-say-clause-disks
+returns-in_err-say-clause-disks g c =
+    let p = err_from_is_err_and c.from_residual.result c.from_residual.ensures.1 in
+    rw (p.1, p.2)
+    (untouched_disks _ _ g.D.Disk.reads g.D.Disk.may_leave c.args.self.now _ c.requires.ready.machine.server _ (λ n. refl)
+    c.requires.ready.stands.server refl refl)
+
+pub returns-then-not-runs-clause-step : goal.returns-then-not-runs-clause-step
+returns-then-not-runs-clause-step g c =
+    let old = c.args.self.now in
+    let was = c.index_mut-laptop.result.now in
+    let at = found _ _ c.args.client old was c.requires.ready c.index_mut-laptop.ensures.value in
+    to_same g.D.Disk.reads g.D.Disk.may_leave old old _ c.args.out.now c.say.new.out tt
+    (λ m here. put_back g.D.Disk.reads g.D.Disk.may_leave old _ c.args.client was was m at refl
+    (record { server = refl; scripts = refl; clients = refl }) here)
+    (ends_idle _ _ c.args.client old was c.args.out.now at c.say.new.out
+    (none_runs was (sym c.runs.ensures ∙ c.if-not-runs.true)) c.in_ok-say.ensures)
+
+pub returns-then-not-runs-clause-disks : goal.returns-then-not-runs-clause-disks
+returns-then-not-runs-clause-disks g c =
+    untouched_disks _ _ g.D.Disk.reads g.D.Disk.may_leave c.args.self.now _ c.requires.ready.machine.server _ (λ n. refl)
+    c.requires.ready.stands.server refl refl
+
+pub may_end-requires : goal.may_end-requires
+may_end-requires g c =
+    found_some _ _ c.args.client c.args.self.now c.index_mut-laptop.result.now c.requires.ready c.index_mut-laptop.ensures.value
+
+pub returns-in_err-say-2-clause-disks : goal.returns-in_err-say-2-clause-disks
+returns-in_err-say-2-clause-disks g c =
+    let p = err_from_is_err_and c.from_residual-in_err-say-2.result c.from_residual-in_err-say-2.ensures.1 in
+    rw (p.1, p.2)
+    (untouched_disks _ _ g.D.Disk.reads g.D.Disk.may_leave c.args.self.now _ c.requires.ready.machine.server _ (λ n. refl)
+    c.requires.ready.stands.server refl refl)
+
+pub returns-then-not-may_end-clause-step : goal.returns-then-not-may_end-clause-step
+returns-then-not-may_end-clause-step g c =
+    let old = c.args.self.now in
+    let was = c.index_mut-laptop.result.now in
+    let at = found _ _ c.args.client old was c.requires.ready c.index_mut-laptop.ensures.value in
+    let here = found_stands _ _ c.args.client old was c.requires.ready c.index_mut-laptop.ensures.value in
+    let runs = it_runs was _ here (sym c.runs.ensures ∙ c.if-not-runs.false) in
+    to_same g.D.Disk.reads g.D.Disk.may_leave old old _ c.args.out.now c.say-then-not-may_end.new.out tt
+    (λ m here. put_back g.D.Disk.reads g.D.Disk.may_leave old _ c.args.client was was m at refl
+    (record { server = refl; scripts = refl; clients = refl }) here)
+    (ends_early _ _ c.args.client old was c.args.out.now at runs.it runs.is c.say-then-not-may_end.new.out
+    (unended was runs.it (sym c.may_end.ensures ∙ c.if-not-may_end.true)) c.in_ok-say-2.ensures)
+
+pub returns-then-not-may_end-clause-disks : goal.returns-then-not-may_end-clause-disks
+returns-then-not-may_end-clause-disks g c =
+    untouched_disks _ _ g.D.Disk.reads g.D.Disk.may_leave c.args.self.now _ c.requires.ready.machine.server _ (λ n. refl)
+    c.requires.ready.stands.server refl refl
+
+pub end-requires-clause-stands : goal.end-requires-clause-stands
+end-requires-clause-stands g c =
+    found_some _ _ c.args.client c.args.self.now c.index_mut-laptop.result.now c.requires.ready c.index_mut-laptop.ensures.value
+
+pub returns-in_err-gone-clause-disks : goal.returns-in_err-gone-clause-disks
+returns-in_err-gone-clause-disks g c =
+    let p = err_from_is_err_and c.from_residual-in_err-gone.result c.from_residual-in_err-gone.ensures.1 in
+    rw (p.1, p.2)
+    (untouched_disks _ _ g.D.Disk.reads g.D.Disk.may_leave c.args.self.now _ c.requires.ready.machine.server _ (λ n. refl)
+    c.requires.ready.stands.server refl refl)
+
+pub returns-in_err-say_end-clause-disks : goal.returns-in_err-say_end-clause-disks
+returns-in_err-say_end-clause-disks g c =
+    let p = err_from_is_err_and c.from_residual-in_err-say_end.result c.from_residual-in_err-say_end.ensures.1 in
+    rw (p.1, p.2)
+    (untouched_disks _ _ g.D.Disk.reads g.D.Disk.may_leave c.args.self.now _ c.requires.ready.machine.server _ (λ n. refl)
+    c.requires.ready.stands.server refl refl)
+
+pub sync-requires : goal.sync-requires
+sync-requires g c =
+    let old = c.args.self.now in
+    let was = c.index_mut-laptop.result.now in
+    let at = found _ _ c.args.client old was c.requires.ready c.index_mut-laptop.ensures.value in
+    record {
+      ready =
+          ready_noted _ _ c.args.client old _ was c.end.new.self clients.end c.requires.ready at
+          (record { server = refl; scripts = refl; clients = refl }) c.in_ok-gone.ensures.noted;
+    }
+
+pub returns-then-gone-clause-step : goal.returns-then-gone-clause-step
+returns-then-gone-clause-step g c =
+    let old = c.args.self.now in
+    let was = c.index_mut-laptop.result.now in
+    let at = found _ _ c.args.client old was c.requires.ready c.index_mut-laptop.ensures.value in
+    let here = found_stands _ _ c.args.client old was c.requires.ready c.index_mut-laptop.ensures.value in
+    let runs = it_runs was _ here (sym c.runs.ensures ∙ c.if-not-runs.false) in
+    let laptop = c.end.new.self in
+    let gone = c.in_ok-gone.gone in
+    let acts = c.in_ok-gone.acts in
+    let named =
+    ended_name gone acts was laptop _ c.transaction-transaction.result here c.in_ok-gone.ensures c.transaction-transaction.ensures in
+    let mid : World g.row.D.Denot = record old { clients = with_item old.clients c.args.client laptop } in
+    ends_synced g.D.Disk.reads g.D.Disk.may_leave c.args.client old was c.args.out.now at runs.it runs.is gone acts laptop mid
+    c.in_ok-gone.ensures (record { server = refl; scripts = refl; clients = refl }) c.sync.new.self c.say_end.new.out
+    c.sync.new.out c.if-gone.true
+    (c.in_ok-say_end.ensures ∙ ap (λ (n : List ℕ). c.args.out.now ++ end_line n) named) c.in_ok-sync.ensures.step
+
+pub returns-in_err-say_pending-clause-disks : goal.returns-in_err-say_pending-clause-disks
+returns-in_err-say_pending-clause-disks g c =
+    let p = err_from_is_err_and c.from_residual-in_err-say_pending.result c.from_residual-in_err-say_pending.ensures.1 in
+    rw (p.1, p.2)
+    (untouched_disks _ _ g.D.Disk.reads g.D.Disk.may_leave c.args.self.now _ c.requires.ready.machine.server _ (λ n. refl)
+    c.requires.ready.stands.server refl refl)
+
+pub returns-clause-step : goal.returns-clause-step
+returns-clause-step g c =
+    let old = c.args.self.now in
+    let was = c.index_mut-laptop.result.now in
+    let at = found _ _ c.args.client old was c.requires.ready c.index_mut-laptop.ensures.value in
+    let here = found_stands _ _ c.args.client old was c.requires.ready c.index_mut-laptop.ensures.value in
+    let runs = it_runs was _ here (sym c.runs.ensures ∙ c.if-not-runs.false) in
+    let laptop = c.end.new.self in
+    let gone = c.in_ok-gone.gone in
+    let acts = c.in_ok-gone.acts in
+    let named =
+    ended_name gone acts was laptop _ c.transaction-transaction.result here c.in_ok-gone.ensures c.transaction-transaction.ensures in
+    let mid : World g.row.D.Denot = record old { clients = with_item old.clients c.args.client laptop } in
+    ends_waiting g.D.Disk.reads g.D.Disk.may_leave c.args.client old was c.args.out.now at runs.it runs.is gone acts laptop mid
+    c.in_ok-gone.ensures (record { server = refl; scripts = refl; clients = refl }) c.say_end.new.out c.say_pending.new.out c.if-gone.false
+    (c.in_ok-say_end.ensures ∙ ap (λ (n : List ℕ). c.args.out.now ++ end_line n) named)
+    (c.in_ok-say_pending.ensures
+    ∙ ap (λ (n : List ℕ). c.say_end.new.out ++ (pending_line n ++ acts_output c.as_slice.result.now)) named
+    ∙ ap (λ (them : List Act). c.say_end.new.out ++ (pending_line (transaction_name was.name gone.tid) ++ acts_output them))
+    c.as_slice.ensures)
+
+pub returns-clause-disks : goal.returns-clause-disks
+returns-clause-disks g c =
+    untouched_disks _ _ g.D.Disk.reads g.D.Disk.may_leave c.args.self.now _ c.requires.ready.machine.server _ (λ n. refl)
+    c.requires.ready.stands.server refl refl

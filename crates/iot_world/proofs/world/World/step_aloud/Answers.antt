@@ -1,0 +1,26 @@
+use Rattle.std.proofs.Common.{sym, ◌∙◌}
+use Rattle.iot_machine.specs.Machine.{client_in}
+use Rattle.iot_world.proofs.EventsLaws.{steps_aloud, none_to_step}
+use Rattle.iot_world.proofs.ReadyLaws.{found, found_stands, found_some}
+use Rattle.iot_world.proofs.StepsLaws.{it_runs, none_runs}
+use Rattle.iot_world.proofs.world.World.step_aloud.Goals as goal
+
+pub runs-requires : goal.runs-requires
+runs-requires g c =
+    found_some g.D.Disk.reads g.D.Disk.may_leave c.args.client c.args.self.now c.index.result.now c.requires.ready c.index.ensures
+
+pub returns-then-not-runs-clause-step : goal.returns-then-not-runs-clause-step
+returns-then-not-runs-clause-step g c =
+    none_to_step g.D.Disk.reads g.D.Disk.may_leave c.args.client c.args.most c.args.self.now c.index.result.now c.args.out.now c.say.new.out
+    (found g.D.Disk.reads g.D.Disk.may_leave c.args.client c.args.self.now c.index.result.now c.requires.ready c.index.ensures)
+    (none_runs c.index.result.now (sym c.runs.ensures ∙ c.if-not-runs.true)) c.in_ok-say.ensures
+
+pub returns-clause-step : goal.returns-clause-step
+returns-clause-step g c =
+    let one = it_runs c.index.result.now (client_in c.requires.ready.machine c.args.client)
+    (found_stands g.D.Disk.reads g.D.Disk.may_leave c.args.client c.args.self.now c.index.result.now c.requires.ready c.index.ensures)
+    (sym c.runs.ensures ∙ c.if-not-runs.false) in
+    steps_aloud g.D.Disk.reads g.D.Disk.may_leave c.args.client c.args.most c.args.self.now c.steps.new.self c.index.result.now
+    c.args.out.now c.steps.new.out c.say_stepped.new.out one.it _
+    (found g.D.Disk.reads g.D.Disk.may_leave c.args.client c.args.self.now c.index.result.now c.requires.ready c.index.ensures) one.is
+    c.in_ok-_went.ensures.step c.in_ok-say_stepped.ensures
