@@ -13,14 +13,18 @@ CHUNK = 16300
 CHUNKS_PER_SIZE = 16
 COMMITS = 500
 FILLED_AT_ONCE = 1024
+CLIENTS = 8
+DIRECTORIES = 16
+FILES_IN_EACH = 250
+ROUNDS = 4
 
 
 def script(name, statements):
     return [f'script {name} {{', *statements, '}']
 
 
-def run(name):
-    return f'run laptop {name} abort'
+def run(name, client='laptop'):
+    return f'run {client} {name} abort'
 
 
 def transactions(size):
@@ -99,6 +103,33 @@ def journal(size):
     return Work(lines + [run('small')] * COMMITS, 'commits', COMMITS, len(lines))
 
 
+def clients(size):
+    """Eight clients that hold more and more of a tree of 4,000 files, and refresh and run in turn."""
+    names = [f'c{i}' for i in range(CLIENTS)]
+    init = ['mkdir /made'] + [f'mkdir /made/d{d}' for d in range(DIRECTORIES)]
+    init += [f'write /made/d{d}/f{i} x' for d in range(DIRECTORIES) for i in range(FILES_IN_EACH)]
+    lines = [f'client {name}' for name in names] + script('init', init) + script('rename', ['mv /made /all'])
+    lines += script('small', ['append /all/d0/f0 "+"', 'cat /all/d0/f1'])
+    # The first one knows all that it has made, until another one renames it: then each holds only what it hoards.
+    lines += [run('init', names[0]), run('rename', names[1]), f'refresh {names[0]}']
+    lines += [f'hoard {name} /all/d{d}' for name in names for d in range(size)]
+    turns = [line for name in names for line in (f'refresh {name}', run('small', name))] * ROUNDS
+    # The root, /all and the directories, and the files. Each turn passes over all that is held and all that is there.
+    others = 2 + DIRECTORIES
+    held = others + size * FILES_IN_EACH
+    there = others + DIRECTORIES * FILES_IN_EACH
+    return Work(lines + turns, 'rows', len(turns) * (held + there), len(lines))
+
+
+def steps(size):
+    """One transaction of more and more acts, each a single step, on a tree of as many files."""
+    acts = 250 * size
+    init = ['mkdir /d'] + [f'write /d/f{i} x' for i in range(acts)]
+    lines = ['client laptop', *script('init', init), *script('work', [f'append /d/f{i} "+"' for i in range(acts)])]
+    lines += [run('init'), 'begin laptop work abort']
+    return Work(lines + ['step laptop'] * acts, 'steps', acts, len(lines))
+
+
 # The cases in the order of the table, and those that need no more than `mkdir`, `write` and `cat`.
-CASES = [transactions, tree, loops, moves, text, journal]
+CASES = [transactions, tree, loops, moves, text, journal, clients, steps]
 FIRST = [transactions, tree]
