@@ -1,0 +1,4 @@
+mod NumbersLaws
+mod PrunedLaws
+mod RepliesLaws
+mod StandingLaws

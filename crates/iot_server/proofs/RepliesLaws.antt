@@ -1,0 +1,90 @@
+-- Which bytes answer a request.
+use Rattle.std.proofs.Common.{◌≡◌, ◌+◌, ℕ, List, length, Option, Some, None, Result, Ok, Err, IfOk, refl, sym, ap, subst, ◌∙◌}
+use Rattle.iot_certify.specs.declared.verdict.Verdict.TheVariants.{Holds, Differs}
+use Rattle.iot_server.specs.Replies.{IsAnswered, IsJudged, Submits}
+use Rattle.iot_server.proofs.PrunedLaws.{prune_same}
+use Rattle.iot_server.proofs.StandingLaws.{verdict_answer}
+use Rattle.iot_acts.specs.Guards.{AllGuarded}
+use Rattle.iot_acts.specs.Turns.{turns, DiffersAt}
+use Rattle.iot_certify.specs.Verdicts.{IsVerdictOnActs, IfDiffers}
+use Rattle.iot_certify.specs.declared.verdict.Verdict.{Verdict}
+use Rattle.iot_codec.specs.Rules.{AreActs, IsAnswer}
+use Rattle.iot_limits.specs.Spelled.{IsSpelledTree}
+use Rattle.iot_store.specs.Numbers.{number_in}
+use Rattle.iot_store.specs.States.{State, after_commit}
+use Rattle.iot_tree.specs.Snapshots.{has, prune, widen}
+use Rattle.iot_tree.specs.Tree.{Nodes, Path}
+use Rattle.iot_tree.specs.declared.acts.Act.{Act}
+use Rattle.iot_tree.specs.declared.labels.Label.{Label}
+use Rattle.iot_tree.specs.declared.questions.Answer.{Answer}
+use Rattle.iot_tree.specs.declared.want.Want.{Want}
+use Rattle.iot_wire.specs.Messages.{IsMessage}
+use Rattle.iot_wire.specs.Rules.{IsReply}
+use Rattle.iot_wire.specs.Spelling.{reply_spelling}
+use Rattle.iot_wire.specs.declared.replies.Reply.TheVariants.{Objects, Committed, Already, Conflict}
+use Rattle.iot_wire.specs.declared.requests.Request.TheVariants.{Refresh, Commit}
+
+-- what follows from a clause about Ok
+pub if_ok : {T E : Type 0} (P Q : T → Type 0) (result : Result T E) → ((x : T) → P x → Q x) → IfOk result P → IfOk result Q
+if_ok P Q (Ok x) follows is = follows x is
+if_ok P Q (Err e) follows is = tt
+
+module _ (before : State) (bytes : List ℕ) where
+  pub refreshed : (client : ℕ) (known paths : List Path) (want : Want) (t : Nodes)
+      → (here : Nodes) → here ≡ before.tree
+      → ((p : Path) → has paths p ≡ widen (has known) here want p) → t ≡ prune here (has paths)
+      → IsReply (Objects t) → bytes ≡ reply_spelling (Objects t) → IsAnswered before (Refresh client known want) bytes before
+  refreshed client known paths want t here same each cut is spelled = record {
+    reply = Objects t;
+    answers = (
+      ap Objects
+          (cut ∙ prune_same (has paths) (widen (has known) here want) each here
+          ∙ ap (λ (tree : Nodes). prune tree (widen (has known) tree want)) same),
+      refl,
+    );
+    spelled = record { value = is; spelled = sym spelled };
+  }
+
+  module _ (label : Label) (acts : List Act) where
+    pub had : (number : ℕ) → number_in before.labels label.client label.tid ≡ Some number → IsReply (Already number)
+        → bytes ≡ reply_spelling (Already number) → IsAnswered before (Commit label acts) bytes before
+    had number found is spelled = record {
+      reply = Already number;
+      answers = subst (λ (n : Option ℕ). Submits n before label acts (Already number) before) (sym found) (refl, refl);
+      spelled = record { value = is; spelled = sym spelled };
+    }
+
+    pub conflicted : (read : ℕ) (answer : Answer) → number_in before.labels label.client label.tid ≡ None
+        → IsJudged before.tree acts (Differs read answer) → IsReply (Conflict read answer) → bytes ≡ reply_spelling (Conflict read answer)
+        → IsAnswered before (Commit label acts) bytes before
+    conflicted read answer none judged is spelled = record {
+      reply = Conflict read answer;
+      answers =
+          subst (λ (n : Option ℕ). Submits n before label acts (Conflict read answer) before) (sym none)
+          (Differs read answer, judged, (refl, refl));
+      spelled = record { value = is; spelled = sym spelled };
+    }
+
+    pub committed : (after : State) → number_in before.labels label.client label.tid ≡ None → IsJudged before.tree acts Holds
+        → after ≡ after_commit before label acts → IsMessage IsReply reply_spelling bytes (Committed (length before.labels + 1))
+        → IsAnswered before (Commit label acts) bytes after
+    committed after none judged is message = record {
+      reply = Committed (length before.labels + 1);
+      answers =
+          subst (λ (n : Option ℕ). Submits n before label acts (Committed (length before.labels + 1)) after) (sym none)
+          (Holds, judged, (refl, is));
+      spelled = message;
+    }
+
+-- a verdict on the store's tree that a read differs
+pub judged_so : (here tree : Nodes) (acts : List Act) (verdict : Verdict) (read : ℕ) (answer : Answer) → here ≡ tree
+    → verdict ≡ Differs read answer → IsVerdictOnActs here acts verdict
+    → (AllGuarded acts → IfDiffers verdict (DiffersAt (turns here acts) 1)) → IsJudged tree acts (Differs read answer)
+judged_so here tree acts verdict read answer same is verdict_is guarded =
+    subst (λ (t : Nodes). IsJudged t acts (Differs read answer)) same
+    (subst (λ (v : Verdict). IsJudged here acts v) is (record { is = verdict_is; guarded = guarded }))
+
+-- its answer has a spelling
+pub judged_answer : (tree : Nodes) (acts : List Act) (read : ℕ) (answer : Answer) → AreActs acts → IsSpelledTree tree
+    → IsJudged tree acts (Differs read answer) → IsAnswer answer
+judged_answer tree acts read answer are spelled judged = verdict_answer tree acts read answer are.each spelled judged.is

@@ -1,0 +1,60 @@
+-- Why a request has no reply.
+use Rattle.std.specs.Prelude.{◌≡◌, ◌⊎◌, ℕ, List, ◌++◌, [], ◌∷◌, Result, Ok, Err}
+use Rattle.iot_codec.specs.declared.faults.CodecFault.{CodecFault}
+use Rattle.iot_codec.specs.declared.faults.CodecFault.TheVariants as codec
+use Rattle.iot_count.specs.Counts.{Rose, Stayed}
+use Rattle.iot_disk.specs.declared.faults.JournalFault.{JournalFault}
+use Rattle.iot_disk.specs.declared.faults.JournalFault.TheVariants as journal
+use Rattle.iot_journal.specs.Decoding.{Encodes}
+use Rattle.iot_journal.specs.Images.{EachDecodesEither}
+use Rattle.iot_store.specs.Records.{record_spelling}
+use Rattle.iot_store.specs.Standing.{EachStandsEither}
+use Rattle.iot_store.specs.States.{State, CanFollow, after_commit}
+use Rattle.iot_tree.specs.declared.acts.Act.{Act}
+use Rattle.iot_tree.specs.declared.labels.Label.{Label}
+use Rattle.iot_wire.specs.declared.requests.Request.{Request}
+use Rattle.iot_wire.specs.declared.requests.Request.TheVariants.{Commit}
+use Rattle.iot_server.specs.declared.fault.ServerFault.{ServerFault}
+use Rattle.iot_server.specs.declared.fault.ServerFault.TheVariants.{NoMemory, Malformed, Stopped}
+
+abbrev pub of_codec : CodecFault → ServerFault
+of_codec codec.NoMemory = NoMemory
+of_codec (codec.Malformed at) = Malformed at
+
+abbrev pub of_journal : JournalFault → ServerFault
+of_journal journal.NoMemory = NoMemory
+of_journal journal.Stopped = Stopped
+
+-- what bytes decode to as a request, by how the call ends: a request, or the fault that it names
+abbrev pub EndsBy : {T : Type 0} → Result T ServerFault → Result Request ℕ → Type 0
+EndsBy (Ok _) decoded = (request : Request) × (decoded ≡ Ok request)
+EndsBy (Err NoMemory) decoded = Unit {0}
+EndsBy (Err Stopped) decoded = (request : Request) × (decoded ≡ Ok request)
+EndsBy (Err (Malformed at)) decoded = decoded ≡ Err at
+
+-- the bytes were not refused
+abbrev pub IsNotMalformed : ServerFault → Type 0
+IsNotMalformed NoMemory = Unit {0}
+IsNotMalformed Stopped = Unit {0}
+IsNotMalformed (Malformed at) = ⊥
+
+-- the disk's count of faults, before and after a call with this answer: it rises if the call was stopped, and only then
+abbrev pub CountsServerFault : {T : Type 0} → Result T ServerFault → ℕ → ℕ → Type 0
+CountsServerFault (Ok _) before now = Stayed before now
+CountsServerFault (Err NoMemory) before now = Stayed before now
+CountsServerFault (Err (Malformed at)) before now = Stayed before now
+CountsServerFault (Err Stopped) before now = Rose before now
+
+-- a commit was asked for that can follow, and was cut off: each image stands for the state before or for the state with it, and has
+-- the records before, or those and the record of the commit
+pub record CutsOff (Asks : Request → Type 0) (state : State) (bodies : List (List ℕ)) (images : List ℕ → Type 0) : Type 0 where
+  pub label : Label
+  pub acts : List Act
+  pub asked : Asks (Commit label acts)
+  pub follows : CanFollow state label acts
+  pub either : EachStandsEither images state (after_commit state label acts)
+  pub one_record : EachDecodesEither images (Encodes bodies) (Encodes (bodies ++ record_spelling label acts ∷ []))
+
+-- the records are those from before, or those and one more
+abbrev pub KeepsRecords : (before after : List (List ℕ)) → Type 0
+KeepsRecords before after = (after ≡ before) ⊎ ((body : List ℕ) × (after ≡ before ++ body ∷ []))

@@ -1,0 +1,54 @@
+-- What the server answers.
+use Rattle.std.specs.Prelude.{◌≡◌, ℕ, ◌+◌, List, length, Option, Some, None}
+use Rattle.iot_acts.specs.Guards.{AllGuarded}
+use Rattle.iot_acts.specs.Turns.{turns, DiffersAt}
+use Rattle.iot_certify.specs.Verdicts.{IsVerdictOnActs, IfDiffers}
+use Rattle.iot_certify.specs.declared.verdict.Verdict.{Verdict}
+use Rattle.iot_certify.specs.declared.verdict.Verdict.TheVariants.{Holds, Differs}
+use Rattle.iot_store.specs.Numbers.{number_in}
+use Rattle.iot_store.specs.States.{State, after_commit}
+use Rattle.iot_tree.specs.Snapshots.{has, prune, widen}
+use Rattle.iot_tree.specs.Tree.{Nodes}
+use Rattle.iot_tree.specs.declared.acts.Act.{Act}
+use Rattle.iot_tree.specs.declared.labels.Label.{Label}
+use Rattle.iot_wire.specs.Messages.{IsMessage}
+use Rattle.iot_wire.specs.Rules.{IsRequest, IsReply}
+use Rattle.iot_wire.specs.Spelling.{request_spelling, reply_spelling}
+use Rattle.iot_wire.specs.declared.requests.Request.{Request}
+use Rattle.iot_wire.specs.declared.requests.Request.TheVariants.{Refresh, Commit}
+use Rattle.iot_wire.specs.declared.replies.Reply.{Reply}
+use Rattle.iot_wire.specs.declared.replies.Reply.TheVariants.{Objects, Committed, Already, Conflict}
+
+-- the verdict on a transaction's acts; for guarded acts it is the first read that differs in its turn
+pub record IsJudged (tree : Nodes) (acts : List Act) (verdict : Verdict) : Type 0 where
+  pub is : IsVerdictOnActs tree acts verdict
+  pub guarded : AllGuarded acts → IfDiffers verdict (DiffersAt (turns tree acts) 1)
+
+-- by the verdict: one that holds is committed, under the next number; else the read that differs is told, and its answer now
+abbrev pub Settles : Verdict → State → Label → List Act → Reply → State → Type 0
+Settles Holds before label acts reply after = (reply ≡ Committed (length before.labels + 1)) × (after ≡ after_commit before label acts)
+Settles (Differs read answer) before label acts reply after = (reply ≡ Conflict read answer) × (after ≡ before)
+
+-- by the number of the transaction among the labels: one that has a number gets it again; one that has none is judged
+abbrev pub Submits : Option ℕ → State → Label → List Act → Reply → State → Type 0
+Submits (Some number) before label acts reply after = (reply ≡ Already number) × (after ≡ before)
+Submits None before label acts reply after =
+    (verdict : Verdict) × IsJudged before.tree acts verdict × Settles verdict before label acts reply after
+
+-- the reply to a request, by the state before, and the state after it
+abbrev pub Answers : State → Request → Reply → State → Type 0
+Answers before (Refresh client known want) reply after =
+    (reply ≡ Objects (prune before.tree (widen (has known) before.tree want))) × (after ≡ before)
+Answers before (Commit label acts) reply after = Submits (number_in before.labels label.client label.tid) before label acts reply after
+
+-- the bytes are the spelling of the reply to the request
+pub record IsAnswered (before : State) (request : Request) (bytes : List ℕ) (after : State) : Type 0 where
+  pub reply : Reply
+  pub answers : Answers before request reply after
+  pub spelled : IsMessage IsReply reply_spelling bytes reply
+
+-- bytes that are the spelling of a request are answered by bytes that are the spelling of its reply
+pub record IsHandled (before : State) (asked bytes : List ℕ) (after : State) : Type 0 where
+  pub request : Request
+  pub is : IsMessage IsRequest request_spelling asked request
+  pub answered : IsAnswered before request bytes after

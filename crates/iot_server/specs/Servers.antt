@@ -1,0 +1,29 @@
+-- A server over its disk.
+use Rattle.std.specs.Prelude.{ℕ, List}
+use Rattle.iot_store.specs.States.{State}
+use Rattle.iot_store.specs.Store as store
+use Rattle.iot_store.specs.declared.store.Store.{Store}
+use Rattle.iot_server.specs.declared.server.Server.{Server}
+use Rattle.iot_server.specs.declared.traffic.Traffic.{Traffic}
+
+-- the tree and the labels
+abbrev pub state_of : {D : Type 0} → Server D → State
+state_of server = store.state_of server.store
+
+abbrev pub store_of : {D : Type 0} → Server D → Store D
+store_of server = server.store
+
+abbrev pub traffic_of : {D : Type 0} → Server D → Traffic
+traffic_of server = server.traffic
+
+-- the disk under a server
+abbrev pub disk_of : {D : Type 0} → Server D → D
+disk_of server = store.disk_of server.store
+
+-- the bodies of the records on its disk
+abbrev pub bodies_on : {D : Type 0} → (D → List ℕ) → Server D → List (List ℕ)
+bodies_on reads server = store.bodies_on reads server.store
+
+-- nothing is under way: the disk has one image, and its records lead to the state
+abbrev pub IsSynced : {D : Type 0} → (D → List ℕ) → (D → List ℕ → Type 0) → Server D → Type 0
+IsSynced reads may_leave server = store.IsSynced reads may_leave server.store

@@ -1,0 +1,163 @@
+//! The reply to a request.
+ghost use Rattle.std.specs.Prelude.{◌≡◌, ◌+◌, IfOk, OnOk, IsErrOf, None};
+ghost use Rattle.iot_codec.specs.Rules.{ArePaths, IsLabel, AreActs};
+ghost use Rattle.iot_disk.specs.Faults.{CountsJournalFault};
+ghost use Rattle.iot_server.specs.Faults.{CutsOff, KeepsRecords};
+ghost use Rattle.iot_server.specs.Replies.{IsAnswered, IsJudged};
+ghost use Rattle.iot_store.specs.Numbers.{number_in};
+ghost use Rattle.iot_store.specs.Standing.{EachStands};
+ghost use Rattle.iot_store.specs.Store.{state_of, disk_of, bodies_on, IsSynced};
+ghost use Rattle.iot_wire.specs.Messages.{IsMessage};
+ghost use Rattle.iot_wire.specs.Rules.{IsRequest, IsReply};
+ghost use Rattle.iot_wire.specs.Spelling.{reply_spelling};
+ghost use Rattle.iot_wire.specs.declared.requests.Request.{Request as Asked};
+ghost use Rattle.iot_wire.specs.declared.requests.Request.TheVariants.{Refresh, Commit};
+ghost use Rattle.iot_wire.specs.declared.replies.Reply.TheVariants.{Committed};
+
+use iot_certify::{Verdict, certify_acts};
+use iot_disk::{Disk, JournalFault};
+use iot_prune::{prune, widen};
+use iot_store::Store;
+use iot_text::NoMemory;
+use iot_tree::{Acts, Label, Paths, Want};
+use iot_wire::{Reply, Request, write_reply};
+use std::alloc::Global;
+
+/// Answers the request, whose commit is on the disk when this gives its reply.
+pub(crate) fn answer<D: Disk>(
+    alloc: Global,
+    store: &mut Store<D>,
+    request: Request,
+) -> Result<Vec<u8>, JournalFault>
+    requires synced { IsSynced D.reads D.may_leave store.old }
+    requires request { IsRequest request }
+    ensures answered { IfOk result (λ bytes. IsAnswered (state_of store.old) request bytes.items (state_of store.new)) }
+    ensures synced { OnOk result (IsSynced D.reads D.may_leave store.new) }
+    ensures records { OnOk result (KeepsRecords (bodies_on D.reads store.old) (bodies_on D.reads store.new)) }
+    ensures stopped { IsErrOf result JournalFault.Stopped → CutsOff (λ (asked : Asked). asked ≡ request)
+        (state_of store.old) (bodies_on D.reads store.old) (D.may_leave (disk_of store.new)) }
+    ensures no_memory { IsErrOf result JournalFault.NoMemory → EachStands (D.may_leave (disk_of store.new)) (state_of store.old) }
+    ensures faults { CountsJournalFault result (D.faults (disk_of store.old)) (D.faults (disk_of store.new)) }
+    ensures arms { D.arms (disk_of store.new) ≡ D.arms (disk_of store.old) }
+{
+    match request {
+        Request::Refresh {
+            client: _,
+            known,
+            want,
+        } => Ok(lend(alloc, store, known, &want)?),
+        Request::Commit { label, acts } => submit(alloc, store, label, &acts),
+    }
+}
+
+/// Its tree, cut down to what is known or wanted. One pass.
+fn lend<D: Disk>(
+    alloc: Global,
+    store: &Store<D>,
+    known: Paths,
+    want: &Want,
+) -> Result<Vec<u8>, NoMemory>
+    requires synced { IsSynced D.reads D.may_leave store.now }
+    requires known { ArePaths known }
+    ensures { (client : _) → IfOk result (λ bytes.
+        IsAnswered (state_of store.now) (Refresh client known want.now) bytes.items (state_of store.now)) }
+{
+    let tree = store.tree();
+    let paths = widen(alloc, known, tree, want)?;
+    let objects = prune(alloc, tree, &paths)?;
+    // That it is a tree is known of its rows.
+    let _rows = objects.rows();
+    write_reply(alloc, &Reply::Objects(objects))
+}
+
+/// The number of a transaction that is among the commits; any other is judged.
+fn submit<D: Disk>(
+    alloc: Global,
+    store: &mut Store<D>,
+    label: Label,
+    acts: &Acts,
+) -> Result<Vec<u8>, JournalFault>
+    requires synced { IsSynced D.reads D.may_leave store.old }
+    requires label { IsLabel label }
+    requires acts { AreActs acts.now }
+    ensures answered { IfOk result (λ bytes.
+        IsAnswered (state_of store.old) (Commit label acts.now) bytes.items (state_of store.new)) }
+    ensures synced { OnOk result (IsSynced D.reads D.may_leave store.new) }
+    ensures records { OnOk result (KeepsRecords (bodies_on D.reads store.old) (bodies_on D.reads store.new)) }
+    ensures stopped { IsErrOf result JournalFault.Stopped → CutsOff (λ (asked : Asked). asked ≡ Commit label acts.now)
+        (state_of store.old) (bodies_on D.reads store.old) (D.may_leave (disk_of store.new)) }
+    ensures no_memory { IsErrOf result JournalFault.NoMemory → EachStands (D.may_leave (disk_of store.new)) (state_of store.old) }
+    ensures faults { CountsJournalFault result (D.faults (disk_of store.old)) (D.faults (disk_of store.new)) }
+    ensures arms { D.arms (disk_of store.new) ≡ D.arms (disk_of store.old) }
+{
+    match store.number_of(label.client, label.tid) {
+        Some(number) => Ok(write_reply(alloc, &Reply::Already { number })?),
+        None => judge(alloc, store, label, acts),
+    }
+}
+
+/// Commits a new transaction if its acts hold; else tells the read that differs.
+fn judge<D: Disk>(
+    alloc: Global,
+    store: &mut Store<D>,
+    label: Label,
+    acts: &Acts,
+) -> Result<Vec<u8>, JournalFault>
+    requires synced { IsSynced D.reads D.may_leave store.old }
+    requires label { IsLabel label }
+    requires acts { AreActs acts.now }
+    requires new { number_in (state_of store.old).labels label.client label.tid ≡ None }
+    ensures answered { IfOk result (λ bytes.
+        IsAnswered (state_of store.old) (Commit label acts.now) bytes.items (state_of store.new)) }
+    ensures synced { OnOk result (IsSynced D.reads D.may_leave store.new) }
+    ensures records { OnOk result (KeepsRecords (bodies_on D.reads store.old) (bodies_on D.reads store.new)) }
+    ensures stopped { IsErrOf result JournalFault.Stopped → CutsOff (λ (asked : Asked). asked ≡ Commit label acts.now)
+        (state_of store.old) (bodies_on D.reads store.old) (D.may_leave (disk_of store.new)) }
+    ensures no_memory { IsErrOf result JournalFault.NoMemory → EachStands (D.may_leave (disk_of store.new)) (state_of store.old) }
+    ensures faults { CountsJournalFault result (D.faults (disk_of store.old)) (D.faults (disk_of store.new)) }
+    ensures arms { D.arms (disk_of store.new) ≡ D.arms (disk_of store.old) }
+{
+    match certify_acts(alloc, store.tree(), acts)? {
+        Verdict::Holds => commit(alloc, store, label, acts),
+        Verdict::Differs { read, answer } => {
+            Ok(write_reply(alloc, &Reply::Conflict { read, answer })?)
+        }
+    }
+}
+
+/// Commits a new transaction whose acts hold. Its reply is spelled first, so that want of memory comes before the commit.
+fn commit<D: Disk>(
+    alloc: Global,
+    store: &mut Store<D>,
+    label: Label,
+    acts: &Acts,
+) -> Result<Vec<u8>, JournalFault>
+    requires synced { IsSynced D.reads D.may_leave store.old }
+    requires label { IsLabel label }
+    requires acts { AreActs acts.now }
+    requires new { number_in (state_of store.old).labels label.client label.tid ≡ None }
+    requires holds { IsJudged (state_of store.old).tree acts.now Verdict.Holds }
+    ensures answered { IfOk result (λ bytes.
+        IsAnswered (state_of store.old) (Commit label acts.now) bytes.items (state_of store.new)) }
+    ensures synced { OnOk result (IsSynced D.reads D.may_leave store.new) }
+    ensures records { OnOk result (KeepsRecords (bodies_on D.reads store.old) (bodies_on D.reads store.new)) }
+    ensures stopped { IsErrOf result JournalFault.Stopped → CutsOff (λ (asked : Asked). asked ≡ Commit label acts.now)
+        (state_of store.old) (bodies_on D.reads store.old) (D.may_leave (disk_of store.new)) }
+    ensures no_memory { IsErrOf result JournalFault.NoMemory → EachStands (D.may_leave (disk_of store.new)) (state_of store.old) }
+    ensures faults { CountsJournalFault result (D.faults (disk_of store.old)) (D.faults (disk_of store.new)) }
+    ensures arms { D.arms (disk_of store.new) ≡ D.arms (disk_of store.old) }
+{
+    let bytes = committed(alloc, store.number())?;
+    store.commit(alloc, label, acts)?;
+    Ok(bytes)
+}
+
+/// The reply that tells of one commit after so many. Numbers end at 64 bits; no list in memory is that long.
+fn committed(alloc: Global, number: u64) -> Result<Vec<u8>, NoMemory>
+    ensures { IfOk result (λ bytes. IsMessage IsReply reply_spelling bytes.items (Committed (number + 1))) }
+{
+    match number.checked_add(1) {
+        Some(number) => write_reply(alloc, &Reply::Committed { number }),
+        None => Err(NoMemory),
+    }
+}

@@ -1,0 +1,146 @@
+//! The server itself.
+ghost use Rattle.std.specs.Prelude.{◌≡◌, ℕ, length, IfOk, IfErr, OnOk, IsErrOf, MatchResult};
+ghost use Rattle.iot_disk.specs.Disk.{Only, SameImages};
+ghost use Rattle.iot_journal.specs.Decoding.{Encodes, decoded};
+ghost use Rattle.iot_journal.specs.Images.{EachDecodes};
+ghost use Rattle.iot_journal.specs.Start.{ChangesNothing};
+ghost use Rattle.iot_server.specs.Faults.{CountsServerFault, CutsOff, EndsBy, IsNotMalformed, KeepsRecords};
+ghost use Rattle.iot_server.specs.Replies.{IsHandled};
+ghost use Rattle.iot_server.specs.Traffic.{no_traffic, traffic_after};
+ghost use Rattle.iot_server.specs.declared.fault.ServerFault.TheVariants.{NoMemory, Malformed, Stopped};
+ghost use Rattle.iot_store.specs.Causes.{HasCause, TakesBytes};
+ghost use Rattle.iot_store.specs.Standing.{StandFor, EachStands};
+ghost use Rattle.iot_store.specs.States.{State};
+ghost use Rattle.iot_wire.specs.Decoding.{request_at};
+ghost use Rattle.iot_wire.specs.Messages.{IsMessage, whole};
+ghost use Rattle.iot_wire.specs.Rules.{IsRequest};
+ghost use Rattle.iot_wire.specs.Spelling.{request_spelling};
+ghost use Rattle.iot_wire.specs.declared.requests.Request.{Request};
+
+use crate::answering::answer;
+use crate::{ServerFault, Traffic};
+use iot_disk::{Disk, StartFault};
+use iot_store::Store;
+use iot_wire::read_request;
+use std::alloc::Global;
+
+/// A server: a store, to which it appends what clients commit, and what was received and sent since the start.
+///
+/// After `NoMemory` or `Stopped` from `handle` only `into_disk` says anything more: start again from the disk.
+#[derive(Drop)]
+pub struct Server<D: Disk> {
+    pub(crate) store: Store<D>,
+    pub(crate) traffic: Traffic,
+}
+
+impl<D: Disk> Server<D> {
+    ghost use Rattle.iot_server.specs.Servers.{state_of, store_of, traffic_of, disk_of, bodies_on, IsSynced};
+
+    /// Starts a server from its disk, which no one else writes. A disk on which none was started becomes that of a server without
+    /// a commit, whose tree has only its root. The disk comes back if this gives no server.
+    ///
+    /// # Errors
+    ///
+    /// `Foreign` if something else wrote the disk, and `Damaged` with the place of its gate if a record is none or cannot follow
+    /// the ones before it. `Stopped` if the disk failed in this call, and `NoMemory`.
+    pub fn start(alloc: Global, disk: D) -> Result<Server<D>, (D, StartFault)>
+        requires { Only (D.reads disk) (D.may_leave disk) }
+        ensures stands { IfOk result (λ server. StandFor (D.reads disk) (state_of server)) }
+        ensures records { IfOk result (λ server. decoded (D.reads disk) ≡ Encodes (bodies_on D.reads server)) }
+
+        // The disk stands for no other state.
+        ensures only { (state : State) → StandFor (D.reads disk) state → IfOk result (λ server. state_of server ≡ state) }
+        ensures synced { IfOk result (λ server. IsSynced D.reads D.may_leave server) }
+        ensures traffic { IfOk result (λ server. traffic_of server ≡ no_traffic) }
+
+        // However this returns, every image encodes what the disk encoded before, and stands for the state for which it stood.
+        ensures bodies { MatchResult result
+            (λ server. EachDecodes (D.may_leave (disk_of server)) (decoded (D.reads disk)))
+            (λ refused. EachDecodes (D.may_leave refused.0) (decoded (D.reads disk))) }
+        ensures images { (state : State) → StandFor (D.reads disk) state → MatchResult result
+            (λ server. EachStands (D.may_leave (disk_of server)) state)
+            (λ refused. EachStands (D.may_leave refused.0) state) }
+        ensures never { (state : State) → StandFor (D.reads disk) state → IfErr result (λ refused. TakesBytes refused.1) }
+
+        ensures steady { IfOk result (λ server. D.faults (disk_of server) ≡ D.faults disk) }
+        ensures cause { IfErr result (λ refused. HasCause refused.1 (D.reads disk) (D.faults disk) (D.faults refused.0)) }
+
+        // A refusal of the bytes changes nothing.
+        ensures refused_reads { IfErr result (λ refused. ChangesNothing refused.1 (D.reads refused.0 ≡ D.reads disk)) }
+        ensures refused_images { IfErr result (λ refused.
+            ChangesNothing refused.1 (SameImages (D.may_leave disk) (D.may_leave refused.0))) }
+
+        ensures arms { MatchResult result
+            (λ server. D.arms (disk_of server) ≡ D.arms disk)
+            (λ refused. D.arms refused.0 ≡ D.arms disk) }
+    {
+        match Store::start(alloc, disk) {
+            Ok(store) => Ok(Server {
+                store,
+                traffic: Traffic::none(),
+            }),
+            Err(refused) => Err(refused),
+        }
+    }
+
+    /// Answers the bytes that a client sent. A refresh is answered by the tree, cut down to what the client knows or wants to know;
+    /// it takes one pass. A commit is answered by the number of its transaction, if that is among the commits or if all that it read
+    /// still holds, and else by the read that differs; it takes as much as the request is long, and a search for each read and
+    /// update. Its record is on the disk when this answers Ok.
+    ///
+    /// # Errors
+    ///
+    /// `Malformed` exactly if the bytes are the spelling of no request; it changes nothing. `Stopped` if the disk failed in this call,
+    /// which was to append a commit: each image then stands for the commits before or for those with the new one. `NoMemory`: each
+    /// stands for the commits before.
+    pub fn handle(&mut self, alloc: Global, request: &[u8]) -> Result<Vec<u8>, ServerFault>
+        requires { IsSynced D.reads D.may_leave self.old }
+
+        // The bytes are the spelling of a request, and what is answered is that of its reply.
+        ensures replies { IfOk result (λ bytes. IsHandled (state_of self.old) request.now bytes.items (state_of self.new)) }
+        ensures synced { OnOk result (IsSynced D.reads D.may_leave self.new) }
+        ensures records { OnOk result (KeepsRecords (bodies_on D.reads self.old) (bodies_on D.reads self.new)) }
+        ensures images { OnOk result (EachStands (D.may_leave (disk_of self.new)) (state_of self.new)) }
+
+        // The bytes are refused exactly if they are the spelling of no request, and at their first fault.
+        ensures exact { EndsBy result (whole request_at request.now) }
+        ensures never { (it : Request) → IsMessage IsRequest request_spelling request.now it → IfErr result IsNotMalformed }
+        ensures malformed { (at : ℕ) → IsErrOf result (Malformed at) → self.new ≡ self.old }
+
+        ensures stopped { IsErrOf result Stopped → CutsOff (IsMessage IsRequest request_spelling request.now)
+            (state_of self.old) (bodies_on D.reads self.old) (D.may_leave (disk_of self.new)) }
+        ensures no_memory { IsErrOf result NoMemory → EachStands (D.may_leave (disk_of self.new)) (state_of self.old) }
+
+        ensures faults { CountsServerFault result (D.faults (disk_of self.old)) (D.faults (disk_of self.new)) }
+        ensures arms { D.arms (disk_of self.new) ≡ D.arms (disk_of self.old) }
+
+        // A request that has a reply counts, and no other.
+        ensures traffic { traffic_of self.new ≡ traffic_after result (length request.now) (traffic_of self.old) }
+    {
+        let asked = read_request(alloc, request)?;
+        let reply = answer(alloc, &mut self.store, asked)?;
+        self.traffic.count(request.len(), reply.len());
+        Ok(reply)
+    }
+
+    /// The store.
+    pub fn store(&self) -> &Store<D>
+        ensures { result.now ≡ store_of self.now }
+    {
+        &self.store
+    }
+
+    /// What was received and sent since the start.
+    pub fn traffic(&self) -> Traffic
+        ensures { result ≡ traffic_of self.now }
+    {
+        self.traffic
+    }
+
+    /// Gives the disk back.
+    pub fn into_disk(self) -> D
+        ensures { result ≡ disk_of self }
+    {
+        self.store.into_disk()
+    }
+}

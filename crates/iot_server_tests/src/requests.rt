@@ -1,0 +1,70 @@
+//! Requests and replies, as they were written by hand.
+ghost use Rattle.std.specs.Prelude.{IfOk};
+ghost use Rattle.iot_server.specs.Servers.{IsSynced};
+
+use iot_disk::{Disk, MemDisk};
+use iot_server::{Server, ServerFault, StartFault, Traffic};
+use std::alloc::Global;
+use std::test::Fail;
+
+/// Client 0 asks that its transaction 1 be committed, which found nothing at `/d` and made a directory there.
+const COMMIT: &[u8] =
+    b"\x02\0\0\0\0\0\0\0\0\0\0\0\0\0\0\0\x01\0\0\0\0\0\0\0\x01e\0\0\0\0\0\0\x10\0\x01\0\0\0\0\0\0\0\0\
+    \0\0\0\0\0\0\0\x01\
+    \0\0\0\0\0\0\0\x02\x01\0\0\0\0\0\0\0\x01\0\0\0\0\0\0\0\x01d\x02\x01\0\0\0\0\0\0\0\0\x03\
+    \x02\0\0\0\0\0\0\0\x01\0\0\0\0\0\0\0\x01d\0\0\0\0\0\0\0\0";
+
+/// The same of its transaction 2.
+const LATE: &[u8] =
+    b"\x02\0\0\0\0\0\0\0\0\0\0\0\0\0\0\0\x02\0\0\0\0\0\0\0\x01e\0\0\0\0\0\0\x10\0\x01\0\0\0\0\0\0\0\0\
+    \0\0\0\0\0\0\0\x01\
+    \0\0\0\0\0\0\0\x02\x01\0\0\0\0\0\0\0\x01\0\0\0\0\0\0\0\x01d\x02\x01\0\0\0\0\0\0\0\0\x03\
+    \x02\0\0\0\0\0\0\0\x01\0\0\0\0\0\0\0\x01d\0\0\0\0\0\0\0\0";
+
+/// Client 1 knows `/`, and wants nothing else.
+const REFRESH: &[u8] = b"\x01\0\0\0\0\0\0\0\x01\0\0\0\0\0\0\0\x01\0\0\0\0\0\0\0\0\x01";
+
+/// The root, and the far directory `/d`.
+const OBJECTS: &[u8] = b"\x01\0\0\0\0\0\0\0\x02\0\0\0\0\0\0\0\0\x01\
+    \0\0\0\0\0\0\0\x01\0\0\0\0\0\0\0\x01d\x03";
+
+const COMMITTED: &[u8] = b"\x02\0\0\0\0\0\0\0\x01";
+
+const ALREADY: &[u8] = b"\x03\0\0\0\0\0\0\0\x01";
+
+/// The first read differs: a directory is there now.
+const CONFLICT: &[u8] = b"\x04\0\0\0\0\0\0\0\x01\x03";
+
+/// A server that is started after a restart.
+fn started<D: Disk + Drop>(alloc: Global, mut disk: D) -> Result<Server<D>, StartFault>
+    ensures { IfOk result (λ server. IsSynced D.reads D.may_leave server) }
+{
+    disk.restart();
+    match Server::start(alloc, disk) {
+        Ok(server) => Ok(server),
+        Err((_, fault)) => Err(fault),
+    }
+}
+
+#[test]
+fn each_request_has_its_reply(rt: HostRuntime) -> Result<(), Fail> {
+    let alloc = rt.alloc();
+    let mut server = started(alloc, MemDisk::new(alloc))?;
+    assert_eq!(rt; server.handle(alloc, COMMIT)?.as_slice(), COMMITTED);
+    assert_eq!(rt; server.handle(alloc, COMMIT)?.as_slice(), ALREADY);
+    assert_eq!(rt; server.handle(alloc, LATE)?.as_slice(), CONFLICT);
+    assert_eq!(rt; server.handle(alloc, REFRESH)?.as_slice(), OBJECTS);
+    let bad = server.handle(alloc, b"\x03");
+    assert!(rt; matches!(bad, Err(ServerFault::Malformed { at: 0 })));
+    let traffic = Traffic {
+        requests: 4,
+        received: 368,
+        sent: 64,
+    };
+    assert_eq!(rt; server.traffic(), traffic);
+    assert_eq!(rt; server.store().number(), 1);
+    let server = started(alloc, server.into_disk())?;
+    assert_eq!(rt; server.store().number(), 1);
+    assert_eq!(rt; server.traffic().requests, 0);
+    Ok(())
+}
