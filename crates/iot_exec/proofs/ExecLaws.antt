@@ -45,7 +45,7 @@ over_is None code frames env is = ap (λ code. is_over (place_at code frames env
 over_is (Some s) code frames env first =
     ap (λ code. is_over (place_at code frames env)) first.1 ∙ ap is_over (at_statement s first.0 frames env)
 
-start_is : (script : Code) → place_at script [] fresh ≡ start script
+pub start_is : (script : Code) → place_at script [] fresh ≡ start script
 start_is End = refl
 start_is (Plain command rest) = refl
 start_is (Halt rest) = refl

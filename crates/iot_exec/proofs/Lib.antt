@@ -9,5 +9,6 @@ pub mod KeptLaws
 pub mod PositionLaws
 pub mod GoingLaws
 pub mod ExecLaws
+pub mod FindingLaws
 pub mod RunLaws
 pub mod PartingLaws

@@ -13,5 +13,6 @@ pub mod Positions
 pub mod Passing
 pub mod Going
 pub mod Misses
+pub mod Finding
 pub mod Execs
 pub mod Parting

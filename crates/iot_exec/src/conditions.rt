@@ -15,7 +15,7 @@ use iot_tree::{Kind, Question, Sequence};
 use std::alloc::{AllocError, Global};
 
 /// The path whose text is the value of a word, if there is one.
-fn path_of(alloc: Global, env: &Env, word: &Word) -> Result<Option<Path>, NoMemory>
+pub(crate) fn path_of(alloc: Global, env: &Env, word: &Word) -> Result<Option<Path>, NoMemory>
     ensures { IfOk result (λ path. path ≡ path_if_any env.now word.now) }
 {
     match env.path(alloc, word) {

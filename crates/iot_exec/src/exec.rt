@@ -4,13 +4,14 @@ ghost use Rattle.iot_tree.specs.Tree.{Nodes};
 ghost use Rattle.iot_tree.specs.declared.acts.Act.{Act};
 ghost use Rattle.iot_lang.specs.Code.{Code};
 ghost use Rattle.iot_exec.specs.Commands.{Kept, kept_files};
-ghost use Rattle.iot_exec.specs.Places.{is_over};
+ghost use Rattle.iot_exec.specs.Places.{is_over, start};
 ghost use Rattle.iot_acts.specs.Guards.{IsGuarded};
 ghost use Rattle.iot_acts.specs.Fitting.{FitsByReads};
 ghost use Rattle.iot_acts.specs.Traces.{FitsIfAny, ActsHold, after_update};
 ghost use Rattle.iot_exec.specs.Misses.{first_away, path_of_question};
 
 use crate::env::Env;
+use crate::finding::found;
 use crate::going::go_on;
 use crate::performing::perform;
 use crate::position::Position;
@@ -65,11 +66,26 @@ fn apply(alloc: Global, t: &mut Tree, update: &Option<Update>) -> Result<(), NoM
 }
 
 impl Exec {
+    ghost use Rattle.iot_exec.specs.Finding.{next_found};
     ghost use Rattle.iot_exec.specs.Execs.{place, kept_by, act_count, next_miss, IsNextAt, IsRunning, RunsOn};
 
     /// At the first act of a script. `keep` reads the kept files. Does not allocate.
     pub fn new(alloc: Global, script: Rc<Script>, kept: Files) -> Exec
         ensures { (t : Nodes) → IsRunning script.value (kept_files kept) t 0 [] result t }
+    {
+        Exec {
+            script,
+            kept,
+            env: Env::new(alloc),
+            position: Position::start(alloc),
+            acts: 0,
+        }
+    }
+
+    /// The same as `new`, and says at which place the script begins. Does not allocate.
+    pub(crate) fn at_start(alloc: Global, script: Rc<Script>, kept: Files) -> Exec
+        ensures runs { (t : Nodes) → IsRunning script.value (kept_files kept) t 0 [] result t }
+        ensures place { place result ≡ start script.value }
     {
         Exec {
             script,
@@ -110,6 +126,17 @@ impl Exec {
                 let done = perform(alloc, t, &self.env, &self.kept, statement)?;
                 first_away(alloc, done.act.reads.as_slice())
             }
+            None => Ok(None),
+        }
+    }
+
+    /// The path at which the next act finds a kept file: it is a `keep`, both its operands are paths, and a file is kept at the
+    /// first one.
+    pub fn next_found(&self, alloc: Global) -> Result<Option<Path>, NoMemory>
+        ensures { IfOk result (λ path. path ≡ next_found (kept_by self.now) (place self.now)) }
+    {
+        match self.position.statement(self.script.block()) {
+            Some(statement) => found(alloc, &self.env, &self.kept, statement),
             None => Ok(None),
         }
     }

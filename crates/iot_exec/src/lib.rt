@@ -8,6 +8,8 @@ mod contents;
 mod endings;
 mod env;
 mod exec;
+mod finding;
+mod finding_job;
 mod going;
 mod job;
 mod kept;
@@ -21,5 +23,6 @@ mod turns;
 mod variables;
 
 pub use exec::Exec;
+pub use finding_job::run_finding;
 pub use job::{run, run_on};
-pub use ran::{Acted, Ran};
+pub use ran::{Acted, Found, Ran};

@@ -1,5 +1,5 @@
 //! What a script did.
-use iot_tree::{Acts, Tree};
+use iot_tree::{Acts, Files, Tree};
 
 /// What a script did on a tree.
 #[derive(Drop)]
@@ -22,4 +22,14 @@ pub struct Acted {
 
     /// Whether no statement was left, or `stop` was done.
     pub ended: bool,
+}
+
+/// What a script did on a tree that was lent to it, and which kept files it found.
+#[derive(Drop)]
+pub struct Found {
+    /// What it did.
+    pub acted: Acted,
+
+    /// The kept files that its `keep` commands found.
+    pub files: Files,
 }

@@ -1,0 +1,19 @@
+use Rattle.std.proofs.Common.{refl}
+use Rattle.iot_exec.specs.Commands.{kept_files}
+use Rattle.iot_exec.proofs.ExecLaws.{starts}
+use Rattle.iot_exec.proofs.FindingLaws.{starts_at}
+use Rattle.iot_exec.proofs.exec.Exec.at_start.Goals as goal
+
+pub returns-clause-runs : goal.returns-clause-runs
+returns-clause-runs c = λ t. record {
+  kept_same = refl;
+  counted = refl;
+  after =
+      starts c.args.script.value (kept_files c.args.kept) t _ _ c.new.result (c.start.ensures.here c.args.script.value)
+      (c.start.ensures.around c.args.script.value) c.new.ensures;
+}
+
+pub returns-clause-place : goal.returns-clause-place
+returns-clause-place c =
+    starts_at c.args.script.value _ _ c.new.result (c.start.ensures.here c.args.script.value)
+    (c.start.ensures.around c.args.script.value) c.new.ensures
