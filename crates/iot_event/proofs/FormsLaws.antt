@@ -6,11 +6,12 @@ use Rattle.std.specs.Prelude.{if◌then◌else◌}
 use Rattle.std.specs.Str.Parse.{digits_value}
 use Rattle.std.proofs.lemmas.Bool.Decides.{nat_tests}
 use Rattle.iot_text.specs.Names.{is_name}
+use Rattle.iot_link.specs.declared.passages.Loss.{Loss}
 use Rattle.iot_event.specs.declared.form.TheConstants.{STEP_LIMIT}
 use Rattle.iot_event.specs.declared.form.Form.{Form}
 use Rattle.iot_event.specs.declared.form.Form.TheVariants as forms
 use Rattle.iot_event.specs.Numbers.{is_number, number_of}
-use Rattle.iot_event.specs.Forms.{server_form, client_form, three_words, script_form, four_words, form_of}
+use Rattle.iot_event.specs.Forms.{server_form, client_form, loss_of, three_words, script_form, four_words, form_of}
 
 -- ---- how many words a form has
 
@@ -62,6 +63,10 @@ counted_number client word = by (is_number word) (nat_le 1 number) (nat_le numbe
 none_counted : Counted None
 none_counted = record { counted = tt }
 
+counted_loss : (client : List ℕ) (loss : Option Loss) → Counted (option_map (λ l. forms.Lose client l) loss)
+counted_loss client None = none_counted
+counted_loss client (Some l) = record { counted = tt }
+
 counted_server : (first second : List ℕ) → Counted (server_form first second)
 counted_server first second =
     counted_if (not (bytes_eq second (codes "server"))) None _ none_counted
@@ -75,7 +80,11 @@ counted_client first client =
     (counted_if (bytes_eq first (codes "refresh")) (Some (forms.Refresh client)) _ (record { counted = tt })
     (counted_if (bytes_eq first (codes "step")) (Some (forms.Step client 1)) _ (record { counted = (omega arith, omega arith) })
     (counted_if (bytes_eq first (codes "end")) (Some (forms.End client)) _ (record { counted = tt })
-    (counted_if (bytes_eq first (codes "show")) (Some (forms.ShowClient client)) None (record { counted = tt }) none_counted))))
+    (counted_if (bytes_eq first (codes "connect")) (Some (forms.Connect client)) _ (record { counted = tt })
+    (counted_if (bytes_eq first (codes "disconnect")) (Some (forms.Disconnect client)) _ (record { counted = tt })
+    (counted_if (bytes_eq first (codes "sync")) (Some (forms.Sync client)) _ (record { counted = tt })
+    (counted_if (bytes_eq first (codes "drain")) (Some (forms.Drain client)) _ (record { counted = tt })
+    (counted_if (bytes_eq first (codes "show")) (Some (forms.ShowClient client)) None (record { counted = tt }) none_counted))))))))
 
 counted_script : (first client script : List ℕ) → Counted (script_form first client script)
 counted_script first client script =
@@ -87,7 +96,8 @@ counted_three first second third =
     counted_if (not (is_name second)) None _ none_counted
     (counted_if (bytes_eq first (codes "script") && bytes_eq third (codes "{")) (Some (forms.Script second)) _ (record { counted = tt })
     (counted_if (bytes_eq first (codes "hoard")) (Some (forms.Hoard second third)) _ (record { counted = tt })
-    (counted_if (bytes_eq first (codes "step")) _ None (counted_number second third) none_counted)))
+    (counted_if (bytes_eq first (codes "step")) _ _ (counted_number second third)
+    (counted_if (bytes_eq first (codes "lose")) _ None (counted_loss second (loss_of third)) none_counted))))
 
 counted_four : (first second third fourth : List ℕ) → Counted (four_words first second third fourth)
 counted_four first second third fourth =

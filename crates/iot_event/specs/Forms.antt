@@ -2,10 +2,13 @@
 use Rattle.std.specs.Prelude.{ℕ, ◌&&◌, not, List, [], ◌∷◌, Option, Some, None, codes, bytes_eq, if◌then◌else◌}
 use Rattle.std.specs.Option.{option_map, option_or}
 use Rattle.iot_text.specs.Names.{is_name}
+use Rattle.iot_link.specs.declared.passages.Loss.{Loss}
+use Rattle.iot_link.specs.declared.passages.Loss.TheVariants.{Request, Reply}
 use Rattle.iot_event.specs.Numbers.{number_of}
 use Rattle.iot_event.specs.declared.form.TheConstants.{STEP_LIMIT}
 use Rattle.iot_event.specs.declared.form.Form.{Form}
 use Rattle.iot_event.specs.declared.form.Form.TheVariants.{Client, Script, Run, Hoard, Refresh, Begin, Step, End}
+use Rattle.iot_event.specs.declared.form.Form.TheVariants.{Connect, Disconnect, Lose, Sync, Drain}
 use Rattle.iot_event.specs.declared.form.Form.TheVariants.{ShowServer, ShowClient, CrashServer, RestartServer}
 
 -- `show server`, `crash server` or `restart server`
@@ -17,13 +20,17 @@ server_form first second =
     else if bytes_eq first (codes "restart") then Some RestartServer
     else None
 
--- `client N`, `refresh C`, `step C`, `end C` or `show C`
+-- `client N`, `refresh C`, `step C`, `end C`, `connect C`, `disconnect C`, `sync C`, `drain C` or `show C`
 abbrev pub client_form : List ℕ → (client : List ℕ) → Option Form
 client_form first client =
     if bytes_eq first (codes "client") then Some (Client client)
     else if bytes_eq first (codes "refresh") then Some (Refresh client)
     else if bytes_eq first (codes "step") then Some (Step client 1)
     else if bytes_eq first (codes "end") then Some (End client)
+    else if bytes_eq first (codes "connect") then Some (Connect client)
+    else if bytes_eq first (codes "disconnect") then Some (Disconnect client)
+    else if bytes_eq first (codes "sync") then Some (Sync client)
+    else if bytes_eq first (codes "drain") then Some (Drain client)
     else if bytes_eq first (codes "show") then Some (ShowClient client)
     else None
 
@@ -31,13 +38,21 @@ client_form first client =
 abbrev pub two_words : List ℕ → List ℕ → Option Form
 two_words first second = option_or (server_form first second) (if is_name second then client_form first second else None)
 
--- `script N {`, `hoard C P` or `step C k`
+-- `request` or `reply`
+abbrev pub loss_of : List ℕ → Option Loss
+loss_of word =
+    if bytes_eq word (codes "request") then Some Request
+    else if bytes_eq word (codes "reply") then Some Reply
+    else None
+
+-- `script N {`, `hoard C P`, `step C k`, `lose C request` or `lose C reply`
 abbrev pub three_words : List ℕ → List ℕ → List ℕ → Option Form
 three_words first second third =
     if not (is_name second) then None
     else if bytes_eq first (codes "script") && bytes_eq third (codes "{") then Some (Script second)
     else if bytes_eq first (codes "hoard") then Some (Hoard second third)
     else if bytes_eq first (codes "step") then option_map (λ count. Step second count) (number_of third STEP_LIMIT)
+    else if bytes_eq first (codes "lose") then option_map (λ loss. Lose second loss) (loss_of third)
     else None
 
 -- `run C S` or `begin C S`, before its option

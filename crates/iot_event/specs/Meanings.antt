@@ -1,9 +1,10 @@
 -- What a line outside of scripts means.
-use Rattle.std.specs.Prelude.{ℕ, ◌&&◌, ◌||◌, not, nat_lt, Bool, true, false, List, [], ◌∷◌, ◌++◌, length, position, Option, Some, None}
+use Rattle.std.specs.Prelude.{ℕ, ◌||◌, not, nat_lt, Bool, List, [], ◌∷◌, ◌++◌, length, position, Option, Some, None}
 use Rattle.std.specs.Prelude.{codes, bytes_eq, if◌then◌else◌}
-use Rattle.std.specs.List.{find, list_any}
+use Rattle.std.specs.List.{list_any}
 use Rattle.iot_lines.specs.Words.{words, is_skipped}
 use Rattle.iot_text.specs.Paths.{path_of}
+use Rattle.iot_link.specs.declared.passages.Loss.{Loss}
 use Rattle.iot_event.specs.Bytes.{fits_line}
 use Rattle.iot_event.specs.Forms.{form_of}
 use Rattle.iot_event.specs.Closing.{Closed, closed_by}
@@ -12,18 +13,17 @@ use Rattle.iot_event.specs.declared.form.Form.{Form}
 use Rattle.iot_event.specs.declared.form.Form.TheVariants as forms
 use Rattle.iot_event.specs.declared.event.Event.{Event}
 use Rattle.iot_event.specs.declared.event.Event.TheVariants.{Client, Run, Hoard, Refresh, Begin, Step, End, ShowServer, ShowClient}
-use Rattle.iot_event.specs.declared.event.Event.TheVariants.{CrashServer, RestartServer}
+use Rattle.iot_event.specs.declared.event.Event.TheVariants.{Connect, Disconnect, Lose, Sync, Drain, CrashServer, RestartServer}
 use Rattle.iot_event.specs.declared.fault.EventFault.{EventFault}
 use Rattle.iot_event.specs.declared.fault.EventFault.TheVariants.{BadLine, UnknownName, Twice, TooMany}
 
--- what is known before a line: the names that were declared, in order, and whether the server is down
+-- what is known before a line: the names that were declared, in order
 pub record Scope : Type 0 where
   pub clients : List (List ℕ)
   pub scripts : List (List ℕ)
-  pub down : Bool
 
 abbrev pub nothing_declared : Scope
-nothing_declared = record { clients = []; scripts = []; down = false }
+nothing_declared = record { clients = []; scripts = [] }
 
 abbrev pub is_declared : List ℕ → List (List ℕ) → Bool
 is_declared name names = list_any (bytes_eq name) names
@@ -94,31 +94,23 @@ step_line scope number client count = of_client scope number client (λ c. Step 
 abbrev pub end_line : Scope → (number : ℕ) (client : List ℕ) → Meaning
 end_line scope number client = of_client scope number client (λ c. End c)
 
+abbrev pub connect_line : Scope → (number : ℕ) (client : List ℕ) → Meaning
+connect_line scope number client = of_client scope number client (λ c. Connect c)
+
+abbrev pub disconnect_line : Scope → (number : ℕ) (client : List ℕ) → Meaning
+disconnect_line scope number client = of_client scope number client (λ c. Disconnect c)
+
+abbrev pub lose_line : Scope → (number : ℕ) (client : List ℕ) (loss : Loss) → Meaning
+lose_line scope number client loss = of_client scope number client (λ c. Lose c loss)
+
+abbrev pub sync_line : Scope → (number : ℕ) (client : List ℕ) → Meaning
+sync_line scope number client = of_client scope number client (λ c. Sync c)
+
+abbrev pub drain_line : Scope → (number : ℕ) (client : List ℕ) → Meaning
+drain_line scope number client = of_client scope number client (λ c. Drain c)
+
 abbrev pub show_line : Scope → (number : ℕ) (client : List ℕ) → Meaning
 show_line scope number client = of_client scope number client (λ c. ShowClient c)
-
-abbrev pub is_restart : Option Form → Bool
-is_restart (Some forms.RestartServer) = true
-is_restart _ = false
-
--- whether there is a line, and it is `restart server`
-abbrev pub restarts_at : Option (List ℕ) → Bool
-restarts_at None = false
-restarts_at (Some line) = fits_line line && is_restart (form_of (words line))
-
--- whether the first line that says something is `restart server`
-abbrev pub restarts : List (List ℕ) → Bool
-restarts lines = restarts_at (find (λ line. not (is_skipped line)) lines)
-
--- a crash, if its restart follows it
-abbrev pub crash_line : Scope → (number : ℕ) (later : List (List ℕ)) → Meaning
-crash_line scope number later =
-    if restarts later then Says CrashServer (record scope { down = true }) else Refused (BadLine number)
-
--- a restart, if it follows its crash
-abbrev pub restart_line : Scope → (number : ℕ) → Meaning
-restart_line scope number =
-    if scope.down then Says RestartServer (record scope { down = false }) else Refused (BadLine number)
 
 -- a line of this form, before these lines
 abbrev pub meaning_of_form : Option Form → Scope → (number : ℕ) (later : List (List ℕ)) → Meaning
@@ -131,10 +123,15 @@ meaning_of_form (Some (forms.Refresh client)) scope number later = refresh_line 
 meaning_of_form (Some (forms.Begin client script)) scope number later = begin_line scope number client script
 meaning_of_form (Some (forms.Step client count)) scope number later = step_line scope number client count
 meaning_of_form (Some (forms.End client)) scope number later = end_line scope number client
+meaning_of_form (Some (forms.Connect client)) scope number later = connect_line scope number client
+meaning_of_form (Some (forms.Disconnect client)) scope number later = disconnect_line scope number client
+meaning_of_form (Some (forms.Lose client loss)) scope number later = lose_line scope number client loss
+meaning_of_form (Some (forms.Sync client)) scope number later = sync_line scope number client
+meaning_of_form (Some (forms.Drain client)) scope number later = drain_line scope number client
 meaning_of_form (Some forms.ShowServer) scope number later = Says ShowServer scope
 meaning_of_form (Some (forms.ShowClient client)) scope number later = show_line scope number client
-meaning_of_form (Some forms.CrashServer) scope number later = crash_line scope number later
-meaning_of_form (Some forms.RestartServer) scope number later = restart_line scope number
+meaning_of_form (Some forms.CrashServer) scope number later = Says CrashServer scope
+meaning_of_form (Some forms.RestartServer) scope number later = Says RestartServer scope
 
 -- the line of this number, before these lines; the rule on bytes and length comes first
 abbrev pub meaning_of : Scope → (number : ℕ) (line : List ℕ) (later : List (List ℕ)) → Meaning

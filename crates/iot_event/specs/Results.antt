@@ -16,7 +16,7 @@ use Rattle.iot_event.specs.Events.{Step, Stops, Goes, Outcome, Events, Fault, Gi
 
 -- what is known before a line
 abbrev pub scope_of : Declared → Scope
-scope_of declared = record { clients = declared.clients.keys; scripts = declared.scripts.keys; down = declared.down }
+scope_of declared = record { clients = declared.clients.keys; scripts = declared.scripts.keys }
 
 -- the lines of a script that was found
 abbrev pub closed_of : rust.Closed → Closed

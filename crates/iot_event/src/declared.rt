@@ -5,9 +5,9 @@ ghost use Rattle.iot_lines.specs.Words.{words};
 ghost use Rattle.iot_text.specs.Paths.{path_of};
 ghost use Rattle.iot_event.specs.Forms.{form_of};
 ghost use Rattle.iot_event.specs.Closing.{closed_by};
-ghost use Rattle.iot_event.specs.Meanings.{Scope, Meaning, nothing_declared, place_of, client_line, script_line, run_line, crash_line};
+ghost use Rattle.iot_event.specs.Meanings.{Scope, Meaning, nothing_declared, place_of, client_line, script_line, run_line};
 ghost use Rattle.iot_event.specs.Meanings.{hoard_line, refresh_line, begin_line, step_line, end_line, show_line};
-ghost use Rattle.iot_event.specs.Meanings.{restart_line, restarts, meaning_of_form};
+ghost use Rattle.iot_event.specs.Meanings.{connect_line, disconnect_line, lose_line, sync_line, drain_line, meaning_of_form};
 ghost use Rattle.iot_event.specs.Events.{IsStep, IsStepOf};
 ghost use Rattle.iot_event.specs.Results.{scope_of, AnswersEvent, AnswersPlace, AnswersPath, AnswersScript, Answers};
 
@@ -15,10 +15,11 @@ use crate::bytes::fits_line;
 use crate::closing::{Closed, find_closing};
 use crate::event::{Event, SharedScript};
 use crate::fault::EventFault;
-use crate::form::{Form, form_of_line, is_restart};
+use crate::form::{Form, form_of_line};
 use crate::script::parse_script;
 use indexmap::IndexSet;
-use iot_lines::{is_skipped, split_lines};
+use iot_lines::is_skipped;
+use iot_link::Loss;
 use iot_text::{Name, Path, TextFault};
 use std::alloc::Global;
 
@@ -36,24 +37,11 @@ pub(crate) struct Step<'a> {
     pub(crate) number: u64,
 }
 
-/// The names that were declared so far, in the order of declaration, and whether the server is down.
+/// The names that were declared so far, in the order of declaration.
 #[derive(Drop)]
 pub(crate) struct Declared {
     clients: IndexSet<Name>,
     scripts: IndexSet<Name>,
-    down: bool,
-}
-
-/// Whether the first line of a text that says something is `restart server`.
-fn restarts(text: &[u8]) -> bool
-    ensures { result ≡ restarts (lines text.now) }
-{
-    for line in split_lines(text) {
-        if !is_skipped(line) {
-            return fits_line(line) && is_restart(line);
-        }
-    }
-    false
 }
 
 /// The place of a name that a line gives, among those that were declared.
@@ -104,7 +92,6 @@ impl Declared {
         Declared {
             clients: IndexSet::new(alloc),
             scripts: IndexSet::new(alloc),
-            down: false,
         }
     }
 
@@ -204,34 +191,52 @@ impl Declared {
         Ok(Event::End { client })
     }
 
+    /// `connect C`
+    fn connect_line(&self, client: Name, number: u64) -> Result<Event, EventFault>
+        ensures { AnswersEvent (connect_line (scope_of self.now) number client) result self.now }
+    {
+        let client = place_of(&self.clients, client, number)?;
+        Ok(Event::Connect { client })
+    }
+
+    /// `disconnect C`
+    fn disconnect_line(&self, client: Name, number: u64) -> Result<Event, EventFault>
+        ensures { AnswersEvent (disconnect_line (scope_of self.now) number client) result self.now }
+    {
+        let client = place_of(&self.clients, client, number)?;
+        Ok(Event::Disconnect { client })
+    }
+
+    /// `lose C request` or `lose C reply`
+    fn lose_line(&self, client: Name, loss: Loss, number: u64) -> Result<Event, EventFault>
+        ensures { AnswersEvent (lose_line (scope_of self.now) number client loss) result self.now }
+    {
+        let client = place_of(&self.clients, client, number)?;
+        Ok(Event::Lose { client, loss })
+    }
+
+    /// `sync C`
+    fn sync_line(&self, client: Name, number: u64) -> Result<Event, EventFault>
+        ensures { AnswersEvent (sync_line (scope_of self.now) number client) result self.now }
+    {
+        let client = place_of(&self.clients, client, number)?;
+        Ok(Event::Sync { client })
+    }
+
+    /// `drain C`
+    fn drain_line(&self, client: Name, number: u64) -> Result<Event, EventFault>
+        ensures { AnswersEvent (drain_line (scope_of self.now) number client) result self.now }
+    {
+        let client = place_of(&self.clients, client, number)?;
+        Ok(Event::Drain { client })
+    }
+
     /// `show C`
     fn show_line(&self, client: Name, number: u64) -> Result<Event, EventFault>
         ensures { AnswersEvent (show_line (scope_of self.now) number client) result self.now }
     {
         let client = place_of(&self.clients, client, number)?;
         Ok(Event::ShowClient { client })
-    }
-
-    /// `crash server`, before this text, which begins with its restart.
-    fn crash_line(&mut self, later: &[u8], number: u64) -> Result<Event, EventFault>
-        ensures { AnswersEvent (crash_line (scope_of self.old) number (lines later.now)) result self.new }
-    {
-        if !restarts(later) {
-            return Err(EventFault::BadLine { line: number });
-        }
-        self.down = true;
-        Ok(Event::CrashServer)
-    }
-
-    /// `restart server`, after its crash.
-    fn restart_line(&mut self, number: u64) -> Result<Event, EventFault>
-        ensures { AnswersEvent (restart_line (scope_of self.old) number) result self.new }
-    {
-        if !self.down {
-            return Err(EventFault::BadLine { line: number });
-        }
-        self.down = false;
-        Ok(Event::RestartServer)
     }
 
     /// A script, from the line after its first on.
@@ -297,12 +302,23 @@ impl Declared {
                 after_line(self.step_line(client, count, number), later, number)
             }
             Form::End { client } => after_line(self.end_line(client, number), later, number),
+            Form::Connect { client } => {
+                after_line(self.connect_line(client, number), later, number)
+            }
+            Form::Disconnect { client } => {
+                after_line(self.disconnect_line(client, number), later, number)
+            }
+            Form::Lose { client, loss } => {
+                after_line(self.lose_line(client, loss, number), later, number)
+            }
+            Form::Sync { client } => after_line(self.sync_line(client, number), later, number),
+            Form::Drain { client } => after_line(self.drain_line(client, number), later, number),
             Form::ShowServer => after_line(Ok(Event::ShowServer), later, number),
             Form::ShowClient { client } => {
                 after_line(self.show_line(client, number), later, number)
             }
-            Form::CrashServer => after_line(self.crash_line(later, number), later, number),
-            Form::RestartServer => after_line(self.restart_line(number), later, number),
+            Form::CrashServer => after_line(Ok(Event::CrashServer), later, number),
+            Form::RestartServer => after_line(Ok(Event::RestartServer), later, number),
         }
     }
 

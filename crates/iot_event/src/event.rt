@@ -1,5 +1,6 @@
 //! Events: what an event script asks for.
 use iot_lang::Script;
+use iot_link::Loss;
 use iot_text::{Name, NoMemory, Path};
 use std::alloc::Global;
 use std::marker::Model;
@@ -32,16 +33,31 @@ pub enum Event {
     /// `end C`: the client ends its transaction.
     End { client: u64 },
 
+    /// `connect C`: the client's link with the server comes up.
+    Connect { client: u64 },
+
+    /// `disconnect C`: the client's link with the server goes down.
+    Disconnect { client: u64 },
+
+    /// `lose C request` or `lose C reply`: the client's link loses this message of the next exchange.
+    Lose { client: u64, loss: Loss },
+
+    /// `sync C`: the client sends the first transaction that it has queued.
+    Sync { client: u64 },
+
+    /// `drain C`: the client sends the transactions that it has queued, one after the other.
+    Drain { client: u64 },
+
     /// `show server`: the server's tree is printed.
     ShowServer,
 
     /// `show C`: the client's view is printed.
     ShowClient { client: u64 },
 
-    /// `crash server`: the server stops. Its restart is the next event.
+    /// `crash server`: the server stops.
     CrashServer,
 
-    /// `restart server`: the server that crashed comes back.
+    /// `restart server`: the server comes back.
     RestartServer,
 }
 

@@ -15,8 +15,7 @@ pub enum EventFault {
     #[error("out of memory")]
     NoMemory,
 
-    /// The line breaks the rule on bytes and length, has none of the forms, or opens a script that is not closed; or it is a
-    /// crash that no restart follows, or a restart that follows no crash.
+    /// The line breaks the rule on bytes and length, has none of the forms, or opens a script that is not closed.
     #[error("line {line}: bad line")]
     BadLine { line: u64 },
 

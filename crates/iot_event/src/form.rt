@@ -2,11 +2,11 @@
 ghost use Rattle.std.specs.Prelude.{◌≡◌, map, if◌then◌else◌, Some, None};
 ghost use Rattle.iot_lines.specs.Words.{words};
 ghost use Rattle.iot_text.specs.Names.{is_name};
-ghost use Rattle.iot_event.specs.Forms.{form_of, server_form, client_form, two_words, three_words, script_form, four_words};
-ghost use Rattle.iot_event.specs.Meanings.{is_restart};
+ghost use Rattle.iot_event.specs.Forms.{form_of, server_form, client_form, two_words, loss_of, three_words, script_form, four_words};
 
 use crate::number::number_of;
 use iot_lines::split_words;
+use iot_link::Loss;
 use iot_text::Name;
 use std::marker::Model;
 
@@ -73,6 +73,21 @@ pub(crate) enum Form<'a> {
     /// `end C`
     End { client: Name },
 
+    /// `connect C`
+    Connect { client: Name },
+
+    /// `disconnect C`
+    Disconnect { client: Name },
+
+    /// `lose C request` or `lose C reply`
+    Lose { client: Name, loss: Loss },
+
+    /// `sync C`
+    Sync { client: Name },
+
+    /// `drain C`
+    Drain { client: Name },
+
     /// `show server`
     ShowServer,
 
@@ -128,6 +143,18 @@ fn client_form(first: &[u8], client: Name) -> Option<Form<'static>>
     if first == b"end".as_slice() {
         return Some(Form::End { client });
     }
+    if first == b"connect".as_slice() {
+        return Some(Form::Connect { client });
+    }
+    if first == b"disconnect".as_slice() {
+        return Some(Form::Disconnect { client });
+    }
+    if first == b"sync".as_slice() {
+        return Some(Form::Sync { client });
+    }
+    if first == b"drain".as_slice() {
+        return Some(Form::Drain { client });
+    }
     if first == b"show".as_slice() {
         return Some(Form::ShowClient { client });
     }
@@ -142,6 +169,19 @@ fn two_words(first: &[u8], second: &[u8]) -> Option<Form<'static>>
         Some(form) => Some(form),
         None => client_form(first, name_of(second)?),
     }
+}
+
+/// The loss that a word names, if it names one.
+fn loss_of(word: &[u8]) -> Option<Loss>
+    ensures { result ≡ loss_of word.now }
+{
+    if word == b"request".as_slice() {
+        return Some(Loss::Request);
+    }
+    if word == b"reply".as_slice() {
+        return Some(Loss::Reply);
+    }
+    None
 }
 
 /// The form of a line of three words.
@@ -162,6 +202,12 @@ fn three_words<'a>(first: &[u8], second: &[u8], third: &'a [u8]) -> Option<Form<
         return Some(Form::Step {
             client: name,
             count: number_of(third, STEP_LIMIT)?,
+        });
+    }
+    if first == b"lose".as_slice() {
+        return Some(Form::Lose {
+            client: name,
+            loss: loss_of(third)?,
         });
     }
     None
@@ -217,11 +263,4 @@ pub(crate) fn form_of_line(line: &[u8]) -> Option<Form<'_>>
         count += 1;
     }
     form_of(&found[..count])
-}
-
-/// Whether a line is `restart server`.
-pub(crate) fn is_restart(line: &[u8]) -> bool
-    ensures { result ≡ is_restart (form_of (words line.now)) }
-{
-    matches!(form_of_line(line), Some(Form::RestartServer))
 }
