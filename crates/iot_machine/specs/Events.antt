@@ -1,21 +1,27 @@
 -- What each event does to the plain machine, and what it prints.
-use Rattle.std.specs.Prelude.{ℕ, true, false, List, [], ◌∷◌, ◌++◌, Option, None, Some, codes}
+use Rattle.std.specs.Prelude.{ℕ, ◌&&◌, not, Bool, true, false, List, [], ◌∷◌, ◌++◌, Option, None, Some, codes}
 use Rattle.iot_tree.specs.declared.want.Want.TheVariants as wanted
 use Rattle.iot_event.specs.declared.event.Event.{Event}
 use Rattle.iot_event.specs.declared.event.Event.TheVariants as events
-use Rattle.iot_machine.specs.Calls.{Part, Does, Says, Then, At, goes_on}
+use Rattle.iot_link.specs.Links as link
+use Rattle.iot_link.specs.Links.{connected, arming}
+use Rattle.iot_link.specs.declared.passages.Loss.{Loss}
+use Rattle.iot_machine.specs.Calls.{Part, Asks, Does, Says, Nothing, Then, At, either, goes_on, OrSays}
 use Rattle.iot_machine.specs.Clients.{Declared, Running, Next, AtEnd, AtLimit, Acts, Fetches, new_client, view}
+use Rattle.iot_machine.specs.Machine.{link_of, set_link, cut_off}
 use Rattle.iot_machine.specs.Machine.{Machine, client_in, node_at, kept_by, server, tree_after}
 use Rattle.iot_machine.specs.Nodes.{opened}
 use Rattle.iot_machine.specs.Serving.{server_name}
 use Rattle.iot_machine.specs.Stops.{Crashes, Restarts, Shows}
+use Rattle.iot_machine.specs.Texts.{line, connect_line, disconnect_line, lose_line}
 use Rattle.iot_machine.specs.Texts.{client_line, hoard_line, refresh_line, begin_line, step_line, transaction_name, tree_text}
-use Rattle.iot_machine.specs.Transactions.{IfRuns, Takes, Begins, StepsAll, next_of, Ends}
+use Rattle.iot_machine.specs.Transactions.{IfRuns, runs, pends, says_word, Takes, Begins, StepsAll, next_of, Ends, Syncs, SyncsAll}
 
 -- ---- declarations
 
 abbrev pub declare_client : List ℕ → Machine → Machine
-declare_client name m = record m { clients = m.clients ++ record { name = name; node = opened new_client; first = false } ∷ [] }
+declare_client name m =
+    record m { clients = m.clients ++ record { name = name; node = opened new_client; link = link.opened; first = false } ∷ [] }
 
 abbrev pub declare_script : Declared → Machine → Machine
 declare_script script m = record m { scripts = m.scripts ++ script ∷ [] }
@@ -61,9 +67,60 @@ StepsAloud c most = IfRuns c (λ _. Then (StepsAll c true most) (λ _. Says (ste
 abbrev pub run_steps : ℕ
 run_steps = 100000
 
+-- whether the link is up
+abbrev pub is_connected : ℕ → Machine → Bool
+is_connected c m = (link_of c m).up
+
+-- over a link that is up, those that wait are synced first
+abbrev pub SyncsIf : ℕ → Bool → Part Machine
+SyncsIf c up = either (Then (SyncsAll c) (λ _. Nothing)) Nothing up
+
 -- begin, steps, of which nothing is said, and end
+abbrev pub runs_script : (client script : ℕ) → Part Machine
+runs_script c s = Then (Begins c s) (goes_on (Then (StepsAll c false run_steps) (λ _. Ends c)))
+
+abbrev pub runs_by : (client script : ℕ) → Bool → Part Machine
+runs_by c s true = says_word (codes "busy")
+runs_by c s false = Then (Asks (is_connected c)) (λ up. Then (SyncsIf c up) (λ _. runs_script c s))
+
 abbrev pub Runs : (client script : ℕ) → Part Machine
-Runs c s = Then (Begins c s) (goes_on (Then (StepsAll c false run_steps) (λ _. Ends c)))
+Runs c s = Then (Asks (runs c)) (runs_by c s)
+
+-- ---- a client's link, and the transactions that wait
+
+abbrev pub Connects : ℕ → Part Machine
+Connects c = Does (λ m. connect_line (name_of c m)) (λ m. set_link c (connected true (link_of c m)) m)
+
+abbrev pub Disconnects : ℕ → Part Machine
+Disconnects c = Does (λ m. disconnect_line (name_of c m)) (cut_off c)
+
+abbrev pub Loses : ℕ → Loss → Part Machine
+Loses c loss = Does (λ m. lose_line (name_of c m) loss) (λ m. set_link c (arming loss (link_of c m)) m)
+
+abbrev pub SyncsAloud : ℕ → Part Machine
+SyncsAloud c = Then (Syncs c) (λ _. Nothing)
+
+-- whether nothing waits or runs, and the link is up
+abbrev pub is_drained : ℕ → Machine → Bool
+is_drained c m = not (pends c m) && not (runs c m) && is_connected c m
+
+-- all that wait are synced, and then what the client knows is brought anew
+abbrev pub Drains : ℕ → Part Machine
+Drains c =
+    OrSays (line (codes "nothing"))
+    (Then (SyncsAll c) (λ _. Then (Asks (is_drained c)) (either (Refreshes c) Nothing)))
+
+-- ---- the server
+
+-- one that was down has answered no request since
+abbrev pub counts_anew : (was_alive : Bool) → Machine → Machine
+counts_anew true m = m
+counts_anew false m = record m { requests = 0 }
+
+abbrev pub RestartsServer : Part Machine
+RestartsServer =
+    Then (Asks (λ m. m.server.alive)) (λ alive.
+    Then (At server (Restarts server_name)) (λ _. Does (λ _. []) (counts_anew alive)))
 
 -- ---- the events
 
@@ -76,7 +133,12 @@ event_part (events.Refresh client) = Refreshes client
 event_part (events.Begin client script) = BeginsAloud client script
 event_part (events.Step client count) = StepsAloud client count
 event_part (events.End client) = Ends client
+event_part (events.Connect client) = Connects client
+event_part (events.Disconnect client) = Disconnects client
+event_part (events.Lose client loss) = Loses client loss
+event_part (events.Sync client) = SyncsAloud client
+event_part (events.Drain client) = Drains client
 event_part events.ShowServer = At server (Shows (λ commits. tree_text (tree_after commits)))
 event_part (events.ShowClient client) = At (node_at client) (Shows (λ state. tree_text (view state)))
 event_part events.CrashServer = At server (Crashes server_name)
-event_part events.RestartServer = At server (Restarts server_name)
+event_part events.RestartServer = RestartsServer

@@ -9,3 +9,4 @@ pub mod Texts
 pub mod Transactions
 pub mod Events
 pub mod Transcript
+pub mod Sound

@@ -1,9 +1,11 @@
 -- The plain machine: the server's list of committed scripts, the clients, and the scripts. The server has no tree of its own: its
 -- tree is what its list gives when it is run from the start. Nor has a client a view: it is what its transactions make of its tree.
-use Rattle.std.specs.Prelude.{ℕ, Bool, false, List, [], ◌∷◌, ◌++◌, map, slice_index_or, slice_set}
+use Rattle.std.specs.Prelude.{ℕ, ◌+◌, Bool, false, List, [], ◌∷◌, ◌++◌, map, slice_index_or, slice_set}
 use Rattle.iot_tree.specs.Tree.{Nodes}
 use Rattle.iot_tree.specs.declared.labels.Way.{Way}
 use Rattle.iot_lang.specs.Code.{End}
+use Rattle.iot_link.specs.Links as link
+use Rattle.iot_link.specs.Links.{LinkState, connected}
 use Rattle.iot_exec.specs.Serial.{Entry, serial_tree}
 use Rattle.iot_machine.specs.Calls.{Lens}
 use Rattle.iot_machine.specs.Clients.{Declared, ClientState, new_client}
@@ -14,20 +16,23 @@ pub record Commit : Type 0 where
   pub script : List ℕ
   pub entry : Entry Way
 
--- a client: its name, its node, and whether its running transaction is first class, which it forgets when it stops
+-- a client: its name, its node, its link with the server, and whether its running transaction is first class, which it forgets when it
+-- stops
 pub record Client : Type 0 where
   pub name : List ℕ
   pub node : Node ClientState
+  pub link : LinkState
   pub first : Bool
 
--- the server, whose durable state is its list; the clients; the scripts
+-- the server, whose durable state is its list, and how many requests it has answered since its start; the clients; the scripts
 pub record Machine : Type 0 where
   pub server : Node (List Commit)
+  pub requests : ℕ
   pub clients : List Client
   pub scripts : List Declared
 
 abbrev pub opening : Machine
-opening = record { server = opened []; clients = []; scripts = [] }
+opening = record { server = opened []; requests = 0; clients = []; scripts = [] }
 
 -- ---- a list of commits
 
@@ -45,7 +50,7 @@ add_commit commit commits = commits ++ commit ∷ []
 -- ---- looking up by place
 
 abbrev pub no_client : Client
-no_client = record { name = []; node = opened new_client; first = false }
+no_client = record { name = []; node = opened new_client; link = link.opened; first = false }
 
 abbrev pub no_script : Declared
 no_script = record { name = []; code = End }
@@ -73,6 +78,24 @@ kept_by c m = (client_in m c).node.durable
 -- its running transaction is first class from now on, or second class
 abbrev pub set_class : ℕ → (first : Bool) → Machine → Machine
 set_class c first m = put_client c (record (client_in m c) { first = first }) m
+
+-- a client's link, and whether the server is alive at its other end
+abbrev pub link_of : ℕ → Machine → LinkState
+link_of c m = (client_in m c).link
+
+abbrev pub set_link : ℕ → LinkState → Machine → Machine
+set_link c link m = put_client c (record (client_in m c) { link = link }) m
+
+-- it is not up from now on, and what runs is second class
+abbrev pub cut_off : ℕ → Machine → Machine
+cut_off c m = put_client c (record (client_in m c) { link = connected false (link_of c m); first = false }) m
+
+-- it has lost a message, or the server has stopped: it is not up, nothing is armed, and what runs is second class
+abbrev pub break : ℕ → Machine → Machine
+break c m = put_client c (record (client_in m c) { link = link.broken; first = false }) m
+
+abbrev pub count_request : Machine → Machine
+count_request m = record m { requests = m.requests + 1 }
 
 abbrev pub script_at : ℕ → Machine → Declared
 script_at s m = slice_index_or m.scripts s no_script

@@ -4,6 +4,8 @@ use Rattle.std.specs.FinMap.{entries}
 use Rattle.std.specs.List.{flat_map}
 use Rattle.iot_text.specs.Paths.{path_text}
 use Rattle.iot_text.specs.Quotes.{quoted}
+use Rattle.iot_link.specs.declared.passages.Loss.{Loss}
+use Rattle.iot_link.specs.declared.passages.Loss.TheVariants.{Request, Reply}
 use Rattle.iot_tree.specs.Tree.{Nodes}
 use Rattle.iot_tree.specs.declared.nodes.Node.{Node}
 use Rattle.iot_tree.specs.declared.nodes.Node.TheVariants.{Dir, File, FarDir, FarFile}
@@ -104,3 +106,16 @@ abort_line tid = line (codes "abort " ++ tid)
 
 abbrev pub pending_line : List ℕ → List ℕ
 pending_line tid = line (codes "pending " ++ tid)
+
+abbrev pub connect_line : List ℕ → List ℕ
+connect_line name = line (codes "connect " ++ name)
+
+abbrev pub disconnect_line : List ℕ → List ℕ
+disconnect_line name = line (codes "disconnect " ++ name)
+
+abbrev pub loss_text : Loss → List ℕ
+loss_text Request = codes "request"
+loss_text Reply = codes "reply"
+
+abbrev pub lose_line : List ℕ → Loss → List ℕ
+lose_line name loss = line (codes "lose " ++ name ++ 32 ∷ loss_text loss)

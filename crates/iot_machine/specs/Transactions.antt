@@ -1,5 +1,5 @@
 -- What a client does: it brings objects, and begins, steps and ends transactions.
-use Rattle.std.specs.Prelude.{ℕ, Bool, true, false, List, [], ◌∷◌, ◌++◌, Option, None, Some, is_some, codes}
+use Rattle.std.specs.Prelude.{ℕ, ◌*◌, length, Bool, true, false, List, [], ◌∷◌, ◌++◌, Option, None, Some, is_some, codes}
 use Rattle.std.specs.FinMap.{empty}
 use Rattle.iot_tree.specs.Tree.{Nodes, Path}
 use Rattle.iot_tree.specs.declared.labels.Way.TheVariants.{Certified}
@@ -9,6 +9,10 @@ use Rattle.iot_acts.specs.Turns.{reads_of}
 use Rattle.iot_machine.specs.Calls.{Call, Part, Gets, Asks, Answers, Says, Nothing, Then, At, either, goes_on, Rounds}
 use Rattle.iot_machine.specs.Clients.{Declared, Item, Running, ClientState, local_run, base, so_far, next_step, Next, AtEnd, AtLimit}
 use Rattle.iot_machine.specs.Clients.{Acts, Fetches, hold, begin, fetch, act_once, end, leave}
+use Rattle.iot_link.specs.Links.{passage}
+use Rattle.iot_link.specs.declared.passages.Passage.{Passage}
+use Rattle.iot_link.specs.declared.passages.Passage.TheVariants as passages
+use Rattle.iot_machine.specs.Machine.{link_of, break, count_request}
 use Rattle.iot_machine.specs.Machine.{Machine, Commit, server, client_in, node_at, kept_by, set_class, script_at}
 use Rattle.iot_machine.specs.Nodes.{Node}
 use Rattle.iot_machine.specs.Serving.{Lends, Judges, Submission, Verdict, Settled, Conflict}
@@ -22,9 +26,28 @@ use Rattle.iot_machine.specs.Texts.{pending_line}
 abbrev pub Notes : ℕ → (ClientState → ClientState) → Call Machine Bool
 Notes c change m text on n = At (node_at c) (Appends (client_in m c).name change) m text on n
 
--- a request to the server, and what it answers; so far each one arrives, and so does its reply
+-- a live server answers a request, and counts it; one that stops gives no reply, and counts none
+abbrev pub counted : {A : Type 0} → Option A → Call Machine (Option A)
+counted None = Answers None
+counted (Some a) = Gets (λ _. Some a) count_request
+
+abbrev pub Handles : {A : Type 0} → Call (Node (List Commit)) (Option A) → Call Machine (Option A)
+Handles request = Then (At server request) counted
+
+-- a reply that came, or none: then the link is broken
+abbrev pub received : {A : Type 0} → ℕ → Option A → Call Machine (Option A)
+received c None = Gets (λ _. None) (break c)
+received c (Some a) = Answers (Some a)
+
+-- a request to the server, and what it answers, by how far the two get over the link
+abbrev pub exchange_by : {A : Type 0} → ℕ → Call (Node (List Commit)) (Option A) → Passage → Call Machine (Option A)
+exchange_by c request passages.Away = Gets (λ _. None) (set_class c false)
+exchange_by c request passages.RequestLost = Gets (λ _. None) (break c)
+exchange_by c request passages.ReplyLost = Then (Handles request) (λ _. Gets (λ _. None) (break c))
+exchange_by c request passages.Both = Then (Handles request) (received c)
+
 abbrev pub Exchange : {A : Type 0} → ℕ → Call (Node (List Commit)) (Option A) → Call Machine (Option A)
-Exchange c request = At server request
+Exchange c request = Then (Asks (λ m. passage (link_of c m) m.server.alive)) (exchange_by c request)
 
 -- it asks for objects
 abbrev pub Brings : ℕ → Want → Call Machine (Option Nodes)
@@ -136,10 +159,10 @@ went false = Stops
 abbrev pub SaysIf : Bool → List ℕ → Part Machine
 SaysIf loud text = either (Says (λ _. text)) Nothing loud
 
--- it begins anew, on what was brought; if nothing came, it is second class from now on
+-- it begins anew, on what was brought; if nothing came, it does no act
 abbrev pub fetched : ℕ → (loud : Bool) → Path → Brought → Call Machine Stepped
 fetched c loud path Held = Then (SaysIf loud (fetch_line path false)) (λ _. Answers Went)
-fetched c loud path Missed = Then (SaysIf loud (fetch_line path true)) (λ _. Gets (λ _. Away) (set_class c false))
+fetched c loud path Missed = Then (SaysIf loud (fetch_line path true)) (λ _. Answers Away)
 fetched c loud path Stopped = Answers Stops
 
 abbrev pub step_by : ℕ → (loud : Bool) → Next → Call Machine Stepped
@@ -159,16 +182,17 @@ step_of c loud (Some it) = Then (Asks (next_of c it)) (step_by c loud)
 abbrev pub Steps : ℕ → (loud : Bool) → Call Machine Stepped
 Steps c loud = Then (Asks (λ m. (kept_by c m).running)) (step_of c loud)
 
--- each goes on where the last one went
-abbrev pub unless_went : Stepped → Option Stepped
-unless_went Went = None
-unless_went Over = Some Over
-unless_went Away = Some Away
-unless_went Stops = Some Stops
+-- each goes on where the last one went; steps that are asked for end at a fetch that failed, and a run goes on, second class
+abbrev pub unless_went : (loud : Bool) → Stepped → Option Stepped
+unless_went loud Went = None
+unless_went loud Over = Some Over
+unless_went true Away = Some Away
+unless_went false Away = None
+unless_went loud Stops = Some Stops
 
 -- at most so many
 abbrev pub StepsAll : ℕ → (loud : Bool) → (most : ℕ) → Call Machine Stepped
-StepsAll c loud most = Rounds most Went (Then (Steps c loud) (λ stepped. Answers (unless_went stepped)))
+StepsAll c loud most = Rounds most Went (Then (Steps c loud) (λ stepped. Answers (unless_went loud stepped)))
 
 -- ---- the first transaction that waits
 
@@ -195,20 +219,52 @@ abbrev pub verdict_text : List ℕ → Verdict → List ℕ
 verdict_text name (Settled number) = settled_line name number
 verdict_text name (Conflict read question) = conflict_line name read question ++ abort_line name
 
-abbrev pub told : ℕ → List ℕ → Option Verdict → Part Machine
-told c name None = says_word (codes "away")
-told c name (Some verdict) = Then (Notes c leave) (goes_on (Says (λ _. verdict_text name verdict)))
+-- how it went to submit the first transaction: none waits, it left, no verdict came, or the client stopped
+pub data Synced : Type 0 where
+  Empty : Synced
+  Left : Synced
+  Unanswered : Synced
+  Halted : Synced
 
-abbrev pub submits : ℕ → Submission → Part Machine
+-- a part, and then this answer
+abbrev pub and_answers : Part Machine → Synced → Call Machine Synced
+and_answers part answer = Then part (λ _. Answers answer)
+
+abbrev pub left_by : Bool → Synced
+left_by true = Left
+left_by false = Halted
+
+-- it leaves, and is told
+abbrev pub told : ℕ → List ℕ → Option Verdict → Call Machine Synced
+told c name None = and_answers (says_word (codes "away")) Unanswered
+told c name (Some verdict) =
+    Then (Notes c leave) (λ on. and_answers (goes_on (Says (λ _. verdict_text name verdict)) on) (left_by on))
+
+abbrev pub submits : ℕ → Submission → Call Machine Synced
 submits c it = Then (Exchange c (Judges it)) (told c it.name)
 
-abbrev pub sync_head : ℕ → List Item → Part Machine
-sync_head c [] = says_word (codes "nothing")
+abbrev pub sync_head : ℕ → List Item → Call Machine Synced
+sync_head c [] = and_answers (says_word (codes "nothing")) Empty
 sync_head c (item ∷ items) = Then (Asks (λ m. submission_of c m item)) (submits c)
 
 -- the first transaction that waits is submitted
-abbrev pub Syncs : ℕ → Part Machine
+abbrev pub Syncs : ℕ → Call Machine Synced
 Syncs c = Then (Asks (λ m. (kept_by c m).items)) (sync_head c)
+
+-- again and again, as long as one waits and leaves, and at most three times for each that waits at first
+abbrev pub unless_left : Synced → Option Synced
+unless_left Left = None
+unless_left Empty = Some Empty
+unless_left Unanswered = Some Unanswered
+unless_left Halted = Some Halted
+
+abbrev pub sync_if : ℕ → Bool → Call Machine (Option Synced)
+sync_if c true = Then (Syncs c) (λ synced. Answers (unless_left synced))
+sync_if c false = Answers (Some Empty)
+
+abbrev pub SyncsAll : ℕ → Call Machine Synced
+SyncsAll c =
+    Then (Asks (λ m. length (kept_by c m).items)) (λ n. Rounds (3 * n) Left (Then (Asks (pends c)) (sync_if c)))
 
 -- ---- end
 
@@ -225,10 +281,20 @@ ended_of c it m = record {
   first = (client_in m c).first;
 }
 
--- a first-class transaction is synced at once; the lines of another say that it waits, and what it printed
+-- that it waits, and what it printed
+abbrev pub waits : Ended → Part Machine
+waits gone = Says (λ _. pending_line gone.name ++ gone.printed)
+
+abbrev pub waits_unless : Ended → Synced → Part Machine
+waits_unless gone Unanswered = waits gone
+waits_unless gone Left = Nothing
+waits_unless gone Empty = Nothing
+waits_unless gone Halted = Nothing
+
+-- a first-class transaction is synced at once, and waits if no verdict comes; another waits
 abbrev pub syncs_or_waits : ℕ → Ended → (first : Bool) → Part Machine
-syncs_or_waits c gone true = Syncs c
-syncs_or_waits c gone false = Says (λ _. pending_line gone.name ++ gone.printed)
+syncs_or_waits c gone true = Then (Syncs c) (waits_unless gone)
+syncs_or_waits c gone false = waits gone
 
 -- it waits from now on
 abbrev pub joins : ℕ → Ended → Part Machine

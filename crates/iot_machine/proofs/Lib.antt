@@ -1,0 +1,2 @@
+pub mod KeepsLaws
+pub mod SoundLaws

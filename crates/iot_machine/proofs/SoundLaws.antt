@@ -1,0 +1,729 @@
+-- Each event keeps a machine sound.
+use Rattle.std.proofs.Common.{◌≡◌, ℕ, zero, suc, ◌+◌, ◌*◌, ◌<◌, ◌≤◌, ◌==◌, ◌&&◌, Bool, true, false}
+use Rattle.std.proofs.Common.{List, [], ◌∷◌, ◌++◌, length, Option, Some, None}
+use Rattle.std.proofs.Common.{slice_index_or, slice_set, option_map, refl, sym, ap, subst, ◌∙◌, arith, le_refl, inl, inr, position, codes}
+use Rattle.std.proofs.lemmas.Bool.{cases_Bool, cond-true, cond-false}
+use Rattle.std.proofs.lemmas.Bool.Decides.{nat_tests}
+use Rattle.std.proofs.lemmas.Iterator.Adapters.{position_from-zero}
+use Rattle.std.proofs.lemmas.List.{length-set, length-append}
+use Rattle.std.specs.List.{AllByRecursion, position_from}
+use Rattle.iot_tree.specs.Tree.{Nodes, Path}
+use Rattle.iot_tree.specs.declared.want.Want.{Want}
+use Rattle.iot_tree.specs.declared.want.Want.TheVariants as wanted
+use Rattle.iot_link.specs.Links as link
+use Rattle.iot_link.specs.Links.{LinkState, connected, arming}
+use Rattle.iot_link.specs.declared.passages.Passage.{Passage}
+use Rattle.iot_link.specs.declared.passages.Passage.TheVariants as passages
+use Rattle.iot_event.specs.declared.event.Event.{Event}
+use Rattle.iot_event.specs.declared.event.Event.TheVariants as events
+use Rattle.iot_machine.specs.Calls.{Call, Part, At}
+use Rattle.iot_machine.specs.Clients.{Declared, Item, Running, ClientState, Next, AtEnd, AtLimit, Acts, Fetches}
+use Rattle.iot_machine.specs.Clients.{new_client, view, hold, begin, anew, fetch, one_more, act_once, item_of, joined, end, leave_by, leave}
+use Rattle.iot_machine.specs.Machine.{Machine, Client, Commit, no_client, client_in, put_client, kept_by, server, node_at, add_commit}
+use Rattle.iot_machine.specs.Machine.{set_class, set_link, cut_off, link_of, break, tree_after, count_request, opening}
+use Rattle.iot_machine.specs.Nodes.{Node, opened, changed}
+use Rattle.iot_machine.specs.Stops.{Appends, ComesBack, Crashes, Restarts, Shows}
+use Rattle.iot_machine.specs.Serving.{is_of, number_of, Submission, Verdict, Lends, Judges, judged}
+use Rattle.iot_machine.specs.Serving.{Certifies, holds, conflicts, Commits, committed, server_name}
+use Rattle.iot_machine.specs.Transactions as transactions
+use Rattle.iot_machine.specs.Transactions.{submission_of, Notes, counted, Handles, received, exchange_by, Exchange, Brings, Refuses, IfIdle}
+use Rattle.iot_machine.specs.Transactions.{IfNonePends, if_runs, IfRuns, Brought, Held, Missed, Stopped, Holds, took, Takes}
+use Rattle.iot_machine.specs.Transactions.{Starts, starts_on, starts_if, Begins, SaysIf, fetched, step_by, step_of, Steps, Went, StepsAll}
+use Rattle.iot_machine.specs.Transactions.{Synced, Empty, Left, Unanswered, Halted, told, submits, sync_head, Syncs, sync_if, SyncsAll}
+use Rattle.iot_machine.specs.Transactions.{Ended, waits_unless, syncs_or_waits, joins, end_by, Ends}
+use Rattle.iot_machine.specs.Texts.{fetch_line, tree_text}
+use Rattle.iot_machine.specs.Events.{declare_client, declare_script, Refreshes, run_steps, SyncsIf, runs_script, runs_by, Runs, Drains}
+use Rattle.iot_machine.specs.Events.{counts_anew, RestartsServer, event_part}
+use Rattle.iot_machine.specs.Sound.{Rise, last_of, IsNewest, AreNumbered, IsNumbered, IsAnother, WaitsFirst, RunsAnother}
+use Rattle.iot_machine.specs.Sound.{IsListed, AreOnce, IsSound}
+use Rattle.iot_machine.proofs.KeepsLaws.{Keeps, Stays, keeps_gets, keeps_asks, keeps_does, stays_asks, stays_answers, stays_says}
+use Rattle.iot_machine.proofs.KeepsLaws.{keeps_then, stays_then, asks_then, keeps_either, stays_goes_on, stays_rounds, stays_or_says}
+use Rattle.iot_machine.proofs.KeepsLaws.{keeps_at}
+
+-- ---- lists
+
+module _ {A : Type 0} (P : A → Type 0) where
+  all_push : (xs : List A) (x : A) → P x → AllByRecursion P xs → AllByRecursion P (xs ++ x ∷ [])
+  all_push [] x it all = (it, tt)
+  all_push (y ∷ ys) x it all = (all.0, all_push ys x it all.1)
+
+  all_at : (xs : List A) (place : ℕ) (d : A) → P d → AllByRecursion P xs → P (slice_index_or xs place d)
+  all_at [] place d it all = it
+  all_at (y ∷ ys) zero d it all = all.0
+  all_at (y ∷ ys) (suc place) d it all = all_at ys place d it all.1
+
+  -- one is put at a place, of which the same holds as of the one before it
+  all_set : (xs : List A) (place : ℕ) (x d : A) → (P (slice_index_or xs place d) → P x) → AllByRecursion P xs
+      → AllByRecursion P (slice_set xs place x)
+  all_set [] place x d goes all = tt
+  all_set (y ∷ ys) zero x d goes all = (goes all.0, all.1)
+  all_set (y ∷ ys) (suc place) x d goes all = (all.0, all_set ys place x d goes all.1)
+
+  at_set : (xs : List A) (place other : ℕ) (x d : A) → (P (slice_index_or xs place d) → P x) → P (slice_index_or xs other d)
+      → P (slice_index_or (slice_set xs place x) other d)
+  at_set [] place other x d goes it = it
+  at_set (y ∷ ys) zero zero x d goes it = goes it
+  at_set (y ∷ ys) zero (suc other) x d goes it = it
+  at_set (y ∷ ys) (suc place) zero x d goes it = it
+  at_set (y ∷ ys) (suc place) (suc other) x d goes it = at_set ys place other x d goes it
+
+  -- one more at the end
+  at_push : (xs : List A) (place : ℕ) (x d : A) → place < length xs → P (slice_index_or xs place d)
+      → P (slice_index_or (xs ++ x ∷ []) place d)
+  at_push [] place x d within it = absurd (omega arith)
+  at_push (y ∷ ys) zero x d within it = it
+  at_push (y ∷ ys) (suc place) x d within it = at_push ys place x d (omega arith) it
+
+all_as : {A : Type 0} (P Q : A → Type 0) (xs : List A) → ((x : A) → P x → Q x) → AllByRecursion P xs → AllByRecursion Q xs
+all_as P Q [] goes all = tt
+all_as P Q (x ∷ xs) goes all = (goes x all.0, all_as P Q xs goes all.1)
+
+-- ---- numbers that rise
+
+rise_lower : (low other : ℕ) (items : List Item) → other ≤ low → Rise low items → Rise other items
+rise_lower low other [] less rise = tt
+rise_lower low other (item ∷ items) less rise = (omega (arith, less, rise.0), rise.1)
+
+rise_push : (low : ℕ) (items : List Item) (item : Item) → last_of low items < item.number → Rise low items
+    → Rise low (items ++ item ∷ [])
+rise_push low [] item above rise = (above, tt)
+rise_push low (first ∷ items) item above rise = (rise.0, rise_push first.number items item above rise.1)
+
+last_push : (low : ℕ) (items : List Item) (item : Item) → last_of low (items ++ item ∷ []) ≡ item.number
+last_push low [] item = refl
+last_push low (first ∷ items) item = last_push first.number items item
+
+last_above : (low : ℕ) (items : List Item) → Rise low items → low ≤ last_of low items
+last_above low [] rise = le_refl low
+last_above low (item ∷ items) rise =
+    let above : item.number ≤ last_of item.number items = last_above item.number items rise.1 in
+    omega (arith, rise.0, above)
+
+last_lower : (low : ℕ) (items : List Item) → last_of 0 items ≤ last_of low items
+last_lower low [] = omega arith
+last_lower low (item ∷ items) = le_refl (last_of item.number items)
+
+newest_from : (old new : ClientState) (running : Option Running) → new.last ≡ old.last → last_of 0 new.items ≤ last_of 0 old.items
+    → IsNewest old running → IsNewest new running
+newest_from old new None same less newest = omega (arith, same, less, newest)
+newest_from old new (Some it) same less newest = (newest.0 ∙ sym same, omega (arith, same, less, newest.1))
+
+-- ---- what a client keeps, and a transaction of its own that is in the list
+
+-- what `IsListed` asks of what its client keeps
+record IsKnown (commit : Commit) (state : ClientState) : Type 0 where
+  given : commit.entry.number ≤ state.last
+  waits : WaitsFirst commit state.items
+  runs : RunsAnother commit state.running
+
+-- what must hold of the one holds of the other too
+record Follows (old new : ClientState) : Type 0 where
+  numbered : AreNumbered old → AreNumbered new
+  known : (commit : Commit) → IsKnown commit old → IsKnown commit new
+
+follows_same : (s : ClientState) → Follows s s
+follows_same s = record { numbered = λ it. it; known = λ commit it. it }
+
+hold_follows : (t : Nodes) (s : ClientState) → Follows s (hold t s)
+hold_follows t s = record {
+  numbered = λ it. record { rise = it.rise; newest = newest_from s (hold t s) s.running refl (le_refl (last_of 0 s.items)) it.newest };
+  known = λ commit it. record { given = it.given; waits = it.waits; runs = it.runs };
+}
+
+begin_follows : (script : Declared) (s : ClientState) → Follows s (begin script s)
+begin_follows script s = record {
+  numbered = λ it. record { rise = it.rise; newest = (refl, by_running s.running it.newest) };
+  known = λ commit it. record { given = omega (arith, it.given); waits = it.waits; runs = omega (arith, it.given) };
+}
+  where
+    by_running : (running : Option Running) → IsNewest s running → last_of 0 s.items < s.last + 1
+    by_running None newest = omega (arith, newest)
+    by_running (Some it) newest = omega (arith, newest.1)
+
+-- the transaction that runs changes, but not its number
+running_follows : (change : Running → Running) → ((it : Running) → (change it).number ≡ it.number) → (t : Nodes) (s : ClientState)
+    → Follows s (record s { held = t; running = option_map change s.running })
+running_follows change same t s = record {
+  numbered = λ it. record { rise = it.rise; newest = newest s.running it.newest };
+  known = λ commit it. record { given = it.given; waits = it.waits; runs = runs commit s.running it.runs };
+}
+  where
+    newest : (running : Option Running) → IsNewest s running
+        → IsNewest (record s { held = t; running = option_map change s.running }) (option_map change running)
+    newest None it = it
+    newest (Some one) it = (same one ∙ it.0, it.1)
+
+    runs : (commit : Commit) (running : Option Running) → RunsAnother commit running → RunsAnother commit (option_map change running)
+    runs commit None it = it
+    runs commit (Some one) it = rw (same one) it
+
+fetch_follows : (t : Nodes) (s : ClientState) → Follows s (fetch t s)
+fetch_follows t s = running_follows anew (λ it. refl) t s
+
+act_once_follows : (s : ClientState) → Follows s (act_once s)
+act_once_follows s = running_follows one_more (λ it. refl) s.held s
+
+waits_push : (commit : Commit) (items : List Item) (item : Item) → commit.entry.number < item.number → WaitsFirst commit items
+    → WaitsFirst commit (items ++ item ∷ [])
+waits_push commit [] item above waits = ((λ same. absurd (omega (arith, same, above))), tt)
+waits_push commit (first ∷ items) item above waits = (
+  waits.0,
+  all_push (IsAnother commit) items item (λ same. absurd (omega (arith, same, above))) waits.1,
+)
+
+end_follows : (s : ClientState) → Follows s (end s)
+end_follows s = by_running s.running refl
+  where
+    by_running : (running : Option Running) → s.running ≡ running → Follows s (record s { items = joined s.items running; running = None })
+    by_running None is = record {
+      numbered = λ it. record { rise = it.rise; newest = subst (IsNewest s) is it.newest };
+      known = λ commit it. record { given = it.given; waits = it.waits; runs = tt };
+    }
+    by_running (Some one) is = record {
+      numbered = λ it.
+          let newest : IsNewest s (Some one) = subst (IsNewest s) is it.newest in
+          record {
+            rise = rise_push 0 s.items (item_of one) (omega (arith, newest.0, newest.1)) it.rise;
+            newest = le_of (last_push 0 s.items (item_of one)) newest.0;
+          };
+      known = λ commit it. record {
+        given = it.given;
+        waits = waits_push commit s.items (item_of one) (subst (RunsAnother commit) is it.runs) it.waits;
+        runs = tt;
+      };
+    }
+      where
+        le_of : {a b c : ℕ} → a ≡ b → b ≡ c → a ≤ c
+        le_of one other = omega (arith, one, other)
+
+leave_follows : (s : ClientState) → Follows s (leave s)
+leave_follows s = by_items s.items refl
+  where
+    first_waits : (commit : Commit) (items : List Item) → AllByRecursion (IsAnother commit) items → WaitsFirst commit items
+    first_waits commit [] all = tt
+    first_waits commit (item ∷ items) all = ((λ same. absurd (all.0 same)), all.1)
+
+    by_items : (items : List Item) → s.items ≡ items → Follows s (leave_by items s)
+    by_items [] is = follows_same s
+    by_items (item ∷ items) is = record {
+      numbered = λ it.
+          let rise : Rise 0 (item ∷ items) = subst (Rise 0) is it.rise in
+          record {
+            rise = rise_lower item.number 0 items (omega arith) rise.1;
+            newest = newest_from s (leave_by (item ∷ items) s) s.running refl
+                (rw is (last_lower item.number items)) it.newest;
+          };
+      known = λ commit it. record {
+        given = it.given;
+        waits = first_waits commit items (subst (WaitsFirst commit) is it.waits).1;
+        runs = it.runs;
+      };
+    }
+
+-- ---- a machine, and one of its parts anew
+
+listed_from : (m n : Machine) → n.clients ≡ m.clients → (commit : Commit) → IsListed m commit → IsListed n commit
+listed_from m n same commit it = record {
+  client = rw same it.client;
+  given = rw same it.given;
+  waits = rw same it.waits;
+  runs = rw same it.runs;
+}
+
+-- the same clients and the same list
+sound_from : (m n : Machine) → n.clients ≡ m.clients → n.server.durable ≡ m.server.durable → IsSound m → IsSound n
+sound_from m n clients list sound = record {
+  numbered = rw clients sound.numbered;
+  listed = subst (AllByRecursion (IsListed n)) (sym list)
+      (all_as (IsListed m) (IsListed n) m.server.durable (listed_from m n clients) sound.listed);
+  once = rw list sound.once;
+}
+
+-- another machine with this commit in its list, whose client knows it too
+listed_by : (m n : Machine) (commit : Commit) → (commit.entry.client < length m.clients → commit.entry.client < length n.clients)
+    → (IsKnown commit (kept_by commit.entry.client m) → IsKnown commit (kept_by commit.entry.client n)) → IsListed m commit
+    → IsListed n commit
+listed_by m n commit within known it =
+    let so : IsKnown commit (kept_by commit.entry.client n) = known (record { given = it.given; waits = it.waits; runs = it.runs }) in
+    record { client = within it.client; given = so.given; waits = so.waits; runs = so.runs }
+
+-- another client at a place
+put_sound : (c : ℕ) (client : Client) (m : Machine) → Follows (kept_by c m) client.node.durable → IsSound m
+    → IsSound (put_client c client m)
+put_sound c client m follows sound = record {
+  numbered = all_set IsNumbered m.clients c client no_client follows.numbered sound.numbered;
+  listed = all_as (IsListed m) (IsListed (put_client c client m)) m.server.durable stays sound.listed;
+  once = sound.once;
+}
+  where
+    stays : (commit : Commit) → IsListed m commit → IsListed (put_client c client m) commit
+    stays commit it = listed_by m (put_client c client m) commit
+        (subst (λ (n : ℕ). commit.entry.client < n) (sym (length-set m.clients c client)))
+        (at_set (λ one. IsKnown commit one.node.durable) m.clients c commit.entry.client client no_client (follows.known commit))
+        it
+
+-- one with the same node
+same_node_sound : (c : ℕ) (client : Client) (m : Machine) → client.node ≡ (client_in m c).node → IsSound m
+    → IsSound (put_client c client m)
+same_node_sound c client m same sound = put_sound c client m (rw same (follows_same (kept_by c m))) sound
+
+-- one more client
+declared_sound : (name : List ℕ) (m : Machine) → IsSound m → IsSound (declare_client name m)
+declared_sound name m sound = record {
+  numbered = all_push IsNumbered m.clients new (record { rise = tt; newest = le_refl 0 }) sound.numbered;
+  listed = all_as (IsListed m) (IsListed (declare_client name m)) m.server.durable stays sound.listed;
+  once = sound.once;
+}
+  where
+    new : Client
+    new = record { name = name; node = opened new_client; link = link.opened; first = false }
+
+    more : {n : ℕ} → n < length m.clients → n < length (m.clients ++ new ∷ [])
+    more within = omega (arith, length-append m.clients (new ∷ []), within)
+
+    stays : (commit : Commit) → IsListed m commit → IsListed (declare_client name m) commit
+    stays commit it = listed_by m (declare_client name m) commit more
+        (at_push (λ one. IsKnown commit one.node.durable) m.clients commit.entry.client new no_client it.client)
+        it
+
+-- ---- the list, and one commit more
+
+-- it is not the same transaction
+abbrev IsApart : Commit → Commit → Type 0
+IsApart commit other = is_of commit other ≡ false
+
+apart_sym : (commit other : Commit) → IsApart commit other → IsApart other commit
+apart_sym commit other apart =
+    (λ i. same_test other.entry.client commit.entry.client i && same_test other.entry.number commit.entry.number i) ∙ apart
+  where
+    same_test : (a b : ℕ) → (a == b) ≡ (b == a)
+    same_test a b = grind (arith, nat_tests)
+
+none_from : (p : Commit → Bool) (list : List Commit) (i : ℕ) → position_from p i list ≡ None
+    → AllByRecursion (λ other. p other ≡ false) list
+none_from p [] i is = tt
+none_from p (other ∷ list) i is = elim (cases_Bool (p other)) [
+  | inl passes ↦ let found : Some i ≡ None = sym (cond-true (p other) (Some i) (position_from p (i + 1) list) passes) ∙ is in absurd cc
+  | inr fails ↦ (fails, none_from p list (i + 1) (sym (cond-false (p other) (Some i) (position_from p (i + 1) list) fails) ∙ is))
+]
+
+from_none : (p : Commit → Bool) (list : List Commit) (i : ℕ) → AllByRecursion (λ other. p other ≡ false) list
+    → position_from p i list ≡ None
+from_none p [] i all = refl
+from_none p (other ∷ list) i all =
+    cond-false (p other) (Some i) (position_from p (i + 1) list) all.0 ∙ from_none p list (i + 1) all.1
+
+-- one without a number is apart from all of them
+none_of : (commit : Commit) (list : List Commit) → number_of commit list ≡ None → AllByRecursion (IsApart commit) list
+none_of commit list none =
+    none_from (is_of commit) list 0 (sym (position_from-zero (is_of commit) list) ∙ no_place (position (is_of commit) list) none)
+  where
+    no_place : (place : Option ℕ) → option_map (λ n. n + 1) place ≡ None → place ≡ None
+    no_place None none = refl
+    no_place (Some n) none = absurd cc
+
+of_none : (commit : Commit) (list : List Commit) → AllByRecursion (IsApart commit) list → number_of commit list ≡ None
+of_none commit list all =
+    ap (option_map (λ place. place + 1)) (position_from-zero (is_of commit) list ∙ from_none (is_of commit) list 0 all)
+
+once_push : (list : List Commit) (commit : Commit) → AllByRecursion (IsApart commit) list → AreOnce list
+    → AreOnce (list ++ commit ∷ [])
+once_push [] commit all once = (refl, tt)
+once_push (first ∷ list) commit all once = (
+  of_none first (list ++ commit ∷ []) (all_push (IsApart first) list commit (apart_sym commit first all.0) (none_of first list once.0)),
+  once_push list commit all.1 once.1,
+)
+
+-- ---- a commit of the first that waits
+
+-- sound, and this is the commit of the first transaction
+record Submits (c : ℕ) (commit : Commit) (m : Machine) : Type 0 where
+  item : Item
+  items : List Item
+  sound : IsSound m
+  first : (kept_by c m).items ≡ item ∷ items
+  is : commit ≡ (submission_of c m item).commit
+
+-- a client that is not there has none
+is_there : (clients : List Client) (c : ℕ) (item : Item) (items : List Item)
+    → (slice_index_or clients c no_client).node.durable.items ≡ item ∷ items → c < length clients
+is_there [] c item items first = absurd cc
+is_there (client ∷ clients) zero item items first = omega arith
+is_there (client ∷ clients) (suc c) item items first =
+    let there : c < length clients = is_there clients c item items first in
+    omega (arith, there)
+
+all_above : (commit : Commit) (low : ℕ) (items : List Item) → commit.entry.number ≤ low → Rise low items
+    → AllByRecursion (IsAnother commit) items
+all_above commit low [] less rise = tt
+all_above commit low (item ∷ items) less rise = (
+  (λ same. absurd (omega (arith, same, less, rise.0))),
+  all_above commit item.number items (omega (arith, less, rise.0)) rise.1,
+)
+
+-- it is known to what its client keeps
+first_known : (c : ℕ) (m : Machine) (item : Item) (items : List Item) (state : ClientState) → AreNumbered state
+    → state.items ≡ item ∷ items → IsKnown (submission_of c m item).commit state
+first_known c m item items state numbered first =
+    let rise : Rise 0 (item ∷ items) = subst (Rise 0) first numbered.rise in
+    let above : item.number ≤ last_of 0 state.items = rw first (last_above item.number items rise.1) in
+    record {
+      given = given state.running above numbered.newest;
+      waits = subst (WaitsFirst (submission_of c m item).commit) (sym first) (
+        (λ same. record { name = refl; script = refl; budget = refl; way = refl; kept = refl }),
+        all_above (submission_of c m item).commit item.number items (le_refl item.number) rise.1,
+      );
+      runs = runs state.running above numbered.newest;
+    }
+  where
+    given : (running : Option Running) → item.number ≤ last_of 0 state.items → IsNewest state running → item.number ≤ state.last
+    given None above newest = omega (arith, above, newest)
+    given (Some it) above newest = omega (arith, above, newest.1)
+
+    runs : (running : Option Running) → item.number ≤ last_of 0 state.items → IsNewest state running
+        → RunsAnother (submission_of c m item).commit running
+    runs None above newest = tt
+    runs (Some it) above newest = omega (arith, above, newest.0, newest.1)
+
+commit_sound : (c : ℕ) (commit : Commit) (m n : Machine) → Submits c commit m → number_of commit m.server.durable ≡ None
+    → n.clients ≡ m.clients → n.server.durable ≡ add_commit commit m.server.durable → IsSound n
+commit_sound c commit m n here none clients list = record {
+  numbered = rw clients here.sound.numbered;
+  listed = subst (AllByRecursion (IsListed n)) (sym list) (all_push (IsListed n) m.server.durable commit new before);
+  once = rw list (once_push m.server.durable commit (none_of commit m.server.durable none) here.sound.once);
+}
+  where
+    before : AllByRecursion (IsListed n) m.server.durable
+    before = all_as (IsListed m) (IsListed n) m.server.durable (listed_from m n clients) here.sound.listed
+
+    numbered : IsNumbered (client_in m c)
+    numbered = all_at IsNumbered m.clients c no_client (record { rise = tt; newest = le_refl 0 }) here.sound.numbered
+
+    known : IsKnown (submission_of c m here.item).commit (kept_by c m)
+    known = first_known c m here.item here.items (kept_by c m) numbered here.first
+
+    listed : IsListed m (submission_of c m here.item).commit
+    listed = record {
+      client = is_there m.clients c here.item here.items here.first;
+      given = known.given;
+      waits = known.waits;
+      runs = known.runs;
+    }
+
+    new : IsListed n commit
+    new = listed_from m n clients commit (subst (IsListed m) (sym here.is) listed)
+
+-- ---- requests to the server
+
+abbrev StaysSound : {A : Type 0} → Call Machine A → Type 0
+StaysSound call = Stays IsSound call
+
+-- sound with this server
+abbrev IsSoundWith : Machine → Node (List Commit) → Type 0
+IsSoundWith m node = IsSound (record m { server = node })
+
+sound_with : (m : Machine) (node : Node (List Commit)) → node.durable ≡ m.server.durable → IsSound m → IsSoundWith m node
+sound_with m node same sound = sound_from m (record m { server = node }) refl same sound
+
+lends_sound : (held : Nodes) (want : Want) → StaysSound (At server (Lends held want))
+lends_sound held want = keeps_at (λ m sound. keeps_asks (λ node is. sound_with m node (ap (λ n. n.durable) is) sound))
+
+module _ (c : ℕ) (it : Submission) where
+  commits_sound : (m : Machine) → Submits c it.commit m → number_of it.commit m.server.durable ≡ None
+      → Keeps (λ node. node ≡ m.server) (Commits it.name it.commit) (λ _. IsSoundWith m)
+  commits_sound m here none = asks_then (λ text. keeps_then {Q = λ _. IsSoundWith m} append (by_answer text))
+    where
+      append : Keeps (λ node. node ≡ m.server) (Appends server_name (add_commit it.commit)) (λ _. IsSoundWith m)
+      append = record {
+        at = λ node after text on is step.
+            commit_sound c it.commit m (record m { server = after }) here none refl
+            (ap (λ n. n.durable) step.2 ∙ ap (λ n. add_commit it.commit n.durable) is);
+      }
+
+      by_answer : (text : List ℕ) (on : Bool) → Stays (IsSoundWith m) (committed text on)
+      by_answer text true = stays_then stays_says (λ _. stays_asks)
+      by_answer text false = stays_answers
+
+  judges_sound : Keeps (Submits c it.commit) (At server (Judges it)) (λ _. IsSound)
+  judges_sound = keeps_at (λ m here. keeps_then {Q = λ number node. (node ≡ m.server) × (number ≡ number_of it.commit m.server.durable)}
+      (keeps_asks (λ node is. (is, ap (λ n. number_of it.commit n.durable) is))) (by_number m here))
+    where
+      same : (m : Machine) (node : Node (List Commit)) → Submits c it.commit m → node ≡ m.server → IsSoundWith m node
+      same m node here is = sound_with m node (ap (λ n. n.durable) is) here.sound
+
+      certifies : (m : Machine) (node after : Node (List Commit)) (text : List ℕ) (verdict : Option Verdict) → Submits c it.commit m
+          → node ≡ m.server → number_of it.commit m.server.durable ≡ None → Certifies it node text verdict after → IsSoundWith m after
+      certifies m node after text verdict here is none (holds reads commits) =
+          (commits_sound m here none).at node after text verdict is commits
+      certifies m node after text verdict here is none (conflicts parts nothing stays) = same m after here (stays ∙ is)
+
+      by_number : (m : Machine) → Submits c it.commit m → (number : Option ℕ)
+          → Keeps (λ node. (node ≡ m.server) × (number ≡ number_of it.commit m.server.durable)) (judged it number) (λ _. IsSoundWith m)
+      by_number m here (Some number) = keeps_gets (λ node is. same m node here is.0)
+      by_number m here None = record {
+        at = λ node after text verdict is step. certifies m node after text verdict here is.0 (sym is.1) step;
+      }
+
+-- ---- exchanges
+
+handles_sound : {A : Type 0} {P : Machine → Type 0} {request : Call (Node (List Commit)) (Option A)}
+    → Keeps P (At server request) (λ _. IsSound) → Keeps P (Handles request) (λ _. IsSound)
+handles_sound {A} served = keeps_then served by_answer
+  where
+    by_answer : (answer : Option A) → StaysSound (counted answer)
+    by_answer None = stays_answers
+    by_answer (Some a) = keeps_gets (λ m sound. sound_from m (count_request m) refl refl sound)
+
+refuses_sound : (word : List ℕ) → StaysSound (Refuses word)
+refuses_sound word = stays_then stays_says (λ _. stays_answers)
+
+module _ (c : ℕ) where
+  break_sound : (m : Machine) → IsSound m → IsSound (break c m)
+  break_sound m sound = same_node_sound c (record (client_in m c) { link = link.broken; first = false }) m refl sound
+
+  class_sound : (first : Bool) (m : Machine) → IsSound m → IsSound (set_class c first m)
+  class_sound first m sound = same_node_sound c (record (client_in m c) { first = first }) m refl sound
+
+  cut_sound : (m : Machine) → IsSound m → IsSound (cut_off c m)
+  cut_sound m sound = same_node_sound c (record (client_in m c) { link = connected false (link_of c m); first = false }) m refl sound
+
+  link_sound : (link : LinkState) (m : Machine) → IsSound m → IsSound (set_link c link m)
+  link_sound link m sound = same_node_sound c (record (client_in m c) { link = link }) m refl sound
+
+  received_sound : {A : Type 0} (answer : Option A) → StaysSound (received c answer)
+  received_sound None = keeps_gets break_sound
+  received_sound (Some a) = stays_answers
+
+  -- if its request keeps the machine sound
+  exchange_sound : {A : Type 0} {P : Machine → Type 0} {request : Call (Node (List Commit)) (Option A)}
+      → ((m : Machine) → P m → IsSound m) → Keeps P (At server request) (λ _. IsSound) → Keeps P (Exchange c request) (λ _. IsSound)
+  exchange_sound {P} {request} sound served = asks_then by_passage
+    where
+      by_passage : (passage : Passage) → Keeps P (exchange_by c request passage) (λ _. IsSound)
+      by_passage passages.Away = keeps_gets (λ m here. class_sound false m (sound m here))
+      by_passage passages.RequestLost = keeps_gets (λ m here. break_sound m (sound m here))
+      by_passage passages.ReplyLost = keeps_then (handles_sound served) (λ _. keeps_gets break_sound)
+      by_passage passages.Both = keeps_then (handles_sound served) received_sound
+
+  brings_sound : (want : Want) → StaysSound (Brings c want)
+  brings_sound want = asks_then (λ held. exchange_sound (λ m sound. sound) (lends_sound held want))
+
+  -- ---- its record, refusals and tests
+
+  notes_sound : {change : ClientState → ClientState} → ((s : ClientState) → Follows s (change s)) → StaysSound (Notes c change)
+  notes_sound {change} follows = record {
+    at = λ m n text on sound step.
+        let client : Client = record (client_in m c) { node = changed change (client_in m c).node } in
+        rw (step.is, step.step.2) (put_sound c client m (follows (kept_by c m)) sound);
+  }
+
+  if_idle_sound : {call : Call Machine Bool} → StaysSound call → StaysSound (IfIdle c call)
+  if_idle_sound call = asks_then (keeps_either (refuses_sound (codes "busy")) call)
+
+  if_none_pends_sound : {call : Call Machine Bool} → StaysSound call → StaysSound (IfNonePends c call)
+  if_none_pends_sound call = asks_then (keeps_either (refuses_sound (codes "pending")) call)
+
+  if_runs_sound : {part : Running → Part Machine} → ((it : Running) → StaysSound (part it)) → StaysSound (IfRuns c part)
+  if_runs_sound {part} each = asks_then by_running
+    where
+      by_running : (running : Option Running) → StaysSound (if_runs part running)
+      by_running None = stays_says
+      by_running (Some it) = each it
+
+  -- ---- objects
+
+  holds_sound : {change : Nodes → ClientState → ClientState} → ((t : Nodes) (s : ClientState) → Follows s (change t s)) → (want : Want)
+      → StaysSound (Holds c change want)
+  holds_sound {change} follows want = stays_then (brings_sound want) by_answer
+    where
+      by_answer : (answer : Option Nodes) → StaysSound (transactions.holds c change answer)
+      by_answer None = stays_answers
+      by_answer (Some t) = stays_then (notes_sound (follows t)) (λ on. stays_answers)
+
+  takes_sound : (want : Want) → StaysSound (Takes c want)
+  takes_sound want = if_idle_sound (if_none_pends_sound (stays_then (holds_sound hold_follows want) by_answer))
+    where
+      by_answer : (brought : Brought) → StaysSound (took brought)
+      by_answer Held = stays_answers
+      by_answer Missed = refuses_sound (codes "away")
+      by_answer Stopped = stays_answers
+
+  -- ---- begin
+
+  starts_sound : (script : Declared) (first : Bool) → StaysSound (Starts c script first)
+  starts_sound script first = stays_then (notes_sound (begin_follows script)) (λ on. keeps_gets (class_sound first))
+
+  begins_sound : (s : ℕ) → StaysSound (Begins c s)
+  begins_sound s = if_idle_sound (asks_then (λ script. asks_then (by_pending script)))
+    where
+      by_brought : (script : Declared) (brought : Brought) → StaysSound (starts_on c script brought)
+      by_brought script Held = starts_sound script true
+      by_brought script Missed = starts_sound script false
+      by_brought script Stopped = stays_answers
+
+      by_pending : (script : Declared) (pends : Bool) → StaysSound (starts_if c script pends)
+      by_pending script true = starts_sound script false
+      by_pending script false = stays_then (holds_sound hold_follows wanted.Nothing) (by_brought script)
+
+  -- ---- steps
+
+  steps_sound : (loud : Bool) → StaysSound (Steps c loud)
+  steps_sound loud = asks_then by_running
+    where
+      says_if : (text : List ℕ) → StaysSound (SaysIf loud text)
+      says_if text = keeps_either stays_says stays_says loud
+
+      by_brought : (path : Path) (brought : Brought) → StaysSound (fetched c loud path brought)
+      by_brought path Held = stays_then (says_if (fetch_line path false)) (λ _. stays_answers)
+      by_brought path Missed = stays_then (says_if (fetch_line path true)) (λ _. stays_answers)
+      by_brought path Stopped = stays_answers
+
+      by_next : (next : Next) → StaysSound (step_by c loud next)
+      by_next AtEnd = stays_answers
+      by_next AtLimit = stays_answers
+      by_next Acts = stays_then (notes_sound act_once_follows) (λ on. stays_answers)
+      by_next (Fetches path) = stays_then (holds_sound fetch_follows (wanted.Path path)) (by_brought path)
+
+      by_running : (running : Option Running) → StaysSound (step_of c loud running)
+      by_running None = stays_answers
+      by_running (Some it) = asks_then by_next
+
+  steps_all_sound : (loud : Bool) (most : ℕ) → StaysSound (StepsAll c loud most)
+  steps_all_sound loud most = stays_rounds Went (stays_then (steps_sound loud) (λ stepped. stays_answers)) most
+
+  -- ---- syncs
+
+  syncs_sound : StaysSound (Syncs c)
+  syncs_sound = keeps_then {Q = λ items m. IsSound m × ((kept_by c m).items ≡ items)} (keeps_asks (λ m sound. (sound, refl))) by_items
+    where
+      by_verdict : (name : List ℕ) (verdict : Option Verdict) → StaysSound (told c name verdict)
+      by_verdict name None = stays_then stays_says (λ _. stays_answers)
+      by_verdict name (Some verdict) =
+          stays_then (notes_sound leave_follows) (λ on. stays_then (stays_goes_on stays_says on) (λ _. stays_answers))
+
+      submits_sound : (it : Submission) → Keeps (Submits c it.commit) (submits c it) (λ _. IsSound)
+      submits_sound it = keeps_then (exchange_sound (λ m here. here.sound) (judges_sound c it)) (by_verdict it.name)
+
+      by_items : (items : List Item) → Keeps (λ m. IsSound m × ((kept_by c m).items ≡ items)) (sync_head c items) (λ _. IsSound)
+      by_items [] = keeps_then {Q = λ _. IsSound} (keeps_does (λ m here. here.0)) (λ _. stays_answers)
+      by_items (item ∷ items) = keeps_then {Q = λ it. Submits c it.commit}
+          (keeps_asks (λ m here. record { item = item; items = items; sound = here.0; first = here.1; is = refl })) submits_sound
+
+  syncs_all_sound : StaysSound (SyncsAll c)
+  syncs_all_sound = asks_then (λ n. stays_rounds Left (asks_then by_pending) (3 * n))
+    where
+      by_pending : (pends : Bool) → StaysSound (sync_if c pends)
+      by_pending true = stays_then syncs_sound (λ synced. stays_answers)
+      by_pending false = stays_answers
+
+  -- ---- end
+
+  ends_sound : StaysSound (Ends c)
+  ends_sound = if_runs_sound (λ it. asks_then (by_next it))
+    where
+      by_synced : (gone : Ended) (synced : Synced) → StaysSound (waits_unless gone synced)
+      by_synced gone Unanswered = stays_says
+      by_synced gone Left = stays_says
+      by_synced gone Empty = stays_says
+      by_synced gone Halted = stays_says
+
+      by_class : (gone : Ended) (first : Bool) → StaysSound (syncs_or_waits c gone first)
+      by_class gone true = stays_then syncs_sound (by_synced gone)
+      by_class gone false = stays_says
+
+      joins_sound : (gone : Ended) → StaysSound (joins c gone)
+      joins_sound gone = stays_then (notes_sound end_follows) (stays_goes_on (stays_then stays_says (λ _. by_class gone gone.first)))
+
+      by_next : (it : Running) (next : Next) → StaysSound (end_by c it next)
+      by_next it AtEnd = asks_then joins_sound
+      by_next it AtLimit = asks_then joins_sound
+      by_next it Acts = stays_says
+      by_next it (Fetches path) = stays_says
+
+  -- ---- a client's events
+
+  refreshes_sound : StaysSound (Refreshes c)
+  refreshes_sound = stays_then (takes_sound wanted.Nothing) (stays_goes_on stays_says)
+
+  runs_sound : (s : ℕ) → StaysSound (Runs c s)
+  runs_sound s = asks_then by_running
+    where
+      syncs_if : (up : Bool) → StaysSound (SyncsIf c up)
+      syncs_if up = keeps_either (stays_then syncs_all_sound (λ _. stays_says)) stays_says up
+
+      script_sound : StaysSound (runs_script c s)
+      script_sound = stays_then (begins_sound s) (stays_goes_on (stays_then (steps_all_sound false run_steps) (λ _. ends_sound)))
+
+      by_running : (running : Bool) → StaysSound (runs_by c s running)
+      by_running true = stays_says
+      by_running false = asks_then (λ up. stays_then (syncs_if up) (λ _. script_sound))
+
+  drains_sound : StaysSound (Drains c)
+  drains_sound = stays_or_says (stays_then syncs_all_sound (λ _. asks_then (keeps_either refreshes_sound stays_says)))
+
+  -- what leaves its node's state as it is
+  node_stays : {A : Type 0} {call : Call (Node ClientState) A}
+      → ((state : ClientState) → Stays (λ node. node.durable ≡ state) call) → StaysSound (At (node_at c) call)
+  node_stays state = record {
+    at = λ m n text a sound step.
+        let client : Client = record (client_in m c) { node = step.inner } in
+        let same : client.node.durable ≡ kept_by c m = (state (kept_by c m)).at (client_in m c).node step.inner text a refl step.step in
+        rw step.is (put_sound c client m (rw same (follows_same (kept_by c m))) sound);
+  }
+
+-- ---- the server's events
+
+-- what leaves its list as it is
+server_stays : {A : Type 0} {call : Call (Node (List Commit)) A}
+    → ((list : List Commit) → Stays (λ node. node.durable ≡ list) call) → StaysSound (At server call)
+server_stays list = keeps_at (λ m sound. record {
+  at = λ node after text a is step. sound_with m after ((list m.server.durable).at node after text a (ap (λ n. n.durable) is) step) sound;
+})
+
+stays_shows : {S : Type 0} {P : Node S → Type 0} (text : S → List ℕ) → Stays P (Shows text)
+stays_shows text = asks_then (keeps_either stays_says stays_says)
+
+crash_sound : (name : List ℕ) → StaysSound (At server (Crashes name))
+crash_sound name = server_stays (λ list. asks_then (keeps_either (keeps_does (λ node is. is)) stays_says))
+
+restart_sound : StaysSound RestartsServer
+restart_sound = asks_then (λ alive. stays_then restarts (λ _. keeps_does (counts_sound alive)))
+  where
+    comes_back : (list : List Commit) → Stays (λ node. node.durable ≡ list) (ComesBack server_name)
+    comes_back list = record { at = λ node after text a is step. ap (λ n. n.durable) step.1 ∙ is }
+
+    restarts : StaysSound (At server (Restarts server_name))
+    restarts = server_stays (λ list. asks_then (keeps_either stays_says (comes_back list)))
+
+    counts_sound : (alive : Bool) (m : Machine) → IsSound m → IsSound (counts_anew alive m)
+    counts_sound true m sound = sound
+    counts_sound false m sound = sound_from m (counts_anew false m) refl refl sound
+
+-- ---- the events
+
+event_sound : (event : Event) → StaysSound (event_part event)
+event_sound (events.Client name) = keeps_does (declared_sound name)
+event_sound (events.Script name code) =
+    keeps_does (λ m sound. sound_from m (declare_script (record { name = name; code = code }) m) refl refl sound)
+event_sound (events.Run client script) = runs_sound client script
+event_sound (events.Hoard client path) = stays_then (takes_sound client (wanted.Below path)) (stays_goes_on stays_says)
+event_sound (events.Refresh client) = refreshes_sound client
+event_sound (events.Begin client script) = stays_then (begins_sound client script) (stays_goes_on stays_says)
+event_sound (events.Step client count) =
+    if_runs_sound client (λ _. stays_then (steps_all_sound client true count) (λ _. stays_says))
+event_sound (events.End client) = ends_sound client
+event_sound (events.Connect client) = keeps_does (λ m sound. link_sound client _ m sound)
+event_sound (events.Disconnect client) = keeps_does (cut_sound client)
+event_sound (events.Lose client loss) = keeps_does (λ m sound. link_sound client _ m sound)
+event_sound (events.Sync client) = stays_then (syncs_sound client) (λ _. stays_says)
+event_sound (events.Drain client) = drains_sound client
+event_sound events.ShowServer = server_stays (λ list. stays_shows (λ commits. tree_text (tree_after commits)))
+event_sound (events.ShowClient client) = node_stays client (λ state. stays_shows (λ s. tree_text (view s)))
+event_sound events.CrashServer = crash_sound server_name
+event_sound events.RestartServer = restart_sound
+
+pub sound_event : (event : Event) (m n : Machine) (text : List ℕ) → IsSound m → event_part event m text tt n → IsSound n
+sound_event event m n text sound step = (event_sound event).at m n text tt sound step
+
+pub sound_opening : IsSound opening
+sound_opening = record { numbered = tt; listed = tt; once = tt }
