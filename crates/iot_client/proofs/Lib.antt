@@ -1,3 +1,5 @@
+pub mod MessagesLaws
+pub mod RepliesLaws
 pub mod StatesLaws
 pub mod TiesLaws
 pub mod StepsLaws

@@ -159,7 +159,7 @@ whole state class i t facts may =
 
 pub ends : (kept : Option Running) (state : State) (i : Option Interpreter) (t : Nodes) (running : Running) → kept ≡ Some running
     → transaction_of kept ≡ state.running → Ties state (class_of kept) i t → may_end state (live (class_of kept) i) ≡ true
-    → EndsIfAny state (transaction_of kept) (live (class_of kept) i) (record { tid = running.tid; first = running.first }) running.acts
+    → EndsIfAny state (transaction_of kept) (live (class_of kept) i) (record { tid = running.tid; first = running.first })
 ends None state i t running is own ties may = absurd cc
 ends (Some other) state None t running is own ties may = absurd cc
 ends (Some other) state (Some i) t running is own ties may =
@@ -169,7 +169,6 @@ ends (Some other) state (Some i) t running is own ties may =
     record {
       number = ap (λ (r : Running). r.tid) same;
       class = ap (λ (r : Running). r.first) same;
-      recorded = ap (λ (r : Running). r.acts) same;
-      whole_acts = sym (ap (λ (ran : Ran). ran.acts) ran) ∙ sym (ap acts_of own) ∙ sym (ap (λ (r : Running). r.acts) same);
+      whole_acts = sym (ap (λ (ran : Ran). ran.acts) ran) ∙ sym (ap acts_of own);
       whole_tree = sym (ap (λ (ran : Ran). ran.tree) ran) ∙ ties.sees;
     }

@@ -1,19 +1,24 @@
 -- What the calls of a client refuse, change and answer.
 use Rattle.std.specs.Prelude.{◌≡◌, ℕ, ◌+◌, ◌<◌, ◌||◌, Bool, true, false, List, [], ◌∷◌, drop, leb, if◌then◌else◌}
-use Rattle.std.specs.Prelude.{Option, Some, None, Result, Ok, Err}
-use Rattle.iot_tree.specs.Tree.{Path}
+use Rattle.std.specs.Prelude.{⊤, IsOk, Option, Some, None, Result, Ok, Err}
+use Rattle.iot_tree.specs.Tree.{Path, Nodes}
 use Rattle.iot_tree.specs.declared.acts.Act.{Act}
 use Rattle.iot_tree.specs.declared.limits.TheConstants.{ACT_LIMIT}
 use Rattle.iot_tree.specs.declared.want.Want.TheVariants as wants
 use Rattle.iot_lang.specs.Code.{Code}
 use Rattle.iot_exec.specs.Misses.{first_away}
+use Rattle.iot_wire.specs.Messages.{IsMessage}
+use Rattle.iot_wire.specs.Rules.{IsReply}
+use Rattle.iot_wire.specs.Spelling.{reply_spelling}
+use Rattle.iot_wire.specs.declared.replies.Reply.TheVariants.{Objects}
 use Rattle.iot_queue.specs.declared.items.Item.{Item}
 use Rattle.iot_client.specs.States.{Transaction, State, view}
+use Rattle.iot_client.specs.Messages.{IsRefresh, objects_in}
 use Rattle.iot_client.specs.Records.{CanFollow, after}
 use Rattle.iot_client.specs.Ties.{state_of, place_of, Live, count, run_of}
 use Rattle.iot_client.specs.declared.client.Client.{Client}
 use Rattle.iot_client.specs.declared.fault.ClientFault.{ClientFault}
-use Rattle.iot_client.specs.declared.fault.ClientFault.TheVariants.{NoMemory, Busy, Pending, Idle, NotAtEnd, Nothing}
+use Rattle.iot_client.specs.declared.fault.ClientFault.TheVariants.{NoMemory, Busy, Pending, Idle, NotAtEnd, Nothing, BadReply}
 use Rattle.iot_client.specs.declared.record.Record.{Record}
 use Rattle.iot_client.specs.declared.running.Ended.{Ended}
 use Rattle.iot_client.specs.declared.record.Record.TheVariants as records
@@ -73,6 +78,23 @@ abbrev pub Refuses : {T : Type 0} → Option ClientFault → Client → Client �
 Refuses None old new result = RefusesFor None result
 Refuses (Some fault) old new result = RefusesFor (Some fault) result × (new ≡ old)
 
+-- how a call ends that reads a reply: it is done if that is one that it takes, and refused at the place where it is bad, which
+-- changes nothing; or memory ran out
+abbrev pub EndsBy : {X T : Type 0} → Result X ℕ → Client → Client → Result T ClientFault → Type 0
+EndsBy read old new (Ok value) = IsOk read
+EndsBy read old new (Err NoMemory) = ⊤
+EndsBy read old new (Err Busy) = ⊥
+EndsBy read old new (Err Pending) = ⊥
+EndsBy read old new (Err Idle) = ⊥
+EndsBy read old new (Err NotAtEnd) = ⊥
+EndsBy read old new (Err Nothing) = ⊥
+EndsBy read old new (Err (BadReply at)) = (read ≡ Err at) × (new ≡ old)
+
+-- before that, the state may refuse the call
+abbrev pub RefusesReply : {X T : Type 0} → Option ClientFault → Result X ℕ → Client → Client → Result T ClientFault → Type 0
+RefusesReply None read old new result = EndsBy read old new result
+RefusesReply (Some fault) read old new result = RefusesFor (Some fault) result × (new ≡ old)
+
 -- why an interpreter's transaction may not be ended
 abbrev pub not_at_end : Bool → ℕ → Option ClientFault
 not_at_end over acts = if over || leb ACT_LIMIT acts then None else Some NotAtEnd
@@ -84,6 +106,13 @@ pub record Notes (noted : Record) (old new : Client) : Type 0 where
   pub follows : CanFollow (state_of old) noted
   pub state : state_of new ≡ after (state_of old) noted
   pub place : place_of new ≡ place_of old
+
+-- and the record is one of the tree that the reply brings
+pub record Brings (noted : Nodes → Record) (reply : List ℕ) (old new : Client) : Type 0 where
+  pub tree : Nodes
+  pub brought : objects_in reply ≡ Ok tree
+  pub spelled : IsMessage IsReply reply_spelling reply (Objects tree)
+  pub notes : Notes (noted tree) old new
 
 -- whether the running transaction is first class, if one runs
 abbrev pub first_of : Option Live → Option Bool
@@ -147,7 +176,8 @@ pub record Misses (old : Client) (live : Live) (path : Path) (new : Client) : Ty
 -- what a single step answers
 abbrev pub StepIs : Client → Live → Step → Client → Type 0
 StepIs old live (Acted acts ended) new = DoesNext old live acts ended new
-StepIs old live (Fetch want path) new = (want ≡ wants.Path path) × Misses old live path new
+StepIs old live (Fetch request path) new =
+    IsRefresh (place_of old) (state_of old).held (wants.Path path) request × Misses old live path new
 StepIs old live (AtEnd acts) new = (has_ended (state_of old) live.code ≡ true) × (acts ≡ count (state_of old)) × (new ≡ old)
 StepIs old live (AtLimit acts) new =
     (has_ended (state_of old) live.code ≡ false) × (acts ≡ ACT_LIMIT) × (count (state_of old) ≡ ACT_LIMIT) × (new ≡ old)
@@ -158,16 +188,15 @@ StepIsIfAny old (Some live) step new = StepIs old live step new
 
 -- ---- the end
 
--- what is handed out of the transaction that ends: its number, its class and its acts, which are those of the run of its script with
--- the whole budget; that run's tree is the view
-pub record Ends (state : State) (running : Transaction) (live : Live) (gone : Ended) (acts : List Act) : Type 0 where
+-- what is told of the transaction that ends: its number and its class. Its acts are those of the run of its script with the whole
+-- budget, and that run's tree is the view
+pub record Ends (state : State) (running : Transaction) (live : Live) (gone : Ended) : Type 0 where
   pub number : gone.tid ≡ running.number
   pub class : gone.first ≡ live.first
-  pub recorded : acts ≡ running.acts
-  pub whole_acts : (run_of state live.code ACT_LIMIT).acts ≡ acts
+  pub whole_acts : (run_of state live.code ACT_LIMIT).acts ≡ running.acts
   pub whole_tree : (run_of state live.code ACT_LIMIT).tree ≡ view state
 
-abbrev pub EndsIfAny : State → Option Transaction → Option Live → Ended → List Act → Type 0
-EndsIfAny state (Some running) (Some live) gone acts = Ends state running live gone acts
-EndsIfAny state (Some running) None gone acts = ⊥
-EndsIfAny state None live gone acts = ⊥
+abbrev pub EndsIfAny : State → Option Transaction → Option Live → Ended → Type 0
+EndsIfAny state (Some running) (Some live) gone = Ends state running live gone
+EndsIfAny state (Some running) None gone = ⊥
+EndsIfAny state None live gone = ⊥

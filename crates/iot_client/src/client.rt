@@ -1,5 +1,5 @@
 //! The client itself.
-ghost use Rattle.std.specs.Prelude.{◌≡◌, ◌+◌, [], true, None, Some, IsSome, IfOk, OnOk, IfSome, IfNone};
+ghost use Rattle.std.specs.Prelude.{◌≡◌, ◌≤◌, ◌+◌, [], true, Ok, None, Some, IsSome, IfOk, OnOk, IfSome, IfNone};
 ghost use Rattle.std.specs.Option.{option_copied};
 ghost use Rattle.iot_exec.specs.Places.{is_over};
 ghost use Rattle.iot_exec.specs.Execs.{place, kept_by, act_count, next_miss};
@@ -8,14 +8,20 @@ ghost use Rattle.iot_client.specs.Records.{CanFollow};
 ghost use Rattle.iot_client.specs.Memory.{transaction_of, class_of};
 ghost use Rattle.iot_client.specs.Ties.{state_of, place_of, live_of, IsTied, IsOwnRunIfAny};
 ghost use Rattle.iot_client.specs.Calls.{busy, unready, idle, is_over_if_any, may_end, unended, not_at_end, empty_queue};
-ghost use Rattle.iot_client.specs.Calls.{RefusesFor, Refuses, Notes};
+ghost use Rattle.iot_client.specs.Calls.{RefusesFor, Refuses, RefusesReply, Notes, Brings};
+ghost use Rattle.iot_client.specs.Messages.{IsRefresh, HeadHasSpelling, IsSubmission};
+ghost use Rattle.iot_client.specs.Messages.{objects_in, ReadsObjects, noted_in, ReadsNoted, IsToldBy};
 ghost use Rattle.iot_client.specs.Calls.{missed_by};
 ghost use Rattle.iot_client.specs.Calls.{first_of, second_class, IsFirstIfAny, StepIsIfAny, CanActIfAny, EndsIfAny};
 
+use crate::asks::Ask;
 use crate::fault::ClientFault;
 use crate::interpreter::{Interpreter, act_by};
 use crate::kept::Kept;
+use crate::noted::Noted;
 use crate::record::Record;
+use crate::replies::{noted, objects};
+use crate::requests::{commit, refresh};
 use crate::running::{Ended, Running};
 use crate::steps::Step;
 use iot_exec::Exec;
@@ -23,7 +29,7 @@ use iot_held::Held;
 use iot_lang::Script;
 use iot_queue::Queue;
 use iot_text::{Name, NoMemory, Path};
-use iot_tree::{Acts, Duplicate, OnConflict, Tree, Want};
+use iot_tree::{Duplicate, OnConflict, Tree, Want};
 use std::alloc::Global;
 use std::rc::Rc;
 
@@ -113,36 +119,42 @@ impl Client {
         }
     }
 
-    /// What is to be brought from the server: what is wanted. It changes nothing.
+    /// The request for what is wanted, and for what is known of the held tree. It changes nothing.
     ///
     /// # Errors
     ///
     /// `Busy` if a transaction runs, `Pending` if one waits, `NoMemory`.
-    pub fn ask(&self, alloc: Global, want: &Want) -> Result<Want, ClientFault>
-        ensures want { IfOk result (λ same. same ≡ want.now) }
+    pub fn ask(&self, alloc: Global, want: &Want) -> Result<Vec<u8>, ClientFault>
+        requires { place_of self.now ≤ 7 }
+        ensures request { IfOk result (λ bytes. IsRefresh (place_of self.now) (state_of self.now).held want.now bytes.items) }
         ensures refuses { RefusesFor (unready (state_of self.now).running (state_of self.now).items) result }
     {
         match self.unready() {
             Some(fault) => Err(fault),
-            None => Ok(want.copy(alloc)?),
+            None => Ok(refresh(alloc, self.me, &self.kept.held, want.copy(alloc)?)?.into_bytes()),
         }
     }
 
-    /// Holds the tree that was brought. Copies it once.
+    /// Holds the tree that the reply brings. Copies it once.
     ///
     /// # Errors
     ///
-    /// `Busy` if a transaction runs, `Pending` if one waits, `NoMemory`.
-    pub fn take_objects(&mut self, alloc: Global, t: Tree) -> Result<(), ClientFault>
+    /// `Busy` if a transaction runs, `Pending` if one waits, `BadReply` if the bytes are no reply that brings a tree, `NoMemory`.
+    pub fn take_objects(&mut self, alloc: Global, reply: &[u8]) -> Result<(), ClientFault>
         requires { IsTied self.old }
-        ensures notes { OnOk result (Notes (Record.Held t) self.old self.new) }
+        ensures brings { OnOk result (Brings (λ tree. Record.Held tree) reply.now self.old self.new) }
+        ensures only { ReadsObjects reply.now }
         ensures live { OnOk result (live_of self.new ≡ None) }
         ensures tied { OnOk result (IsTied self.new) }
-        ensures refuses { Refuses (unready (state_of self.old).running (state_of self.old).items) self.old self.new result }
+        ensures refuses { RefusesReply (unready (state_of self.old).running (state_of self.old).items) (objects_in reply.now)
+            self.old self.new result }
     {
         match self.unready() {
             Some(refusal) => Err(refusal),
-            None => Ok(self.bring(alloc, t)?),
+            None => {
+                let tree = objects(alloc, reply)?;
+                Ok(self.bring(alloc, tree)?)
+            }
         }
     }
 
@@ -174,13 +186,15 @@ impl Client {
     }
 
     /// Does the next act on the view, or says why none is done: the script has ended, it may do no more, or the transaction is
-    /// first class and the act asks about something that the view does not know. Costs what the act costs.
+    /// first class and the act asks about something that the view does not know. Costs what the act costs; a request
+    /// costs what is known of the held tree.
     ///
     /// # Errors
     ///
     /// `Idle` if no transaction runs, `NoMemory`.
     pub fn step(&mut self, alloc: Global) -> Result<Step, ClientFault>
-        requires { IsTied self.old }
+        requires tied { IsTied self.old }
+        requires place { place_of self.old ≤ 7 }
         ensures step { IfOk result (λ step. StepIsIfAny self.old (live_of self.old) step self.new) }
         ensures live { OnOk result (live_of self.new ≡ live_of self.old) }
         ensures tied { OnOk result (IsTied self.new) }
@@ -192,22 +206,26 @@ impl Client {
         }
     }
 
-    /// Holds the tree that was brought for the running transaction, which is first class and starts again. Copies the tree once.
+    /// Holds the tree that the reply brings for the running transaction, which is first class and starts again. Copies the tree once.
     ///
     /// # Errors
     ///
-    /// `Idle` if no transaction runs, `NoMemory`.
-    pub fn fetched(&mut self, alloc: Global, t: Tree) -> Result<(), ClientFault>
+    /// `Idle` if no transaction runs, `BadReply` if the bytes are no reply that brings a tree, `NoMemory`.
+    pub fn fetched(&mut self, alloc: Global, reply: &[u8]) -> Result<(), ClientFault>
         requires tied { IsTied self.old }
         requires first { IsFirstIfAny (live_of self.old) }
-        ensures notes { OnOk result (Notes (Record.Fetched t) self.old self.new) }
+        ensures brings { OnOk result (Brings (λ tree. Record.Fetched tree) reply.now self.old self.new) }
+        ensures only { ReadsObjects reply.now }
         ensures live { OnOk result (live_of self.new ≡ live_of self.old) }
         ensures tied { OnOk result (IsTied self.new) }
-        ensures refuses { Refuses (idle (state_of self.old).running) self.old self.new result }
+        ensures refuses { RefusesReply (idle (state_of self.old).running) (objects_in reply.now) self.old self.new result }
     {
         match self.idle() {
             Some(fault) => Err(fault),
-            None => Ok(self.begin_again(alloc, t)?),
+            None => {
+                let tree = objects(alloc, reply)?;
+                Ok(self.begin_again(alloc, tree)?)
+            }
         }
     }
 
@@ -222,16 +240,15 @@ impl Client {
         self.kept.set_class(false);
     }
 
-    /// Ends the running transaction, which waits from now on, and hands out a copy of its acts.
+    /// Ends the running transaction, which waits from now on.
     ///
     /// # Errors
     ///
     /// `Idle` if no transaction runs, `NotAtEnd` if its script has not ended and may do more acts, `NoMemory`.
-    pub fn end(&mut self, alloc: Global) -> Result<(Ended, Acts), ClientFault>
+    pub fn end(&mut self, alloc: Global) -> Result<Ended, ClientFault>
         requires { IsTied self.old }
         ensures notes { OnOk result (Notes Record.Ended self.old self.new) }
-        ensures ends { IfOk result (λ ended.
-            EndsIfAny (state_of self.old) (state_of self.old).running (live_of self.old) ended.0 ended.1) }
+        ensures ends { IfOk result (EndsIfAny (state_of self.old) (state_of self.old).running (live_of self.old)) }
         ensures live { OnOk result (live_of self.new ≡ None) }
         ensures tied { OnOk result (IsTied self.new) }
         ensures refuses { Refuses (unended (state_of self.old).running (may_end (state_of self.old) (live_of self.old)))
@@ -243,22 +260,45 @@ impl Client {
         }
     }
 
-    /// Lets the first transaction that waits leave: its changes stay in the held tree. Costs its updates.
+    /// What the first transaction that waits needs of the server: that it be committed with the acts of its run. Copies these once.
     ///
     /// # Errors
     ///
     /// `Nothing` if none waits, `NoMemory`.
-    pub fn take_verdict(&mut self, alloc: Global) -> Result<(), ClientFault>
+    pub fn submission(&self, alloc: Global) -> Result<Ask, ClientFault>
+        requires place { place_of self.now ≤ 7 }
+        requires spelled { HeadHasSpelling (state_of self.now).items }
+        ensures request { IfOk result (IsSubmission (place_of self.now) (state_of self.now).items) }
+        ensures refuses { RefusesFor (empty_queue (state_of self.now).items) result }
+    {
+        match self.kept.queue.head() {
+            Some(item) => Ok(Ask::Commit(commit(alloc, self.me, item)?)),
+            None => Err(ClientFault::Nothing),
+        }
+    }
+
+    /// Lets the first transaction that waits leave after the reply to its submission, and tells what that says of it: its changes
+    /// stay in the held tree, committed or not. Costs its updates.
+    ///
+    /// # Errors
+    ///
+    /// `Nothing` if none waits, `BadReply` if the bytes are no reply to a submission, `NoMemory`.
+    pub fn take_verdict(&mut self, alloc: Global, reply: &[u8]) -> Result<Noted, ClientFault>
         requires { IsTied self.old }
+        ensures noted { IfOk result (λ noted. noted_in reply.now ≡ Ok noted) }
+        ensures told { IfOk result (IsToldBy reply.now) }
+        ensures only { ReadsNoted reply.now }
         ensures notes { OnOk result (Notes Record.Left self.old self.new) }
         ensures live { OnOk result (live_of self.new ≡ live_of self.old) }
         ensures tied { OnOk result (IsTied self.new) }
-        ensures refuses { Refuses (empty_queue (state_of self.old).items) self.old self.new result }
+        ensures refuses { RefusesReply (empty_queue (state_of self.old).items) (noted_in reply.now) self.old self.new result }
     {
-        match self.nothing() {
-            Some(fault) => Err(fault),
-            None => Ok(self.settle(alloc)?),
-        }
+        let noted = match self.kept.queue.head() {
+            Some(_) => noted(alloc, reply)?,
+            None => return Err(ClientFault::Nothing),
+        };
+        self.settle(alloc)?;
+        Ok(noted)
     }
 }
 
@@ -298,15 +338,6 @@ impl Client {
         match &self.interpreter {
             Some(interpreter) => not_at_end(&interpreter.exec),
             None => Some(ClientFault::Idle),
-        }
-    }
-
-    fn nothing(&self) -> Option<ClientFault>
-        ensures { result ≡ empty_queue (state_of self.now).items }
-    {
-        match self.kept.queue.head() {
-            Some(_) => None,
-            None => Some(ClientFault::Nothing),
         }
     }
 }
@@ -419,6 +450,7 @@ impl Client {
 
     fn go_on(&mut self, alloc: Global) -> Result<Step, NoMemory>
         requires tied { IsTied self.old }
+        requires place { place_of self.old ≤ 7 }
         requires runs { IsSome (state_of self.old).running }
         ensures step { IfOk result (λ step. StepIsIfAny self.old (live_of self.old) step self.new) }
         ensures live { OnOk result (live_of self.new ≡ live_of self.old) }
@@ -433,6 +465,7 @@ impl Client {
     /// Why no act is done, if that is so.
     fn pause(&self, alloc: Global) -> Result<Option<Step>, NoMemory>
         requires tied { IsTied self.now }
+        requires place { place_of self.now ≤ 7 }
         requires runs { IsSome (state_of self.now).running }
         ensures pauses { IfOk result (λ pause. IfSome pause (λ step. StepIsIfAny self.now (live_of self.now) step self.now)) }
         ensures goes { IfOk result (λ pause. IfNone pause (CanActIfAny (state_of self.now) (live_of self.now))) }
@@ -450,7 +483,8 @@ impl Client {
         match missed(alloc, self.kept.is_first(), exec, &self.view)? {
             Some(path) => {
                 let want = Want::Path(path.copy(alloc)?);
-                Ok(Some(Step::Fetch { want, path }))
+                let request = refresh(alloc, self.me, &self.kept.held, want)?;
+                Ok(Some(Step::Fetch { request, path }))
             }
             None => Ok(None),
         }
@@ -472,13 +506,12 @@ impl Client {
         })
     }
 
-    fn retire(&mut self, alloc: Global) -> Result<(Ended, Acts), NoMemory>
+    fn retire(&mut self, alloc: Global) -> Result<Ended, NoMemory>
         requires tied { IsTied self.old }
         requires runs { IsSome (state_of self.old).running }
         requires over { may_end (state_of self.old) (live_of self.old) ≡ true }
         ensures notes { OnOk result (Notes Record.Ended self.old self.new) }
-        ensures ends { IfOk result (λ ended.
-            EndsIfAny (state_of self.old) (state_of self.old).running (live_of self.old) ended.0 ended.1) }
+        ensures ends { IfOk result (EndsIfAny (state_of self.old) (state_of self.old).running (live_of self.old)) }
         ensures live { OnOk result (live_of self.new ≡ None) }
         ensures tied { OnOk result (IsTied self.new) }
     {
@@ -489,10 +522,9 @@ impl Client {
             tid: running.tid,
             first: running.first,
         };
-        let acts = running.acts.copy(alloc)?;
         self.kept.note(alloc, Record::Ended)?;
         self.interpreter = None;
-        Ok((ended, acts))
+        Ok(ended)
     }
 
     fn settle(&mut self, alloc: Global) -> Result<(), NoMemory>

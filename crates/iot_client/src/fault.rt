@@ -1,7 +1,9 @@
 //! Why a client refuses a call.
 ghost use Rattle.std.specs.Prelude.{◌≡◌};
 ghost use Rattle.iot_client.specs.declared.fault.ClientFault.TheVariants.{NoMemory as no_memory};
+ghost use Rattle.iot_client.specs.Faults.{of_codec};
 
+use iot_codec::CodecFault;
 use iot_text::NoMemory;
 use thiserror::Error;
 
@@ -31,6 +33,10 @@ pub enum ClientFault {
     /// No transaction waits.
     #[error("no transaction waits")]
     Nothing,
+
+    /// The bytes are no reply of the kind that the call takes. `at` is the offset of their first fault, and 0 if they are another reply.
+    #[error("no such reply, from offset {at} on")]
+    BadReply { at: u64 },
 }
 
 impl From<NoMemory> for ClientFault {
@@ -38,5 +44,16 @@ impl From<NoMemory> for ClientFault {
 
     fn from(_failed: NoMemory) -> ClientFault {
         ClientFault::NoMemory
+    }
+}
+
+impl From<CodecFault> for ClientFault {
+    ghost from_gives = { λ codec fault. fault ≡ of_codec codec };
+
+    fn from(fault: CodecFault) -> ClientFault {
+        match fault {
+            CodecFault::NoMemory => ClientFault::NoMemory,
+            CodecFault::Malformed { at } => ClientFault::BadReply { at },
+        }
     }
 }

@@ -1,6 +1,5 @@
 //! What a single step comes to.
-use iot_text::Path;
-use iot_tree::Want;
+use iot_text::{Path, Text};
 
 /// What a single step came to.
 #[derive(Drop)]
@@ -15,8 +14,8 @@ pub enum Step {
 
     /// Nothing was done: the next act asks about a path that the view does not know.
     Fetch {
-        /// What is to be brought.
-        want: Want,
+        /// The request for it.
+        request: Text,
         /// The path.
         path: Path,
     },

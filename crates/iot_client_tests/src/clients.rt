@@ -1,56 +1,58 @@
 //! What a client does, call by call.
-ghost use Rattle.std.specs.Prelude.{IfOk};
-ghost use Rattle.iot_client.specs.Calls.{IsFirstIfAny};
-ghost use Rattle.iot_client.specs.Ties.{live_of, IsTied};
-
-use iot_client::{Client, ClientFault, Step};
-use iot_lang::{Script, parse};
-use iot_text::{Name, NoMemory};
-use iot_tree::{OnConflict, Tree, Want};
-use std::alloc::Global;
-use std::process::Abort;
-use std::rc::Rc;
-
-fn script(rt: &impl Abort, alloc: Global, text: &str) -> Result<Rc<Script>, NoMemory> {
-    let script = parse(alloc, text.as_bytes()).expect(rt, "a script");
-    Ok(Rc::new(alloc, script)?)
-}
-
-/// A client whose first transaction is first class, and asks about what the client does not know.
-fn begun(rt: &impl Abort, alloc: Global) -> Result<Client, ClientFault>
-    ensures tied { IfOk result IsTied }
-    ensures first { IfOk result (λ client. IsFirstIfAny (live_of client)) }
-{
-    let mut client = Client::new(alloc, 0)?;
-    let name = Name::parse(b"e").expect(rt, "a name");
-    let script = script(rt, alloc, "mkdir /d\n")?;
-    let number = client.begin(alloc, &name, script, OnConflict::Abort, true)?;
-    assert_eq!(rt; number, 1);
-    Ok(client)
-}
+use crate::fixtures::{begun, objects, waiting};
+use iot_client::{Ask, Client, Noted, Step};
+use iot_tree::{Answer, Want};
+use iot_wire::{Reply, Request, read_request, write_reply};
+use std::test::Fail;
 
 #[test]
-fn objects_are_held(rt: HostRuntime) -> Result<(), ClientFault> {
+fn objects_are_asked_for_and_held(rt: HostRuntime) -> Result<(), Fail> {
     let alloc = rt.alloc();
     let mut client = Client::new(alloc, 3)?;
     assert_eq!(rt; client.me(), 3);
-    assert!(rt; client.ask(alloc, &Want::Nothing).is_ok());
-    client.take_objects(alloc, Tree::whole_root(alloc)?)?;
+    client.take_objects(alloc, objects(alloc)?.as_slice())?;
     assert_eq!(rt; client.held().rows().len(), 1);
     assert_eq!(rt; client.view().rows().len(), 1);
+    let request = client.ask(alloc, &Want::Nothing)?;
+    let Ok(
+        Request::Refresh {
+            client,
+            known,
+            want: Want::Nothing,
+        },
+    ) = read_request(alloc, request.as_slice())
+    else {
+        return Err(Fail::new("a refresh"));
+    };
+    assert!(rt; client == 3 && known.len() == 1);
     Ok(())
 }
 
 #[test]
-fn a_transaction_waits_for_its_verdict(rt: HostRuntime) -> Result<(), ClientFault> {
+fn a_transaction_misses_an_object_and_conflicts(rt: HostRuntime) -> Result<(), Fail> {
     let alloc = rt.alloc();
     let mut client = begun(&rt, alloc)?;
-    assert!(rt; matches!(client.step(alloc)?, Step::Fetch { .. }));
-    client.fetched(alloc, Tree::whole_root(alloc)?)?;
+    let Step::Fetch { request, path } = client.step(alloc)? else {
+        return Err(Fail::new("a miss"));
+    };
+    let Ok(
+        Request::Refresh {
+            client: asker,
+            known,
+            want,
+        },
+    ) = read_request(alloc, request.as_bytes())
+    else {
+        return Err(Fail::new("a refresh"));
+    };
+    assert!(rt; asker == 0 && known.is_empty());
+    assert!(rt; matches!(&want, Want::Path(wanted) if *wanted == path));
+    client.fetched(alloc, objects(alloc)?.as_slice())?;
     client.second();
+    let step = client.step(alloc)?;
     assert!(rt;
         matches!(
-            client.step(alloc)?,
+            step,
             Step::Acted {
                 acts: 1,
                 ended: true
@@ -58,11 +60,35 @@ fn a_transaction_waits_for_its_verdict(rt: HostRuntime) -> Result<(), ClientFaul
         )
     );
     assert!(rt; client.at_end());
-    let (ended, acts) = client.end(alloc)?;
-    assert!(rt; ended.tid == 1 && !ended.first && acts.len() == 1);
-    assert_eq!(rt; client.queue().items().len(), 1);
+    let ended = client.end(alloc)?;
+    assert!(rt; ended.tid == 1 && !ended.first);
     assert!(rt; client.running().is_none());
-    client.take_verdict(alloc)?;
+    let reply = write_reply(
+        alloc,
+        &Reply::Conflict {
+            read: 1,
+            answer: Answer::IsDir,
+        },
+    )?;
+    let noted = client.take_verdict(alloc, reply.as_slice())?;
+    assert!(rt; matches!(noted, Noted::Conflict { read: 1 }));
     assert_eq!(rt; client.held().rows().len(), 2);
+    Ok(())
+}
+
+#[test]
+fn a_transaction_is_submitted_and_settled(rt: HostRuntime) -> Result<(), Fail> {
+    let alloc = rt.alloc();
+    let mut client = waiting(&rt, alloc)?;
+    let Ask::Commit(request) = client.submission(alloc)?;
+    let Ok(Request::Commit { label, acts }) = read_request(alloc, request.as_bytes()) else {
+        return Err(Fail::new("a commit"));
+    };
+    assert!(rt; label.client == 2 && label.tid == 1 && acts.is_empty());
+    assert_eq!(rt; client.queue().items().len(), 1);
+    let reply = write_reply(alloc, &Reply::Committed { number: 5 })?;
+    let noted = client.take_verdict(alloc, reply.as_slice())?;
+    assert!(rt; matches!(noted, Noted::Settled { number: 5 }));
+    assert_eq!(rt; client.queue().items().len(), 0);
     Ok(())
 }

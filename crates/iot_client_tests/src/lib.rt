@@ -2,4 +2,8 @@
 #![tactic(auto)]
 
 #[cfg(test)]
+mod bad_replies;
+#[cfg(test)]
 mod clients;
+#[cfg(test)]
+mod fixtures;

@@ -1,0 +1,9 @@
+//! What a transaction that waits needs of the server.
+use iot_text::Text;
+
+/// What the first transaction that waits needs of the server.
+#[derive(Drop)]
+pub enum Ask {
+    /// That it be committed: this is the request.
+    Commit(Text),
+}
