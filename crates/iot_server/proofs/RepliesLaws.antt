@@ -1,6 +1,6 @@
 -- Which bytes answer a request.
-use Rattle.std.proofs.Common.{◌≡◌, ◌+◌, ℕ, List, length, Option, Some, None, Result, Ok, Err, IfOk, refl, sym, ap, subst, ◌∙◌}
-use Rattle.iot_certify.specs.declared.verdict.Verdict.TheVariants.{Holds, Differs}
+use Rattle.std.proofs.Common.{◌≡◌, ℕ, List, Option, None, Result, Ok, Err, IfOk, refl, sym, ap, subst, ◌∙◌}
+use Rattle.iot_certify.specs.declared.verdict.Verdict.TheVariants.{Differs}
 use Rattle.iot_server.specs.Replies.{IsAnswered, IsJudged, Submits}
 use Rattle.iot_server.proofs.PrunedLaws.{prune_same}
 use Rattle.iot_server.proofs.StandingLaws.{verdict_answer}
@@ -11,17 +11,16 @@ use Rattle.iot_certify.specs.declared.verdict.Verdict.{Verdict}
 use Rattle.iot_codec.specs.Rules.{AreActs, IsAnswer}
 use Rattle.iot_limits.specs.Spelled.{IsSpelledTree}
 use Rattle.iot_store.specs.Numbers.{number_in}
-use Rattle.iot_store.specs.States.{State, after_commit}
+use Rattle.iot_store.specs.States.{State}
 use Rattle.iot_tree.specs.Snapshots.{has, prune, widen}
 use Rattle.iot_tree.specs.Tree.{Nodes, Path}
 use Rattle.iot_tree.specs.declared.acts.Act.{Act}
 use Rattle.iot_tree.specs.declared.labels.Label.{Label}
 use Rattle.iot_tree.specs.declared.questions.Answer.{Answer}
 use Rattle.iot_tree.specs.declared.want.Want.{Want}
-use Rattle.iot_wire.specs.Messages.{IsMessage}
 use Rattle.iot_wire.specs.Rules.{IsReply}
 use Rattle.iot_wire.specs.Spelling.{reply_spelling}
-use Rattle.iot_wire.specs.declared.replies.Reply.TheVariants.{Objects, Committed, Already, Conflict}
+use Rattle.iot_wire.specs.declared.replies.Reply.TheVariants.{Objects, Conflict}
 use Rattle.iot_wire.specs.declared.requests.Request.TheVariants.{Refresh, Commit}
 
 -- what follows from a clause about Ok
@@ -29,11 +28,11 @@ pub if_ok : {T E : Type 0} (P Q : T → Type 0) (result : Result T E) → ((x : 
 if_ok P Q (Ok x) follows is = follows x is
 if_ok P Q (Err e) follows is = tt
 
-module _ (before : State) (bytes : List ℕ) where
+module _ (before : State) (bodies : List (List ℕ)) (bytes : List ℕ) where
   pub refreshed : (client : ℕ) (known paths : List Path) (want : Want) (t : Nodes)
       → (here : Nodes) → here ≡ before.tree
       → ((p : Path) → has paths p ≡ widen (has known) here want p) → t ≡ prune here (has paths)
-      → IsReply (Objects t) → bytes ≡ reply_spelling (Objects t) → IsAnswered before (Refresh client known want) bytes before
+      → IsReply (Objects t) → bytes ≡ reply_spelling (Objects t) → IsAnswered before bodies (Refresh client known want) bytes before bodies
   refreshed client known paths want t here same each cut is spelled = record {
     reply = Objects t;
     answers = (
@@ -42,38 +41,21 @@ module _ (before : State) (bytes : List ℕ) where
           ∙ ap (λ (tree : Nodes). prune tree (widen (has known) tree want)) same),
       refl,
     );
+    records = refl;
     spelled = record { value = is; spelled = sym spelled };
   }
 
   module _ (label : Label) (acts : List Act) where
-    pub had : (number : ℕ) → number_in before.labels label.client label.tid ≡ Some number → IsReply (Already number)
-        → bytes ≡ reply_spelling (Already number) → IsAnswered before (Commit label acts) bytes before
-    had number found is spelled = record {
-      reply = Already number;
-      answers = subst (λ (n : Option ℕ). Submits n before label acts (Already number) before) (sym found) (refl, refl);
-      spelled = record { value = is; spelled = sym spelled };
-    }
-
     pub conflicted : (read : ℕ) (answer : Answer) → number_in before.labels label.client label.tid ≡ None
         → IsJudged before.tree acts (Differs read answer) → IsReply (Conflict read answer) → bytes ≡ reply_spelling (Conflict read answer)
-        → IsAnswered before (Commit label acts) bytes before
+        → IsAnswered before bodies (Commit label acts) bytes before bodies
     conflicted read answer none judged is spelled = record {
       reply = Conflict read answer;
       answers =
           subst (λ (n : Option ℕ). Submits n before label acts (Conflict read answer) before) (sym none)
           (Differs read answer, judged, (refl, refl));
+      records = refl;
       spelled = record { value = is; spelled = sym spelled };
-    }
-
-    pub committed : (after : State) → number_in before.labels label.client label.tid ≡ None → IsJudged before.tree acts Holds
-        → after ≡ after_commit before label acts → IsMessage IsReply reply_spelling bytes (Committed (length before.labels + 1))
-        → IsAnswered before (Commit label acts) bytes after
-    committed after none judged is message = record {
-      reply = Committed (length before.labels + 1);
-      answers =
-          subst (λ (n : Option ℕ). Submits n before label acts (Committed (length before.labels + 1)) after) (sym none)
-          (Holds, judged, (refl, is));
-      spelled = message;
     }
 
 -- a verdict on the store's tree that a read differs

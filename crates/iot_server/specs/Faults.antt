@@ -1,5 +1,5 @@
 -- Why a request has no reply.
-use Rattle.std.specs.Prelude.{◌≡◌, ◌⊎◌, ℕ, List, ◌++◌, [], ◌∷◌, Result, Ok, Err}
+use Rattle.std.specs.Prelude.{◌≡◌, ℕ, List, ◌++◌, [], ◌∷◌, Result, Ok, Err}
 use Rattle.iot_codec.specs.declared.faults.CodecFault.{CodecFault}
 use Rattle.iot_codec.specs.declared.faults.CodecFault.TheVariants as codec
 use Rattle.iot_count.specs.Counts.{Rose, Stayed}
@@ -54,7 +54,3 @@ pub record CutsOff (Asks : Request → Type 0) (state : State) (bodies : List (L
   pub follows : CanFollow state label acts
   pub either : EachStandsEither images state (after_commit state label acts)
   pub one_record : EachDecodesEither images (Encodes bodies) (Encodes (bodies ++ record_spelling label acts ∷ []))
-
--- the records are those from before, or those and one more
-abbrev pub KeepsRecords : (before after : List (List ℕ)) → Type 0
-KeepsRecords before after = (after ≡ before) ⊎ ((body : List ℕ) × (after ≡ before ++ body ∷ []))

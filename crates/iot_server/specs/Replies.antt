@@ -1,11 +1,12 @@
 -- What the server answers.
-use Rattle.std.specs.Prelude.{◌≡◌, ℕ, ◌+◌, List, length, Option, Some, None}
+use Rattle.std.specs.Prelude.{◌≡◌, ℕ, ◌+◌, List, [], ◌∷◌, ◌++◌, length, Option, Some, None}
 use Rattle.iot_acts.specs.Guards.{AllGuarded}
 use Rattle.iot_acts.specs.Turns.{turns, DiffersAt}
 use Rattle.iot_certify.specs.Verdicts.{IsVerdictOnActs, IfDiffers}
 use Rattle.iot_certify.specs.declared.verdict.Verdict.{Verdict}
 use Rattle.iot_certify.specs.declared.verdict.Verdict.TheVariants.{Holds, Differs}
 use Rattle.iot_store.specs.Numbers.{number_in}
+use Rattle.iot_store.specs.Records.{record_spelling}
 use Rattle.iot_store.specs.States.{State, after_commit}
 use Rattle.iot_tree.specs.Snapshots.{has, prune, widen}
 use Rattle.iot_tree.specs.Tree.{Nodes}
@@ -41,14 +42,25 @@ Answers before (Refresh client known want) reply after =
     (reply ≡ Objects (prune before.tree (widen (has known) before.tree want))) × (after ≡ before)
 Answers before (Commit label acts) reply after = Submits (number_in before.labels label.client label.tid) before label acts reply after
 
+-- the bodies of the records after it: a commit that was made has one more, its own
+abbrev pub records_after : Request → Reply → List (List ℕ) → List (List ℕ)
+records_after (Refresh client known want) reply bodies = bodies
+records_after (Commit label acts) (Objects tree) bodies = bodies
+records_after (Commit label acts) (Committed number) bodies = bodies ++ record_spelling label acts ∷ []
+records_after (Commit label acts) (Already number) bodies = bodies
+records_after (Commit label acts) (Conflict read answer) bodies = bodies
+
 -- the bytes are the spelling of the reply to the request
-pub record IsAnswered (before : State) (request : Request) (bytes : List ℕ) (after : State) : Type 0 where
+pub record IsAnswered (before : State) (bodies : List (List ℕ)) (request : Request) (bytes : List ℕ) (after : State)
+    (bodies_after : List (List ℕ)) : Type 0 where
   pub reply : Reply
   pub answers : Answers before request reply after
+  pub records : bodies_after ≡ records_after request reply bodies
   pub spelled : IsMessage IsReply reply_spelling bytes reply
 
 -- bytes that are the spelling of a request are answered by bytes that are the spelling of its reply
-pub record IsHandled (before : State) (asked bytes : List ℕ) (after : State) : Type 0 where
+pub record IsHandled (before : State) (bodies : List (List ℕ)) (asked bytes : List ℕ) (after : State)
+    (bodies_after : List (List ℕ)) : Type 0 where
   pub request : Request
   pub is : IsMessage IsRequest request_spelling asked request
-  pub answered : IsAnswered before request bytes after
+  pub answered : IsAnswered before bodies request bytes after bodies_after

@@ -2,7 +2,7 @@
 ghost use Rattle.std.specs.Prelude.{◌≡◌, ◌+◌, IfOk, OnOk, IsErrOf, None};
 ghost use Rattle.iot_codec.specs.Rules.{ArePaths, IsLabel, AreActs};
 ghost use Rattle.iot_disk.specs.Faults.{CountsJournalFault};
-ghost use Rattle.iot_server.specs.Faults.{CutsOff, KeepsRecords};
+ghost use Rattle.iot_server.specs.Faults.{CutsOff};
 ghost use Rattle.iot_server.specs.Replies.{IsAnswered, IsJudged};
 ghost use Rattle.iot_store.specs.Numbers.{number_in};
 ghost use Rattle.iot_store.specs.Standing.{EachStands};
@@ -31,9 +31,9 @@ pub(crate) fn answer<D: Disk>(
 ) -> Result<Vec<u8>, JournalFault>
     requires synced { IsSynced D.reads D.may_leave store.old }
     requires request { IsRequest request }
-    ensures answered { IfOk result (λ bytes. IsAnswered (state_of store.old) request bytes.items (state_of store.new)) }
+    ensures answered { IfOk result (λ bytes. IsAnswered (state_of store.old) (bodies_on D.reads store.old) request bytes.items
+        (state_of store.new) (bodies_on D.reads store.new)) }
     ensures synced { OnOk result (IsSynced D.reads D.may_leave store.new) }
-    ensures records { OnOk result (KeepsRecords (bodies_on D.reads store.old) (bodies_on D.reads store.new)) }
     ensures stopped { IsErrOf result JournalFault.Stopped → CutsOff (λ (asked : Asked). asked ≡ request)
         (state_of store.old) (bodies_on D.reads store.old) (D.may_leave (disk_of store.new)) }
     ensures no_memory { IsErrOf result JournalFault.NoMemory → EachStands (D.may_leave (disk_of store.new)) (state_of store.old) }
@@ -60,7 +60,8 @@ fn lend<D: Disk>(
     requires synced { IsSynced D.reads D.may_leave store.now }
     requires known { ArePaths known }
     ensures { (client : _) → IfOk result (λ bytes.
-        IsAnswered (state_of store.now) (Refresh client known want.now) bytes.items (state_of store.now)) }
+        IsAnswered (state_of store.now) (bodies_on D.reads store.now) (Refresh client known want.now) bytes.items
+        (state_of store.now) (bodies_on D.reads store.now)) }
 {
     let tree = store.tree();
     let paths = widen(alloc, known, tree, want)?;
@@ -81,9 +82,9 @@ fn submit<D: Disk>(
     requires label { IsLabel label }
     requires acts { AreActs acts.now }
     ensures answered { IfOk result (λ bytes.
-        IsAnswered (state_of store.old) (Commit label acts.now) bytes.items (state_of store.new)) }
+        IsAnswered (state_of store.old) (bodies_on D.reads store.old) (Commit label acts.now) bytes.items
+        (state_of store.new) (bodies_on D.reads store.new)) }
     ensures synced { OnOk result (IsSynced D.reads D.may_leave store.new) }
-    ensures records { OnOk result (KeepsRecords (bodies_on D.reads store.old) (bodies_on D.reads store.new)) }
     ensures stopped { IsErrOf result JournalFault.Stopped → CutsOff (λ (asked : Asked). asked ≡ Commit label acts.now)
         (state_of store.old) (bodies_on D.reads store.old) (D.may_leave (disk_of store.new)) }
     ensures no_memory { IsErrOf result JournalFault.NoMemory → EachStands (D.may_leave (disk_of store.new)) (state_of store.old) }
@@ -108,9 +109,9 @@ fn judge<D: Disk>(
     requires acts { AreActs acts.now }
     requires new { number_in (state_of store.old).labels label.client label.tid ≡ None }
     ensures answered { IfOk result (λ bytes.
-        IsAnswered (state_of store.old) (Commit label acts.now) bytes.items (state_of store.new)) }
+        IsAnswered (state_of store.old) (bodies_on D.reads store.old) (Commit label acts.now) bytes.items
+        (state_of store.new) (bodies_on D.reads store.new)) }
     ensures synced { OnOk result (IsSynced D.reads D.may_leave store.new) }
-    ensures records { OnOk result (KeepsRecords (bodies_on D.reads store.old) (bodies_on D.reads store.new)) }
     ensures stopped { IsErrOf result JournalFault.Stopped → CutsOff (λ (asked : Asked). asked ≡ Commit label acts.now)
         (state_of store.old) (bodies_on D.reads store.old) (D.may_leave (disk_of store.new)) }
     ensures no_memory { IsErrOf result JournalFault.NoMemory → EachStands (D.may_leave (disk_of store.new)) (state_of store.old) }
@@ -138,9 +139,9 @@ fn commit<D: Disk>(
     requires new { number_in (state_of store.old).labels label.client label.tid ≡ None }
     requires holds { IsJudged (state_of store.old).tree acts.now Verdict.Holds }
     ensures answered { IfOk result (λ bytes.
-        IsAnswered (state_of store.old) (Commit label acts.now) bytes.items (state_of store.new)) }
+        IsAnswered (state_of store.old) (bodies_on D.reads store.old) (Commit label acts.now) bytes.items
+        (state_of store.new) (bodies_on D.reads store.new)) }
     ensures synced { OnOk result (IsSynced D.reads D.may_leave store.new) }
-    ensures records { OnOk result (KeepsRecords (bodies_on D.reads store.old) (bodies_on D.reads store.new)) }
     ensures stopped { IsErrOf result JournalFault.Stopped → CutsOff (λ (asked : Asked). asked ≡ Commit label acts.now)
         (state_of store.old) (bodies_on D.reads store.old) (D.may_leave (disk_of store.new)) }
     ensures no_memory { IsErrOf result JournalFault.NoMemory → EachStands (D.may_leave (disk_of store.new)) (state_of store.old) }

@@ -4,7 +4,7 @@ ghost use Rattle.iot_disk.specs.Disk.{Only, SameImages};
 ghost use Rattle.iot_journal.specs.Decoding.{Encodes, decoded};
 ghost use Rattle.iot_journal.specs.Images.{EachDecodes};
 ghost use Rattle.iot_journal.specs.Start.{ChangesNothing};
-ghost use Rattle.iot_server.specs.Faults.{CountsServerFault, CutsOff, EndsBy, IsNotMalformed, KeepsRecords};
+ghost use Rattle.iot_server.specs.Faults.{CountsServerFault, CutsOff, EndsBy, IsNotMalformed};
 ghost use Rattle.iot_server.specs.Replies.{IsHandled};
 ghost use Rattle.iot_server.specs.Traffic.{no_traffic, traffic_after};
 ghost use Rattle.iot_server.specs.declared.fault.ServerFault.TheVariants.{NoMemory, Malformed, Stopped};
@@ -96,10 +96,11 @@ impl<D: Disk> Server<D> {
     pub fn handle(&mut self, alloc: Global, request: &[u8]) -> Result<Vec<u8>, ServerFault>
         requires { IsSynced D.reads D.may_leave self.old }
 
-        // The bytes are the spelling of a request, and what is answered is that of its reply.
-        ensures replies { IfOk result (λ bytes. IsHandled (state_of self.old) request.now bytes.items (state_of self.new)) }
+        // The bytes are the spelling of a request, and what is answered is that of its reply. The records are those from before,
+        // and that of the commit if one was made.
+        ensures replies { IfOk result (λ bytes. IsHandled (state_of self.old) (bodies_on D.reads self.old) request.now bytes.items
+            (state_of self.new) (bodies_on D.reads self.new)) }
         ensures synced { OnOk result (IsSynced D.reads D.may_leave self.new) }
-        ensures records { OnOk result (KeepsRecords (bodies_on D.reads self.old) (bodies_on D.reads self.new)) }
         ensures images { OnOk result (EachStands (D.may_leave (disk_of self.new)) (state_of self.new)) }
 
         // The bytes are refused exactly if they are the spelling of no request, and at their first fault.

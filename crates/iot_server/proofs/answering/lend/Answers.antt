@@ -16,5 +16,5 @@ returns g c = λ client.
     c.in_ok-objects.ensures.pruned c.rows-rows.ensures.tree in
     if_ok _ _ c.write_reply.result
     (λ bytes spelled.
-    refreshed _ bytes.items client _ _ _ _ _ c.tree-tree.ensures c.in_ok-paths.ensures.paths c.in_ok-objects.ensures.pruned is spelled)
+    refreshed _ _ bytes.items client _ _ _ _ _ c.tree-tree.ensures c.in_ok-paths.ensures.paths c.in_ok-objects.ensures.pruned is spelled)
     c.write_reply.ensures.spelled
