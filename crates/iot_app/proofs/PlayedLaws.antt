@@ -1,5 +1,5 @@
 -- Events that are done one by one.
-use Rattle.std.proofs.Common.{◌≡◌, ℕ, suc, ◌+◌, ◌<◌, ◌≤◌, Bool, true, false, not, List, [], ◌∷◌, ◌++◌, length, take, drop, slice_index_or}
+use Rattle.std.proofs.Common.{◌≡◌, ℕ, suc, ◌+◌, ◌<◌, ◌≤◌, List, [], ◌∷◌, ◌++◌, length, take, drop, slice_index_or}
 use Rattle.std.proofs.Common.{Option, Some, None}
 use Rattle.std.proofs.Common.{refl, sym, ap, subst, ◌∙◌, append_assoc, add-one}
 use Rattle.std.proofs.lemmas.List.{append-nil, take_all, take-append-drop}
@@ -16,7 +16,7 @@ use Rattle.iot_machine.specs.Transcript.{InTurn, Transcript}
 use Rattle.iot_world.specs.Allowed.{IsAllowed}
 use Rattle.iot_world.specs.Faults.{FaultCounts}
 use Rattle.iot_world.specs.Records.{FirstHolds}
-use Rattle.iot_world.specs.World.{StandsFor, Steps, DeclaredOn, IsOpened, client_count, script_count, server_is_up, disks_of}
+use Rattle.iot_world.specs.World.{IsWorldOf, EventSteps, DeclaredOn, IsOpened, client_count, script_count, disks_of}
 use Rattle.iot_world.specs.declared.fault.WorldFault.{WorldFault}
 use Rattle.iot_world.specs.declared.fault.WorldFault.TheVariants as world
 use Rattle.iot_world.specs.declared.world.World.{World}
@@ -49,29 +49,26 @@ InTurn-append (first ∷ events) event m n o text more front last = record {
 
 -- ---- which event may come
 
-not_true : (alive : Bool) → not alive ≡ false → alive ≡ true
-not_true true is = refl
-not_true false is = absurd cc
-
-not_false : (alive : Bool) → not alive ≡ true → alive ≡ false
-not_false true is = absurd cc
-not_false false is = refl
-
 -- the first of events that are declared may come
 allowed : {D : Type 0} (event : Event) (later : List Event) (world : World D) → DeclaredOn (event ∷ later) world
-    → IsAllowed event (client_count world) (script_count world) (server_is_up world)
-allowed (events.Client name) later world declared = declared.1
+    → IsAllowed event (client_count world) (script_count world)
+allowed (events.Client name) later world declared = declared.0
 allowed (events.Script name code) later world declared = tt
-allowed (events.Run client script) later world declared = (declared.1, declared.2, not_true (server_is_up world) declared.0)
-allowed (events.Hoard client path) later world declared = (declared.1, not_true (server_is_up world) declared.0)
-allowed (events.Refresh client) later world declared = (declared.1, not_true (server_is_up world) declared.0)
-allowed (events.Begin client script) later world declared = (declared.1, declared.2, not_true (server_is_up world) declared.0)
-allowed (events.Step client count) later world declared = (declared.1, not_true (server_is_up world) declared.0)
-allowed (events.End client) later world declared = (declared.1, not_true (server_is_up world) declared.0)
+allowed (events.Run client script) later world declared = (declared.0, declared.1)
+allowed (events.Hoard client path) later world declared = declared.0
+allowed (events.Refresh client) later world declared = declared.0
+allowed (events.Begin client script) later world declared = (declared.0, declared.1)
+allowed (events.Step client count) later world declared = declared.0
+allowed (events.End client) later world declared = declared.0
+allowed (events.Connect client) later world declared = declared.0
+allowed (events.Disconnect client) later world declared = declared.0
+allowed (events.Lose client loss) later world declared = declared.0
+allowed (events.Sync client) later world declared = declared.0
+allowed (events.Drain client) later world declared = declared.0
 allowed events.ShowServer later world declared = tt
-allowed (events.ShowClient client) later world declared = (declared.1, not_true (server_is_up world) declared.0)
-allowed events.CrashServer later world declared = not_true (server_is_up world) declared.0
-allowed events.RestartServer later world declared = not_false (server_is_up world) declared.0
+allowed (events.ShowClient client) later world declared = declared.0
+allowed events.CrashServer later world declared = tt
+allowed events.RestartServer later world declared = tt
 
 -- the first so many events are done and what they say is written
 pub record PlaysOn {D : Type 0} (reads : D → List ℕ) (may_leave : D → List ℕ → Type 0) (before after : Option (List ℕ))
@@ -79,7 +76,7 @@ pub record PlaysOn {D : Type 0} (reads : D → List ℕ) (may_leave : D → List
   pub text : List ℕ
   pub machine : Machine
   pub transcript : Transcript (take done events) text machine
-  pub stands : StandsFor reads may_leave world machine
+  pub stands : IsWorldOf reads may_leave world machine
   pub written : Appends before after text
   pub declared : DeclaredOn (drop done events) world
 
@@ -90,7 +87,7 @@ appends_none (Some bytes) = sym (append-nil bytes)
 -- nothing is done yet
 pub plays_none : {D : Type 0} (reads : D → List ℕ) (may_leave : D → List ℕ → Type 0) (before after : Option (List ℕ)) (events : List Event)
     (world : World D)
-    → IsOpened reads may_leave world → AreDeclared events 0 0 false → Appends before after []
+    → IsOpened reads may_leave world → AreDeclared events 0 0 → Appends before after []
     → PlaysOn reads may_leave before after events world 0
 plays_none reads may_leave before after events world is declared written = record {
   text = [];
@@ -99,9 +96,8 @@ plays_none reads may_leave before after events world is declared written = recor
   stands = is.stands;
   written = written;
   declared =
-      subst (λ (n : ℕ). AreDeclared events n (script_count world) (not (server_is_up world))) (sym is.no_clients)
-      (subst (λ (n : ℕ). AreDeclared events 0 n (not (server_is_up world))) (sym is.no_scripts)
-      (subst (λ (up : Bool). AreDeclared events 0 0 (not up)) (sym is.up) declared));
+      subst (λ (n : ℕ). AreDeclared events n (script_count world)) (sym is.no_clients)
+      (subst (λ (n : ℕ). AreDeclared events 0 n) (sym is.no_scripts) declared);
 }
 
 -- the event that is done next, and its text
@@ -109,7 +105,7 @@ module _ {D : Type 0} (reads : D → List ℕ) (may_leave : D → List ℕ → T
     (old new : World D) (done : ℕ) (event : Event) (out : List ℕ)
     (plays : PlaysOn reads may_leave before mid events old done) (within : done < length events)
     (here : event ≡ slice_index_or events done event)
-    (refines : Steps reads may_leave (event_part event) old new [] out tt) where
+    (refines : EventSteps reads may_leave event old new [] out) where
   front : take (done + 1) events ≡ take done events ++ event ∷ []
   front =
       ap (λ (k : ℕ). take k events) (add-one done) ∙ take-suc events done event within
@@ -123,7 +119,7 @@ module _ {D : Type 0} (reads : D → List ℕ) (may_leave : D → List ℕ → T
   record Next : Type 0 where
     machine : Machine
     last : event_part event plays.machine out tt machine
-    stands : StandsFor reads may_leave new machine
+    stands : IsWorldOf reads may_leave new machine
 
   next : Next
   next =
@@ -167,7 +163,7 @@ module _ {D : Type 0} (reads : D → List ℕ) (may_leave : D → List ℕ → T
     count = count;
     cut = cut;
     written = Appends-trans before mid after plays.text (take count out) plays.written appends;
-    kept = first_holds reads may_leave new next.machine.server next.stands.server;
+    kept = first_holds reads may_leave new next.machine.server next.stands.stands.server;
   }
 
 module _ {D : Type 0} (reads : D → List ℕ) (may_leave : D → List ℕ → Type 0) (before after : Option (List ℕ)) (events : List Event)
@@ -190,13 +186,13 @@ module _ {D : Type 0} (reads : D → List ℕ) (may_leave : D → List ℕ → T
     machine = plays.machine;
     transcript = subst (λ (es : List Event). Transcript es plays.text plays.machine) (take_all done events whole) plays.transcript;
     written = plays.written;
-    kept = first_holds reads may_leave world plays.machine.server plays.stands.server;
+    kept = first_holds reads may_leave world plays.machine.server plays.stands.stands.server;
   }
 
   -- the next event may come
   pub next_allowed : (done : ℕ) (event : Event) → PlaysOn reads may_leave before after events world done → done < length events
       → event ≡ slice_index_or events done event
-      → IsAllowed event (client_count world) (script_count world) (server_is_up world)
+      → IsAllowed event (client_count world) (script_count world)
   next_allowed done event plays within here =
       allowed event (drop (suc done) events) world
       (subst (λ (es : List Event). DeclaredOn es world)

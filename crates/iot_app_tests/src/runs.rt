@@ -1,4 +1,4 @@
-//! Runs on sources, sinks and disks that fail, and two on which nothing fails; and what a store finds on the disk after one.
+//! Runs on sources, sinks and disks that fail, and some on which nothing fails; and what a store finds on the disk after one.
 ghost use Rattle.std.specs.Prelude.{IfOk};
 ghost use Rattle.iot_app.specs.Disks.{AreEmptyDisks};
 
@@ -11,15 +11,16 @@ use iot_tree::Kind;
 use std::alloc::Global;
 use std::test::Fail;
 
-/// A transaction, and a server that crashes and comes back.
+/// A transaction, and a server that crashes and comes back. What it is asked while it is down is lost.
 const CRASH: &[u8] =
-    b"client laptop\nscript e {\nmkdir /d\ncat /x\n}\nrun laptop e abort\ncrash server\nrestart server\nshow server\n";
+    b"client laptop\nscript e {\nmkdir /d\ncat /x\n}\nrun laptop e abort\ncrash server\n\
+    refresh laptop\ncrash server\nrestart server\nrestart server\nshow server\n";
 
 /// What it says before the crash, and from then on.
 const COMMITTED: &[u8] =
     b"client laptop\nend laptop.1\ncommit 1 laptop.1 certified\n|cat: /x: no file\nsettled laptop.1 1\n";
 
-const CRASHED: &[u8] = b"crash server\nrestart server\ndir /\ndir /d\n";
+const CRASHED: &[u8] = b"crash server\naway\ndown\nrestart server\nup\ndir /\ndir /d\n";
 
 /// What it leaves on the server's disk: one record, of 174 bytes. It has the label of client 0's transaction 1, of the
 /// script `e`, certified, with nothing kept, and two acts.
@@ -50,6 +51,31 @@ const CONFLICTED: &[u8] =
     dir /\ndir /d\nfile /d/a \"A\"\nfile /d/b \"B\"\nfile /d/n \"1\"\n\
     dir /\ndir /d\nfile /d/b \"B\"\nfile /d/n \"1\"\n\
     dir /\ndir /d\nfile /d/a \"A\"\nfile /d/b \"B\"\nfile /d/n \"1\"\n";
+
+/// A transaction of a client that is disconnected, and is drained when it is connected again.
+const OFFLINE: &[u8] = b"client laptop\nscript put {\nwrite /n 1\ncat /n\n}\nhoard laptop /\n\
+    disconnect laptop\nrun laptop put abort\nshow laptop\nshow server\n\
+    connect laptop\ndrain laptop\nshow server\n";
+
+/// What it says.
+const DRAINED: &[u8] =
+    b"client laptop\nhoard laptop /\ndisconnect laptop\nend laptop.1\npending laptop.1\n|1\n\
+    dir /\nfile /n \"1\"\ndir /\n\
+    connect laptop\ncommit 1 laptop.1 certified\n|1\nsettled laptop.1 1\nrefresh laptop\ndir /\nfile /n \"1\"\n";
+
+/// The same transaction, submitted over a link that loses first the request and then the reply.
+const LOSSES: &[u8] = b"client laptop\nscript put {\nwrite /n 1\ncat /n\n}\nhoard laptop /\n\
+    disconnect laptop\nrun laptop put abort\n\
+    connect laptop\nlose laptop request\nsync laptop\nsync laptop\n\
+    connect laptop\nlose laptop reply\nsync laptop\n\
+    connect laptop\nsync laptop\nsync laptop\nshow server\n";
+
+/// What it says. After a loss nothing is sent until the client is connected, and what was committed is not committed again.
+const SETTLED: &[u8] =
+    b"client laptop\nhoard laptop /\ndisconnect laptop\nend laptop.1\npending laptop.1\n|1\n\
+    connect laptop\nlose laptop request\naway\naway\n\
+    connect laptop\nlose laptop reply\ncommit 1 laptop.1 certified\n|1\naway\n\
+    connect laptop\nsettled laptop.1 1\nnothing\ndir /\nfile /n \"1\"\n";
 
 /// Which calls of a run's objects fail: of its source and of its sink the ones with this number, and of its first disk
 /// the one with this number. There is no call 0.
@@ -135,6 +161,16 @@ fn a_client_aborts_by_what_another_did(rt: HostRuntime) -> Result<(), Fail> {
 }
 
 #[test]
+fn a_transaction_waits_until_a_verdict_comes(rt: HostRuntime) -> Result<(), Fail> {
+    for (input, says) in [(OFFLINE, DRAINED), (LOSSES, SETTLED)] {
+        let (ended, written) = ran(rt.alloc(), input, &[], NONE)?;
+        assert_eq!(rt; ended.status, 0);
+        assert_eq!(rt; written.as_slice(), says);
+    }
+    Ok(())
+}
+
+#[test]
 fn a_read_or_a_write_that_fails_ends_the_run(rt: HostRuntime) -> Result<(), Fail> {
     let (plain, unknown): (&[&str], &[&str]) = (&[], &["--frob"]);
     for (words, read, write, status, lines) in [
@@ -172,7 +208,7 @@ fn a_disk_that_fails_ends_the_run(rt: HostRuntime) -> Result<(), Fail> {
             let lines = match device {
                 1..=6 => 0,
                 7..=10 => 1,
-                _ => 6,
+                _ => 8,
             };
             assert_eq!(rt; lines_in(&written), lines, "call {device}");
             let kept = device > 10 || device > 8 && pick != Pick::Old;

@@ -1,7 +1,7 @@
 -- How steps go together, over any world and any machine.
-use Rattle.std.proofs.Common.{◌≡◌, ℕ, suc, List, [], ◌++◌, Option, Some, None, refl, sym, ap, ◌∙◌, append_assoc}
-use Rattle.std.proofs.lemmas.List.{append-nil}
-use Rattle.iot_machine.specs.Calls.{Call, Asks, Answers, Does, Says, Nothing, Then, Rounds}
+use Rattle.std.proofs.Common.{◌≡◌, ℕ, suc, List, [], ◌∷◌, ◌++◌, length, arith, Option, Some, None, refl, sym, ap, ◌∙◌, append_assoc}
+use Rattle.std.proofs.lemmas.List.{append-nil, length-append}
+use Rattle.iot_machine.specs.Calls.{Call, Part, Asks, Answers, Does, Says, Nothing, Then, Rounds, OrSays, or_text}
 use Rattle.iot_machine.specs.Refining.{Refines, Leads}
 
 module _ {W M : Type 0} {stands : W → M → Type 0} where
@@ -39,6 +39,44 @@ module _ {W M : Type 0} {stands : W → M → Type 0} where
 
   pub nothing : (u : W) (x : List ℕ) → Refines stands Nothing u u x x tt
   nothing u x = says_this [] u x x (sym (append-nil x))
+
+  -- ---- a part that may say nothing
+
+  module _ {part : Part M} (other : List ℕ) (u v : W) (x z w : List ℕ) (one : Refines stands part u v x z tt) where
+    -- it said nothing
+    pub said_nothing : length z ≡ length x → w ≡ z ++ other → Refines stands (OrSays other part) u v x w tt
+    said_nothing same wrote = record {
+      step = λ m here.
+          let s = one.step m here in
+          let none : s.0 ≡ [] = no_bytes s.0 (ap length s.2) in (
+            other,
+            s.1,
+            wrote ∙ ap (λ (l : List ℕ). l ++ other) (s.2 ∙ ap (λ (l : List ℕ). x ++ l) none ∙ append-nil x),
+            record { said = s.0; done = s.3; is = sym (ap (or_text other) none) },
+            s.4,
+          );
+    }
+      where
+        no_bytes : (text : List ℕ) → length z ≡ length (x ++ text) → text ≡ []
+        no_bytes [] long = refl
+        no_bytes (byte ∷ bytes) long = absurd (omega (arith, same, long, length-append x (byte ∷ bytes)))
+
+    -- it said something
+    pub said_something : (length z ≡ length x → ⊥) → w ≡ z → Refines stands (OrSays other part) u v x w tt
+    said_something longer same = record {
+      step = λ m here.
+          let s = one.step m here in (
+            s.0,
+            s.1,
+            same ∙ s.2,
+            record { said = s.0; done = s.3; is = some_bytes s.0 s.2 },
+            s.4,
+          );
+    }
+      where
+        some_bytes : (text : List ℕ) → z ≡ x ++ text → text ≡ or_text other text
+        some_bytes [] is = absurd (longer (ap length (is ∙ append-nil x)))
+        some_bytes (byte ∷ bytes) is = refl
 
   -- ---- rounds
 

@@ -6,19 +6,16 @@ use Rattle.iot_disk.specs.Disk.{Arms}
 use Rattle.iot_machine.specs.Nodes.{Node}
 use Rattle.iot_machine.specs.Machine.{Commit}
 use Rattle.iot_world.specs.Disks.{AreFresh, OnlyFirst, first_count}
-use Rattle.iot_world.specs.Faults.{FaultCounts}
 use Rattle.iot_world.specs.Records.{FirstHolds, records_of, state_of}
-use Rattle.iot_world.specs.Servers.{disk_of, KeepsList, SameDisk, ServerStands, HandsBack}
-use Rattle.iot_world.specs.World.{with_first, disks_of, HasDisks, SameDisks, Opens, HandsAllBack}
-use Rattle.iot_world.specs.declared.fault.WorldFault.{WorldFault}
-use Rattle.iot_world.specs.declared.fault.WorldFault.TheVariants as world
-use Rattle.iot_world.specs.declared.server.Server.{Server}
-use Rattle.iot_world.specs.declared.server.Server.TheVariants.{Up, Down, Between}
+use Rattle.iot_world.specs.Servers.{disk_of, KeepsList, SameDisk, ServerStands}
+use Rattle.iot_world.specs.World.{with_first, disks_of, HasDisks, SameDisks, Opens}
+use Rattle.iot_world.specs.declared.server.ServerNode.{ServerNode}
+use Rattle.iot_world.specs.declared.server.ServerNode.TheVariants.{Up, Down, Between}
 use Rattle.iot_world.specs.declared.world.World.{World}
 use Rattle.iot_world.proofs.ServersLaws.{store_images, one_disk, untouched, then_done, counted, has_disk}
 
 -- what a server keeps is on its disk
-holds_list : {D : Type 0} (reads : D → List ℕ) (may_leave : D → List ℕ → Type 0) (server : Server D) (commits : List Commit)
+holds_list : {D : Type 0} (reads : D → List ℕ) (may_leave : D → List ℕ → Type 0) (server : ServerNode D) (commits : List Commit)
     (others : List D)
     → KeepsList reads may_leave server commits → FirstHolds may_leave (with_first (disk_of server) others) commits
 holds_list reads may_leave (Up it) commits others keeps = store_images reads may_leave it (records_of commits) (state_of commits) keeps
@@ -52,7 +49,7 @@ module _ {D : Type 0} (arms_of : D → Arms) (faults_of : D → ℕ) where
   pub apart_disks : (old mid new : World D) (counts : Counted → Type 0) → mid.server ≡ old.server → mid.spare ≡ old.spare
       → SameDisks arms_of faults_of counts mid new → SameDisks arms_of faults_of counts old new
   apart_disks old mid new counts server spare other = record {
-    first = subst (λ (s : Server D). SameDisk arms_of faults_of counts s new.server) server other.first;
+    first = subst (λ (s : ServerNode D). SameDisk arms_of faults_of counts s new.server) server other.first;
     others = other.others ∙ spare;
   }
 
@@ -105,20 +102,3 @@ module _ {D : Type 0} (arms_of : D → Arms) (faults_of : D → ℕ) where
   same_list reads may_leave [] fresh = absurd (omega (arith, fresh.nine))
   same_list reads may_leave (disk ∷ disks) fresh =
       record { was = disk; now = disk; others = disks; before = refl; after = refl; arms = refl }
-
-  -- no memory, before anything was done
-  pub back_unused : (reads : D → List ℕ) (may_leave : D → List ℕ → Type 0) (disks : List D) → AreFresh reads may_leave disks
-      → HandsAllBack arms_of faults_of disks disks world.NoMemory
-  back_unused reads may_leave disks fresh = record { same = same_list reads may_leave disks fresh; faults = refl }
-
-  -- the first one came back from a server that did not start
-  pub back_first : (disks others back : List D) (was : D) (refused : D × WorldFault) → disks ≡ was ∷ others → back ≡ refused.0 ∷ others
-      → HandsBack arms_of faults_of was refused → HandsAllBack arms_of faults_of disks back refused.1
-  back_first disks others back was refused were are hands = record {
-    same = record { was = was; now = refused.0; others = others; before = were; after = are; arms = hands.arms };
-    faults =
-        subst (λ (n : ℕ). FaultCounts refused.1 (record { before = n; after = first_count faults_of back }))
-        (sym (ap (first_count faults_of) were))
-        (subst (λ (n : ℕ). FaultCounts refused.1 (record { before = faults_of was; after = n })) (sym (ap (first_count faults_of) are))
-        hands.faults);
-  }

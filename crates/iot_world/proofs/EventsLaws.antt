@@ -1,48 +1,74 @@
 -- The events of a world's clients are those of the machine's.
 use Rattle.std.proofs.Common.{◌≡◌, ℕ, ◌<◌, Bool, true, false, List, [], ◌∷◌, ◌++◌, length, Option, Some, None}
-use Rattle.std.proofs.Common.{not, refl, sym, ap, subst, ◌∙◌, arith, codes}
+use Rattle.std.proofs.Common.{is_some, append_assoc, refl, sym, ap, subst, ◌∙◌, arith, codes}
 use Rattle.std.proofs.lemmas.List.{append-nil, length-append}
 use Rattle.std.proofs.lemmas.Option.{same_Some}
 use Rattle.iot_tree.specs.Tree.{Nodes}
 use Rattle.iot_lang.specs.Code.{Code}
 use Rattle.iot_client.specs.States.{Transaction}
-use Rattle.iot_client.specs.Ties.{state_of, live_of}
+use Rattle.iot_client.specs.Ties.{place_of, state_of, live_of}
 use Rattle.iot_client.specs.Calls.{first_of, is_over_if_any}
 use Rattle.iot_event.specs.Declarations.{AreDeclared}
 use Rattle.iot_event.specs.declared.event.Event.{Event}
 use Rattle.iot_event.specs.declared.event.Event.TheVariants as events
+use Rattle.iot_link.specs.Links.{LinkState}
 use Rattle.iot_machine.specs.Calls.{Call, Part, Asks, Says, Then, goes_on}
+use Rattle.iot_machine.specs.Refining.{Refines}
 use Rattle.iot_machine.specs.Clients as clients
 use Rattle.iot_machine.specs.Clients.{ClientState, view, base, next_step}
 use Rattle.iot_machine.specs.Machine as machine
 use Rattle.iot_machine.specs.Machine.{Machine, Commit, client_in, node_at, kept_by, no_client}
-use Rattle.iot_machine.specs.Events.{StepsAloud, Runs, event_part, begin_text, step_text, run_steps}
+use Rattle.iot_machine.specs.Events.{StepsAloud, Runs, SyncsIf, is_connected, runs_script, event_part, begin_text, step_text, run_steps}
 use Rattle.iot_machine.specs.Events.{declare_client, declare_script, name_of, said_of, place_text}
 use Rattle.iot_machine.specs.Texts.{line, client_line, begin_line, step_line, transaction_name, tree_text}
-use Rattle.iot_machine.specs.Transactions.{Begins, StepsAll, Stepped, Ends, next_of}
+use Rattle.iot_machine.specs.Transactions.{Begins, StepsAll, Stepped, Ends, SyncsAll, Synced, runs, next_of}
 use Rattle.iot_world.specs.Laptops.{LaptopStands, RunningStandsIfAny, IsView, new_laptop}
 use Rattle.iot_world.specs.Saying.{place_said}
-use Rattle.iot_world.specs.Servers.{ServerStands}
+use Rattle.iot_world.specs.Servers.{ServerStands, HasAnswered}
 use Rattle.iot_world.specs.World.{Each, ScriptStands, StandsFor, Steps, AddsClient, AddsScript, SameCounts, DeclaredOn}
-use Rattle.iot_world.specs.World.{client_count, script_count, server_is_up}
+use Rattle.iot_world.specs.World.{ArePlaced, client_count, script_count}
 use Rattle.iot_world.specs.declared.laptop.Laptop.{Laptop}
-use Rattle.iot_world.specs.declared.server.Server.{Server}
+use Rattle.iot_world.specs.declared.server.ServerNode.{ServerNode}
 use Rattle.iot_world.specs.declared.world.DeclaredScript.{DeclaredScript}
 use Rattle.iot_world.specs.declared.world.World.{World}
-use Rattle.iot_world.proofs.CallsLaws.{bind, says, says_this, nothing}
+use Rattle.iot_world.proofs.CallsLaws.{bind, asks, says, says_this, nothing}
 use Rattle.iot_world.proofs.LaptopsLaws as laptops
 use Rattle.iot_world.proofs.LaptopsLaws.{Running, place_is}
-use Rattle.iot_world.proofs.ListLaws.{each_push, set_same}
+use Rattle.iot_world.proofs.ListLaws.{each_push, each_place_push, set_same}
 use Rattle.iot_world.proofs.ReadyLaws.{none_stands}
-use Rattle.iot_world.proofs.StepsLaws.{IsAt, running_in, running_is, laptop_stands, asks_running}
+use Rattle.iot_world.proofs.StepsLaws.{IsAt, running_in, running_is, laptop_stands, asks_running, asks_runs}
 
 -- events that were declared are so after one that declares nothing
 pub declared_after : {D : Type 0} (old new : World D) (later : List Event) → SameCounts old new
-    → AreDeclared later (client_count old) (script_count old) (not (server_is_up old)) → DeclaredOn later new
+    → AreDeclared later (client_count old) (script_count old) → DeclaredOn later new
 declared_after old new later same declared =
-    subst (λ (n : ℕ). AreDeclared later n (script_count new) (not (server_is_up new))) (sym same.clients)
-    (subst (λ (n : ℕ). AreDeclared later (client_count old) n (not (server_is_up new))) (sym (ap length same.scripts))
-    (subst (λ (up : Bool). AreDeclared later (client_count old) (script_count old) (not up)) (sym same.alive) declared))
+    subst (λ (n : ℕ). AreDeclared later n (script_count new)) (sym same.clients)
+    (subst (λ (n : ℕ). AreDeclared later (client_count old) n) (sym (ap length same.scripts)) declared)
+
+-- two calls and a third are one call and two
+regrouped : {W M A B C : Type 0} {stands : W → M → Type 0} {one : Call M A} {next : A → Call M B} {last : B → Call M C} (u v w : W)
+    (x y z : List ℕ) (b : B) (c : C)
+    → Refines stands (Then one next) u v x y b → Refines stands (last b) v w y z c
+    → Refines stands (Then one (λ a. Then (next a) last)) u w x z c
+regrouped u v w x y z b c two third = record {
+  step = λ m here.
+      let s = two.step m here in
+      let t = third.step s.1 s.4 in (
+        s.0 ++ t.0,
+        t.1,
+        t.2 ∙ ap (λ (l : List ℕ). l ++ t.0) s.2 ∙ append_assoc x s.0 t.0,
+        record {
+          mid = s.3.mid;
+          front = s.3.front;
+          rest = s.3.rest ++ t.0;
+          answer = s.3.answer;
+          first = s.3.first;
+          second = record { mid = s.1; front = s.3.rest; rest = t.0; answer = b; first = s.3.second; second = t.3; whole = refl };
+          whole = ap (λ (l : List ℕ). l ++ t.0) s.3.whole ∙ append_assoc s.3.front s.3.rest t.0;
+        },
+        t.4,
+      );
+}
 
 -- ---- what is said of a transaction that runs
 
@@ -110,7 +136,11 @@ module _ {D : Type 0} (reads : D → List ℕ) (may_leave : D → List ℕ → T
       wrote,
       (refl, refl),
       record {
-        server = subst (λ (s : Server D). ServerStands reads may_leave s m.server) (sym adds.server) here.server;
+        server = subst (λ (s : ServerNode D). ServerStands reads may_leave s m.server) (sym adds.server) here.server;
+        requests = subst (HasAnswered m.requests) (sym adds.server) here.requests;
+        placed =
+            subst ArePlaced (sym adds.clients)
+            (each_place_push (λ n (l : Laptop). place_of l.client ≡ n) old.clients.items adds.laptop here.placed adds.place);
         clients =
             subst (λ (ls : List Laptop). Each LaptopStands ls (m.clients ++ new_laptop name ∷ [])) (sym adds.clients)
             (each_push LaptopStands old.clients.items m.clients adds.laptop (new_laptop name) adds.stands here.clients);
@@ -129,8 +159,10 @@ module _ {D : Type 0} (reads : D → List ℕ) (may_leave : D → List ℕ → T
       sym (append-nil x),
       (refl, refl),
       record {
-        server = subst (λ (s : Server D). ServerStands reads may_leave s m.server) (sym adds.server) here.server;
+        server = subst (λ (s : ServerNode D). ServerStands reads may_leave s m.server) (sym adds.server) here.server;
+        requests = subst (HasAnswered m.requests) (sym adds.server) here.requests;
         clients = subst (λ (ls : List Laptop). Each LaptopStands ls m.clients) (sym adds.clients) here.clients;
+        placed = subst ArePlaced (sym adds.clients) here.placed;
         scripts =
             subst (λ (ss : List DeclaredScript). Each ScriptStands ss (m.scripts ++ record { name = name; code = code } ∷ []))
             (sym adds.scripts)
@@ -250,10 +282,50 @@ module _ {D : Type 0} (reads : D → List ℕ) (may_leave : D → List ℕ → T
       (asks_running reads may_leave c old was x at))
       (says_this (line (codes "idle")) old x y wrote)
 
+  -- ---- run
+
+  module _ (c s : ℕ) (old : World D) (was : Laptop) (at : IsAt old c was) where
+    -- one runs
+    pub run_busy : (x y : List ℕ) → is_some (state_of was.client).running ≡ true → y ≡ x ++ line (codes "busy")
+        → Steps reads may_leave (Runs c s) old old x y tt
+    run_busy x y busy wrote =
+        bind old old old x x y true tt
+        (subst (λ (b : Bool). Steps reads may_leave (Asks (runs c)) old old x x b) busy (asks_runs reads may_leave c old was x at))
+        (says_this (line (codes "busy")) old x y wrote)
+
+    -- none does
+    pub run_idle : (mid new : World D) (x y z : List ℕ) → is_some (state_of was.client).running ≡ false
+        → Steps reads may_leave (Then (Asks (is_connected c)) (SyncsIf c)) old mid x y tt
+        → Steps reads may_leave (runs_script c s) mid new y z tt → Steps reads may_leave (Runs c s) old new x z tt
+    run_idle mid new x y z idle one other =
+        bind old old new x x z false tt
+        (subst (λ (b : Bool). Steps reads may_leave (Asks (runs c)) old old x x b) idle (asks_runs reads may_leave c old was x at))
+        (regrouped old mid new x y z tt tt one other)
+
+  module _ (c : ℕ) (old : World D) (was : Laptop) (at : IsAt old c was) (x : List ℕ) where
+    asks_connected : Steps reads may_leave (Asks (is_connected c)) old old x x was.link.up
+    asks_connected =
+        asks old x was.link.up (λ m here. ap (λ (l : LinkState). l.up) (laptop_stands reads may_leave old m c was at here).link)
+
+    syncs_by : (new : World D) (y : List ℕ) (up : Bool) → was.link.up ≡ up → Steps reads may_leave (SyncsIf c up) old new x y tt
+        → Steps reads may_leave (Then (Asks (is_connected c)) (SyncsIf c)) old new x y tt
+    syncs_by new y up is one =
+        bind old old new x x y up tt (subst (λ (b : Bool). Steps reads may_leave (Asks (is_connected c)) old old x x b) is asks_connected)
+        one
+
+    -- over a link that is up
+    pub syncs_up : (new : World D) (y : List ℕ) (how : Synced) → was.link.up ≡ true → Steps reads may_leave (SyncsAll c) old new x y how
+        → Steps reads may_leave (Then (Asks (is_connected c)) (SyncsIf c)) old new x y tt
+    syncs_up new y how is one = syncs_by new y true is (bind old new new x y y how tt one (nothing new y))
+
+    -- over one that is not
+    pub syncs_down : was.link.up ≡ false → Steps reads may_leave (Then (Asks (is_connected c)) (SyncsIf c)) old old x x tt
+    syncs_down is = syncs_by old x false is (nothing old x)
+
   pub run_on : (c s : ℕ) (old mid next new : World D) (w x y z : List ℕ) (on : Bool) (answer : Stepped) → on ≡ true
       → Steps reads may_leave (Begins c s) old mid w x on
       → Steps reads may_leave (StepsAll c false run_steps) mid next x y answer → Steps reads may_leave (Ends c) next new y z tt
-      → Steps reads may_leave (Runs c s) old new w z tt
+      → Steps reads may_leave (runs_script c s) old new w z tt
   run_on c s old mid next new w x y z on answer is begun all ended =
       goes (Begins c s) (Then (StepsAll c false run_steps) (λ _. Ends c)) old mid new w x z on is begun
       (bind mid next new x y z answer tt all ended)

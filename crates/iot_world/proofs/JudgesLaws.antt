@@ -1,47 +1,51 @@
--- What the server does with a submission is what is said of it.
-use Rattle.std.proofs.Common.{◌≡◌, ◌<◌, ◌≤◌, ◌==◌, ◌&&◌, ◌+◌, ◌-◌, ℕ, zero, suc, Bool, true, false, cond, List, [], ◌∷◌, ◌++◌, map, length}
-use Rattle.std.proofs.Common.{Option, Some, None, option_map, slice_get, position, length-append, inl, inr, refl, sym, ap, subst, ◌∙◌}
+-- What the server replies to a submission.
+use Rattle.std.proofs.Common.{◌≡◌, ◌<◌, ◌≤◌, ◌==◌, ◌&&◌, ◌+◌, ◌-◌, ◌^◌, ℕ, zero, suc, true, cond, List, [], ◌∷◌, ◌++◌, map, length}
+use Rattle.std.proofs.Common.{Option, Some, None, option_map, slice_get, length-append, inl, inr, refl, sym, ap, subst, ◌∙◌}
 use Rattle.std.proofs.Common.{arith}
-use Rattle.std.proofs.lemmas.Bool.{cases_Bool, cond-true, cond-false}
 use Rattle.std.proofs.lemmas.Bool.Decides.{nat_tests}
 use Rattle.std.proofs.lemmas.Iterator.Adapters.{position_from-zero}
 use Rattle.std.proofs.lemmas.List.{length-map, append-nil}
-use Rattle.std.specs.List.{list_any, position_from}
-use Rattle.iot_codec.specs.Rules.{IsLabel, AreActs}
+use Rattle.std.specs.List.{position_from}
 use Rattle.iot_tree.specs.Tree.{Nodes, IsTree}
 use Rattle.iot_tree.specs.declared.acts.Act.{Act}
 use Rattle.iot_tree.specs.declared.acts.Read.{Read}
 use Rattle.iot_tree.specs.declared.labels.Label.{Label}
 use Rattle.iot_tree.specs.declared.labels.Way.TheVariants.{Certified}
 use Rattle.iot_tree.specs.declared.questions.Answer.{Answer}
-use Rattle.iot_tree.specs.declared.questions.Question.{Question}
 use Rattle.iot_acts.specs.Guards.{AllGuarded}
 use Rattle.iot_acts.specs.Traces.{ActsHold, after_update}
 use Rattle.iot_acts.specs.Turns.{reads_of, turns, DiffersAt}
-use Rattle.iot_certify.specs.Verdicts.{IsVerdictOnActs}
-use Rattle.iot_certify.specs.declared.verdict.Verdict.TheVariants.{Differs}
-use Rattle.iot_certify.proofs.WalkLaws.{guarded_differs}
+use Rattle.iot_certify.specs.declared.verdict.Verdict as certify
+use Rattle.iot_certify.specs.declared.verdict.Verdict.TheVariants.{Holds, Differs}
 use Rattle.iot_exec.specs.Serial.{run_entry}
 use Rattle.iot_exec.specs.declared.ran.Ran.{Ran}
-use Rattle.iot_store.specs.Store as store
-use Rattle.iot_store.specs.States.{is_of}
+use Rattle.iot_server.specs.Replies.{Answers, IsHandled, IsJudged, Settles, Submits, records_after}
+use Rattle.iot_server.specs.Servers as servers
+use Rattle.iot_server.specs.declared.server.Server.{Server}
 use Rattle.iot_store.specs.Numbers.{number_in}
+use Rattle.iot_store.specs.Records.{record_spelling}
+use Rattle.iot_store.specs.States.{State, is_of, after_commit}
+use Rattle.iot_wire.specs.declared.requests.Request.{Request}
+use Rattle.iot_wire.specs.declared.requests.Request.TheVariants as requests
+use Rattle.iot_wire.specs.declared.replies.Reply.{Reply}
+use Rattle.iot_wire.specs.declared.replies.Reply.TheVariants as replies
 use Rattle.iot_machine.specs.Machine.{Commit, add_commit, tree_after}
-use Rattle.iot_machine.specs.Nodes.{Node}
+use Rattle.iot_machine.specs.Nodes.{Node, changed}
 use Rattle.iot_machine.specs.Refining.{Refines}
 use Rattle.iot_machine.specs.Serving as serving
-use Rattle.iot_machine.specs.Serving.{Submission, Judges, Commits, Certifies, Settled, Conflict, number_of, server_name, commit_text}
-use Rattle.iot_machine.specs.Stops.{Appends}
-use Rattle.iot_machine.specs.Texts.{commit_line, acts_output, transaction_name}
-use Rattle.iot_judging.proofs.JudgingLaws.{same_there, certified, refused}
+use Rattle.iot_machine.specs.Serving.{Submission, Judges, Commits, Certifies, Settled, Conflict, number_of, commit_text}
+use Rattle.iot_machine.specs.Texts.{commit_line, acts_output}
+use Rattle.iot_judging.proofs.JudgingLaws.{same_there, acts_guarded, certified, refused}
 use Rattle.iot_judging.proofs.RunTreesLaws.{list_tree}
+use Rattle.iot_world.specs.Messages.{commit_said, name_of, Spells, SpellsVerdict}
 use Rattle.iot_world.specs.Records.{label_of}
-use Rattle.iot_world.specs.Servers.{is_up, count_of, tree_of, number_for, ServerStands, ServerIsSound, CanTake, AreOf, IsSubmission}
-use Rattle.iot_world.specs.declared.server.Server.{Server}
-use Rattle.iot_world.specs.declared.server.Server.TheVariants.{Up, Down, Between}
+use Rattle.iot_world.specs.Servers.{count_of, ServerStands, AreOf, IsSubmission, IsHanded, Handled, Serves}
+use Rattle.iot_world.specs.declared.message.Message.{Message}
+use Rattle.iot_world.specs.declared.server.ServerNode.{ServerNode}
+use Rattle.iot_world.specs.declared.server.ServerNode.TheVariants.{Up}
 use Rattle.iot_world.specs.declared.texts.Transaction.{Transaction}
 use Rattle.iot_world.proofs.CallsLaws.{bind, asks, answers}
-use Rattle.iot_world.proofs.ServersLaws.{tree_is, count_is, up_tree}
+use Rattle.iot_world.proofs.ServersLaws.{moved, stands_still, stands_longer, one_request, nothing_said, commit_is_said}
 
 -- ---- the number of a transaction
 
@@ -67,24 +71,6 @@ number_among commit commits =
     (position_from-zero (is_of commit.entry.client commit.entry.number) (map label_of commits) ∙ found_from commit commits 0
     ∙ sym (position_from-zero (serving.is_of commit) commits))
 
-none_from : (p : Label → Bool) (labels : List Label) (i : ℕ) → position_from p i labels ≡ None → list_any p labels ≡ false
-none_from p [] i is = refl
-none_from p (label ∷ labels) i is = elim (cases_Bool (p label)) [
-  | inl passes ↦ let found : Some i ≡ None = sym (cond-true (p label) (Some i) (position_from p (i + 1) labels) passes) ∙ is in absurd cc
-  | inr fails ↦
-      rw fails (none_from p labels (i + 1) (sym (cond-false (p label) (Some i) (position_from p (i + 1) labels) fails) ∙ is))
-]
-
--- one without a number is not among them
-new_among : (labels : List Label) (client tid : ℕ) → number_in labels client tid ≡ None → list_any (is_of client tid) labels ≡ false
-new_among labels client tid is =
-    none_from (is_of client tid) labels 0
-    (sym (position_from-zero (is_of client tid) labels) ∙ no_place (position (is_of client tid) labels) is)
-  where
-    no_place : (place : Option ℕ) → option_map (λ n. n + 1) place ≡ None → place ≡ None
-    no_place None is = refl
-    no_place (Some n) is = absurd cc
-
 -- ---- the place of the read that differs
 
 differs_within : (them : List (Nodes × Read)) (from place : ℕ) (answer : Answer) → DiffersAt them from place answer
@@ -108,152 +94,126 @@ is_found [] at within none = omega arith
 is_found (read ∷ reads) zero within none = absurd cc
 is_found (read ∷ reads) (suc at) within none = is_found reads at (omega arith) none
 
--- it is one of the reads
-pub verdict_within : (t : Nodes) (acts : List Act) (place : ℕ) (answer : Answer) → IsTree t → AllGuarded acts
-    → IsVerdictOnActs t acts (Differs place answer)
-    → (1 ≤ place) × (place - 1 < length (reads_of acts))
-verdict_within t acts place answer tree guarded verdict =
-    let within = differs_within (turns t acts) 1 place answer (guarded_differs t acts (Differs place answer) tree guarded verdict) in
-    (within.0, omega (arith, within.0, within.1, turns_long acts t))
+-- the read of a place
+record HasRead (reads : List Read) (place : ℕ) : Type 0 where
+  first : 1 ≤ place
+  read : Read
+  at : slice_get reads (place - 1) ≡ Some read
+
+-- the one that differs is one of the reads
+differing : (acts : List Act) (t : Nodes) (place : ℕ) (answer : Answer) → DiffersAt (turns t acts) 1 place answer
+    → HasRead (reads_of acts) place
+differing acts t place answer differs = by (slice_get (reads_of acts) (place - 1)) refl
+  where
+    within : (1 ≤ place) × (place < length (turns t acts) + 1)
+    within = differs_within (turns t acts) 1 place answer differs
+
+    by : (found : Option Read) → slice_get (reads_of acts) (place - 1) ≡ found → HasRead (reads_of acts) place
+    by None missing =
+        absurd
+        (is_found (reads_of acts) (place - 1) (omega (arith, within.0, within.1, turns_long acts t)) missing)
+    by (Some read) found = record { first = within.0; read = read; at = found }
 
 -- ---- judging
 
-module _ {D : Type 0} (reads : D → List ℕ) (may_leave : D → List ℕ → Type 0) where
-  -- the read that differs is one of the reads
-  pub place_is : (server : Server D) (acts said : List Act) (place : ℕ) (answer : Answer) → is_up server ≡ true
-      → ServerIsSound reads may_leave server → AllGuarded acts
-      → ((tree : Nodes) → tree_of server ≡ Some tree → IsVerdictOnActs tree acts (Differs place answer))
-      → said ≡ acts
-      → (1 ≤ place) × (place - 1 < length (reads_of said))
-  place_is server acts said place answer up sound guarded verdict same =
-      subst (λ (acts : List Act). (1 ≤ place) × (place - 1 < length (reads_of acts))) (sym same)
-      (verdict_within (tree_after sound.node.durable) acts place answer (list_tree sound.node.durable) guarded
-      (verdict (tree_after sound.node.durable) (up_tree reads may_leave server sound.node up sound.stands)))
-
+module _ {D : Type 0} (reads : D → List ℕ) (may_leave : D → List ℕ → Type 0) (label : Label) (acts : List Act) (transaction : Transaction)
+    (it : Submission)
+    (is : IsSubmission label acts transaction it) where
   -- the number in a live server is the one in its list
-  number_is : (server : Server D) (node : Node (List Commit)) (commit : Commit) (label : Label) → label_of commit ≡ label
-      → is_up server ≡ true → ServerStands reads may_leave server node
-      → number_for server label.client label.tid ≡ number_of commit node.durable
-  number_is (Up it) node commit label has up here =
-      (λ i. number_in (here.keeps.has_state i).labels (sym has i).client (sym has i).tid) ∙ number_among commit node.durable
-  number_is (Down disk) node commit label has up here = absurd cc
-  number_is Between node commit label has up here = absurd cc
+  number_is : (was : Server D) (node : Node (List Commit)) → ServerStands reads may_leave (Up was) node
+      → number_in (servers.state_of was).labels label.client label.tid ≡ number_of it.commit node.durable
+  number_is was node here =
+      (λ i. number_in (here.keeps.has_state i).labels (sym is.has_label i).client (sym is.has_label i).tid)
+      ∙ number_among it.commit node.durable
 
-  -- it can take what it does not have, if it holds
-  pub can_take : (server : Server D) (label : Label) (acts : List Act) → is_up server ≡ true → ServerIsSound reads may_leave server
-      → IsLabel label → AreActs acts → number_for server label.client label.tid ≡ None
-      → ((tree : Nodes) → tree_of server ≡ Some tree → ActsHold tree acts)
-      → CanTake reads may_leave label acts server
-  can_take (Up it) label acts up sound is_label are_acts none hold = record {
-    it = it;
-    up = refl;
-    synced = sound.stands.keeps.synced;
-    has_label = is_label;
-    has_acts = are_acts;
-    follows = record {
-      is_new = new_among (store.state_of it).labels label.client label.tid none;
-      holds = hold (store.state_of it).tree refl;
-    };
-  }
-  can_take (Down disk) label acts up sound is_label are_acts none hold = absurd cc
-  can_take Between label acts up sound is_label are_acts none hold = absurd cc
+  guarded : AllGuarded acts
+  guarded =
+      acts_guarded it.commit.entry.script it.commit.entry.kept it.commit.entry.budget is.base is.base acts is.has_acts is.tree
 
-  module _ (label : Label) (acts : List Act) (transaction : Transaction) (it : Submission)
-      (is : IsSubmission label acts transaction it) where
-    -- its script does the same on a tree on which its acts hold
-    are_of : (tree : Nodes) → IsTree tree → ActsHold tree acts → AreOf it.commit tree label acts
-    are_of tree is_tree hold =
-        let same = same_there it.commit.entry.script it.commit.entry.kept it.commit.entry.budget is.base tree acts is.has_acts is_tree
-        hold in
-        record {
-          has_label = is.has_label;
-          has_acts = ap (λ (ran : Ran). ran.acts) same;
-          made = ap (λ (ran : Ran). ran.tree) same;
-          spelled = is.spelled;
-        }
+  -- its script does the same on a tree on which its acts hold
+  are_of : (tree : Nodes) → IsTree tree → ActsHold tree acts → AreOf it.commit tree label acts
+  are_of tree is_tree hold =
+      let same = same_there it.commit.entry.script it.commit.entry.kept it.commit.entry.budget is.base tree acts is.has_acts is_tree hold in
+      record {
+        has_label = is.has_label;
+        has_acts = ap (λ (ran : Ran). ran.acts) same;
+        made = ap (λ (ran : Ran). ran.tree) same;
+        spelled = is.spelled;
+      }
 
-    -- what is said of it
-    says_it : (commits : List Commit) (number : ℕ) (said : List Act) → number ≡ length commits + 1 → said ≡ acts
-        → ActsHold (tree_after commits) acts
-        → commit_line number (transaction_name transaction.client transaction.number) Certified ++ acts_output said
-        ≡ commit_text it.name it.commit commits
-    says_it commits number said counts same hold =
-        let run_there : said ≡ (run_entry it.commit.entry (tree_after commits)).acts =
-        same ∙ sym (are_of (tree_after commits) (list_tree commits) hold).has_acts in
-        (λ i. commit_line (counts i) (sym is.name i) (sym is.way i) ++ acts_output (run_there i))
+  -- what is said of it
+  says_it : (commits : List Commit) (number : ℕ) → number ≡ length commits → ActsHold (tree_after commits) acts
+      → commit_line (number + 1) (name_of transaction) Certified ++ acts_output acts ≡ commit_text it.name it.commit commits
+  says_it commits number counts hold =
+      let run_there : acts ≡ (run_entry it.commit.entry (tree_after commits)).acts =
+      sym (are_of (tree_after commits) (list_tree commits) hold).has_acts in
+      (λ i. commit_line (counts i + 1) (sym is.name i) (sym is.way i) ++ acts_output (run_there i))
+
+  module _ (was now : Server D) (synced : servers.IsSynced reads may_leave now) where
+    -- the acts hold on the tree of the list
+    hold_there : (node : Node (List Commit)) → ServerStands reads may_leave (Up was) node → ActsHold (servers.state_of was).tree acts
+        → ActsHold (tree_after node.durable) acts
+    hold_there node here hold = subst (λ (s : State). ActsHold s.tree acts) here.keeps.has_state hold
 
     -- it commits
-    pub commits_it : (old new : Server D) (on : Bool) (number : ℕ) (said : List Act) (x y : List ℕ)
-        → CanTake reads may_leave label acts old
-        → is_up new ≡ true → number ≡ count_of new
-        → ((commit : Commit) (tree : Nodes) → tree_of old ≡ Some tree → AreOf commit tree label acts → (text : List ℕ)
-        → Refines (ServerStands reads may_leave) (Appends server_name (add_commit commit)) old new text text on)
-        → said ≡ acts
-        → y ≡ x ++ (commit_line number (transaction_name transaction.client transaction.number) Certified ++ acts_output said)
-        → Refines (ServerStands reads may_leave) (Commits it.name it.commit) old new x y (Some (Settled number))
-    commits_it old new on number said x y take up counts appends same wrote = record {
+    commits_it : (x y : List ℕ)
+        → servers.bodies_on reads now ≡ servers.bodies_on reads was ++ record_spelling label acts ∷ []
+        → servers.state_of now ≡ after_commit (servers.state_of was) label acts
+        → ActsHold (servers.state_of was).tree acts
+        → y ≡ x ++ (commit_line (length (servers.state_of was).labels + 1) (name_of transaction) Certified ++ acts_output acts)
+        → Refines (ServerStands reads may_leave) (Commits it.name it.commit) (Up was) (Up now) x y
+        (Some (Settled (length (servers.state_of was).labels + 1)))
+    commits_it x y recorded made hold wrote = record {
       step = λ node here.
-          let old_tree : tree_of old ≡ Some (store.state_of take.it).tree = ap tree_of take.up in
-          let tree : (store.state_of take.it).tree ≡ tree_after node.durable = tree_is reads may_leave old node _ old_tree here in
-          let hold : ActsHold (tree_after node.durable) acts = subst (λ (t : Nodes). ActsHold t acts) tree take.follows.holds in
-          let one : Refines (ServerStands reads may_leave) (Appends server_name (add_commit it.commit)) old new x x on =
-          appends it.commit (tree_after node.durable) (up_tree reads may_leave old node (ap is_up take.up) here)
-          (are_of (tree_after node.durable) (list_tree node.durable) hold) x in
-          let done = one.step node here in
-          let more : number ≡ length node.durable + 1 =
-          counts ∙ count_is reads may_leave new done.1 up done.4 ∙ ap (λ (n : Node (List Commit)). length n.durable) done.3.2
-          ∙ length-append node.durable (it.commit ∷ []) in (
-            commit_text it.name it.commit node.durable,
-            done.1,
-            wrote ∙ ap (λ (text : List ℕ). x ++ text) (says_it node.durable number said more same hold),
+          let there : ActsHold (tree_after node.durable) acts = hold_there node here hold in
+          let counts : length (servers.state_of was).labels ≡ length node.durable =
+          ap (λ (s : State). length s.labels) here.keeps.has_state ∙ length-map node.durable label_of in
+          let more : length (servers.state_of was).labels + 1 ≡ length (node.durable ++ it.commit ∷ []) =
+          ap (λ (n : ℕ). n + 1) counts ∙ sym (length-append node.durable (it.commit ∷ [])) in
+          let text : List ℕ = commit_text it.name it.commit node.durable in
+          let after : Node (List Commit) = changed (add_commit it.commit) node in (
+            text,
+            after,
+            wrote ∙ ap (λ (text : List ℕ). x ++ text) (says_it node.durable (length (servers.state_of was).labels) counts there),
             record {
               mid = node;
               front = [];
-              rest = commit_text it.name it.commit node.durable;
-              answer = commit_text it.name it.commit node.durable;
+              rest = text;
+              answer = text;
               first = (refl, refl, refl);
               second = record {
-                mid = done.1;
+                mid = after;
                 front = [];
-                rest = commit_text it.name it.commit node.durable;
+                rest = text;
                 answer = true;
-                first = (refl, refl, done.3.2);
+                first = (refl, refl, refl);
                 second = record {
-                  mid = done.1;
-                  front = commit_text it.name it.commit node.durable;
+                  mid = after;
+                  front = text;
                   rest = [];
                   answer = tt;
                   first = (refl, refl);
-                  second = (refl, ap (λ (n : ℕ). Some (Settled n)) (counts ∙ count_is reads may_leave new done.1 up done.4), refl);
+                  second = (refl, ap (λ (n : ℕ). Some (Settled n)) more, refl);
                   whole = sym (append-nil _);
                 };
                 whole = refl;
               };
               whole = refl;
             },
-            done.4,
+            stands_longer reads may_leave was now node it.commit label acts synced recorded made
+                (are_of (tree_after node.durable) (list_tree node.durable) there) here,
           );
     }
 
-    -- one that is in the list
-    pub settled : (server : Server D) (number : ℕ) (x : List ℕ) → is_up server ≡ true
-        → number_for server label.client label.tid ≡ Some number
-        → Refines (ServerStands reads may_leave) (Judges it) server server x x (Some (Settled number))
-    settled server number x up listed =
-        bind server server server x x x (Some number) (Some (Settled number))
-        (asks server x (Some number)
-        (λ node here. sym listed ∙ number_is server node it.commit label is.has_label up here))
-        (answers server x (Some (Settled number)))
-
     -- one that holds
-    pub judged_well : (old new : Server D) (verdict : serving.Verdict) (x y : List ℕ) → is_up old ≡ true
-        → number_for old label.client label.tid ≡ None
-        → ((tree : Nodes) → tree_of old ≡ Some tree → ActsHold tree acts)
-        → Refines (ServerStands reads may_leave) (Commits it.name it.commit) old new x y (Some verdict)
-        → Refines (ServerStands reads may_leave) (Judges it) old new x y (Some verdict)
-    judged_well old new verdict x y up none hold commits =
-        bind old old new x x y None (Some verdict)
-        (asks old x None (λ node here. sym none ∙ number_is old node it.commit label is.has_label up here))
+    judged_well : (verdict : serving.Verdict) (x y : List ℕ)
+        → number_in (servers.state_of was).labels label.client label.tid ≡ None
+        → ActsHold (servers.state_of was).tree acts
+        → Refines (ServerStands reads may_leave) (Commits it.name it.commit) (Up was) (Up now) x y (Some verdict)
+        → Refines (ServerStands reads may_leave) (Judges it) (Up was) (Up now) x y (Some verdict)
+    judged_well verdict x y none hold commits =
+        bind (Up was) (Up was) (Up now) x x y None (Some verdict)
+        (asks (Up was) x None (λ node here. sym none ∙ number_is was node here))
         (record {
           step = λ node here.
               let done = commits.step node here in (
@@ -261,39 +221,150 @@ module _ {D : Type 0} (reads : D → List ℕ) (may_leave : D → List ℕ → T
                 done.1,
                 done.2,
                 certified it node is.base acts is.has_acts is.reads (list_tree node.durable) done.0 (Some verdict) done.1
-                    (hold (tree_after node.durable) (up_tree reads may_leave old node up here)) done.3,
+                    (hold_there node here hold) done.3,
                 done.4,
               );
         })
 
-    -- one that conflicts
-    pub judged_ill : (server : Server D) (place : ℕ) (answer : Answer) (question : Question) (x : List ℕ) → is_up server ≡ true
-        → number_for server label.client label.tid ≡ None → AllGuarded acts
-        → ((tree : Nodes) → tree_of server ≡ Some tree → IsVerdictOnActs tree acts (Differs place answer))
-        → (said : List Act) → said ≡ acts
-        → ((read : Read) → slice_get (reads_of said) (place - 1) ≡ Some read → question ≡ read.question)
-        → Refines (ServerStands reads may_leave) (Judges it) server server x x (Some (Conflict place question))
-    judged_ill server place answer question x up none guarded verdict said same asked =
-        bind server server server x x x None (Some (Conflict place question))
-        (asks server x None (λ node here. sym none ∙ number_is server node it.commit label is.has_label up here))
-        (record { step = λ node here. ([], node, sym (append-nil x), refuses node here, here) })
-      where
-        refuses : (node : Node (List Commit)) → ServerStands reads may_leave server node
-            → Certifies it node [] (Some (Conflict place question)) node
-        refuses node here = by (slice_get (reads_of acts) (place - 1)) refl
-          where
-            there : IsVerdictOnActs (tree_after node.durable) acts (Differs place answer)
-            there = verdict (tree_after node.durable) (up_tree reads may_leave server node up here)
+    module _ (recorded : servers.bodies_on reads now ≡ servers.bodies_on reads was)
+        (made : servers.state_of now ≡ servers.state_of was) where
+      -- one that is in the list
+      settled : (number : ℕ) (x : List ℕ) → number_in (servers.state_of was).labels label.client label.tid ≡ Some number
+          → Refines (ServerStands reads may_leave) (Judges it) (Up was) (Up now) x x (Some (Settled number))
+      settled number x listed =
+          moved (Up was) (Up was) (Up now) x x (Some (Settled number))
+          (λ node here. stands_still reads may_leave was now node synced recorded made here)
+          (bind (Up was) (Up was) (Up was) x x x (Some number) (Some (Settled number))
+          (asks (Up was) x (Some number) (λ node here. sym listed ∙ number_is was node here))
+          (answers (Up was) x (Some (Settled number))))
 
-            by : (found : Option Read) → slice_get (reads_of acts) (place - 1) ≡ found
-                → Certifies it node [] (Some (Conflict place question)) node
-            by None missing =
-                absurd
-                (is_found (reads_of acts) (place - 1)
-                (verdict_within (tree_after node.durable) acts place answer (list_tree node.durable) guarded there).1 missing)
-            by (Some read) found =
-                subst (λ (q : Question). Certifies it node [] (Some (Conflict place q)) node)
-                (sym (asked read (ap (λ (acts : List Act). slice_get (reads_of acts) (place - 1)) same ∙ found)))
-                (refused it node is.base acts is.has_acts is.reads (list_tree node.durable) place answer read
-                (guarded_differs (tree_after node.durable) acts (Differs place answer) (list_tree node.durable) guarded there)
-                (ap (λ (reads : List Read). slice_get reads (place - 1)) is.reads ∙ found))
+      -- one that conflicts
+      judged_ill : (place : ℕ) (answer : Answer) (read : Read) (x : List ℕ)
+          → number_in (servers.state_of was).labels label.client label.tid ≡ None
+          → DiffersAt (turns (servers.state_of was).tree acts) 1 place answer
+          → slice_get it.reads (place - 1) ≡ Some read
+          → Refines (ServerStands reads may_leave) (Judges it) (Up was) (Up now) x x (Some (Conflict place read.question))
+      judged_ill place answer read x none differs found =
+          bind (Up was) (Up was) (Up now) x x x None (Some (Conflict place read.question))
+          (asks (Up was) x None (λ node here. sym none ∙ number_is was node here))
+          (record {
+            step = λ node here. (
+              [],
+              node,
+              sym (append-nil x),
+              refused it node is.base acts is.has_acts is.reads (list_tree node.durable) place answer read
+                  (subst (λ (s : State). DiffersAt (turns s.tree acts) 1 place answer) here.keeps.has_state differs) found,
+              stands_still reads may_leave was now node synced recorded made here,
+            );
+          })
+
+-- ---- a message that hands one in
+
+module _ {D : Type 0} (reads : D → List ℕ) (may_leave : D → List ℕ → Type 0) (message : Message) (reply : List ℕ) (it : Submission)
+    (short : length message.request.items < 2 ^ 64) (hands : IsHanded message it) where
+  module _ (was now : Server D) (synced : servers.IsSynced reads may_leave now)
+      (handled : IsHandled (servers.state_of was) (servers.bodies_on reads was) message.request.items reply (servers.state_of now)
+      (servers.bodies_on reads now))
+      (x y : List ℕ)
+      (said : y ≡ x ++ commit_said (length (servers.state_of was).labels) (length (servers.state_of now).labels) message) where
+    asked : handled.request ≡ requests.Commit hands.label hands.acts
+    asked = one_request message.request.items short handled.request (requests.Commit hands.label hands.acts) handled.is hands.asked
+
+    submits : Submits (number_in (servers.state_of was).labels hands.label.client hands.label.tid) (servers.state_of was) hands.label
+        hands.acts handled.answered.reply (servers.state_of now)
+    submits =
+        subst (λ (request : Request). Answers (servers.state_of was) request handled.answered.reply (servers.state_of now)) asked
+        handled.answered.answers
+
+    -- the records after this reply
+    recorded : (said : Reply) → handled.answered.reply ≡ said
+        → servers.bodies_on reads now
+        ≡ records_after (requests.Commit hands.label hands.acts) said (servers.bodies_on reads was)
+    recorded said is =
+        handled.answered.records
+        ∙ (λ i. records_after (asked i) (is i) (servers.bodies_on reads was))
+
+    -- nothing more is said if nothing was committed
+    said_nothing : servers.state_of now ≡ servers.state_of was → y ≡ x
+    said_nothing same =
+        said ∙ ap (λ (s : State). x ++ commit_said (length (servers.state_of was).labels) (length s.labels) message) same
+        ∙ ap (λ (text : List ℕ). x ++ text) (nothing_said (length (servers.state_of was).labels) message) ∙ append-nil x
+
+    -- it was in the list
+    in_list : (number : ℕ) → number_in (servers.state_of was).labels hands.label.client hands.label.tid ≡ Some number
+        → (handled.answered.reply ≡ replies.Already number) × (servers.state_of now ≡ servers.state_of was)
+        → Serves reads may_leave (Judges it) (SpellsVerdict it.reads) reply (Up was) (Up now) x y
+    in_list number listed told = record {
+      answer = Settled number;
+      spelled = inr (subst (Spells reply) told.0 handled.answered.spelled);
+      step =
+          subst
+          (λ (text : List ℕ). Refines (ServerStands reads may_leave) (Judges it) (Up was) (Up now) x text (Some (Settled number)))
+          (sym (said_nothing told.1))
+          (settled reads may_leave hands.label hands.acts hands.transaction it hands.submission was now synced
+          (recorded (replies.Already number) told.0) told.1 number x listed);
+    }
+
+    -- it was not, and is judged so
+    by_verdict : (verdict : certify.Verdict) → number_in (servers.state_of was).labels hands.label.client hands.label.tid ≡ None
+        → IsJudged (servers.state_of was).tree hands.acts verdict
+        → Settles verdict (servers.state_of was) hands.label hands.acts handled.answered.reply (servers.state_of now)
+        → Serves reads may_leave (Judges it) (SpellsVerdict it.reads) reply (Up was) (Up now) x y
+    by_verdict Holds none judged told =
+        let number : ℕ = length (servers.state_of was).labels in
+        let wrote : y ≡ x ++ (commit_line (number + 1) (name_of hands.transaction) Certified ++ acts_output hands.acts) =
+        said ∙ ap (λ (s : State). x ++ commit_said number (length s.labels) message) told.1
+        ∙ ap (λ (n : ℕ). x ++ commit_said number n message) (length-append (servers.state_of was).labels (hands.label ∷ []))
+        ∙ ap (λ (text : List ℕ). x ++ text) (commit_is_said number message _ hands.printed) in
+        record {
+          answer = Settled (number + 1);
+          spelled = inl (subst (Spells reply) told.0 handled.answered.spelled);
+          step =
+              judged_well reads may_leave hands.label hands.acts hands.transaction it hands.submission was now synced
+              (Settled (number + 1)) x y none judged.is
+              (commits_it reads may_leave hands.label hands.acts hands.transaction it hands.submission was now synced x y
+              (recorded (replies.Committed (number + 1)) told.0) told.1 judged.is wrote);
+        }
+    by_verdict (Differs place answer) none judged told =
+        let differs : DiffersAt (turns (servers.state_of was).tree hands.acts) 1 place answer =
+        judged.guarded (guarded reads may_leave hands.label hands.acts hands.transaction it hands.submission) in
+        let has : HasRead (reads_of hands.acts) place = differing hands.acts (servers.state_of was).tree place answer differs in
+        let found : slice_get it.reads (place - 1) ≡ Some has.read =
+        ap (λ (reads : List Read). slice_get reads (place - 1)) hands.submission.reads ∙ has.at in
+        record {
+          answer = Conflict place has.read.question;
+          spelled = (
+            has.read,
+            record {
+              answer = answer;
+              spelled = subst (Spells reply) told.0 handled.answered.spelled;
+              first = has.first;
+              at = found;
+            },
+            refl,
+          );
+          step =
+              subst
+              (λ (text : List ℕ).
+              Refines (ServerStands reads may_leave) (Judges it) (Up was) (Up now) x text (Some (Conflict place has.read.question)))
+              (sym (said_nothing told.1))
+              (judged_ill reads may_leave hands.label hands.acts hands.transaction it hands.submission was now synced
+              (recorded (replies.Conflict place answer) told.0) told.1 place answer has.read x none differs found);
+        }
+
+    by_number : (found : Option ℕ) → number_in (servers.state_of was).labels hands.label.client hands.label.tid ≡ found
+        → Submits found (servers.state_of was) hands.label hands.acts handled.answered.reply (servers.state_of now)
+        → Serves reads may_leave (Judges it) (SpellsVerdict it.reads) reply (Up was) (Up now) x y
+    by_number (Some number) listed told = in_list number listed told
+    by_number None none told = by_verdict told.0 none told.1 told.2
+
+  -- it is judged
+  pub judges : (old new : ServerNode D) (x y : List ℕ) → Handled reads may_leave message.request.items reply old new
+      → y ≡ x ++ commit_said (count_of old) (count_of new) message
+      → Serves reads may_leave (Judges it) (SpellsVerdict it.reads) reply old new x y
+  judges old new x y handled said =
+      let told : y ≡ x ++ commit_said (count_of (Up handled.was)) (count_of (Up handled.now)) message =
+      said ∙ (λ i. x ++ commit_said (count_of (handled.old_is i)) (count_of (handled.new_is i)) message) in
+      rw (handled.old_is, handled.new_is)
+      (by_number handled.was handled.now handled.synced handled.handled x y told _ refl
+      (submits handled.was handled.now handled.synced handled.handled x y told))

@@ -1,29 +1,37 @@
 -- How each call of a laptop changes the client of the machine for which it stands.
 use Rattle.std.proofs.Common.{◌≡◌, Bool, true, false, List, Option, Some, None, refl, sym, ap, subst, ◌∙◌, ℕ}
-use Rattle.iot_tree.specs.Tree.{IsTree, root_alone}
+use Rattle.iot_tree.specs.Tree.{Nodes, IsTree, root_alone}
 use Rattle.iot_tree.specs.declared.acts.Act.{Act}
 use Rattle.iot_tree.specs.declared.nodes.Node.TheVariants.{FarDir}
 use Rattle.iot_tree.proofs.RowLaws.{root_rows, root_map}
 use Rattle.iot_exec.specs.declared.ran.Ran.{Ran}
+use Rattle.iot_codec.specs.Rules.{IsTreeOfRows}
+use Rattle.iot_client.specs.Messages.{ReadsObjects}
 use Rattle.iot_client.specs.States.{Transaction, State, acts_of, opening}
-use Rattle.iot_client.specs.Ties.{Live, state_of, live_of, IsTied, IsOwnRunIfAny}
-use Rattle.iot_client.specs.Calls.{Notes, StepIsIfAny, Ends, EndsIfAny, may_end}
+use Rattle.iot_client.specs.Ties.{Live, state_of, live_of, place_of, IsTied, IsOwnRunIfAny}
+use Rattle.iot_client.specs.Calls.{Notes, Brings, StepIsIfAny, Ends, EndsIfAny, may_end}
 use Rattle.iot_client.specs.declared.client.Client.{Client}
-use Rattle.iot_client.specs.declared.record.Record.TheVariants.{Acted, Ended, Left}
+use Rattle.iot_client.specs.declared.record.Record.TheVariants.{Held, Fetched, Acted, Ended, Left}
 use Rattle.iot_client.specs.declared.running.Ended as client
 use Rattle.iot_client.specs.declared.steps.Step.{Step}
 use Rattle.iot_client.specs.declared.steps.Step.TheVariants as steps
 use Rattle.iot_client.proofs.StepsLaws.{own}
+use Rattle.iot_link.specs.Links as links
+use Rattle.iot_link.specs.Links.{LinkState}
 use Rattle.iot_machine.specs.Clients as clients
-use Rattle.iot_machine.specs.Clients.{ClientState, base, act_once, end, leave, new_client}
+use Rattle.iot_machine.specs.Clients.{ClientState, base, hold, fetch, act_once, end, leave, new_client}
 use Rattle.iot_machine.specs.Machine as machine
+use Rattle.iot_machine.specs.Texts.{transaction_name, acts_output}
 use Rattle.iot_judging.proofs.SpelledTreesLaws.{far_root_spelled}
 use Rattle.iot_world.specs.Laptops as laptops
 use Rattle.iot_world.specs.Laptops.{StateStands, LaptopStands, Noted, StepNoted, Stepped, IsEndOf, IsFirstOf, waits_of, new_laptop}
+use Rattle.iot_world.specs.Messages.{name_of, SpellsTree}
+use Rattle.iot_world.specs.declared.laptop.Gone.{Gone}
 use Rattle.iot_world.specs.declared.laptop.Laptop.{Laptop}
 use Rattle.iot_world.proofs.LaptopsLaws.{Running, running_is, so_far_is, may_end_is}
-use Rattle.iot_world.proofs.LaptopStepsLaws.{acted_stands, ended_stands, left_stands}
+use Rattle.iot_world.proofs.LaptopStepsLaws.{held_stands, fetched_stands, acted_stands, ended_stands, left_stands}
 use Rattle.iot_world.proofs.LaptopStepsLaws.{joined_waits, next_is}
+use Rattle.iot_world.proofs.BroughtLaws.{brought_tree, rows_spelled}
 
 -- the same state and class by other names
 carried : (a b : State) (x y : Option Live) (first : Bool) (m : ClientState) → b ≡ a → y ≡ x → StateStands a x first m
@@ -36,10 +44,11 @@ carried a b x y first m same lives stands =
 far_root_is_tree : IsTree (root_alone FarDir)
 far_root_is_tree = subst IsTree (root_map FarDir) (root_rows FarDir refl).tree
 
-pub new_stands : (name : List ℕ) (client : Client) → state_of client ≡ opening → live_of client ≡ None → IsTied client
-    → LaptopStands (record { name = name; client = client }) (new_laptop name)
-new_stands name client is lives tied = record {
+pub new_stands : (name : List ℕ) (client : Client) (link : LinkState) → state_of client ≡ opening → live_of client ≡ None
+    → IsTied client → link ≡ links.opened → LaptopStands (record { name = name; client = client; link = link }) (new_laptop name)
+new_stands name client link is lives tied up = record {
   name = refl;
+  link = up;
   alive = refl;
   tied = tied;
   state = carried opening (state_of client) None (live_of client) false new_client is lives (record {
@@ -54,78 +63,120 @@ new_stands name client is lives tied = record {
 
 -- ---- the transaction that ends
 
+-- what is told of it: its number, its class, and what it printed
+pub record IsTold (old : Laptop) (ended : client.Ended) (gone : Gone) : Type 0 where
+  pub named : gone.printed.transaction ≡ record { client = old.name; number = ended.tid }
+  pub class : gone.first ≡ ended.first
+  pub printed : gone.printed.output ≡ acts_output (acts_of (state_of old.client).running)
+
 module _ (old : Laptop) (m : machine.Client) (it : clients.Running) (here : LaptopStands old m)
     (runs : m.node.durable.running ≡ Some it) where
-  ends_own : (gone : client.Ended) (acts : List Act) (known : Running (state_of old.client).running (live_of old.client) m.first it)
-      → EndsIfAny (state_of old.client) (state_of old.client).running (live_of old.client) gone acts
-      → Ends (state_of old.client) known.own known.besides gone acts
-  ends_own gone acts known ends =
-      subst (λ (l : Option Live). EndsIfAny (state_of old.client) (Some known.own) l gone acts) known.lives
-      (subst (λ (r : Option Transaction). EndsIfAny (state_of old.client) r (live_of old.client) gone acts) known.is ends)
+  ends_own : (ended : client.Ended) (known : Running (state_of old.client).running (live_of old.client) m.first it)
+      → EndsIfAny (state_of old.client) (state_of old.client).running (live_of old.client) ended
+      → Ends (state_of old.client) known.own known.besides ended
+  ends_own ended known ends =
+      subst (λ (l : Option Live). EndsIfAny (state_of old.client) (Some known.own) l ended) known.lives
+      (subst (λ (r : Option Transaction). EndsIfAny (state_of old.client) r (live_of old.client) ended) known.is ends)
 
-  end_of : (gone : client.Ended) (acts : List Act) → may_end (state_of old.client) (live_of old.client) ≡ true
-      → EndsIfAny (state_of old.client) (state_of old.client).running (live_of old.client) gone acts → IsEndOf gone acts m it
-  end_of gone acts over ends =
+  end_of : (ended : client.Ended) (gone : Gone) → IsTold old ended gone → may_end (state_of old.client) (live_of old.client) ≡ true
+      → EndsIfAny (state_of old.client) (state_of old.client).running (live_of old.client) ended → IsEndOf gone m it
+  end_of ended gone told over ends =
       let known : Running (state_of old.client).running (live_of old.client) m.first it =
       running_is (state_of old.client) (live_of old.client) m.first m.node.durable here.state it runs in
-      let ended : Ends (state_of old.client) known.own known.besides gone acts = ends_own gone acts known ends in
+      let its : Ends (state_of old.client) known.own known.besides ended = ends_own ended known ends in
       record {
         over = (may_end_is (state_of old.client) (live_of old.client) m.first m.node.durable here.state it runs).0 over;
-        number = ended.number ∙ known.stands.number;
-        class = ended.class ∙ known.stands.class;
+        name =
+            ap name_of told.named ∙ ap (λ (name : List ℕ). transaction_name name ended.tid) here.name
+            ∙ ap (transaction_name m.name) (its.number ∙ known.stands.number);
+        class = told.class ∙ its.class ∙ known.stands.class;
         did =
-            ended.recorded ∙ sym (ap acts_of known.is)
-            ∙ sym (subst (IsOwnRunIfAny (state_of old.client)) known.lives (own old.client here.tied)).acts
+            told.printed
+            ∙ ap acts_output
+            (sym (subst (IsOwnRunIfAny (state_of old.client)) known.lives (own old.client here.tied)).acts
             ∙ ap (λ (ran : Ran). ran.acts)
-            (so_far_is (state_of old.client) (live_of old.client) m.first m.node.durable here.state it runs);
+            (so_far_is (state_of old.client) (live_of old.client) m.first m.node.durable here.state it runs));
       }
 
-module _ (old new : Laptop) (same : new.name ≡ old.name) (tied : IsTied new.client) where
-  -- ---- changes
+-- ---- changes of what is durable
 
+module _ (old new : Laptop) (same : new.name ≡ old.name) (same_link : new.link ≡ old.link) (tied : IsTied new.client) where
   abbrev is_noted : (ClientState → ClientState) → State → Option Live → Type 0
   is_noted change next live = (m : machine.Client) → LaptopStands old m → StateStands next live m.first (change m.node.durable)
 
   noted : (change : ClientState → ClientState) (next : State) (live : Option Live) → state_of new.client ≡ next
-      → live_of new.client ≡ live → is_noted change next live → Noted change old new
-  noted change next live is lives each = record {
+      → live_of new.client ≡ live → place_of new.client ≡ place_of old.client → is_noted change next live → Noted change old new
+  noted change next live is lives place each = record {
+    place = place;
     stands = λ m here. record {
       name = same ∙ here.name;
+      link = same_link ∙ here.link;
       alive = here.alive;
       tied = tied;
       state = carried next (state_of new.client) live (live_of new.client) m.first (change m.node.durable) is lives (each m here);
     };
   }
 
+  -- ---- trees that replies bring
+
+  noted_held : (t : Nodes) → IsTreeOfRows t → Notes (Held t) old.client new.client → live_of new.client ≡ None → Noted (hold t) old new
+  noted_held t rows notes lives =
+      noted (hold t) _ None notes.state lives notes.place
+      (λ m here.
+      held_stands (state_of old.client) (live_of old.client) m.first m.node.durable here.state t notes.follows rows.tree
+      (rows_spelled t rows))
+
+  pub holds : (reply : List ℕ) (t : Nodes) → ReadsObjects reply → Brings (λ tree. Held tree) reply old.client new.client
+      → live_of new.client ≡ None → SpellsTree reply t → Noted (hold t) old new
+  holds reply t only brings lives spells =
+      noted_held t spells.value
+      (subst (λ (tree : Nodes). Notes (Held tree) old.client new.client) (brought_tree reply brings.tree t only brings.brought spells)
+      brings.notes)
+      lives
+
+  noted_fetched : (t : Nodes) → IsTreeOfRows t → Notes (Fetched t) old.client new.client → live_of new.client ≡ live_of old.client
+      → Noted (fetch t) old new
+  noted_fetched t rows notes lives =
+      noted (fetch t) _ (live_of old.client) notes.state lives notes.place
+      (λ m here.
+      fetched_stands (state_of old.client) (live_of old.client) m.first m.node.durable here.state t notes.follows rows.tree
+      (rows_spelled t rows))
+
+  pub fetches : (reply : List ℕ) (t : Nodes) → ReadsObjects reply → Brings (λ tree. Fetched tree) reply old.client new.client
+      → live_of new.client ≡ live_of old.client → SpellsTree reply t → Noted (fetch t) old new
+  fetches reply t only brings lives spells =
+      noted_fetched t spells.value
+      (subst (λ (tree : Nodes). Notes (Fetched tree) old.client new.client) (brought_tree reply brings.tree t only brings.brought spells)
+      brings.notes)
+      lives
+
+  -- ---- the first that waits leaves
+
   pub noted_left : Notes Left old.client new.client → live_of new.client ≡ live_of old.client → Noted leave old new
   noted_left notes lives =
-      noted leave _ (live_of old.client) notes.state lives
+      noted leave _ (live_of old.client) notes.state lives notes.place
       (λ m here. left_stands (state_of old.client) (live_of old.client) m.first m.node.durable here.state notes.follows)
-
-  noted_acted : (act : Act) → Notes (Acted act) old.client new.client → live_of new.client ≡ live_of old.client → Noted act_once old new
-  noted_acted act notes lives =
-      noted act_once _ (live_of old.client) notes.state lives
-      (λ m here. acted_stands (state_of old.client) (live_of old.client) m.first m.node.durable here.state act)
-
-  noted_ended : (gone : client.Ended) (acts : List Act) → EndsIfAny (state_of old.client) (state_of old.client).running
-      (live_of old.client) gone acts → Notes Ended old.client new.client → live_of new.client ≡ None → Noted end old new
-  noted_ended gone acts ends notes lives =
-      noted end _ None notes.state lives
-      (λ m here. ended_stands (state_of old.client) (live_of old.client) m.first m.node.durable here.state gone acts ends)
 
   -- ---- steps
 
+  noted_acted : (act : Act) → Notes (Acted act) old.client new.client → live_of new.client ≡ live_of old.client → Noted act_once old new
+  noted_acted act notes lives =
+      noted act_once _ (live_of old.client) notes.state lives notes.place
+      (λ m here. acted_stands (state_of old.client) (live_of old.client) m.first m.node.durable here.state act)
+
   stays : new.client ≡ old.client → new ≡ old
-  stays is = ap (λ (name : List ℕ). laptop name new.client) same ∙ ap (laptop old.name) is
+  stays is =
+      ap (λ (name : List ℕ). laptop name new.client new.link) same ∙ ap (λ (client : Client). laptop old.name client new.link) is
+      ∙ ap (laptop old.name old.client) same_link
     where
-      laptop : List ℕ → Client → Laptop
-      laptop name client = record { name = name; client = client }
+      laptop : List ℕ → Client → LinkState → Laptop
+      laptop name client link = record { name = name; client = client; link = link }
 
   step_noted : (live : Option Live) → live ≡ live_of old.client → live_of new.client ≡ live_of old.client → (step : Step)
       → StepIsIfAny old.client live step new.client → StepNoted step old new
   step_noted None is lives step does = absurd does
-  step_noted (Some l) is lives (steps.Acted acts over) does = noted_acted does.act does.notes lives
-  step_noted (Some l) is lives (steps.Fetch want path) does =
+  step_noted (Some l) is lives (steps.Acted acts ended) does = noted_acted does.act does.notes lives
+  step_noted (Some l) is lives (steps.Fetch request path) does =
       (stays does.1.stays, does.0, subst IsFirstOf is does.1.first)
   step_noted (Some l) is lives (steps.AtEnd acts) does = stays does.2
   step_noted (Some l) is lives (steps.AtLimit acts) does = stays does.3
@@ -146,12 +197,18 @@ module _ (old new : Laptop) (same : new.name ≡ old.name) (tied : IsTied new.cl
 
   -- ---- the end
 
-  pub gone_is : (gone : client.Ended) (acts : List Act) → may_end (state_of old.client) (live_of old.client) ≡ true
-      → EndsIfAny (state_of old.client) (state_of old.client).running (live_of old.client) gone acts
-      → Notes Ended old.client new.client → live_of new.client ≡ None → laptops.Ended gone acts old new
-  gone_is gone acts over ends notes lives = record {
-    noted = noted_ended gone acts ends notes lives;
-    ends = λ m it here runs. end_of old m it here runs gone acts over ends;
+  noted_ended : (ended : client.Ended) → EndsIfAny (state_of old.client) (state_of old.client).running (live_of old.client) ended
+      → Notes Ended old.client new.client → live_of new.client ≡ None → Noted end old new
+  noted_ended ended ends notes lives =
+      noted end _ None notes.state lives notes.place
+      (λ m here. ended_stands (state_of old.client) (live_of old.client) m.first m.node.durable here.state ended ends)
+
+  pub gone_is : (ended : client.Ended) (gone : Gone) → IsTold old ended gone → may_end (state_of old.client) (live_of old.client) ≡ true
+      → EndsIfAny (state_of old.client) (state_of old.client).running (live_of old.client) ended
+      → Notes Ended old.client new.client → live_of new.client ≡ None → laptops.Ended gone old new
+  gone_is ended gone told may ends notes lives = record {
+    noted = noted_ended ended ends notes lives;
+    ends = λ m it here runs. end_of old m it here runs ended gone told may ends;
     waits = ap (λ (s : State). waits_of s.items) notes.state
         ∙ joined_waits (state_of old.client).items (state_of old.client).running notes.follows;
   }

@@ -20,12 +20,12 @@ use Rattle.iot_client.specs.Records.{CanFollow, with_acts, ended, left, after}
 use Rattle.iot_client.specs.Ties.{Live, state_of, live_of, count}
 use Rattle.iot_client.specs.Calls.{has_ended, next_acts, missed, StepIs, Ends, EndsIfAny}
 use Rattle.iot_client.specs.declared.client.Client.{Client}
-use Rattle.iot_client.specs.declared.record.Record.TheVariants.{Acted, Ended, Left}
+use Rattle.iot_client.specs.declared.record.Record.TheVariants.{Held, Fetched, Acted, Ended, Left}
 use Rattle.iot_client.specs.declared.running.Ended as client
 use Rattle.iot_client.specs.declared.steps.Step.{Step}
 use Rattle.iot_client.specs.declared.steps.Step.TheVariants as steps
 use Rattle.iot_machine.specs.Clients as clients
-use Rattle.iot_machine.specs.Clients.{ClientState, local_run, base, plain_run, so_far, one_more, act_once}
+use Rattle.iot_machine.specs.Clients.{ClientState, local_run, base, plain_run, so_far, hold, anew, fetch, one_more, act_once}
 use Rattle.iot_machine.specs.Clients.{item_of, joined, end, leave, leave_by, Acts, next_away, next_by, next_step}
 use Rattle.iot_judging.proofs.JudgingLaws.{run_tree}
 use Rattle.iot_judging.proofs.SpelledTreesLaws.{run_spelled}
@@ -50,7 +50,36 @@ more_by act (Some running) (Some own) first (Some it) stands = record {
   class = stands.class;
 }
 
+-- none runs, whatever else was known
+idle_by : (r : Option Transaction) (live : Option Live) (first : Bool) (o : Option clients.Running) → r ≡ None
+    → RunningStandsIfAny r live first o → RunningStandsIfAny r None first o
+idle_by None live first None idle stands = refl
+idle_by None live first (Some it) idle stands = absurd stands
+idle_by (Some running) live first o idle stands = absurd cc
+
+-- it begins anew
+anew_by : (r : Option Transaction) (live : Option Live) (first : Bool) (o : Option clients.Running) → RunningStandsIfAny r live first o
+    → RunningStandsIfAny (with_acts (λ acts. []) r) live first (option_map anew o)
+anew_by None live first None stands = stands
+anew_by None live first (Some it) stands = absurd stands
+anew_by (Some running) live first None stands = absurd stands
+anew_by (Some running) None first (Some it) stands = absurd stands
+anew_by (Some running) (Some own) first (Some it) stands = record {
+  number = stands.number;
+  name = stands.name;
+  code = stands.code;
+  script = stands.script;
+  acts = refl;
+  class = stands.class;
+}
+
 -- ---- the transactions that wait
+
+-- if none waits, that is so on each tree
+none_stand : (items : List Item) (t u : Nodes) (ms : List clients.Item) → items ≡ [] → ItemsStand items t ms → ItemsStand items u ms
+none_stand [] t u [] none stand = tt
+none_stand [] t u (m ∷ ms) none stand = absurd stand
+none_stand (item ∷ items) t u ms none stand = absurd cc
 
 more_stand : (items : List Item) (t : Nodes) (ms : List clients.Item) (item : Item) (m : clients.Item) → ItemsStand items t ms
     → ItemStands (after_each t items) item m → ItemsStand (items ++ item ∷ []) t (ms ++ m ∷ [])
@@ -60,8 +89,8 @@ more_stand (head ∷ items) t [] item m all it = absurd all
 more_stand (head ∷ items) t (other ∷ ms) item m all it = (all.0, more_stand items (after_acts t head.acts) ms item m all.1 it)
 
 -- the transaction that ends has the acts of its own run
-ended_item : (s : State) (running : Transaction) (own : Live) (first : Bool) (it : clients.Running) (gone : client.Ended) (acts : List Act)
-    → Some running ≡ s.running → RunningStands running own first it → Ends s running own gone acts
+ended_item : (s : State) (running : Transaction) (own : Live) (first : Bool) (it : clients.Running) (gone : client.Ended)
+    → Some running ≡ s.running → RunningStands running own first it → Ends s running own gone
     → ItemStands (after_items s)
     (record {
       tid = running.number;
@@ -72,26 +101,26 @@ ended_item : (s : State) (running : Transaction) (own : Live) (first : Bool) (it
       stage = Waiting;
     })
     (item_of it)
-ended_item s running own first it gone acts is stands ends = record {
+ended_item s running own first it gone is stands ends = record {
   number = stands.number;
   name = stands.name;
   budget = refl;
   few = omega arith;
   script = stands.script;
-  acts = sym ends.recorded ∙ sym ends.whole_acts ∙ ap (λ (code : Code). (run code empty (after_items s) ACT_LIMIT).acts) stands.code;
+  acts = sym ends.whole_acts ∙ ap (λ (code : Code). (run code empty (after_items s) ACT_LIMIT).acts) stands.code;
   tree =
       ap (λ (r : Option Transaction). after_acts (after_items s) (acts_of r)) is ∙ sym ends.whole_tree
       ∙ ap (λ (code : Code). (run code empty (after_items s) ACT_LIMIT).tree) stands.code;
 }
 
 ended_items : (s : State) (ms : List clients.Item) (r : Option Transaction) (live : Option Live) (first : Bool) (o : Option clients.Running)
-    (gone : client.Ended) (acts : List Act) → r ≡ s.running → ItemsStand s.items s.held ms → RunningStandsIfAny r live first o
-    → EndsIfAny s r live gone acts → ItemsStand (s.items ++ ended r) s.held (joined ms o)
-ended_items s ms None live first o gone acts is all stands ends = absurd ends
-ended_items s ms (Some running) None first o gone acts is all stands ends = absurd ends
-ended_items s ms (Some running) (Some own) first None gone acts is all stands ends = absurd stands
-ended_items s ms (Some running) (Some own) first (Some it) gone acts is all stands ends =
-    more_stand s.items s.held ms _ _ all (ended_item s running own first it gone acts is stands ends)
+    (gone : client.Ended) → r ≡ s.running → ItemsStand s.items s.held ms → RunningStandsIfAny r live first o
+    → EndsIfAny s r live gone → ItemsStand (s.items ++ ended r) s.held (joined ms o)
+ended_items s ms None live first o gone is all stands ends = absurd ends
+ended_items s ms (Some running) None first o gone is all stands ends = absurd ends
+ended_items s ms (Some running) (Some own) first None gone is all stands ends = absurd stands
+ended_items s ms (Some running) (Some own) first (Some it) gone is all stands ends =
+    more_stand s.items s.held ms _ _ all (ended_item s running own first it gone is stands ends)
 
 -- then one waits
 pub joined_waits : (items : List Item) (r : Option Transaction) → IsSome r → waits_of (items ++ ended r) ≡ true
@@ -102,6 +131,27 @@ joined_waits (item ∷ items) r some = refl
 -- ---- a record each
 
 module _ (s : State) (live : Option Live) (first : Bool) (m : ClientState) (here : StateStands s live first m) where
+  pub held_stands : (t : Nodes) → CanFollow s (Held t) → IsTree t → IsSpelledTree t → StateStands (after s (Held t)) None first (hold t m)
+  held_stands t can tree spelled = record {
+    held = refl;
+    items = none_stand s.items s.held t m.items can.1 here.items;
+    running = idle_by s.running live first m.running can.0 here.running;
+    last = here.last;
+    tree = tree;
+    spelled = spelled;
+  }
+
+  pub fetched_stands : (t : Nodes) → CanFollow s (Fetched t) → IsTree t → IsSpelledTree t
+      → StateStands (after s (Fetched t)) live first (fetch t m)
+  fetched_stands t can tree spelled = record {
+    held = refl;
+    items = none_stand s.items s.held t m.items can.1 here.items;
+    running = anew_by s.running live first m.running here.running;
+    last = here.last;
+    tree = tree;
+    spelled = spelled;
+  }
+
   pub acted_stands : (act : Act) → StateStands (after s (Acted act)) live first (act_once m)
   acted_stands act = record {
     held = here.held;
@@ -112,11 +162,10 @@ module _ (s : State) (live : Option Live) (first : Bool) (m : ClientState) (here
     spelled = here.spelled;
   }
 
-  pub ended_stands : (gone : client.Ended) (acts : List Act) → EndsIfAny s s.running live gone acts
-      → StateStands (after s Ended) None first (end m)
-  ended_stands gone acts ends = record {
+  pub ended_stands : (gone : client.Ended) → EndsIfAny s s.running live gone → StateStands (after s Ended) None first (end m)
+  ended_stands gone ends = record {
     held = here.held;
-    items = ended_items s m.items s.running live first m.running gone acts refl here.items here.running ends;
+    items = ended_items s m.items s.running live first m.running gone refl here.items here.running ends;
     running = refl;
     last = here.last;
     tree = here.tree;
@@ -174,7 +223,7 @@ module _ (old new : Client) (own : Live) (first : Bool) (t : Nodes) (it : client
   step_by (steps.Acted acts over) is =
       on_to is.can.goes_on is.can.within
       ∙ acts_next first (next_away t it) (λ known. sym away ∙ is.can.known (class ∙ known))
-  step_by (steps.Fetch want path) is =
+  step_by (steps.Fetch request path) is =
       on_to is.1.goes_on is.1.within ∙ ap (λ (f : Bool). next_by f (next_away t it)) (sym class ∙ is.1.first)
       ∙ ap (next_by true) (sym away ∙ is.1.miss)
   step_by (steps.AtEnd acts) is = is_at_end first t it (sym ends ∙ is.0)

@@ -1,70 +1,72 @@
--- What the server lends. A tree that is cut down depends on the known paths one by one.
-use Rattle.std.proofs.Common.{◌≡◌, Bool, cond, None, Some, List, [], ◌∷◌, ◌&&◌, ◌||◌, ℕ, true, option_map, refl, sym, ap, subst, ◌∙◌}
-use Rattle.std.proofs.lemmas.Option.{same_Some}
-use Rattle.std.specs.FinMap.{get, same_map}
-use Rattle.std.specs.List.{list_all}
-use Rattle.iot_text.proofs.PathsLaws.{path_total, path_same}
-use Rattle.iot_tree.specs.Ancestors.{proper_prefixes}
-use Rattle.iot_tree.specs.Snapshots.{seen, prune, has, known, widen, wants}
-use Rattle.iot_tree.specs.Tree.{Path, Nodes, IsTree}
+-- What the server replies to a request for objects.
+use Rattle.std.proofs.Common.{◌≡◌, ◌<◌, ◌^◌, ℕ, List, [], ◌++◌, length, Some, refl, ap, subst, ◌∙◌}
+use Rattle.iot_tree.specs.Snapshots.{known}
+use Rattle.iot_tree.specs.Tree.{Nodes}
 use Rattle.iot_tree.specs.declared.want.Want.{Want}
-use Rattle.iot_tree.proofs.PruneLaws.{get_pruned}
-use Rattle.iot_limits.specs.Spelled.{IsSpelledTree}
+use Rattle.iot_client.specs.Messages.{IsRefresh}
+use Rattle.iot_server.specs.Replies.{Answers, IsHandled, records_after}
+use Rattle.iot_server.specs.Servers as servers
+use Rattle.iot_server.specs.declared.server.Server.{Server}
+use Rattle.iot_store.specs.States.{State}
+use Rattle.iot_wire.specs.declared.requests.Request.{Request}
+use Rattle.iot_wire.specs.declared.requests.Request.TheVariants as requests
+use Rattle.iot_wire.specs.declared.replies.Reply.TheVariants as replies
 use Rattle.iot_machine.specs.Clients.{snapshot}
-use Rattle.iot_machine.specs.Machine.{Commit, tree_after}
-use Rattle.iot_machine.specs.Nodes.{Node}
-use Rattle.iot_machine.specs.Refining.{Refines}
 use Rattle.iot_machine.specs.Serving.{Lends}
-use Rattle.iot_judging.proofs.RunTreesLaws.{list_tree, list_spelled}
-use Rattle.iot_judging.proofs.SpelledTreesLaws.{snapshot_tree, snapshot_spelled}
-use Rattle.iot_world.specs.Servers.{is_up, tree_of, ServerStands, ServerIsSound}
-use Rattle.iot_world.specs.declared.server.Server.{Server}
-use Rattle.iot_world.proofs.CallsLaws.{asks}
-use Rattle.iot_world.proofs.ServersLaws.{up_tree}
+use Rattle.iot_world.specs.Messages.{commit_said, Spells, SpellsTree}
+use Rattle.iot_world.specs.Servers.{count_of, Handled, Serves}
+use Rattle.iot_world.specs.declared.message.Message.{Message}
+use Rattle.iot_world.specs.declared.server.ServerNode.{ServerNode}
+use Rattle.iot_world.specs.declared.server.ServerNode.TheVariants.{Up}
+use Rattle.iot_world.proofs.ServersLaws.{stands_still, one_request, nothing_said}
 
-module _ (one other : Path → Bool) (same : (p : Path) → one p ≡ other p) where
-  all_same : (paths : List Path) → list_all one paths ≡ list_all other paths
-  all_same [] = refl
-  all_same (p ∷ paths) = λ i. same p i && all_same paths i
+module _ {D : Type 0} (reads : D → List ℕ) (may_leave : D → List ℕ → Type 0) (message : Message) (reply : List ℕ) (client : ℕ)
+    (held : Nodes) (want : Want) (short : length message.request.items < 2 ^ 64)
+    (asks : IsRefresh client held want message.request.items) where
+  module _ (was now : Server D) (synced : servers.IsSynced reads may_leave now)
+      (handled : IsHandled (servers.state_of was) (servers.bodies_on reads was) message.request.items reply (servers.state_of now)
+      (servers.bodies_on reads now)) where
+    asked : handled.request ≡ requests.Refresh client (known held) want
+    asked = one_request message.request.items short handled.request (requests.Refresh client (known held) want) handled.is asks
 
-  -- the same paths leave the same tree
-  pub prune_same : (s : Nodes) → prune s one ≡ prune s other
-  prune_same s =
-      same_map path_total path_same (prune s one) (prune s other)
-      (λ q.
-      get_pruned s one q
-      ∙ (λ i. cond (all_same (proper_prefixes q) i) (option_map (seen (same q i)) (get s q)) None)
-      ∙ sym (get_pruned s other q))
+    told : (handled.answered.reply ≡ replies.Objects (snapshot held want (servers.state_of was).tree))
+        × (servers.state_of now ≡ servers.state_of was)
+    told =
+        subst (λ (request : Request). Answers (servers.state_of was) request handled.answered.reply (servers.state_of now)) asked
+        handled.answered.answers
 
--- what is lent, if it is cut down to the paths that are known or wanted
-pub lent : (held here server : Nodes) (want : Want) (known_paths paths : List Path) (t : Nodes) → known_paths ≡ known held
-    → ((p : Path) → has paths p ≡ widen (has known_paths) here want p) → t ≡ prune here (has paths) → Some here ≡ Some server
-    → t ≡ snapshot held want server
-lent held here server want known_paths paths t is each cut same =
-    cut
-    ∙ prune_same (has paths) (widen (has (known held)) here want)
-    (λ p. each p ∙ ap (λ (known_paths : List Path). has known_paths p || wants here want p) is) here
-    ∙ ap (snapshot held want) (same_Some here server same)
+    recorded : servers.bodies_on reads now ≡ servers.bodies_on reads was
+    recorded =
+        handled.answered.records
+        ∙ ap (λ (request : Request). records_after request handled.answered.reply (servers.bodies_on reads was)) asked
 
--- ---- a request for objects
+    nothing_more : (x : List ℕ)
+        → x ++ commit_said (length (servers.state_of was).labels) (length (servers.state_of now).labels) message ≡ x ++ []
+    nothing_more x =
+        ap (λ (s : State). x ++ commit_said (length (servers.state_of was).labels) (length s.labels) message) told.1
+        ∙ ap (λ (text : List ℕ). x ++ text) (nothing_said (length (servers.state_of was).labels) message)
 
-module _ {D : Type 0} (reads : D → List ℕ) (may_leave : D → List ℕ → Type 0) (server : Server D) (held : Nodes) (want : Want) (t : Nodes)
-    (is : (tree : Nodes) → tree_of server ≡ Some tree → t ≡ snapshot held want tree) (up : is_up server ≡ true) where
-  snapshot_is : (node : Node (List Commit)) → ServerStands reads may_leave server node → t ≡ snapshot held want (tree_after node.durable)
-  snapshot_is node here = is (tree_after node.durable) (up_tree reads may_leave server node up here)
+    lends_up : (x y : List ℕ)
+        → y ≡ x ++ commit_said (length (servers.state_of was).labels) (length (servers.state_of now).labels) message
+        → Serves reads may_leave (Lends held want) SpellsTree reply (Up was) (Up now) x y
+    lends_up x y said = record {
+      answer = snapshot held want (servers.state_of was).tree;
+      spelled = subst (Spells reply) told.0 handled.answered.spelled;
+      step = record {
+        step = λ node here. (
+          [],
+          node,
+          said ∙ nothing_more x,
+          (refl, ap (λ (s : State). Some (snapshot held want s.tree)) here.keeps.has_state, refl),
+          stands_still reads may_leave was now node synced recorded told.1 here,
+        );
+      };
+    }
 
-  -- it is answered
-  pub lends : (x : List ℕ) → Refines (ServerStands reads may_leave) (Lends held want) server server x x (Some t)
-  lends x = asks server x (Some t) (λ node here. ap Some (snapshot_is node here))
-
-  -- what it answers can be held
-  module _ (sound : ServerIsSound reads may_leave server) where
-    pub lent_tree : IsTree t
-    lent_tree =
-        subst IsTree (sym (snapshot_is sound.node sound.stands))
-        (snapshot_tree held want (tree_after sound.node.durable) (list_tree sound.node.durable))
-
-    pub lent_spelled : IsSpelledTree t
-    lent_spelled =
-        subst IsSpelledTree (sym (snapshot_is sound.node sound.stands))
-        (snapshot_spelled held want (tree_after sound.node.durable) (list_spelled sound.node.durable sound.stands.spelled))
+  -- its tree, cut down to what is known or wanted
+  pub lends : (old new : ServerNode D) (x y : List ℕ) → Handled reads may_leave message.request.items reply old new
+      → y ≡ x ++ commit_said (count_of old) (count_of new) message
+      → Serves reads may_leave (Lends held want) SpellsTree reply old new x y
+  lends old new x y handled said = rw (handled.old_is, handled.new_is)
+      (lends_up handled.was handled.now handled.synced handled.handled x y
+      (said ∙ (λ i. x ++ commit_said (count_of (handled.old_is i)) (count_of (handled.new_is i)) message)))

@@ -6,10 +6,16 @@ pub mod LendingLaws
 pub mod JudgesLaws
 pub mod LaptopsLaws
 pub mod LaptopStepsLaws
+pub mod BroughtLaws
+pub mod VerdictLaws
 pub mod LaptopCallsLaws
+pub mod LaptopEndsLaws
 pub mod StepsLaws
 pub mod ReadyLaws
+pub mod BringingLaws
+pub mod QueuesLaws
 pub mod TransactionsLaws
 pub mod EndsLaws
 pub mod EventsLaws
 pub mod DisksLaws
+pub mod WorldLaws

@@ -84,3 +84,20 @@ pub set_same : {A : Type 0} (xs : List A) (c : ℕ) (d : A) → slice_set xs c (
 set_same [] c d = refl
 set_same (z ∷ zs) zero d = refl
 set_same (z ∷ zs) (suc c) d = ap (λ zs. z ∷ zs) (set_same zs c d)
+
+-- what is so of each element at its place is so of the list in which one is set that is so at its place
+pub each_place_set : {A : Type 0} (P : ℕ → A → Type 0) (xs : List A) (c : ℕ) (x : A)
+    → ((n : ℕ) (y : A) → slice_get xs n ≡ Some y → P n y) → P c x → (n : ℕ) (y : A) → slice_get (slice_set xs c x) n ≡ Some y → P n y
+each_place_set P [] c x all it n y at = absurd cc
+each_place_set P (z ∷ zs) zero x all it zero y at = subst (P zero) (same_Some x y at) it
+each_place_set P (z ∷ zs) zero x all it (suc n) y at = all (suc n) y at
+each_place_set P (z ∷ zs) (suc c) x all it zero y at = all zero y at
+each_place_set P (z ∷ zs) (suc c) x all it (suc n) y at = each_place_set (λ n. P (suc n)) zs c x (λ n y at. all (suc n) y at) it n y at
+
+-- so it is of a list with one more at its end
+pub each_place_push : {A : Type 0} (P : ℕ → A → Type 0) (xs : List A) (x : A)
+    → ((n : ℕ) (y : A) → slice_get xs n ≡ Some y → P n y) → P (length xs) x → (n : ℕ) (y : A) → slice_get (xs ++ x ∷ []) n ≡ Some y → P n y
+each_place_push P [] x all it zero y at = subst (P zero) (same_Some x y at) it
+each_place_push P [] x all it (suc n) y at = absurd cc
+each_place_push P (z ∷ zs) x all it zero y at = all zero y at
+each_place_push P (z ∷ zs) x all it (suc n) y at = each_place_push (λ n. P (suc n)) zs x (λ n y at. all (suc n) y at) it n y at

@@ -1,21 +1,21 @@
 -- A world that is ready for an event of a client, and what it is after a step.
-use Rattle.std.proofs.Common.{◌≡◌, ℕ, ◌<◌, Bool, List, [], ◌∷◌, length, get_or, refl, sym, ap, subst, ◌∙◌}
-use Rattle.std.proofs.Common.{false, Option, Some, None, is_some}
+use Rattle.std.proofs.Common.{◌≡◌, ℕ, ◌<◌, ◌≤◌, Bool, List, [], ◌∷◌, length, get_or, refl, sym, ap, subst, ◌∙◌, arith}
+use Rattle.std.proofs.Common.{false, Option, Some, None, is_some, slice_get, slice_set}
 use Rattle.std.proofs.lemmas.Option.{slice_get_read, same_Some}
 use Rattle.iot_tree.specs.Tree.{Nodes}
 use Rattle.iot_queue.specs.declared.items.Item.{Item}
-use Rattle.iot_client.specs.States.{Transaction}
-use Rattle.iot_client.specs.Ties.{Live, state_of, live_of}
+use Rattle.iot_client.specs.States.{Transaction, State}
+use Rattle.iot_client.specs.Ties.{Live, state_of, live_of, place_of}
 use Rattle.iot_machine.specs.Calls.{Call}
 use Rattle.iot_machine.specs.Clients as clients
 use Rattle.iot_machine.specs.Clients.{ClientState, hold}
 use Rattle.iot_machine.specs.Machine as machine
 use Rattle.iot_machine.specs.Machine.{Machine, client_in}
 use Rattle.iot_world.specs.Laptops.{LaptopStands, Stands, RunningStandsIfAny, ItemsStand, Noted, waits_of}
-use Rattle.iot_world.specs.Servers.{is_up}
-use Rattle.iot_world.specs.World.{Steps, IsReady, IsApart, IsIdle}
+use Rattle.iot_world.specs.World.{Steps, IsReady, IsApart, IsIdle, CanHold, SameCounts, KeepsState}
 use Rattle.iot_world.specs.declared.laptop.Laptop.{Laptop}
 use Rattle.iot_world.specs.declared.world.World.{World}
+use Rattle.iot_world.proofs.ListLaws.{get_set}
 use Rattle.iot_world.proofs.StepsLaws.{IsAt, laptop_stands}
 
 -- a client that is not changed twice
@@ -35,18 +35,47 @@ module _ {D : Type 0} (reads : D → List ℕ) (may_leave : D → List ℕ → T
     pub found_some : Stands laptop
     found_some = record { machine = client_in ready.machine c; stands = found_stands }
 
+  -- its place is one of eight
+  pub found_low : (c : ℕ) (world : World D) (laptop : Laptop) (ready : IsReady reads may_leave c world)
+      → laptop ≡ get_or world.clients.items c laptop → place_of laptop.client ≤ 7
+  found_low c world laptop ready value =
+      let is : place_of laptop.client ≡ c = ready.stands.placed c laptop (found c world laptop ready value) in
+      omega (arith, is, ready.inside, ready.stands.few)
+
   -- ---- after a step
 
   pub ready_after : {A : Type 0} {call : Call Machine A} (c : ℕ) (old new : World D) (x y : List ℕ) (a : A)
-      → IsReady reads may_leave c old → Steps reads may_leave call old new x y a → IsApart old new → IsReady reads may_leave c new
-  ready_after c old new x y a ready one apart =
+      → IsReady reads may_leave c old → Steps reads may_leave call old new x y a → SameCounts old new → IsReady reads may_leave c new
+  ready_after c old new x y a ready one same =
       let s = one.step ready.machine ready.stands in
-      record {
-        machine = s.1;
-        stands = s.4;
-        up = ap is_up apart.server ∙ ready.up;
-        inside = subst (λ (n : ℕ). c < n) (sym apart.clients) ready.inside;
-      }
+      record { machine = s.1; stands = s.4; inside = subst (λ (n : ℕ). c < n) (sym same.clients) ready.inside }
+
+-- a client was put back whose state is as it was
+pub state_put : {D : Type 0} (c : ℕ) (old : World D) (was laptop : Laptop) → IsAt old c was → state_of laptop.client ≡ state_of was.client
+    → (was' : Laptop) → IsAt old c was' → (laptop' : Laptop) → slice_get (slice_set old.clients.items c laptop) c ≡ Some laptop'
+    → state_of laptop'.client ≡ state_of was'.client
+state_put c old was laptop at same was' at' laptop' there =
+    ap (λ (l : Laptop). state_of l.client) (sym (get_set old.clients.items c laptop laptop' there))
+    ∙ same ∙ ap (λ (l : Laptop). state_of l.client) (one_at old c was was' at at')
+
+-- nothing runs or waits as long as the state is the same
+pub can_still : {D : Type 0} (c : ℕ) (old new : World D) (was : Laptop) → IsAt old c was → CanHold c old → KeepsState c old new →
+    CanHold c new
+can_still c old new was at can same =
+    λ laptop there.
+    let e = same was at laptop there in (
+      ap (λ (s : State). s.running) e ∙ (can was at).0,
+      ap (λ (s : State). s.items) e ∙ (can was at).1,
+    )
+
+pub same_counts : {D : Type 0} (world : World D) → SameCounts world world
+same_counts world = record { clients = refl; scripts = refl }
+
+pub counts_then : {D : Type 0} (old mid new : World D) → SameCounts old mid → SameCounts mid new → SameCounts old new
+counts_then old mid new one two = record { clients = two.clients ∙ one.clients; scripts = two.scripts ∙ one.scripts }
+
+pub apart_counts : {D : Type 0} (old new : World D) → IsApart old new → SameCounts old new
+apart_counts old new apart = record { clients = apart.clients; scripts = apart.scripts }
 
 pub apart_then : {D : Type 0} (old mid new : World D) → IsApart old mid → IsApart mid new → IsApart old new
 apart_then old mid new one two = record {

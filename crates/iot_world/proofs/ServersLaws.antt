@@ -1,35 +1,43 @@
 -- What a server does is what is said of it.
-use Rattle.std.proofs.Common.{◌≡◌, ℕ, true, false, List, [], ◌∷◌, ◌++◌, length, refl, sym, ap, subst, ◌∙◌, Err, Some, None, codes}
-use Rattle.std.proofs.lemmas.List.{append-nil, length-map}
+use Rattle.std.proofs.Common.{◌≡◌, ◌<◌, ℕ, ◌+◌, ◌^◌, true, false, List, [], ◌∷◌, ◌++◌, length, Some, None, codes}
+use Rattle.std.proofs.Common.{refl, sym, ap, subst, ◌∙◌, arith}
+use Rattle.std.proofs.lemmas.Bool.{le-leb, lt-leb}
 use Rattle.iot_disk.specs.Disk.{Arms}
-use Rattle.iot_disk.specs.Faults.{CountsJournalFault}
 use Rattle.iot_disk.specs.declared.faults.StartFault.{StartFault}
 use Rattle.iot_disk.specs.declared.faults.StartFault.TheVariants as start
-use Rattle.iot_disk.specs.declared.faults.JournalFault.{JournalFault}
-use Rattle.iot_disk.specs.declared.faults.JournalFault.TheVariants as append
 use Rattle.iot_journal.specs.Decoding.{Encodes, decoded}
 use Rattle.iot_store.specs.States.{State, opening, after_commit}
 use Rattle.iot_store.specs.Standing.{Leads, StandFor}
 use Rattle.iot_store.specs.Causes.{HasCause, TakesBytes}
-use Rattle.iot_store.specs.Store as store
-use Rattle.iot_store.specs.declared.store.Store.{Store}
+use Rattle.iot_server.specs.Servers as servers
+use Rattle.iot_server.specs.declared.server.Server.{Server}
 use Rattle.iot_tree.specs.Tree.{Nodes}
 use Rattle.iot_tree.specs.declared.acts.Act.{Act}
 use Rattle.iot_tree.specs.declared.labels.Label.{Label}
 use Rattle.iot_store.specs.Records.{record_spelling}
+use Rattle.iot_tree.specs.declared.labels.Way.TheVariants.{Certified}
+use Rattle.iot_wire.specs.Messages.{IsOneMessage}
+use Rattle.iot_wire.specs.Rules.{IsRequest}
+use Rattle.iot_wire.specs.Spelling.{request_spelling}
+use Rattle.iot_wire.proofs.MessagesLaws.{call_one}
+use Rattle.iot_wire.proofs.SpellingLaws.{request_laws}
+use Rattle.iot_machine.specs.Calls.{Call}
 use Rattle.iot_machine.specs.Refining.{Refines}
 use Rattle.iot_machine.specs.Nodes.{Node, opened, changed, back}
-use Rattle.iot_machine.specs.Stops.{Appends, ComesBack, Crashes, Restarts, Shows}
+use Rattle.iot_machine.specs.Stops.{ComesBack, Crashes, Restarts, Shows}
 use Rattle.iot_machine.specs.Machine.{Commit, add_commit, tree_after}
 use Rattle.iot_machine.specs.Serving.{server_name}
-use Rattle.iot_machine.specs.Texts.{line, tree_text}
-use Rattle.iot_world.specs.Faults.{FaultCounts, of_start, of_append}
-use Rattle.iot_world.specs.Records.{IsImage, AreImages, label_of, records_of, state_of}
+use Rattle.iot_machine.specs.Texts.{line, tree_text, commit_line}
+use Rattle.iot_world.specs.Messages.{commit_said, name_of}
+use Rattle.iot_world.specs.Faults.{FaultCounts, of_start}
+use Rattle.iot_world.specs.Records.{IsImage, AreImages, records_of, state_of}
 use Rattle.iot_count.specs.Counts.{Counted, IsSteady}
-use Rattle.iot_world.specs.Servers.{is_up, disk_of, count_of, tree_of, Keeps, IsStore, ServerStands, ServerIsSound, Falls, AreOf}
-use Rattle.iot_world.specs.Servers.{SameDisk, HasDisk}
-use Rattle.iot_world.specs.declared.server.Server.{Server}
-use Rattle.iot_world.specs.declared.server.Server.TheVariants.{Up, Down, Between}
+use Rattle.iot_world.specs.Servers.{is_up, disk_of, tree_of, Keeps, IsStore, ServerStands, ServerIsSound, Falls, AreOf}
+use Rattle.iot_world.specs.Servers.{SameDisk, HasDisk, IsLive}
+use Rattle.iot_world.specs.declared.message.Message.{Message}
+use Rattle.iot_world.specs.declared.message.Printed.{Printed}
+use Rattle.iot_world.specs.declared.server.ServerNode.{ServerNode}
+use Rattle.iot_world.specs.declared.server.ServerNode.TheVariants.{Up, Down, Between}
 use Rattle.iot_world.proofs.CallsLaws.{bind, asks, does, says, says_this}
 use Rattle.iot_world.proofs.RecordsLaws.{record_is, state_is, list_spelled_more}
 
@@ -52,14 +60,34 @@ empty_stands bytes none = record { bodies = []; read = ap decoded none ∙ nothi
 pub image_stands : (records : List (List ℕ)) (state : State) (bytes : List ℕ) → IsImage records state bytes → StandFor bytes state
 image_stands records state bytes image = record { bodies = records; read = image.has_records; leads = image.leads }
 
+-- ---- requests
+
+-- bytes are the spelling of one request at most
+pub one_request : (bytes : List ℕ) → length bytes < 2 ^ 64 → IsOneMessage IsRequest request_spelling bytes
+one_request bytes short = call_one _ _ _ request_laws bytes short
+
+-- a server that has as many commits as before says nothing
+pub nothing_said : (n : ℕ) (message : Message) → commit_said n n message ≡ []
+nothing_said n message = rw (le-leb n n (omega arith)) refl
+
+-- one that has one more says so
+pub commit_is_said : (n : ℕ) (message : Message) (printed : Printed) → message.handed ≡ Some printed
+    → commit_said n (n + 1) message ≡ commit_line (n + 1) (name_of printed.transaction) Certified ++ printed.output
+commit_is_said n message printed is = rw (lt-leb (n + 1) n (omega arith), is) refl
+
+-- a step, and then a world that stands for the same
+pub moved : {W M A : Type 0} {stands : W → M → Type 0} {call : Call M A} (u v w : W) (x y : List ℕ) (a : A)
+    → ((m : M) → stands v m → stands w m) → Refines stands call u v x y a → Refines stands call u w x y a
+moved u v w x y a same one = record { step = λ m here. let s = one.step m here in (s.0, s.1, s.2, s.3, same s.1 s.4) }
+
 module _ {D : Type 0} (reads : D → List ℕ) (may_leave : D → List ℕ → Type 0) where
-  -- a store that was started from an image of records and a state has these
-  pub started : (disk : D) (it : Store D) (records : List (List ℕ)) (state : State) → decoded (reads disk) ≡ Encodes records
+  -- a server that was started from an image of records and a state has these
+  pub started : (disk : D) (it : Server D) (records : List (List ℕ)) (state : State) → decoded (reads disk) ≡ Encodes records
       → Leads records opening state
-      → store.IsSynced reads may_leave it
-      → decoded (reads disk) ≡ Encodes (store.bodies_on reads it)
-      → ((state : State) → StandFor (reads disk) state → store.state_of it ≡ state)
-      → IsStore reads may_leave records state it
+      → servers.IsSynced reads may_leave it
+      → decoded (reads disk) ≡ Encodes (servers.bodies_on reads it)
+      → ((state : State) → StandFor (reads disk) state → servers.state_of it ≡ state)
+      → IsStore reads may_leave records state (servers.store_of it)
   started disk it records state read leads synced found only = record {
     synced = synced;
     has_records = same_bodies _ _ (sym found ∙ read);
@@ -67,10 +95,10 @@ module _ {D : Type 0} (reads : D → List ℕ) (may_leave : D → List ℕ → T
   }
 
   -- one that was started from an empty disk has nothing
-  pub opened_stands : (disk : D) (it : Store D) → reads disk ≡ []
-      → store.IsSynced reads may_leave it
-      → decoded (reads disk) ≡ Encodes (store.bodies_on reads it)
-      → ((state : State) → StandFor (reads disk) state → store.state_of it ≡ state)
+  pub opened_stands : (disk : D) (it : Server D) → reads disk ≡ []
+      → servers.IsSynced reads may_leave it
+      → decoded (reads disk) ≡ Encodes (servers.bodies_on reads it)
+      → ((state : State) → StandFor (reads disk) state → servers.state_of it ≡ state)
       → ServerStands reads may_leave (Up it) (opened [])
   opened_stands disk it none synced found only = record {
     alive = refl;
@@ -78,88 +106,94 @@ module _ {D : Type 0} (reads : D → List ℕ) (may_leave : D → List ℕ → T
     spelled = tt;
   }
 
-  -- each image of a synced store has its records
-  pub store_images : (it : Store D) (records : List (List ℕ)) (state : State) → IsStore reads may_leave records state it
-      → AreImages records state (may_leave (store.disk_of it))
+  -- each image of a synced server has its records
+  pub store_images : (it : Server D) (records : List (List ℕ)) (state : State) → IsStore reads may_leave records state (servers.store_of it)
+      → AreImages records state (may_leave (servers.disk_of it))
   store_images it records state is = record {
     each = λ image here. record {
       has_records = ap decoded (is.synced.journal.only.is image here) ∙ is.synced.journal.encodes ∙ ap Encodes is.has_records;
       leads =
           subst (λ (bodies : List (List ℕ)). Leads bodies opening state) is.has_records
-          (subst (λ (s : State). Leads (store.bodies_on reads it) opening s) is.has_state is.synced.leads);
+          (subst (λ (s : State). Leads (servers.bodies_on reads it) opening s) is.has_state is.synced.leads);
     };
   }
 
   -- ---- what a server has
 
-  pub tree_is : (server : Server D) (node : Node (List Commit)) (tree : Nodes) → tree_of server ≡ Some tree
+  pub tree_is : (server : ServerNode D) (node : Node (List Commit)) (tree : Nodes) → tree_of server ≡ Some tree
       → ServerStands reads may_leave server node → tree ≡ tree_after node.durable
-  tree_is (Up it) node tree has here = sym (one_of (store.state_of it).tree tree has) ∙ ap (λ (s : State). s.tree) here.keeps.has_state
+  tree_is (Up it) node tree has here = sym (one_of (servers.state_of it).tree tree has) ∙ ap (λ (s : State). s.tree) here.keeps.has_state
   tree_is (Down disk) node tree has here = absurd cc
   tree_is Between node tree has here = absurd cc
 
-  pub count_is : (server : Server D) (node : Node (List Commit)) → is_up server ≡ true → ServerStands reads may_leave server node
-      → count_of server ≡ length node.durable
-  count_is (Up it) node up here = ap (λ (s : State). length s.labels) here.keeps.has_state ∙ length-map node.durable label_of
-  count_is (Down disk) node up here = absurd cc
-  count_is Between node up here = absurd cc
-
-  pub up_tree : (server : Server D) (node : Node (List Commit)) → is_up server ≡ true → ServerStands reads may_leave server node
+  pub up_tree : (server : ServerNode D) (node : Node (List Commit)) → is_up server ≡ true → ServerStands reads may_leave server node
       → tree_of server ≡ Some (tree_after node.durable)
   up_tree (Up it) node up here = ap (λ (s : State). Some s.tree) here.keeps.has_state
   up_tree (Down disk) node up here = absurd cc
   up_tree Between node up here = absurd cc
 
-  up_has : (server : Server D) (tree : Nodes) → tree_of server ≡ Some tree → is_up server ≡ true
+  up_has : (server : ServerNode D) (tree : Nodes) → tree_of server ≡ Some tree → is_up server ≡ true
   up_has (Up it) tree has = refl
   up_has (Down disk) tree has = absurd cc
   up_has Between tree has = absurd cc
 
-  down_has : (server : Server D) → tree_of server ≡ None → is_up server ≡ false
+  down_has : (server : ServerNode D) → tree_of server ≡ None → is_up server ≡ false
   down_has (Up it) none = absurd cc
   down_has (Down disk) none = refl
   down_has Between none = refl
 
-  -- ---- an append
+  -- ---- a request
 
-  pub appends : (old new : Store D) (commit : Commit) (tree : Nodes) (label : Label) (acts : List Act) (x : List ℕ)
-      → store.IsSynced reads may_leave new
-      → store.bodies_on reads new ≡ store.bodies_on reads old ++ record_spelling label acts ∷ []
-      → store.state_of new ≡ after_commit (store.state_of old) label acts
-      → Some (store.state_of old).tree ≡ Some tree → AreOf commit tree label acts
-      → Refines (ServerStands reads may_leave) (Appends server_name (add_commit commit)) (Up old) (Up new) x x true
-  appends old new commit tree label acts x synced recorded made has are = record {
-    step = λ node here.
-        let here_of : AreOf commit (tree_after node.durable) label acts =
-        subst (λ (t : Nodes). AreOf commit t label acts) (tree_is (Up old) node tree has here) are in (
-          [],
-          changed (add_commit commit) node,
-          sym (append-nil x),
-          (refl, refl, refl),
-          record {
-            alive = here.alive;
-            keeps = record {
-              synced = synced;
-              has_records =
-                  recorded ∙ ap (λ (bodies : List (List ℕ)). bodies ++ record_spelling label acts ∷ []) here.keeps.has_records
-                  ∙ sym (record_is node.durable commit label acts here_of);
-              has_state =
-                  made ∙ ap (λ (s : State). after_commit s label acts) here.keeps.has_state
-                  ∙ sym (state_is node.durable commit label acts here_of);
-            };
-            spelled = list_spelled_more node.durable commit here.spelled are.spelled;
-          },
-        );
+  -- a server that is alive takes requests
+  pub is_live : (server : ServerNode D) (node : Node (List Commit)) → is_up server ≡ true → ServerStands reads may_leave server node
+      → IsLive reads may_leave server
+  is_live (Up it) node up here = record { it = it; up = refl; synced = here.keeps.synced }
+  is_live (Down disk) node up here = absurd cc
+  is_live Between node up here = absurd cc
+
+  -- a server that has the records and the state that it had stands for what it stood for
+  pub stands_still : (was now : Server D) (node : Node (List Commit)) → servers.IsSynced reads may_leave now
+      → servers.bodies_on reads now ≡ servers.bodies_on reads was → servers.state_of now ≡ servers.state_of was
+      → ServerStands reads may_leave (Up was) node → ServerStands reads may_leave (Up now) node
+  stands_still was now node synced recorded made here = record {
+    alive = here.alive;
+    keeps = record {
+      synced = synced;
+      has_records = recorded ∙ here.keeps.has_records;
+      has_state = made ∙ here.keeps.has_state;
+    };
+    spelled = here.spelled;
+  }
+
+  -- one that has one record more, of this commit, and the state after it, stands for a list with this commit
+  pub stands_longer : (was now : Server D) (node : Node (List Commit)) (commit : Commit) (label : Label) (acts : List Act)
+      → servers.IsSynced reads may_leave now
+      → servers.bodies_on reads now ≡ servers.bodies_on reads was ++ record_spelling label acts ∷ []
+      → servers.state_of now ≡ after_commit (servers.state_of was) label acts
+      → AreOf commit (tree_after node.durable) label acts → ServerStands reads may_leave (Up was) node
+      → ServerStands reads may_leave (Up now) (changed (add_commit commit) node)
+  stands_longer was now node commit label acts synced recorded made are here = record {
+    alive = here.alive;
+    keeps = record {
+      synced = synced;
+      has_records =
+          recorded ∙ ap (λ (bodies : List (List ℕ)). bodies ++ record_spelling label acts ∷ []) here.keeps.has_records
+          ∙ sym (record_is node.durable commit label acts are);
+      has_state =
+          made ∙ ap (λ (s : State). after_commit s label acts) here.keeps.has_state
+          ∙ sym (state_is node.durable commit label acts are);
+    };
+    spelled = list_spelled_more node.durable commit here.spelled are.spelled;
   }
 
   -- ---- a crash
 
-  pub crash_down : (server : Server D) (x y : List ℕ) → is_up server ≡ false → y ≡ x ++ line (codes "down")
+  pub crash_down : (server : ServerNode D) (x y : List ℕ) → is_up server ≡ false → y ≡ x ++ line (codes "down")
       → Refines (ServerStands reads may_leave) (Crashes server_name) server server x y tt
   crash_down server x y down wrote =
       bind server server server x x y false tt (asks server x false (λ node here. sym down ∙ here.alive)) (says_this _ server x y wrote)
 
-  pub crash_up : (old new : Server D) (x y : List ℕ) → Falls old new → y ≡ x ++ line (codes "crash " ++ server_name)
+  pub crash_up : (old new : ServerNode D) (x y : List ℕ) → Falls old new → y ≡ x ++ line (codes "crash " ++ server_name)
       → Refines (ServerStands reads may_leave) (Crashes server_name) old new x y tt
   crash_up old new x y falls wrote = rw (falls.was, falls.is)
       (bind (Up falls.it) (Up falls.it) (Down _) x x y true tt (asks (Up falls.it) x true (λ node here. here.alive))
@@ -174,10 +208,10 @@ module _ {D : Type 0} (reads : D → List ℕ) (may_leave : D → List ℕ → T
   back_stands old disk sound image =
       image_stands (records_of sound.node.durable) (state_of sound.node.durable) (reads disk) (sound.stands.keeps.each (reads disk) image)
 
-  pub comes_back : (old disk : D) (it : Store D) (x y : List ℕ) → may_leave old (reads disk)
-      → store.IsSynced reads may_leave it
-      → decoded (reads disk) ≡ Encodes (store.bodies_on reads it)
-      → ((state : State) → StandFor (reads disk) state → store.state_of it ≡ state)
+  pub comes_back : (old disk : D) (it : Server D) (x y : List ℕ) → may_leave old (reads disk)
+      → servers.IsSynced reads may_leave it
+      → decoded (reads disk) ≡ Encodes (servers.bodies_on reads it)
+      → ((state : State) → StandFor (reads disk) state → servers.state_of it ≡ state)
       → y ≡ x ++ line (codes "restart " ++ server_name)
       → Refines (ServerStands reads may_leave) (ComesBack server_name) (Down old) (Up it) x y tt
   comes_back old disk it x y image synced found only wrote = record {
@@ -191,12 +225,12 @@ module _ {D : Type 0} (reads : D → List ℕ) (may_leave : D → List ℕ → T
         );
   }
 
-  pub restart_up : (it : Store D) (old new : Server D) (x y : List ℕ) → old ≡ Up it → new ≡ Up it → y ≡ x ++ line (codes "up")
+  pub restart_up : (it : Server D) (old new : ServerNode D) (x y : List ℕ) → old ≡ Up it → new ≡ Up it → y ≡ x ++ line (codes "up")
       → Refines (ServerStands reads may_leave) (Restarts server_name) old new x y tt
   restart_up it old new x y was is wrote = rw (was, is)
       (bind (Up it) (Up it) (Up it) x x y true tt (asks (Up it) x true (λ node here. here.alive)) (says_this _ (Up it) x y wrote))
 
-  pub restart_down : (disk : D) (old new : Server D) (x y : List ℕ) → old ≡ Down disk
+  pub restart_down : (disk : D) (old new : ServerNode D) (x y : List ℕ) → old ≡ Down disk
       → Refines (ServerStands reads may_leave) (ComesBack server_name) (Down disk) new x y tt
       → Refines (ServerStands reads may_leave) (Restarts server_name) old new x y tt
   restart_down disk old new x y was one = rw was
@@ -204,13 +238,13 @@ module _ {D : Type 0} (reads : D → List ℕ) (may_leave : D → List ℕ → T
 
   -- ---- what it shows
 
-  pub shows_tree : (server : Server D) (tree : Nodes) (x y : List ℕ) → tree_of server ≡ Some tree → y ≡ x ++ tree_text tree
+  pub shows_tree : (server : ServerNode D) (tree : Nodes) (x y : List ℕ) → tree_of server ≡ Some tree → y ≡ x ++ tree_text tree
       → Refines (ServerStands reads may_leave) (Shows (λ commits. tree_text (tree_after commits))) server server x y tt
   shows_tree server tree x y has wrote =
       bind server server server x x y true tt (asks server x true (λ node here. sym (up_has server tree has) ∙ here.alive))
       (says server x y (λ node here. wrote ∙ ap (λ (t : Nodes). x ++ tree_text t) (tree_is server node tree has here)))
 
-  pub shows_down : (server : Server D) (x y : List ℕ) → tree_of server ≡ None → y ≡ x ++ line (codes "down")
+  pub shows_down : (server : ServerNode D) (x y : List ℕ) → tree_of server ≡ None → y ≡ x ++ line (codes "down")
       → Refines (ServerStands reads may_leave) (Shows (λ commits. tree_text (tree_after commits))) server server x y tt
   shows_down server x y none wrote =
       bind server server server x x y false tt (asks server x false (λ node here. sym (down_has server none) ∙ here.alive))
@@ -226,12 +260,6 @@ start_counts start.Stopped bytes before now takes cause = cause
 start_counts start.Foreign bytes before now takes cause = absurd takes
 start_counts (start.Damaged at) bytes before now takes cause = absurd takes
 
--- the fault of an append
-pub append_counts : (T : Type 0) (fault : JournalFault) (before now : ℕ) → CountsJournalFault {T = T} (Err fault) before now
-    → FaultCounts (of_append fault) (record { before = before; after = now })
-append_counts T append.NoMemory before now counts = counts
-append_counts T append.Stopped before now counts = counts
-
 -- ---- disks
 
 pub one_disk : {D : Type 0} (one other : D) → Some one ≡ Some other → one ≡ other
@@ -239,7 +267,7 @@ one_disk one other e = cc
 
 module _ {D : Type 0} (arms_of : D → Arms) (faults_of : D → ℕ) where
   -- nothing was done to it
-  pub untouched : (old new : Server D) (counts : Counted → Type 0) → ((n : ℕ) → counts (record { before = n; after = n })) → HasDisk old
+  pub untouched : (old new : ServerNode D) (counts : Counted → Type 0) → ((n : ℕ) → counts (record { before = n; after = n })) → HasDisk old
       → new ≡ old → SameDisk arms_of faults_of counts old new
   untouched old new counts steady has same = record {
     was = has.disk;
@@ -251,7 +279,7 @@ module _ {D : Type 0} (arms_of : D → Arms) (faults_of : D → ℕ) where
   }
 
   -- the counts of a disk mean the same in other words
-  pub counted : (old new : Server D) (one other : Counted → Type 0) → ((faults : Counted) → one faults → other faults)
+  pub counted : (old new : ServerNode D) (one other : Counted → Type 0) → ((faults : Counted) → one faults → other faults)
       → SameDisk arms_of faults_of one old new → SameDisk arms_of faults_of other old new
   counted old new one other means same = record {
     was = same.was;
@@ -263,7 +291,7 @@ module _ {D : Type 0} (arms_of : D → Arms) (faults_of : D → ℕ) where
   }
 
   -- nothing was done to it, and then something
-  pub then_done : (old mid new : Server D) (counts : Counted → Type 0) → SameDisk arms_of faults_of IsSteady old mid
+  pub then_done : (old mid new : ServerNode D) (counts : Counted → Type 0) → SameDisk arms_of faults_of IsSteady old mid
       → SameDisk arms_of faults_of counts mid new → SameDisk arms_of faults_of counts old new
   then_done old mid new counts first second =
       let same : first.now ≡ second.was = one_disk first.now second.was (sym first.new_has ∙ second.old_has) in
@@ -278,15 +306,10 @@ module _ {D : Type 0} (arms_of : D → Arms) (faults_of : D → ℕ) where
             second.faults;
       }
 
-  -- another server with the same disk
-  pub from_same : (old same new : Server D) (counts : Counted → Type 0) → same ≡ old → SameDisk arms_of faults_of counts same new
-      → SameDisk arms_of faults_of counts old new
-  from_same old same new counts is h = subst (λ (s : Server D). SameDisk arms_of faults_of counts s new) is h
-
 -- a server that keeps something has a disk
-pub has_disk : {D : Type 0} (reads : D → List ℕ) (may_leave : D → List ℕ → Type 0) (server : Server D) (records : List (List ℕ))
+pub has_disk : {D : Type 0} (reads : D → List ℕ) (may_leave : D → List ℕ → Type 0) (server : ServerNode D) (records : List (List ℕ))
     (state : State)
     → Keeps reads may_leave records state server → HasDisk server
-has_disk reads may_leave (Up it) records state keeps = record { disk = store.disk_of it; has = refl }
+has_disk reads may_leave (Up it) records state keeps = record { disk = servers.disk_of it; has = refl }
 has_disk reads may_leave (Down disk) records state keeps = record { disk = disk; has = refl }
 has_disk reads may_leave Between records state keeps = absurd keeps

@@ -1,33 +1,35 @@
 -- What a world does to its clients is what the machine does to its own.
-use Rattle.std.proofs.Common.{◌≡◌, ℕ, ◌<◌, Bool, true, false, List, [], ◌++◌, length, Option, Some, None, is_some}
+use Rattle.std.proofs.Common.{◌≡◌, ℕ, ◌+◌, ◌<◌, ◌≤◌, Bool, true, false, List, [], ◌++◌, length, Option, Some, None, is_some}
 use Rattle.std.proofs.Common.{slice_get, slice_set, refl, sym, ap, subst, ◌∙◌, arith, codes}
 use Rattle.std.proofs.lemmas.List.{append-nil, length-set}
-use Rattle.iot_tree.specs.Tree.{Nodes, IsTree}
+use Rattle.iot_tree.specs.Tree.{Nodes}
 use Rattle.iot_tree.specs.declared.want.Want.{Want}
-use Rattle.iot_limits.specs.Spelled.{IsSpelledTree}
 use Rattle.iot_client.specs.States.{Transaction}
-use Rattle.iot_client.specs.Ties.{Live, state_of, live_of}
-use Rattle.iot_machine.specs.Calls.{Call, Asks}
+use Rattle.iot_client.specs.Ties.{Live, state_of, live_of, place_of}
+use Rattle.iot_link.specs.Links.{LinkState, passage}
+use Rattle.iot_link.specs.declared.passages.Passage.{Passage}
+use Rattle.iot_link.specs.declared.passages.Passage.TheVariants as passages
+use Rattle.iot_machine.specs.Calls.{Call, Gets, Asks}
+use Rattle.iot_machine.specs.Refining.{Refines}
 use Rattle.iot_machine.specs.Nodes.{Node, changed}
 use Rattle.iot_machine.specs.Clients as clients
-use Rattle.iot_machine.specs.Clients.{Declared, ClientState, Next, AtEnd, AtLimit, Acts, Fetches, snapshot, begin, act_once, fetch, hold}
+use Rattle.iot_machine.specs.Clients.{Declared, ClientState, begin}
 use Rattle.iot_machine.specs.Machine as machine
-use Rattle.iot_machine.specs.Machine.{Machine, Commit, server, tree_after, client_in, put_client, node_at, kept_by, set_class, no_client}
+use Rattle.iot_machine.specs.Machine.{Machine, Commit, server, client_in, put_client, node_at, kept_by, set_class, no_client}
+use Rattle.iot_machine.specs.Machine.{link_of, count_request}
 use Rattle.iot_machine.specs.Serving.{Lends}
 use Rattle.iot_machine.specs.Texts.{line}
-use Rattle.iot_machine.specs.Transactions.{Notes, Exchange, Refuses, runs, pends, IfIdle, IfNonePends, Held, Holds, Starts}
-use Rattle.iot_judging.proofs.RunTreesLaws.{list_tree, list_spelled}
-use Rattle.iot_judging.proofs.SpelledTreesLaws.{snapshot_tree, snapshot_spelled}
-use Rattle.iot_world.specs.Laptops.{LaptopStands, RunningStands, RunningStandsIfAny, Noted, Begun, waits_of}
-use Rattle.iot_world.specs.Servers.{is_up, tree_of, ServerStands}
-use Rattle.iot_world.specs.World.{Each, StandsFor, Steps, ScriptStands}
+use Rattle.iot_machine.specs.Transactions.{Notes, Handles, Exchange, Refuses, runs, pends, IfIdle, IfNonePends, Held, Missed, Holds, Starts}
+use Rattle.iot_world.specs.Laptops.{LaptopStands, RunningStands, RunningStandsIfAny, SamePlace, Noted, Begun, Relinked}
+use Rattle.iot_world.specs.Laptops.{after_passage, waits_of}
+use Rattle.iot_world.specs.Servers.{is_up, ServerStands, HasAnswered}
+use Rattle.iot_world.specs.World.{Each, StandsFor, Steps, ScriptStands, ArePlaced}
 use Rattle.iot_world.specs.declared.laptop.Laptop.{Laptop}
-use Rattle.iot_world.specs.declared.server.Server.{Server}
+use Rattle.iot_world.specs.declared.server.ServerNode.{ServerNode}
 use Rattle.iot_world.specs.declared.world.DeclaredScript.{DeclaredScript}
 use Rattle.iot_world.specs.declared.world.World.{World}
 use Rattle.iot_world.proofs.CallsLaws.{bind, asks, answers, says_this}
-use Rattle.iot_world.proofs.ListLaws.{each_get, each_set, get_inside, set_at, set_twice}
-use Rattle.iot_world.proofs.ServersLaws.{up_tree}
+use Rattle.iot_world.proofs.ListLaws.{each_get, each_set, get_inside, set_at, set_twice, set_same, each_place_set}
 use Rattle.iot_world.proofs.LaptopsLaws.{runs_is, waits_is}
 
 -- the client at this place of a world
@@ -122,15 +124,37 @@ module _ {D : Type 0} (reads : D → List ℕ) (may_leave : D → List ℕ → T
       → c < length m.clients
   inside world m c laptop at here = get_inside LaptopStands world.clients.items m.clients c laptop at here.clients
 
-  pub puts_stands : (old new : World D) (m : Machine) (c : ℕ) (laptop : Laptop) (client : machine.Client) → Puts c laptop old new
-      → LaptopStands laptop client → StandsFor reads may_leave old m → StandsFor reads may_leave new (put_client c client m)
-  puts_stands old new m c laptop client puts stands here = record {
-    server = subst (λ (s : Server D). ServerStands reads may_leave s m.server) (sym puts.server) here.server;
+  pub puts_stands : (old new : World D) (m : Machine) (c : ℕ) (was laptop : Laptop) (client : machine.Client) → IsAt old c was
+      → SamePlace was laptop → Puts c laptop old new → LaptopStands laptop client → StandsFor reads may_leave old m
+      → StandsFor reads may_leave new (put_client c client m)
+  puts_stands old new m c was laptop client at place puts stands here = record {
+    server = subst (λ (s : ServerNode D). ServerStands reads may_leave s m.server) (sym puts.server) here.server;
+    requests = subst (HasAnswered m.requests) (sym puts.server) here.requests;
     clients =
         subst (λ (ls : List Laptop). Each LaptopStands ls (slice_set m.clients c client)) (sym puts.clients)
         (each_set LaptopStands old.clients.items m.clients c laptop client stands here.clients);
     scripts = subst (λ (ss : List DeclaredScript). Each ScriptStands ss m.scripts) (sym puts.scripts) here.scripts;
+    placed =
+        subst ArePlaced (sym puts.clients)
+        (each_place_set (λ n (l : Laptop). place_of l.client ≡ n) old.clients.items c laptop here.placed (place ∙ here.placed c was at));
     few = omega (arith, here.few, ap length puts.clients, length-set old.clients.items c laptop);
+  }
+
+  -- a change of one client
+  pub changes : {A : Type 0} (c : ℕ) (old new : World D) (was laptop : Laptop) (change : machine.Client → machine.Client) (a : A) (x :
+      List ℕ)
+      → IsAt old c was → Puts c laptop old new → SamePlace was laptop
+      → ((m : machine.Client) → LaptopStands was m → LaptopStands laptop (change m))
+      → Steps reads may_leave (Gets (λ _. a) (λ m. put_client c (change (client_in m c)) m)) old new x x a
+  changes c old new was laptop change a x at puts place stands = record {
+    step = λ m here. (
+      [],
+      put_client c (change (client_in m c)) m,
+      sym (append-nil x),
+      (refl, refl, refl),
+      puts_stands old new m c was laptop (change (client_in m c)) at place puts
+          (stands (client_in m c) (laptop_stands old m c was at here)) here,
+    );
   }
 
   -- a change of what a client keeps
@@ -143,10 +167,19 @@ module _ {D : Type 0} (reads : D → List ℕ) (may_leave : D → List ℕ → T
           (node_at c).set node m,
           sym (append-nil x),
           record { inner = node; step = (refl, refl, refl); is = refl },
-          puts_stands old new m c laptop (record (client_in m c) { node = node }) puts
+          puts_stands old new m c was laptop (record (client_in m c) { node = node }) at noted.place puts
               (noted.stands (client_in m c) (laptop_stands old m c was at here)) here,
         );
   }
+
+  -- a client that was put back as it was
+  pub put_back : (old mid : World D) (c : ℕ) (was laptop : Laptop) (m : Machine) → IsAt old c was → laptop ≡ was → Puts c laptop old mid
+      → StandsFor reads may_leave old m → StandsFor reads may_leave mid m
+  put_back old mid c was laptop m at same puts here =
+      subst (StandsFor reads may_leave mid)
+      (ap (λ (cs : List machine.Client). record m { clients = cs }) (set_same m.clients c no_client))
+      (puts_stands old mid m c was laptop (client_in m c) at (ap (λ (l : Laptop). place_of l.client) same) puts
+      (subst (λ (l : Laptop). LaptopStands l (client_in m c)) (sym same) (laptop_stands old m c was at here)) here)
 
   -- ---- what is asked of a client
 
@@ -202,47 +235,124 @@ module _ {D : Type 0} (reads : D → List ℕ) (may_leave : D → List ℕ → T
         (subst (λ (b : Bool). Steps reads may_leave (Asks (pends c)) world world x x b) is asks_pends)
         one
 
-  -- ---- objects
+  -- ---- exchanges
 
-  -- what a server lends is its tree cut down, which is a tree and has a spelling
-  module _ (world : World D) (m : Machine) (held t : Nodes) (want : Want) (up : is_up world.server ≡ true)
-      (lends : (tree : Nodes) → tree_of world.server ≡ Some tree → t ≡ snapshot held want tree)
-      (here : StandsFor reads may_leave world m) where
-    pub lent_is : t ≡ snapshot held want (tree_after m.server.durable)
-    lent_is = lends (tree_after m.server.durable) (up_tree reads may_leave world.server m.server up here.server)
-
-    pub lent_tree : IsTree t
-    lent_tree = subst IsTree (sym lent_is) (snapshot_tree held want (tree_after m.server.durable) (list_tree m.server.durable))
-
-    pub lent_spelled : IsSpelledTree t
-    lent_spelled =
-        subst IsSpelledTree (sym lent_is)
-        (snapshot_spelled held want (tree_after m.server.durable) (list_spelled m.server.durable here.server.spelled))
-
-  pub lent : (c : ℕ) (world : World D) (held t : Nodes) (want : Want) (x : List ℕ) → is_up world.server ≡ true
-      → ((tree : Nodes) → tree_of world.server ≡ Some tree → t ≡ snapshot held want tree)
-      → Steps reads may_leave (Exchange c (Lends held want)) world world x x (Some t)
-  lent c world held t want x up lends = record {
-    step = λ m here. (
-      [],
-      m,
-      sym (append-nil x),
-      record { inner = m.server; step = (refl, ap Some (lent_is world m held t want up lends here), refl); is = refl },
-      here,
-    );
+  -- a live server handled a request, and nothing else has changed
+  pub handles : {A : Type 0} {call : Call (Node (List Commit)) (Option A)} (old new : World D) (x y : List ℕ) (answer : A)
+      → new.clients ≡ old.clients → new.scripts ≡ old.scripts → Refines (ServerStands reads may_leave) call old.server new.server x y
+      (Some answer)
+      → ((n : ℕ) → HasAnswered n old.server → HasAnswered (n + 1) new.server)
+      → Steps reads may_leave (Handles call) old new x y (Some answer)
+  handles old new x y answer same scripts one counts = record {
+    step = λ m here.
+        let s = one.step m.server here.server in
+        let mid : Machine = server.set s.1 m in (
+          s.0,
+          count_request mid,
+          s.2,
+          record {
+            mid = mid;
+            front = s.0;
+            rest = [];
+            answer = Some answer;
+            first = record { inner = s.1; step = s.3; is = refl };
+            second = (refl, refl, refl);
+            whole = sym (append-nil s.0);
+          },
+          record {
+            server = s.4;
+            requests = counts m.requests here.requests;
+            clients = subst (λ ls. Each LaptopStands ls.items m.clients) (sym same) here.clients;
+            scripts = subst (λ ss. Each ScriptStands ss.items m.scripts) (sym scripts) here.scripts;
+            placed = subst (λ ls. ArePlaced ls.items) (sym same) here.placed;
+            few = subst (λ ls. length ls.items ≤ 8) (sym same) here.few;
+          },
+        );
   }
 
+  module _ {A : Type 0} (call : Call (Node (List Commit)) (Option A)) (c : ℕ) (old new : World D) (was laptop : Laptop) (x : List ℕ)
+      (at : IsAt old c was) where
+    asks_passage : (how : Passage) → how ≡ passage was.link (is_up old.server)
+        → Steps reads may_leave (Asks (λ m. passage (link_of c m) m.server.alive)) old old x x how
+    asks_passage how is =
+        asks old x how
+        (λ m here.
+        is ∙ ap (λ (l : LinkState). passage l (is_up old.server)) (laptop_stands old m c was at here).link
+        ∙ ap (passage (link_of c m)) here.server.alive)
+
+    module _ (how : Passage) (is : how ≡ passage was.link (is_up old.server)) where
+      -- no reply, and the request did not get to the server
+      pub no_request : how ≡ passages.Away → Puts c laptop old new → Relinked (after_passage how) was laptop
+          → Steps reads may_leave (Exchange c call) old new x x None
+      no_request away puts relinked =
+          bind old old new x x x passages.Away None (asks_passage passages.Away (sym away ∙ is))
+          (changes c old new was laptop (after_passage passages.Away) None x at puts relinked.place
+          (λ m here. subst (λ (p : Passage). LaptopStands laptop (after_passage p m)) away (relinked.stands m here)))
+
+      pub lost_request : how ≡ passages.RequestLost → Puts c laptop old new → Relinked (after_passage how) was laptop
+          → Steps reads may_leave (Exchange c call) old new x x None
+      lost_request lost puts relinked =
+          bind old old new x x x passages.RequestLost None (asks_passage passages.RequestLost (sym lost ∙ is))
+          (changes c old new was laptop (after_passage passages.RequestLost) None x at puts relinked.place
+          (λ m here. subst (λ (p : Passage). LaptopStands laptop (after_passage p m)) lost (relinked.stands m here)))
+
+      -- the reply is lost
+      pub lost_reply : (y : List ℕ) (answer : A) → how ≡ passages.ReplyLost
+          → new.clients.items ≡ slice_set old.clients.items c laptop → new.scripts.items ≡ old.scripts.items
+          → Relinked (after_passage how) was laptop
+          → Refines (ServerStands reads may_leave) call old.server new.server x y (Some answer)
+          → ((n : ℕ) → HasAnswered n old.server → HasAnswered (n + 1) new.server)
+          → Steps reads may_leave (Exchange c call) old new x y None
+      lost_reply y answer lost same scripts relinked one counts =
+          let mid : World D = record old { server = new.server } in
+          bind old old new x x y passages.ReplyLost None (asks_passage passages.ReplyLost (sym lost ∙ is))
+          (bind old mid new x y y (Some answer) None (handles old mid x y answer refl refl one counts)
+          (changes c mid new was laptop (after_passage passages.ReplyLost) None y at
+          (record { server = refl; scripts = scripts; clients = same }) relinked.place
+          (λ m here. subst (λ (p : Passage). LaptopStands laptop (after_passage p m)) lost (relinked.stands m here))))
+
+      -- it comes
+      pub both : (y : List ℕ) (answer : A) → how ≡ passages.Both → new.clients.items ≡ slice_set old.clients.items c laptop
+          → new.scripts.items ≡ old.scripts.items → laptop ≡ was
+          → Refines (ServerStands reads may_leave) call old.server new.server x y (Some answer)
+          → ((n : ℕ) → HasAnswered n old.server → HasAnswered (n + 1) new.server)
+          → Steps reads may_leave (Exchange c call) old new x y (Some answer)
+      both y answer comes same scripts stays one counts =
+          let mid : World D = record old { server = new.server } in
+          bind old old new x x y passages.Both (Some answer) (asks_passage passages.Both (sym comes ∙ is))
+          (bind old mid new x y y (Some answer) (Some answer) (handles old mid x y answer refl refl one counts)
+          (record {
+            step = λ m here. (
+              [],
+              m,
+              sym (append-nil y),
+              (refl, refl, refl),
+              put_back mid new c was laptop m at stays (record { server = refl; scripts = scripts; clients = same }) here,
+            );
+          }))
+
+  -- ---- objects
+
   -- what is wanted is brought and held
-  pub brings : (c : ℕ) (old new : World D) (was laptop : Laptop) (change : Nodes → ClientState → ClientState) (want : Want) (t : Nodes)
-      (x : List ℕ)
-      → IsAt old c was → is_up old.server ≡ true
-      → ((tree : Nodes) → tree_of old.server ≡ Some tree → t ≡ snapshot (state_of was.client).held want tree) → Puts c laptop old new
-      → Noted (change t) was laptop → Steps reads may_leave (Holds c change want) old new x x Held
-  brings c old new was laptop change want t x at up lends puts noted =
-      bind old old new x x x (Some t) Held
-      (bind old old old x x x (state_of was.client).held (Some t) (asks_held c old was x at)
-      (lent c old (state_of was.client).held t want x up lends))
-      (bind old new new x x x true Held (notes c old new was laptop (change t) x at puts noted) (answers new x Held))
+  pub brings : (c : ℕ) (old mid new : World D) (was laptop : Laptop) (change : Nodes → ClientState → ClientState) (want : Want) (t : Nodes)
+      (x y : List ℕ)
+      → IsAt old c was → IsAt mid c was
+      → Steps reads may_leave (Exchange c (Lends (state_of was.client).held want)) old mid x y (Some t)
+      → Puts c laptop mid new → Noted (change t) was laptop → Steps reads may_leave (Holds c change want) old new x y Held
+  brings c old mid new was laptop change want t x y at there exchanged puts noted =
+      bind old mid new x y y (Some t) Held
+      (bind old old mid x x y (state_of was.client).held (Some t) (asks_held c old was x at) exchanged)
+      (bind mid new new y y y true Held (notes c mid new was laptop (change t) y there puts noted) (answers new y Held))
+
+  -- nothing comes
+  pub misses : (c : ℕ) (old new : World D) (was : Laptop) (change : Nodes → ClientState → ClientState) (want : Want) (x y : List ℕ)
+      → IsAt old c was
+      → Steps reads may_leave (Exchange c (Lends (state_of was.client).held want)) old new x y None
+      → Steps reads may_leave (Holds c change want) old new x y Missed
+  misses c old new was change want x y at exchanged =
+      bind old new new x y y None Missed
+      (bind old old new x x y (state_of was.client).held None (asks_held c old was x at) exchanged)
+      (answers new y Missed)
 
   -- ---- begin
 
@@ -272,7 +382,7 @@ module _ {D : Type 0} (reads : D → List ℕ) (may_leave : D → List ℕ → T
             whole = refl;
           },
           subst (StandsFor reads may_leave new) (sym same)
-              (puts_stands old new m c laptop (record client { first = first }) puts
+              (puts_stands old new m c was laptop (record client { first = first }) at begun.place puts
               (begun.stands (client_in m c) (laptop_stands old m c was at here)) here),
         );
   }

@@ -1,10 +1,10 @@
--- Faults of a store as faults of the world.
+-- Faults of a server as faults of the world.
 use Rattle.std.specs.Prelude.{Result, Ok, Err}
 use Rattle.iot_count.specs.Counts.{Counted, HasRisen, IsSteady}
 use Rattle.iot_disk.specs.declared.faults.StartFault.{StartFault}
 use Rattle.iot_disk.specs.declared.faults.StartFault.TheVariants as start
-use Rattle.iot_disk.specs.declared.faults.JournalFault.{JournalFault}
-use Rattle.iot_disk.specs.declared.faults.JournalFault.TheVariants as append
+use Rattle.iot_server.specs.declared.fault.ServerFault.{ServerFault}
+use Rattle.iot_server.specs.declared.fault.ServerFault.TheVariants as handle
 use Rattle.iot_world.specs.declared.fault.WorldFault.{WorldFault}
 use Rattle.iot_world.specs.declared.fault.WorldFault.TheVariants.{NoMemory, DiskFailed}
 
@@ -15,9 +15,11 @@ of_start start.Stopped = DiskFailed
 of_start start.Foreign = NoMemory
 of_start (start.Damaged at) = NoMemory
 
-abbrev pub of_append : JournalFault → WorldFault
-of_append append.NoMemory = NoMemory
-of_append append.Stopped = DiskFailed
+-- nor is a request that a client spelled
+abbrev pub of_handle : ServerFault → WorldFault
+of_handle handle.NoMemory = NoMemory
+of_handle handle.Stopped = DiskFailed
+of_handle (handle.Malformed at) = NoMemory
 
 -- the disk's count of faults rises in a call if the disk ended it, and only then
 abbrev pub FaultCounts : WorldFault → Counted → Type 0

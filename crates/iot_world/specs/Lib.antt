@@ -2,6 +2,7 @@ pub mod Allowed
 pub mod Disks
 pub mod Records
 pub mod Faults
+pub mod Messages
 pub mod Servers
 pub mod Laptops
 pub mod Saying

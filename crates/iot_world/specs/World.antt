@@ -1,24 +1,41 @@
 -- Which plain machine a world stands for, node by node, and how a world changes.
-use Rattle.std.specs.Prelude.{◌≡◌, ℕ, ◌≤◌, ◌<◌, Bool, true, false, not, List, [], ◌∷◌, ◌++◌, length, Option, Some, None}
-use Rattle.std.specs.Prelude.{slice_get, slice_index_or}
+use Rattle.std.specs.Prelude.{◌≡◌, ℕ, ◌%◌, ◌^◌, ◌≤◌, ◌<◌, true, false, List, [], ◌∷◌, ◌++◌, length, map, Option, Some, None}
+use Rattle.std.specs.Prelude.{Vec, slice_get, slice_index_or}
 use Rattle.std.specs.Vec.{vec_len, vec_capacity}
+use Rattle.std.specs.declared.alloc.Global.{Global}
 use Rattle.iot_count.specs.Counts.{Counted}
 use Rattle.iot_disk.specs.Disk.{Arms}
-use Rattle.iot_tree.specs.declared.labels.Label.{Label}
-use Rattle.iot_tree.specs.declared.labels.Way.TheVariants.{Certified}
 use Rattle.iot_lang.specs.Code.{Code, End}
-use Rattle.iot_client.specs.Ties.{state_of}
+use Rattle.iot_tree.specs.declared.want.Want.{Want}
+use Rattle.iot_client.specs.Messages.{IsRefresh}
+use Rattle.iot_client.specs.States as states
+use Rattle.iot_client.specs.Ties.{state_of, live_of, place_of}
+use Rattle.iot_client.specs.declared.client.Client.{Client}
 use Rattle.iot_event.specs.Declarations.{AreDeclared}
 use Rattle.iot_event.specs.declared.event.Event.{Event}
 use Rattle.iot_machine.specs.Calls.{Call}
 use Rattle.iot_machine.specs.Refining.{Refines}
+use Rattle.iot_machine.specs.Nodes.{Node}
+use Rattle.iot_machine.specs.Clients as clients
 use Rattle.iot_machine.specs.Clients.{Declared}
-use Rattle.iot_machine.specs.Machine.{Machine, opening}
-use Rattle.iot_machine.specs.Transactions.{Stepped, Went, Over}
+use Rattle.iot_machine.specs.Machine as machines
+use Rattle.iot_machine.specs.Machine.{Machine, Commit, opening, tree_after, client_in}
+use Rattle.iot_machine.specs.Events.{event_part}
+use Rattle.iot_machine.specs.Sound.{IsSound}
+use Rattle.iot_machine.specs.Transactions as machine
+use Rattle.iot_server.specs.Servers as servers
+use Rattle.iot_server.specs.declared.server.Server.{Server}
 use Rattle.iot_world.specs.Disks.{OnlyFirst, first_count}
 use Rattle.iot_world.specs.Faults.{FaultCounts}
-use Rattle.iot_world.specs.Laptops.{LaptopStands, new_laptop}
-use Rattle.iot_world.specs.Servers.{is_up, disk_of, ServerStands, SameDisk, Starts, HasDisk}
+use Rattle.iot_world.specs.Laptops.{LaptopStands, ItemsStand, RunningStandsIfAny, new_laptop}
+use Rattle.iot_world.specs.Records.{label_of}
+use Rattle.iot_world.specs.Servers.{disk_of, ServerStands, HasAnswered, SameDisk, Starts, HasDisk}
+use Rattle.iot_world.specs.declared.answers.Brought.{Brought}
+use Rattle.iot_world.specs.declared.answers.Brought.TheVariants as brings
+use Rattle.iot_world.specs.declared.answers.Stepped.{Stepped}
+use Rattle.iot_world.specs.declared.answers.Stepped.TheVariants as steps
+use Rattle.iot_world.specs.declared.answers.Synced.{Synced}
+use Rattle.iot_world.specs.declared.answers.Synced.TheVariants as syncs
 use Rattle.iot_world.specs.declared.fault.WorldFault.{WorldFault}
 use Rattle.iot_world.specs.declared.laptop.Laptop.{Laptop}
 use Rattle.iot_world.specs.declared.world.World.{World}
@@ -40,11 +57,23 @@ script_of script = record { name = script.name; code = script.script }
 abbrev pub ScriptStands : DeclaredScript → Declared → Type 0
 ScriptStands script m = m ≡ script_of script
 
+-- the client at each place knows its place
+abbrev pub ArePlaced : List Laptop → Type 0
+ArePlaced laptops = (place : ℕ) (laptop : Laptop) → slice_get laptops place ≡ Some laptop → place_of laptop.client ≡ place
+
+-- its nodes, with their links, are those of the machine
 pub record StandsFor {D : Type 0} (reads : D → List ℕ) (may_leave : D → List ℕ → Type 0) (world : World D) (m : Machine) : Type 0 where
   pub server : ServerStands reads may_leave world.server m.server
+  pub requests : HasAnswered m.requests world.server
   pub clients : Each LaptopStands world.clients.items m.clients
   pub scripts : Each ScriptStands world.scripts.items m.scripts
+  pub placed : ArePlaced world.clients.items
   pub few : length world.clients.items ≤ 8
+
+-- and its list of commits goes together with the queues of its clients
+pub record IsWorldOf {D : Type 0} (reads : D → List ℕ) (may_leave : D → List ℕ → Type 0) (world : World D) (m : Machine) : Type 0 where
+  pub stands : StandsFor reads may_leave world m
+  pub sound : IsSound m
 
 -- it stands for some machine
 pub record StandsForSome {D : Type 0} (reads : D → List ℕ) (may_leave : D → List ℕ → Type 0) (world : World D) : Type 0 where
@@ -56,6 +85,11 @@ abbrev pub Steps : {D A : Type 0} → (D → List ℕ) → (D → List ℕ → T
     → (before after : List ℕ) → A → Type 0
 Steps reads may_leave call old new before after a = Refines (StandsFor reads may_leave) call old new before after a
 
+-- an event is a step of the machine whose world it is
+abbrev pub EventSteps : {D : Type 0} → (D → List ℕ) → (D → List ℕ → Type 0) → Event → (old new : World D) → (before after : List ℕ) → Type 0
+EventSteps reads may_leave event old new before after =
+    Refines (IsWorldOf reads may_leave) (event_part event) old new before after tt
+
 -- ---- what a world has
 
 abbrev pub client_count : {D : Type 0} → World D → ℕ
@@ -64,12 +98,9 @@ client_count world = length world.clients.items
 abbrev pub script_count : {D : Type 0} → World D → ℕ
 script_count world = length world.scripts.items
 
-abbrev pub server_is_up : {D : Type 0} → World D → Bool
-server_is_up world = is_up world.server
-
 -- these events name only what the world has, or what they declare before
 abbrev pub DeclaredOn : {D : Type 0} → List Event → World D → Type 0
-DeclaredOn events world = AreDeclared events (client_count world) (script_count world) (not (server_is_up world))
+DeclaredOn events world = AreDeclared events (client_count world) (script_count world)
 
 -- the client at this place is so
 abbrev pub ClientIs : {D : Type 0} → (Laptop → Type 0) → ℕ → World D → Type 0
@@ -88,22 +119,53 @@ no_script = record { name = []; script = End }
 abbrev pub declared_in : {D : Type 0} → World D → ℕ → Declared
 declared_in world place = script_of (slice_index_or world.scripts.items place no_script)
 
--- it stands for some machine, its server is alive, and there is a client at this place
+-- it stands for some machine, and there is a client at this place
 pub record IsReady {D : Type 0} (reads : D → List ℕ) (may_leave : D → List ℕ → Type 0) (place : ℕ) (world : World D) : Type 0 where
   pub machine : Machine
   pub stands : StandsFor reads may_leave world machine
-  pub up : is_up world.server ≡ true
   pub inside : place < length world.clients.items
 
--- how a single step went: it went on, or not
-abbrev pub stepped_of : Bool → Stepped
-stepped_of true = Went
-stepped_of false = Over
+-- ---- answers of the world's calls as those of the machine's
 
--- the label of a transaction that is submitted as it ran
-abbrev pub label_in : (client number : ℕ) (script : List ℕ) (budget : ℕ) → Label
-label_in client number script budget =
-    record { client = client; tid = number; script = script; budget = budget; way = Certified; kept = [] }
+abbrev pub brought_of : Brought → machine.Brought
+brought_of brings.Held = machine.Held
+brought_of brings.Missed = machine.Missed
+
+abbrev pub stepped_of : Stepped → machine.Stepped
+stepped_of steps.Went = machine.Went
+stepped_of steps.Over = machine.Over
+stepped_of steps.Away = machine.Away
+
+abbrev pub synced_of : Synced → machine.Synced
+synced_of syncs.Empty = machine.Empty
+synced_of syncs.Left = machine.Left
+synced_of syncs.Unanswered = machine.Unanswered
+
+-- ---- exchanges
+
+-- the client at this place asks with this request for what it knows, and for something that it wants
+pub record IsAsked {D : Type 0} (place : ℕ) (request : List ℕ) (world : World D) : Type 0 where
+  pub want : Want
+  pub is : ClientIs (λ was. IsRefresh (place_of was.client) (state_of was.client).held want request) place world
+
+-- an exchange of this request, and what the bytes of the reply spell, if one came
+abbrev pub Exchanges : {D A : Type 0} → (D → List ℕ) → (D → List ℕ → Type 0) → (client : ℕ)
+    → Call (Node (List Commit)) (Option A) → (List ℕ → A → Type 0) → Option (Vec ℕ Global) → (old new : World D) → (before after : List ℕ)
+    → Type 0
+Exchanges reads may_leave client call Spelled None old new before after =
+    Steps reads may_leave (machine.Exchange client call) old new before after None
+Exchanges {A = A} reads may_leave client call Spelled (Some reply) old new before after =
+    (answer : A) × Spelled reply.items answer × Steps reads may_leave (machine.Exchange client call) old new before after (Some answer)
+
+-- the client at this place is as before, but for its link and the class of what runs
+abbrev pub KeepsState : {D : Type 0} → ℕ → (old new : World D) → Type 0
+KeepsState place old new =
+    ClientIs (λ was. ClientIs (λ laptop. state_of laptop.client ≡ state_of was.client) place new) place old
+
+-- and if a reply came, all clients are as before
+abbrev pub KeepsClients : {D : Type 0} → ℕ → Option (Vec ℕ Global) → (old new : World D) → Type 0
+KeepsClients place None old new = KeepsState place old new
+KeepsClients place (Some reply) old new = new.clients.items ≡ old.clients.items
 
 -- ---- its disks
 
@@ -129,10 +191,9 @@ pub record SameDisks {D : Type 0} (arms_of : D → Arms) (faults_of : D → ℕ)
 
 -- a new world
 pub record IsOpened {D : Type 0} (reads : D → List ℕ) (may_leave : D → List ℕ → Type 0) (world : World D) : Type 0 where
-  pub stands : StandsFor reads may_leave world opening
+  pub stands : IsWorldOf reads may_leave world opening
   pub no_clients : client_count world ≡ 0
   pub no_scripts : script_count world ≡ 0
-  pub up : server_is_up world ≡ true
 
 -- with the disks that were handed in, of which none was armed and none has failed
 pub record Opens {D : Type 0} (reads : D → List ℕ) (may_leave : D → List ℕ → Type 0) (arms_of : D → Arms) (faults_of : D → ℕ)
@@ -156,6 +217,7 @@ pub record AddsClient {D : Type 0} (name : List ℕ) (old new : World D) : Type 
   pub server : new.server ≡ old.server
   pub laptop : Laptop
   pub stands : LaptopStands laptop (new_laptop name)
+  pub place : place_of laptop.client ≡ client_count old
   pub clients : new.clients.items ≡ old.clients.items ++ laptop ∷ []
   pub scripts : new.scripts.items ≡ old.scripts.items
 
@@ -165,21 +227,43 @@ pub record AddsScript {D : Type 0} (name : List ℕ) (code : Code) (old new : Wo
   pub clients : new.clients.items ≡ old.clients.items
   pub scripts : new.scripts.items ≡ old.scripts.items ++ record { name = name; script = code } ∷ []
 
--- the server is alive or down then, and the clients are as they were
-pub record SetsServer {D : Type 0} (to : Bool) (old new : World D) : Type 0 where
-  pub alive : is_up new.server ≡ to
+-- the server is another then, and the clients are as they were
+pub record SetsServer {D : Type 0} (old new : World D) : Type 0 where
   pub clients : new.clients.items ≡ old.clients.items
   pub scripts : new.scripts.items ≡ old.scripts.items
 
--- nothing was declared, and the server is alive or down as before
+-- nothing was declared
 pub record SameCounts {D : Type 0} (old new : World D) : Type 0 where
-  pub alive : is_up new.server ≡ is_up old.server
   pub clients : client_count new ≡ client_count old
   pub scripts : new.scripts.items ≡ old.scripts.items
 
--- only clients have changed
+-- one client was changed, and nothing else
 pub record IsApart {D : Type 0} (old new : World D) : Type 0 where
   pub server : new.server ≡ old.server
   pub spare : new.spare ≡ old.spare
   pub clients : client_count new ≡ client_count old
   pub scripts : new.scripts.items ≡ old.scripts.items
+
+-- ---- nodes that are lent
+
+-- a live server with the machine's tree and labels, which has answered as many requests, as far as it can count
+pub record IsServerOf {D : Type 0} (it : Server D) (m : Machine) : Type 0 where
+  pub alive : m.server.alive ≡ true
+  pub tree : (servers.state_of it).tree ≡ tree_after m.server.durable
+  pub labels : (servers.state_of it).labels ≡ map label_of m.server.durable
+  pub requests : (servers.traffic_of it).requests ≡ m.requests % 2 ^ 64
+
+abbrev pub LendsServer : {D : Type 0} → Option (Server D) → Machine → Type 0
+LendsServer None m = m.server.alive ≡ false
+LendsServer (Some it) m = IsServerOf it m
+
+-- a client with the machine's held tree, view, queue and running transaction
+pub record IsClientOf (it : Client) (m : machines.Client) : Type 0 where
+  pub held : (state_of it).held ≡ m.node.durable.held
+  pub view : states.view (state_of it) ≡ clients.view m.node.durable
+  pub queue : ItemsStand (state_of it).items (state_of it).held m.node.durable.items
+  pub running : RunningStandsIfAny (state_of it).running (live_of it) m.first m.node.durable.running
+
+abbrev pub LendsClient : Option Client → ℕ → Machine → Type 0
+LendsClient None place m = length m.clients ≤ place
+LendsClient (Some it) place m = (place < length m.clients) × IsClientOf it (client_in m place)

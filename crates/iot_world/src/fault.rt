@@ -1,9 +1,11 @@
 //! Why an event was not done.
 ghost use Rattle.std.specs.Prelude.{◌≡◌};
-ghost use Rattle.iot_world.specs.Faults.{of_start};
+ghost use Rattle.iot_server.specs.Faults.{IsNotMalformed};
+ghost use Rattle.iot_world.specs.Faults.{of_start, of_handle};
 ghost use Rattle.iot_store.specs.Causes.{TakesBytes};
 
-use iot_store::{JournalFault, StartFault};
+use iot_disk::StartFault;
+use iot_server::ServerFault;
 use iot_text::NoMemory;
 
 /// Why an event was not done. After it only the disks of the world are of use.
@@ -28,6 +30,18 @@ impl WorldFault {
             StartFault::Foreign | StartFault::Damaged { .. } => unreachable!(),
         }
     }
+
+    /// The fault of a server that was handed a request.
+    pub(crate) fn of_handle(fault: ServerFault) -> WorldFault
+        requires { IsNotMalformed fault }
+        ensures { result ≡ of_handle fault }
+    {
+        match fault {
+            ServerFault::NoMemory => WorldFault::NoMemory,
+            ServerFault::Stopped => WorldFault::DiskFailed,
+            ServerFault::Malformed { .. } => unreachable!(),
+        }
+    }
 }
 
 impl From<NoMemory> for WorldFault {
@@ -38,19 +52,5 @@ impl From<NoMemory> for WorldFault {
 
     fn from(_failed: NoMemory) -> WorldFault {
         WorldFault::NoMemory
-    }
-}
-
-impl From<JournalFault> for WorldFault {
-    ghost use Rattle.std.specs.Prelude.{◌≡◌};
-    ghost use Rattle.iot_world.specs.Faults.{of_append};
-
-    ghost from_gives = { λ append fault. fault ≡ of_append append };
-
-    fn from(fault: JournalFault) -> WorldFault {
-        match fault {
-            JournalFault::NoMemory => WorldFault::NoMemory,
-            JournalFault::Stopped => WorldFault::DiskFailed,
-        }
     }
 }

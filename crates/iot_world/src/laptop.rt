@@ -1,38 +1,58 @@
-//! A client that was declared, by its name. Its calls are those of the client, where they cannot be refused.
-ghost use Rattle.std.specs.Prelude.{◌≡◌, true, [], None, Some, IfOk, OnOk, is_some};
-ghost use Rattle.iot_tree.specs.Tree.{IsTree};
-ghost use Rattle.iot_limits.specs.Spelled.{IsSpelledTree};
+//! A client that was declared, by its name, and its link with the server. Its calls are those of the client, where they cannot be
+//! refused.
+ghost use Rattle.std.specs.Prelude.{◌≡◌, ◌≤◌, ◌*◌, ◌&&◌, not, true, [], None, IfOk, OnOk, is_some, length};
+ghost use Rattle.iot_tree.specs.Tree.{Nodes};
 ghost use Rattle.iot_lang.specs.Scripts.{IsScript};
-ghost use Rattle.iot_client.specs.Ties.{state_of, live_of};
+ghost use Rattle.iot_client.specs.Messages.{IsRefresh};
+ghost use Rattle.iot_client.specs.Ties.{state_of, live_of, place_of};
 ghost use Rattle.iot_client.specs.Calls.{may_end};
+ghost use Rattle.iot_client.specs.States.{acts_of};
 ghost use Rattle.iot_client.specs.declared.fault.ClientFault.TheVariants.{NoMemory as no_memory};
-ghost use Rattle.iot_machine.specs.Clients.{hold, fetch, end, leave, view};
-ghost use Rattle.iot_machine.specs.Nodes.{opened};
-ghost use Rattle.iot_world.specs.Laptops.{LaptopStands, Stands, Noted, Begun, Stepped, Ended, waits_of, new_laptop, IsView, IsFirst};
+ghost use Rattle.iot_link.specs.Links.{passage, connected, arming};
+ghost use Rattle.iot_link.specs.declared.passages.Passage.TheVariants.{Both};
+ghost use Rattle.iot_machine.specs.Clients.{hold, fetch, leave};
+ghost use Rattle.iot_machine.specs.Serving as serving;
+ghost use Rattle.iot_machine.specs.Texts.{acts_output};
+ghost use Rattle.iot_world.specs.Laptops.{LaptopStands, Stands, Noted, Begun, Stepped, Ended, Relinked, after_passage, linked, cut_off};
+ghost use Rattle.iot_world.specs.Laptops.{waits_of, new_laptop, IsView, IsFirst, HandsInFirst, head_name, head_reads};
+ghost use Rattle.iot_world.specs.Messages.{BringsTree, SpellsTree, IsVerdict, SpellsVerdict, verdict_of};
 
-use crate::texts::Transaction;
-use iot_client::{Client, ClientFault, Ended as Gone, Step};
+use crate::message::{Message, Printed};
+use crate::texts::{Transaction, output_of};
+use crate::verdict::{Verdict, verdict_in};
+use iot_client::{Ask, Client, ClientFault, Step};
 use iot_lang::Script;
-use iot_text::{Name, NoMemory};
-use iot_tree::{ACT_LIMIT, Acts, OnConflict, Tree};
+use iot_link::{Link, Loss, Passage};
+use iot_text::{Name, NoMemory, Text};
+use iot_tree::{ACT_LIMIT, OnConflict, Tree, Want};
 use std::alloc::Global;
 use std::rc::Rc;
 
-/// A client and its name.
+/// A client, its name and its link.
 #[derive(Drop)]
 pub(crate) struct Laptop {
     pub(crate) name: Name,
     pub(crate) client: Client,
+    pub(crate) link: Link,
+}
+
+/// A transaction that has ended, and whether it is first class.
+#[derive(Drop)]
+pub(crate) struct Gone {
+    pub(crate) printed: Printed,
+    pub(crate) first: bool,
 }
 
 impl Laptop {
     /// The client of this name at this place, which knows nothing yet.
     pub(crate) fn new(alloc: Global, name: Name, place: u64) -> Result<Laptop, NoMemory>
-        ensures { IfOk result (λ laptop. LaptopStands laptop (new_laptop name)) }
+        ensures stands { IfOk result (λ laptop. LaptopStands laptop (new_laptop name)) }
+        ensures place { IfOk result (λ laptop. place_of laptop.client ≡ place) }
     {
         Ok(Laptop {
             name,
             client: Client::new(alloc, place)?,
+            link: Link::new(),
         })
     }
 
@@ -83,20 +103,90 @@ impl Laptop {
         self.client.view()
     }
 
-    /// Holds what was brought.
-    pub(crate) fn take(&mut self, alloc: Global, t: Tree) -> Result<(), NoMemory>
+    // ---- its link
+
+    /// Makes its link up.
+    pub(crate) fn connect(&mut self)
+        requires { Stands self.old }
+        ensures { Relinked (linked (connected true self.old.link)) self.old self.new }
+    {
+        self.link.connect();
+    }
+
+    /// Makes its link not up. What runs is second class from then on.
+    pub(crate) fn disconnect(&mut self)
+        requires { Stands self.old }
+        ensures { Relinked cut_off self.old self.new }
+    {
+        self.link.disconnect();
+        self.client.second();
+    }
+
+    /// Arms its link to lose a message.
+    pub(crate) fn lose(&mut self, loss: Loss)
+        requires { Stands self.old }
+        ensures { Relinked (linked (arming loss self.old.link)) self.old self.new }
+    {
+        self.link.arm(loss);
+    }
+
+    /// Takes one exchange with a server that is alive or not, and tells how far it gets. What runs is second class after one that
+    /// did not get through.
+    pub(crate) fn pass(&mut self, server_up: bool) -> Passage
+        requires { Stands self.old }
+        ensures passage { result ≡ passage self.old.link server_up }
+        ensures after { Relinked (after_passage result) self.old self.new }
+        ensures both { result ≡ Both → self.new ≡ self.old }
+    {
+        let passage = self.link.outcome(server_up);
+        match passage {
+            Passage::Both => (),
+            Passage::Away | Passage::RequestLost | Passage::ReplyLost => self.client.second(),
+        }
+        passage
+    }
+
+    /// Whether its link is up, and nothing waits or runs.
+    pub(crate) fn is_drained(&self) -> bool
+        requires { Stands self.now }
+        ensures { result ≡ not (waits_of (state_of self.now.client).items) && not (is_some (state_of self.now.client).running)
+            && self.now.link.up }
+    {
+        !self.waits() && !self.runs() && self.link.is_up()
+    }
+
+    // ---- objects
+
+    /// Asks for what is wanted.
+    pub(crate) fn ask(&self, alloc: Global, want: &Want) -> Result<Message, NoMemory>
+        requires stands { Stands self.now }
+        requires place { place_of self.now.client ≤ 7 }
+        requires idle { (state_of self.now.client).running ≡ None }
+        requires none { (state_of self.now.client).items ≡ [] }
+        ensures { IfOk result (λ message.
+            IsRefresh (place_of self.now.client) (state_of self.now.client).held want.now message.request.items) }
+    {
+        match self.client.ask(alloc, want) {
+            Ok(request) => Ok(Message::asking(request)),
+            Err(fault) => Err(memory(fault)),
+        }
+    }
+
+    /// Holds what the reply brings.
+    pub(crate) fn take(&mut self, alloc: Global, reply: &[u8]) -> Result<(), NoMemory>
         requires stands { Stands self.old }
         requires idle { (state_of self.old.client).running ≡ None }
         requires none { (state_of self.old.client).items ≡ [] }
-        requires tree { IsTree t }
-        requires spelled { IsSpelledTree t }
-        ensures { OnOk result (Noted (hold t) self.old self.new) }
+        requires brings { BringsTree reply.now }
+        ensures { OnOk result ((t : Nodes) → SpellsTree reply.now t → Noted (hold t) self.old self.new) }
     {
-        match self.client.take_objects(alloc, t) {
+        match self.client.take_objects(alloc, reply) {
             Ok(()) => Ok(()),
             Err(fault) => Err(memory(fault)),
         }
     }
+
+    // ---- the transaction that runs
 
     /// Begins its next transaction.
     pub(crate) fn begin(
@@ -124,6 +214,7 @@ impl Laptop {
     /// Does the next act of the transaction that runs, or says why none is done.
     pub(crate) fn step(&mut self, alloc: Global) -> Result<Step, NoMemory>
         requires stands { Stands self.old }
+        requires place { place_of self.old.client ≤ 7 }
         requires runs { is_some (state_of self.old.client).running ≡ true }
         ensures { IfOk result (λ step. Stepped step self.old self.new) }
     {
@@ -133,40 +224,110 @@ impl Laptop {
         }
     }
 
-    /// Holds what was brought for the transaction that runs, which begins anew.
-    pub(crate) fn fetched(&mut self, alloc: Global, t: Tree) -> Result<(), NoMemory>
+    /// Holds what the reply brings for the transaction that runs, which begins anew.
+    pub(crate) fn fetched(&mut self, alloc: Global, reply: &[u8]) -> Result<(), NoMemory>
         requires stands { Stands self.old }
         requires first { IsFirst self.old }
-        requires tree { IsTree t }
-        requires spelled { IsSpelledTree t }
-        ensures { OnOk result (Noted (fetch t) self.old self.new) }
+        requires brings { BringsTree reply.now }
+        ensures { OnOk result ((t : Nodes) → SpellsTree reply.now t → Noted (fetch t) self.old self.new) }
     {
-        match self.client.fetched(alloc, t) {
+        match self.client.fetched(alloc, reply) {
             Ok(()) => Ok(()),
             Err(fault) => Err(memory(fault)),
         }
     }
 
     /// Lets the transaction that runs wait, if its script has ended or may do no more acts.
-    pub(crate) fn end(&mut self, alloc: Global) -> Result<(Gone, Acts), NoMemory>
+    pub(crate) fn end(&mut self, alloc: Global) -> Result<Gone, NoMemory>
         requires stands { Stands self.old }
         requires over { may_end (state_of self.old.client) (live_of self.old.client) ≡ true }
-        ensures { IfOk result (λ gone. Ended gone.0 gone.1 self.old self.new) }
+        ensures { IfOk result (λ gone. Ended gone self.old self.new) }
     {
+        let output = self.output(alloc)?;
         match self.client.end(alloc) {
-            Ok(gone) => Ok(gone),
+            Ok(ended) => Ok(Gone {
+                printed: Printed {
+                    transaction: self.transaction(ended.tid),
+                    output,
+                },
+                first: ended.first,
+            }),
             Err(fault) => Err(memory(fault)),
         }
     }
 
-    /// Lets the first transaction that waits leave.
-    pub(crate) fn leave(&mut self, alloc: Global) -> Result<(), NoMemory>
+    /// What the transaction that runs has printed.
+    fn output(&self, alloc: Global) -> Result<Text, NoMemory>
+        requires { Stands self.now }
+        ensures { IfOk result (λ output. output ≡ acts_output (acts_of (state_of self.now.client).running)) }
+    {
+        match self.client.running() {
+            Some(running) => output_of(alloc, running.acts.as_slice()),
+            None => Ok(Text::new(alloc)),
+        }
+    }
+
+    // ---- the transactions that wait
+
+    /// How often one drain submits them at most.
+    pub(crate) fn most_syncs(&self) -> Result<u64, NoMemory>
+        ensures { IfOk result (λ most. most ≡ 3 * length (state_of self.now.client).items) }
+    {
+        let waiting = self.client.queue().items().len() as u64;
+        match waiting.checked_mul(3) {
+            Some(most) => Ok(most),
+            None => Err(NoMemory),
+        }
+    }
+
+    /// The name of the first that waits.
+    pub(crate) fn head(&self) -> Option<Transaction>
+        ensures { result ≡ head_name self.now (state_of self.now.client).items }
+    {
+        match self.client.queue().head() {
+            Some(item) => Some(self.transaction(item.tid)),
+            None => None,
+        }
+    }
+
+    /// Hands in the first that waits.
+    pub(crate) fn hand_in(&self, alloc: Global) -> Result<Message, NoMemory>
+        requires stands { Stands self.now }
+        requires place { place_of self.now.client ≤ 7 }
+        requires waits { waits_of (state_of self.now.client).items ≡ true }
+        ensures { IfOk result (HandsInFirst self.now (state_of self.now.client).items) }
+    {
+        let Some(item) = self.client.queue().head() else {
+            unreachable!();
+        };
+        let printed = Printed {
+            transaction: self.transaction(item.tid),
+            output: output_of(alloc, item.acts.as_slice())?,
+        };
+        match self.client.submission(alloc) {
+            Ok(Ask::Commit(request)) => Ok(Message {
+                request: request.into_bytes(),
+                handed: Some(printed),
+            }),
+            Err(fault) => Err(memory(fault)),
+        }
+    }
+
+    /// Lets the first that waits leave, after the reply to its submission, and tells what that says of it.
+    pub(crate) fn settle(&mut self, alloc: Global, reply: &[u8]) -> Result<Verdict, NoMemory>
         requires stands { Stands self.old }
         requires waits { waits_of (state_of self.old.client).items ≡ true }
-        ensures { OnOk result (Noted leave self.old self.new) }
+        requires told { IsVerdict (head_reads (state_of self.old.client).items) reply.now }
+        ensures verdict { IfOk result (λ verdict. (told : serving.Verdict)
+            → SpellsVerdict (head_reads (state_of self.old.client).items) reply.now told → verdict_of verdict ≡ told) }
+        ensures leaves { OnOk result (Noted leave self.old self.new) }
     {
-        match self.client.take_verdict(alloc) {
-            Ok(()) => Ok(()),
+        let Some(item) = self.client.queue().head() else {
+            unreachable!();
+        };
+        let verdict = verdict_in(alloc, item.acts.as_slice(), reply)?;
+        match self.client.take_verdict(alloc, reply) {
+            Ok(_noted) => Ok(verdict),
             Err(fault) => Err(memory(fault)),
         }
     }
@@ -182,6 +343,7 @@ fn memory(fault: ClientFault) -> NoMemory
         | ClientFault::Pending
         | ClientFault::Idle
         | ClientFault::NotAtEnd
-        | ClientFault::Nothing => unreachable!(),
+        | ClientFault::Nothing
+        | ClientFault::BadReply { .. } => unreachable!(),
     }
 }

@@ -1,36 +1,32 @@
-//! The server over its disk.
-ghost use Rattle.std.specs.Prelude.{◌≡◌, ◌++◌, [], ℕ, List, true, false, IfOk, IfErr, OnOk, Some};
+//! The server as a node: alive, or down with its disk.
+ghost use Rattle.std.specs.Prelude.{◌≡◌, ◌+◌, [], ℕ, true, false, IfOk, IfErr, OnOk};
 ghost use Rattle.std.specs.Option.{option_copied};
-ghost use Rattle.iot_codec.specs.Rules.{IsLabel, AreActs};
-ghost use Rattle.iot_acts.specs.Guards.{AllGuarded};
+ghost use Rattle.iot_client.specs.Messages.{IsRefresh};
 ghost use Rattle.iot_disk.specs.Disk.{Only};
 ghost use Rattle.iot_tree.specs.Tree.{Nodes};
+ghost use Rattle.iot_tree.specs.declared.want.Want.{Want};
 ghost use Rattle.iot_machine.specs.Refining.{Refines};
 ghost use Rattle.iot_machine.specs.Nodes.{opened};
-ghost use Rattle.iot_machine.specs.Stops.{Appends, ComesBack, Crashes, Restarts, Shows};
-ghost use Rattle.iot_machine.specs.Machine.{Commit, add_commit, tree_after};
-ghost use Rattle.iot_machine.specs.Clients.{snapshot};
-ghost use Rattle.iot_machine.specs.Serving.{Submission, Judges, Commits, server_name};
-ghost use Rattle.iot_certify.specs.Verdicts.{IsVerdictOnActs};
+ghost use Rattle.iot_machine.specs.Stops.{ComesBack, Crashes, Restarts, Shows};
+ghost use Rattle.iot_machine.specs.Machine.{tree_after};
+ghost use Rattle.iot_machine.specs.Serving.{Submission, Lends, Judges, server_name};
 ghost use Rattle.iot_machine.specs.Texts.{tree_text};
 
 use crate::fault::WorldFault;
-use crate::texts::{Transaction, say, say_commit, say_tree};
-use crate::verdict::{Verdict, question_at};
-use iot_certify::{Verdict as Certified, certify_acts};
+use crate::message::Message;
+use crate::texts::{say, say_tree};
 use iot_disk::Disk;
-use iot_prune::{known, prune, widen};
-use iot_store::Store;
+use iot_server::Server;
 use iot_text::{NoMemory, Text};
-use iot_tree::{Acts, Label, Tree, Want};
+use iot_tree::Tree;
 use std::alloc::Global;
 use std::mem;
 
 /// The server, alive or down.
 #[derive(Drop)]
-pub(crate) enum Server<D: Disk> {
-    /// Alive, with its store.
-    Up(Store<D>),
+pub(crate) enum ServerNode<D: Disk> {
+    /// Alive.
+    Up(Server<D>),
 
     /// Down: of all that it had only its disk is left.
     Down(D),
@@ -39,139 +35,69 @@ pub(crate) enum Server<D: Disk> {
     Between,
 }
 
-impl<D: Disk> Server<D> {
-    ghost use Rattle.iot_world.specs.Servers.{is_up, disk_of, count_of, tree_of, ServerStands, ServerIsSound, Falls, CanTake, AreOf};
-    ghost use Rattle.iot_world.specs.Servers.{number_for, IsSubmission, verdict_of};
+impl<D: Disk> ServerNode<D> {
+    ghost use Rattle.iot_world.specs.Servers.{is_up, disk_of, count_of, tree_of, lent_of, ServerStands, ServerIsSound, Falls};
+    ghost use Rattle.iot_world.specs.Servers.{IsHanded, Serves, IsLive, Handled, HasAnswered, answered_since};
     ghost use Rattle.iot_world.specs.Servers.{SameDisk, HasDisk, Starts, HandsBack};
+    ghost use Rattle.iot_world.specs.Messages.{IsSomeRequest, SpellsTree, SpellsVerdict};
     ghost use Rattle.iot_world.specs.Faults.{CallCounts};
     ghost use Rattle.iot_count.specs.Counts.{IsSteady};
-    ghost use Rattle.iot_world.specs.declared.server.Server.TheVariants.{Down, Between};
+    ghost use Rattle.iot_world.specs.declared.server.ServerNode.TheVariants.{Down, Between};
 
     /// A server on an empty disk.
-    pub(crate) fn start(alloc: Global, disk: D) -> Result<Server<D>, (D, WorldFault)>
+    pub(crate) fn start(alloc: Global, disk: D) -> Result<ServerNode<D>, (D, WorldFault)>
         requires empty { D.reads disk ≡ [] }
         requires only { Only (D.reads disk) (D.may_leave disk) }
         ensures stands { IfOk result (λ server. ServerStands D.reads D.may_leave server (opened [])) }
+        ensures requests { IfOk result (λ server. HasAnswered 0 server) }
         ensures disk { IfOk result (Starts D.arms D.faults disk) }
         ensures refused { IfErr result (HandsBack D.arms D.faults disk) }
     {
-        match Store::start(alloc, disk) {
-            Ok(store) => Ok(Server::Up(store)),
+        match Server::start(alloc, disk) {
+            Ok(server) => Ok(ServerNode::Up(server)),
             Err((disk, fault)) => Err((disk, WorldFault::of_start(fault))),
         }
     }
 
-    /// Appends a commit, and says whether the server goes on: its record is on the disk then.
-    pub(crate) fn append(
+    /// Answers a request. If that commits the transaction that it hands in, its line and what it printed are said.
+    pub(crate) fn serve(
         &mut self,
         alloc: Global,
-        label: Label,
-        acts: &Acts,
-    ) -> Result<bool, WorldFault>
-        requires { CanTake D.reads D.may_leave label acts.now self.old }
-        ensures up { OnOk result (is_up self.new ≡ true) }
-        ensures step { IfOk result (λ on. (commit : Commit) (tree : Nodes) → tree_of self.old ≡ Some tree
-            → AreOf commit tree label acts.now → (text : List ℕ)
-            → Refines (ServerStands D.reads D.may_leave) (Appends server_name (add_commit commit)) self.old self.new text text on) }
-        ensures disk { SameDisk D.arms D.faults (CallCounts result) self.old self.new }
-    {
-        match self {
-            Server::Up(store) => {
-                let _number = store.commit(alloc, label, acts)?;
-                Ok(true)
-            }
-            Server::Down(_) | Server::Between => unreachable!(),
-        }
-    }
-
-    /// Its tree, cut down to what a client that holds this tree knows and wants.
-    pub(crate) fn lend(&self, alloc: Global, held: &Tree, want: &Want) -> Result<Tree, NoMemory>
-        requires { is_up self.now ≡ true }
-        ensures { IfOk result (λ t. (tree : Nodes) → tree_of self.now ≡ Some tree → t ≡ snapshot held.now want.now tree) }
-    {
-        match self.tree() {
-            Some(tree) => {
-                let paths = widen(alloc, known(alloc, held)?, tree, want)?;
-                prune(alloc, tree, &paths)
-            }
-            None => unreachable!(),
-        }
-    }
-
-    /// Judges a transaction by what it read: it commits if each of its reads is what the tree answers in its turn. One that is in
-    /// the list is not committed again.
-    pub(crate) fn judge(
-        &mut self,
-        alloc: Global,
-        label: Label,
-        acts: &Acts,
-        transaction: &Transaction,
+        message: &Message,
         out: &mut Text,
-    ) -> Result<Verdict, WorldFault>
+    ) -> Result<Vec<u8>, WorldFault>
         requires up { is_up self.old ≡ true }
         requires sound { ServerIsSound D.reads D.may_leave self.old }
-        requires label { IsLabel label }
-        requires acts { AreActs acts.now }
-
-        // So that it is always a read that differs first.
-        requires guarded { AllGuarded acts.now }
+        requires request { IsSomeRequest message.now.request.items }
         ensures up { OnOk result (is_up self.new ≡ true) }
-        ensures step { IfOk result (λ verdict. (it : Submission) → IsSubmission label acts.now transaction.now it
-            → Refines (ServerStands D.reads D.may_leave) (Judges it) self.old self.new out.old out.new (Some (verdict_of verdict))) }
+        ensures lends { IfOk result (λ reply. (client : ℕ) (held : Nodes) (want : Want)
+            → IsRefresh client held want message.now.request.items
+            → Serves D.reads D.may_leave (Lends held want) SpellsTree reply.items self.old self.new out.old out.new) }
+        ensures judges { IfOk result (λ reply. (it : Submission) → IsHanded message.now it
+            → Serves D.reads D.may_leave (Judges it) (SpellsVerdict it.reads) reply.items self.old self.new out.old out.new) }
+        ensures requests { OnOk result ((n : ℕ) → HasAnswered n self.old → HasAnswered (n + 1) self.new) }
         ensures disk { SameDisk D.arms D.faults (CallCounts result) self.old self.new }
     {
-        if let Some(number) = self.number_of(label.client, label.tid) {
-            return Ok(Verdict::Settled { number });
-        }
-        match self.certify(alloc, acts)? {
-            Certified::Holds => self.commit(alloc, label, acts, transaction, out),
-            Certified::Differs { read, .. } => Ok(Verdict::Conflict {
-                read,
-                question: question_at(alloc, acts.as_slice(), read)?,
-            }),
-        }
+        let before = self.number();
+        let reply = self.handle(alloc, message)?;
+        message.say_commit(before, self.number(), out)?;
+        Ok(reply)
     }
 
-    /// Whether these acts hold on its tree, and if not, which read differs first.
-    fn certify(&self, alloc: Global, acts: &Acts) -> Result<Certified, NoMemory>
-        requires { is_up self.now ≡ true }
-        ensures { IfOk result (λ verdict. (tree : Nodes) → tree_of self.now ≡ Some tree → IsVerdictOnActs tree acts.now verdict) }
-    {
-        match self.tree() {
-            Some(tree) => certify_acts(alloc, tree, acts),
-            None => unreachable!(),
-        }
-    }
-
-    /// Commits a transaction whose acts hold: its record is on the disk, and its line and what it printed are said.
-    fn commit(
-        &mut self,
-        alloc: Global,
-        label: Label,
-        acts: &Acts,
-        transaction: &Transaction,
-        out: &mut Text,
-    ) -> Result<Verdict, WorldFault>
-        requires take { CanTake D.reads D.may_leave label acts.now self.old }
-        ensures up { OnOk result (is_up self.new ≡ true) }
-        ensures step { IfOk result (λ verdict. (it : Submission) → IsSubmission label acts.now transaction.now it
-            → Refines (ServerStands D.reads D.may_leave) (Commits it.name it.commit) self.old self.new out.old out.new
-            (Some (verdict_of verdict))) }
+    /// What the server replies to the request.
+    fn handle(&mut self, alloc: Global, message: &Message) -> Result<Vec<u8>, WorldFault>
+        requires synced { IsLive D.reads D.may_leave self.old }
+        requires request { IsSomeRequest message.now.request.items }
+        ensures handled { IfOk result (λ reply. Handled D.reads D.may_leave message.now.request.items reply.items self.old self.new) }
+        ensures requests { OnOk result ((n : ℕ) → HasAnswered n self.old → HasAnswered (n + 1) self.new) }
         ensures disk { SameDisk D.arms D.faults (CallCounts result) self.old self.new }
-    {
-        self.append(alloc, label, acts)?;
-        let number = self.number();
-        say_commit(number, transaction, acts.as_slice(), out)?;
-        Ok(Verdict::Settled { number })
-    }
-
-    /// The number in the list of a client's transaction, if it is there.
-    fn number_of(&self, client: u64, tid: u64) -> Option<u64>
-        ensures { result ≡ number_for self.now client tid }
     {
         match self {
-            Server::Up(store) => store.number_of(client, tid),
-            Server::Down(_) | Server::Between => None,
+            ServerNode::Up(server) => match server.handle(alloc, &message.request) {
+                Ok(reply) => Ok(reply),
+                Err(fault) => Err(WorldFault::of_handle(fault)),
+            },
+            ServerNode::Down(_) | ServerNode::Between => unreachable!(),
         }
     }
 
@@ -198,19 +124,19 @@ impl<D: Disk> Server<D> {
         ensures falls { Falls self.old self.new }
         ensures disk { SameDisk D.arms D.faults IsSteady self.old self.new }
     {
-        match mem::replace(self, Server::Between) {
-            Server::Up(store) => self.settle(Server::Down(store.into_disk())),
+        match mem::replace(self, ServerNode::Between) {
+            ServerNode::Up(server) => self.settle(ServerNode::Down(server.into_disk())),
             _down => unreachable!(),
         }
     }
 
     /// Ends a call that starts or stops it: this is the server then. No disk is dropped by it.
-    fn settle(&mut self, server: Server<D>)
+    fn settle(&mut self, server: ServerNode<D>)
         requires { self.old ≡ Between }
         ensures { self.new ≡ server }
     {
         match mem::replace(self, server) {
-            Server::Between => (),
+            ServerNode::Between => (),
             _other => unreachable!(),
         }
     }
@@ -219,17 +145,18 @@ impl<D: Disk> Server<D> {
     pub(crate) fn restart(&mut self, alloc: Global, out: &mut Text) -> Result<(), WorldFault>
         requires { ServerIsSound D.reads D.may_leave self.old }
         ensures up { OnOk result (is_up self.new ≡ true) }
+        ensures requests { OnOk result ((n : ℕ) → HasAnswered n self.old → HasAnswered (answered_since (is_up self.old) n) self.new) }
         ensures step { OnOk result
             (Refines (ServerStands D.reads D.may_leave) (Restarts server_name) self.old self.new out.old out.new tt) }
         ensures disk { SameDisk D.arms D.faults (CallCounts result) self.old self.new }
     {
-        match mem::replace(self, Server::Between) {
-            Server::Up(store) => {
-                self.settle(Server::Up(store));
+        match mem::replace(self, ServerNode::Between) {
+            ServerNode::Up(server) => {
+                self.settle(ServerNode::Up(server));
                 say(b"up", out)?;
             }
-            Server::Down(disk) => self.come_back(alloc, disk, out)?,
-            Server::Between => unreachable!(),
+            ServerNode::Down(disk) => self.come_back(alloc, disk, out)?,
+            ServerNode::Between => unreachable!(),
         }
         Ok(())
     }
@@ -239,19 +166,20 @@ impl<D: Disk> Server<D> {
         requires between { self.old ≡ Between }
         requires sound { ServerIsSound D.reads D.may_leave (Down disk) }
         ensures up { OnOk result (is_up self.new ≡ true) }
+        ensures requests { OnOk result (HasAnswered 0 self.new) }
         ensures step { OnOk result
             (Refines (ServerStands D.reads D.may_leave) (ComesBack server_name) (Down disk) self.new out.old out.new tt) }
         ensures disk { SameDisk D.arms D.faults (CallCounts result) (Down disk) self.new }
     {
         disk.restart();
-        match Store::start(alloc, disk) {
-            Ok(store) => {
-                self.settle(Server::Up(store));
+        match Server::start(alloc, disk) {
+            Ok(server) => {
+                self.settle(ServerNode::Up(server));
                 say(b"restart server", out)?;
                 Ok(())
             }
             Err((disk, fault)) => {
-                self.settle(Server::Down(disk));
+                self.settle(ServerNode::Down(disk));
                 Err(WorldFault::of_start(fault))
             }
         }
@@ -270,10 +198,20 @@ impl<D: Disk> Server<D> {
     }
 
     /// Whether it is alive.
-    fn is_up(&self) -> bool
+    pub(crate) fn is_up(&self) -> bool
         ensures { result ≡ is_up self.now }
     {
-        matches!(self, Server::Up(_))
+        matches!(self, ServerNode::Up(_))
+    }
+
+    /// The server, if it is alive.
+    pub(crate) fn lent(&self) -> Option<&Server<D>>
+        ensures { option_copied result ≡ lent_of self.now }
+    {
+        match self {
+            ServerNode::Up(server) => Some(server),
+            ServerNode::Down(_) | ServerNode::Between => None,
+        }
     }
 
     /// Its tree, if it is alive.
@@ -281,18 +219,18 @@ impl<D: Disk> Server<D> {
         ensures { option_copied result ≡ tree_of self.now }
     {
         match self {
-            Server::Up(store) => Some(store.tree()),
-            Server::Down(_) | Server::Between => None,
+            ServerNode::Up(server) => Some(server.store().tree()),
+            ServerNode::Down(_) | ServerNode::Between => None,
         }
     }
 
     /// How many commits it has, if it is alive.
-    pub(crate) fn number(&self) -> u64
+    fn number(&self) -> u64
         ensures { result ≡ count_of self.now }
     {
         match self {
-            Server::Up(store) => store.number(),
-            Server::Down(_) | Server::Between => 0,
+            ServerNode::Up(server) => server.store().number(),
+            ServerNode::Down(_) | ServerNode::Between => 0,
         }
     }
 
@@ -302,9 +240,9 @@ impl<D: Disk> Server<D> {
         ensures { disk_of self ≡ Some result }
     {
         match self {
-            Server::Up(store) => store.into_disk(),
-            Server::Down(disk) => disk,
-            Server::Between => unreachable!(),
+            ServerNode::Up(server) => server.into_disk(),
+            ServerNode::Down(disk) => disk,
+            ServerNode::Between => unreachable!(),
         }
     }
 }

@@ -1,18 +1,21 @@
 //! The lines that events print.
-ghost use Rattle.std.specs.Prelude.{◌≡◌, ◌++◌, ◌∷◌, [], false, OnOk};
+ghost use Rattle.std.specs.Prelude.{◌≡◌, ◌++◌, ◌∷◌, [], IfOk, OnOk};
 ghost use Rattle.std.specs.FinMap.{entries};
 ghost use Rattle.iot_tree.specs.declared.labels.Way.TheVariants.{Certified};
 ghost use Rattle.iot_machine.specs.Texts.{line, client_line, end_line, commit_line, settled_line, transaction_name, output, acts_output};
 ghost use Rattle.iot_machine.specs.Texts.{output_line, row_line, row_text, tree_text};
 ghost use Rattle.iot_machine.specs.Texts.{hoard_line, refresh_line, begin_line, fetch_line, step_line, conflict_line, question_text};
-ghost use Rattle.iot_machine.specs.Texts.{abort_line, pending_line};
+ghost use Rattle.iot_machine.specs.Texts.{abort_line, pending_line, connect_line, disconnect_line, lose_line};
 ghost use Rattle.iot_machine.specs.Transactions.{verdict_text};
-ghost use Rattle.iot_world.specs.Servers.{verdict_of};
+ghost use Rattle.iot_world.specs.Messages.{verdict_of, name_of};
 ghost use Rattle.iot_world.specs.Saying.{place_said};
 
+use crate::message::Printed;
 use crate::verdict::Verdict;
+use iot_link::Loss;
 use iot_text::{Name, NoMemory, Path, Text, quote};
 use iot_tree::{ACT_LIMIT, Act, Node, Question, Tree};
+use std::alloc::Global;
 
 /// The name of a transaction: its client's name and its number there.
 #[derive(Clone, Copy)]
@@ -46,6 +49,36 @@ pub(crate) fn say_client(name: &Name, out: &mut Text) -> Result<(), NoMemory>
     out.append(b"client ")?;
     out.append(name.as_bytes())?;
     out.push(b'\n')
+}
+
+/// `connect C`
+pub(crate) fn say_connect(name: &Name, out: &mut Text) -> Result<(), NoMemory>
+    ensures { OnOk result (out.new ≡ out.old ++ connect_line name.now) }
+{
+    out.append(b"connect ")?;
+    out.append(name.as_bytes())?;
+    out.push(b'\n')
+}
+
+/// `disconnect C`
+pub(crate) fn say_disconnect(name: &Name, out: &mut Text) -> Result<(), NoMemory>
+    ensures { OnOk result (out.new ≡ out.old ++ disconnect_line name.now) }
+{
+    out.append(b"disconnect ")?;
+    out.append(name.as_bytes())?;
+    out.push(b'\n')
+}
+
+/// `lose C request`, or `reply`
+pub(crate) fn say_lose(name: &Name, loss: Loss, out: &mut Text) -> Result<(), NoMemory>
+    ensures { OnOk result (out.new ≡ out.old ++ lose_line name.now loss) }
+{
+    out.append(b"lose ")?;
+    out.append(name.as_bytes())?;
+    out.append(match loss {
+        Loss::Request => b" request\n",
+        Loss::Reply => b" reply\n",
+    })
 }
 
 /// `hoard C P`
@@ -85,13 +118,13 @@ pub(crate) fn say_begin(
     out.append(if first { b" first\n" } else { b" second\n" })
 }
 
-/// `fetch P`
-pub(crate) fn say_fetch(path: &Path, out: &mut Text) -> Result<(), NoMemory>
-    ensures { OnOk result (out.new ≡ out.old ++ fetch_line path.now false) }
+/// `fetch P`, or `fetch P away` if nothing came.
+pub(crate) fn say_fetch(path: &Path, away: bool, out: &mut Text) -> Result<(), NoMemory>
+    ensures { OnOk result (out.new ≡ out.old ++ fetch_line path.now away) }
 {
     out.append(b"fetch ")?;
     path.write_to(out)?;
-    out.push(b'\n')
+    out.append(if away { b" away\n" } else { b"\n" })
 }
 
 /// `step TID K acts`, and whether it is at its end or at its limit.
@@ -223,18 +256,13 @@ fn say_abort(transaction: &Transaction, out: &mut Text) -> Result<(), NoMemory>
 }
 
 /// `pending TID`, and what it printed.
-pub(crate) fn say_pending(
-    transaction: &Transaction,
-    acts: &[Act],
-    out: &mut Text,
-) -> Result<(), NoMemory>
-    ensures { OnOk result (out.new ≡ out.old
-        ++ (pending_line (transaction_name transaction.now.client transaction.now.number) ++ acts_output acts.now)) }
+pub(crate) fn say_pending(printed: &Printed, out: &mut Text) -> Result<(), NoMemory>
+    ensures { OnOk result (out.new ≡ out.old ++ (pending_line (name_of printed.now.transaction) ++ printed.now.output)) }
 {
     out.append(b"pending ")?;
-    transaction.write_to(out)?;
+    printed.transaction.write_to(out)?;
     out.push(b'\n')?;
-    say_output(acts, out)
+    out.append_text(&printed.output)
 }
 
 /// One line that a script printed, after its bar.
@@ -266,19 +294,22 @@ fn say_output(acts: &[Act], out: &mut Text) -> Result<(), NoMemory>
     Ok(())
 }
 
-/// What a commit says under this number: its line, and what its script printed.
-pub(crate) fn say_commit(
-    number: u64,
-    transaction: &Transaction,
-    acts: &[Act],
-    out: &mut Text,
-) -> Result<(), NoMemory>
-    ensures { OnOk result
-        (out.new ≡ out.old
-        ++ (commit_line number (transaction_name transaction.now.client transaction.now.number) Certified ++ acts_output acts.now)) }
+/// What a run printed, by itself.
+pub(crate) fn output_of(alloc: Global, acts: &[Act]) -> Result<Text, NoMemory>
+    ensures { IfOk result (λ output. output ≡ acts_output acts.now) }
 {
-    say_commit_line(number, transaction, out)?;
-    say_output(acts, out)
+    let mut output = Text::new(alloc);
+    say_output(acts, &mut output)?;
+    Ok(output)
+}
+
+/// What a commit says under this number: its line, and what its script printed.
+pub(crate) fn say_commit(number: u64, printed: &Printed, out: &mut Text) -> Result<(), NoMemory>
+    ensures { OnOk result
+        (out.new ≡ out.old ++ (commit_line number (name_of printed.now.transaction) Certified ++ printed.now.output)) }
+{
+    say_commit_line(number, &printed.transaction, out)?;
+    out.append_text(&printed.output)
 }
 
 /// One row of a tree.

@@ -1,9 +1,8 @@
 use Rattle.std.proofs.Common.{ℕ, List, ◌<◌, length, take, refl, ◌∙◌, subst}
 use Rattle.std.specs.Io.KnownBytes.{Appends}
 use Rattle.iot_count.specs.Counts.{IsSteady}
-use Rattle.iot_machine.specs.Events.{event_part}
 use Rattle.iot_machine.specs.Machine.{opening}
-use Rattle.iot_world.specs.World.{Steps}
+use Rattle.iot_world.specs.World.{EventSteps}
 use Rattle.iot_world.proofs.DisksLaws.{untouched_disks, then_done_disks}
 use Rattle.iot_app.proofs.PlayedLaws.{plays_none, plays_more, plays_cut, appends_none}
 use Rattle.iot_app.proofs.play.play_on.Goals as goal
@@ -17,7 +16,7 @@ events-init g c = record {
   empties = refl;
   disks =
       untouched_disks _ _ g.D.Disk.reads g.D.Disk.may_leave c.args.world.now c.args.world.now opening.server IsSteady (λ n. refl)
-      c.requires.opened.stands.server refl refl;
+      c.requires.opened.stands.stands.server refl refl;
 }
 
 pub returns-in-Err-write_all-clause-ends : goal.returns-in-Err-write_all-clause-ends
@@ -27,8 +26,8 @@ returns-in-Err-write_all-clause-ends g c =
     plays_cut g.D.Disk.reads g.D.Disk.may_leave _ _ c.args.events.now c.events.world c.apply.new.self c.events.event-index
     c.event-item.result c.apply.new.out c.events.invariant.plays c.events-test.true c.event-item.is
     (subst
-    (λ (t : List ℕ). Steps g.D.Disk.reads g.D.Disk.may_leave (event_part c.event-item.result) c.events.world c.apply.new.self t
-    c.apply.new.out tt)
+    (λ (t : List ℕ). EventSteps g.D.Disk.reads g.D.Disk.may_leave c.event-item.result c.events.world c.apply.new.self t
+    c.apply.new.out)
     c.clear.ensures c.in-Ok.ensures.step)
     _ prefix.0
     (subst (λ (t : List ℕ). prefix.0 < length t) out prefix.1)
@@ -41,8 +40,8 @@ events-preserved g c = record {
       plays_more g.D.Disk.reads g.D.Disk.may_leave _ _ c.args.events.now c.events.world c.apply.new.self c.events.event-index
       c.event-item.result c.apply.new.out c.events.invariant.plays c.events-test.true c.event-item.is
       (subst
-      (λ (t : List ℕ). Steps g.D.Disk.reads g.D.Disk.may_leave (event_part c.event-item.result) c.events.world c.apply.new.self t
-      c.apply.new.out tt)
+      (λ (t : List ℕ). EventSteps g.D.Disk.reads g.D.Disk.may_leave c.event-item.result c.events.world c.apply.new.self t
+      c.apply.new.out)
       c.clear.ensures c.in-Ok.ensures.step)
       _
       c.in-Ok.ensures.declared

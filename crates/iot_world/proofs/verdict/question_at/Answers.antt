@@ -4,7 +4,7 @@ use Rattle.std.proofs.lemmas.Result.{IfOk-weaker}
 use Rattle.iot_tree.specs.declared.acts.Read.{Read}
 use Rattle.iot_acts.specs.Turns.{reads_of}
 use Rattle.iot_judging.proofs.ReadPlaceLaws.{read_here, read_later, no_read}
-use Rattle.iot_world.proofs.JudgesLaws.{is_found}
+use Rattle.iot_world.proofs.VerdictLaws.{is_there}
 use Rattle.iot_world.proofs.verdict.question_at.Goals as goal
 
 pub returns-then-left-reads : goal.returns-then-left-reads
@@ -32,5 +32,5 @@ acts-preserved c =
 
 pub unreachable-requires : goal.unreachable-requires
 unreachable-requires c =
-    is_found (reads_of c.args.acts.now) (c.args.place - 1) c.requires.within
+    is_there (reads_of c.args.acts.now) (c.args.place - 1) c.requires.within
     (sym c.acts.invariant ∙ no_read c.args.acts.now c.acts.act-index c.acts.left c.acts-test.false)

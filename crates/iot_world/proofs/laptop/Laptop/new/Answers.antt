@@ -1,6 +1,7 @@
 use Rattle.iot_world.proofs.LaptopCallsLaws.{new_stands}
 use Rattle.iot_world.proofs.laptop.Laptop.new.Goals as goal
 
-pub returns : goal.returns
-returns c =
-    new_stands c.args.name c.in_ok-new.field-0 c.in_ok-new.ensures.state c.in_ok-new.ensures.live c.in_ok-new.ensures.tied
+pub returns-clause-stands : goal.returns-clause-stands
+returns-clause-stands c =
+    new_stands c.args.name c.in_ok-new.field-0 c.new-2.result c.in_ok-new.ensures.state c.in_ok-new.ensures.live c.in_ok-new.ensures.tied
+    c.new-2.ensures

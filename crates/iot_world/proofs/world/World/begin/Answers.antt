@@ -1,58 +1,80 @@
-use Rattle.std.proofs.Common.{◌≡◌, [], sym, subst, ◌∙◌}
-use Rattle.iot_client.specs.Ties.{state_of}
-use Rattle.iot_world.specs.World.{IsIdle}
-use Rattle.iot_world.specs.declared.laptop.Laptop.{Laptop}
-use Rattle.iot_world.proofs.ReadyLaws.{found, found_some, one_at, no_some, no_items_wait, ready_after}
+use Rattle.std.proofs.Common.{refl, sym, ◌∙◌}
+use Rattle.std.proofs.lemmas.Result.{err_from_is_err_and}
+use Rattle.iot_count.specs.Counts.{IsSteady}
+use Rattle.iot_world.proofs.DisksLaws.{untouched_disks}
+use Rattle.iot_world.proofs.ReadyLaws.{found, found_some}
 use Rattle.iot_world.proofs.StepsLaws.{is_busy}
-use Rattle.iot_world.proofs.TransactionsLaws.{begins_second, begins_first}
+use Rattle.iot_world.proofs.TransactionsLaws.{disks_apart, idle_at, can_hold_at, begins_second, begins_first, begins_missed}
 use Rattle.iot_world.proofs.world.World.begin.Goals as goal
 
 pub runs-requires : goal.runs-requires
-runs-requires g c =
-    found_some g.D.Disk.reads g.D.Disk.may_leave c.args.client c.args.self.now c.index-laptop.result.now c.requires.ready
-    c.index-laptop.ensures
+runs-requires g c = found_some _ _ c.args.client c.args.self.now c.index-laptop.result.now c.requires.ready c.index-laptop.ensures
 
 pub returns-then-runs-clause-step : goal.returns-then-runs-clause-step
 returns-then-runs-clause-step g c =
-    is_busy g.D.Disk.reads g.D.Disk.may_leave c.args.client c.args.self.now c.index-laptop.result.now c.args.out.now
-    (found g.D.Disk.reads g.D.Disk.may_leave c.args.client c.args.self.now c.index-laptop.result.now c.requires.ready
-    c.index-laptop.ensures)
+    is_busy _ _ c.args.client c.args.self.now c.index-laptop.result.now c.args.out.now
+    (found _ _ c.args.client c.args.self.now c.index-laptop.result.now c.requires.ready c.index-laptop.ensures)
     c.say.new.out (sym c.runs.ensures ∙ c.if-runs.true) c.in_ok-say.ensures
+
+pub returns-in_err-say-clause-disks : goal.returns-in_err-say-clause-disks
+returns-in_err-say-clause-disks g c =
+    let p = err_from_is_err_and c.from_residual.result c.from_residual.ensures.1 in
+    rw (p.1, p.2)
+    (untouched_disks _ _ g.D.Disk.reads g.D.Disk.may_leave c.args.self.now _ c.requires.ready.machine.server _ (λ n. refl)
+    c.requires.ready.stands.server refl refl)
+
+pub returns-then-runs-clause-disks : goal.returns-then-runs-clause-disks
+returns-then-runs-clause-disks g c =
+    untouched_disks _ _ g.D.Disk.reads g.D.Disk.may_leave c.args.self.now _ c.requires.ready.machine.server _ (λ n. refl)
+    c.requires.ready.stands.server refl refl
 
 pub start-requires-clause-idle : goal.start-requires-clause-idle
 start-requires-clause-idle g c =
-    λ laptop is. subst (λ (l : Laptop). IsIdle l)
-    (one_at c.args.self.now c.args.client c.index-laptop.result.now laptop
-    (found g.D.Disk.reads g.D.Disk.may_leave c.args.client c.args.self.now c.index-laptop.result.now c.requires.ready
-    c.index-laptop.ensures) is)
-    (no_some _ (sym c.runs.ensures ∙ c.if-runs.false))
+    idle_at c.args.client c.args.self.now c.index-laptop.result.now
+    (found _ _ c.args.client c.args.self.now c.index-laptop.result.now c.requires.ready c.index-laptop.ensures)
+    (sym c.runs.ensures ∙ c.if-runs.false)
+
+pub returns-in_err-start-clause-disks : goal.returns-in_err-start-clause-disks
+returns-in_err-start-clause-disks g c =
+    let p = err_from_is_err_and c.from_residual-in_err-start.result c.from_residual-in_err-start.ensures.1 in
+    rw (p.1, p.2)
+    (untouched_disks _ _ g.D.Disk.reads g.D.Disk.may_leave c.args.self.now _ c.requires.ready.machine.server _ (λ n. refl)
+    c.requires.ready.stands.server c.start.ensures.apart.server c.start.ensures.apart.spare)
 
 pub returns-then-waits-clause-step : goal.returns-then-waits-clause-step
 returns-then-waits-clause-step g c =
-    begins_second g.D.Disk.reads g.D.Disk.may_leave c.args.client c.args.script c.args.self.now c.index-laptop.result.now c.args.out.now
-    (found g.D.Disk.reads g.D.Disk.may_leave c.args.client c.args.self.now c.index-laptop.result.now c.requires.ready
-    c.index-laptop.ensures)
+    begins_second _ _ c.args.client c.args.script c.args.self.now c.index-laptop.result.now c.args.out.now
+    (found _ _ c.args.client c.args.self.now c.index-laptop.result.now c.requires.ready c.index-laptop.ensures)
     c.start.new.self c.requires.script (sym c.runs.ensures ∙ c.if-runs.false) (sym c.waits.ensures ∙ c.if-waits.true)
     (c.in_ok-start.ensures.step c.args.out.now)
 
+pub returns-then-waits-clause-disks : goal.returns-then-waits-clause-disks
+returns-then-waits-clause-disks g c =
+    untouched_disks _ _ g.D.Disk.reads g.D.Disk.may_leave c.args.self.now _ c.requires.ready.machine.server _ (λ n. refl)
+    c.requires.ready.stands.server c.start.ensures.apart.server c.start.ensures.apart.spare
+
 pub bring-requires-clause-can : goal.bring-requires-clause-can
 bring-requires-clause-can g c =
-    λ laptop is. subst (λ (l : Laptop). IsIdle l × ((state_of l.client).items ≡ []))
-    (one_at c.args.self.now c.args.client c.index-laptop.result.now laptop
-    (found g.D.Disk.reads g.D.Disk.may_leave c.args.client c.args.self.now c.index-laptop.result.now c.requires.ready
-    c.index-laptop.ensures) is)
-    (no_some _ (sym c.runs.ensures ∙ c.if-runs.false), no_items_wait _ (sym c.waits.ensures ∙ c.if-waits.false))
+    can_hold_at c.args.client c.args.self.now c.index-laptop.result.now
+    (found _ _ c.args.client c.args.self.now c.index-laptop.result.now c.requires.ready c.index-laptop.ensures)
+    (sym c.runs.ensures ∙ c.if-runs.false) (sym c.waits.ensures ∙ c.if-waits.false)
 
-pub start-requires-2-clause-ready : goal.start-requires-2-clause-ready
-start-requires-2-clause-ready g c =
-    ready_after g.D.Disk.reads g.D.Disk.may_leave c.args.client c.args.self.now c.bring.new.self [] [] _ c.requires.ready
-    (c.in_ok-bring.ensures.step []) c.in_ok-bring.ensures.apart
+pub returns-in_ok-start-in-Held-clause-step : goal.returns-in_ok-start-in-Held-clause-step
+returns-in_ok-start-in-Held-clause-step g c =
+    begins_first _ _ c.args.client c.args.script c.args.self.now c.index-laptop.result.now c.args.out.now
+    (found _ _ c.args.client c.args.self.now c.index-laptop.result.now c.requires.ready c.index-laptop.ensures)
+    c.bring.new.self c.start-in-Held.new.self c.bring.new.out c.in_ok-bring.field-0 c.in-Held.is c.requires.script
+    (sym c.runs.ensures ∙ c.if-runs.false) (sym c.waits.ensures ∙ c.if-waits.false) c.in_ok-bring.ensures.counts.scripts
+    c.in_ok-bring.ensures.step (c.in_ok-start-in-Held.ensures.step c.bring.new.out)
 
-pub returns-clause-step : goal.returns-clause-step
-returns-clause-step g c =
-    begins_first g.D.Disk.reads g.D.Disk.may_leave c.args.client c.args.script c.args.self.now c.index-laptop.result.now c.args.out.now
-    (found g.D.Disk.reads g.D.Disk.may_leave c.args.client c.args.self.now c.index-laptop.result.now c.requires.ready
-    c.index-laptop.ensures)
-    c.bring.new.self c.start-2.new.self c.requires.script (sym c.runs.ensures ∙ c.if-runs.false)
-    (sym c.waits.ensures ∙ c.if-waits.false) c.in_ok-bring.ensures.apart.scripts (c.in_ok-bring.ensures.step c.args.out.now)
-    (c.in_ok-start-2.ensures.step c.args.out.now)
+pub returns-in_ok-start-in-Missed-clause-step : goal.returns-in_ok-start-in-Missed-clause-step
+returns-in_ok-start-in-Missed-clause-step g c =
+    begins_missed _ _ c.args.client c.args.script c.args.self.now c.index-laptop.result.now c.args.out.now
+    (found _ _ c.args.client c.args.self.now c.index-laptop.result.now c.requires.ready c.index-laptop.ensures)
+    c.bring.new.self c.start-in-Missed.new.self c.bring.new.out c.in_ok-bring.field-0 c.in-Missed.is c.requires.script
+    (sym c.runs.ensures ∙ c.if-runs.false) (sym c.waits.ensures ∙ c.if-waits.false) c.in_ok-bring.ensures.counts.scripts
+    c.in_ok-bring.ensures.step (c.in_ok-start-in-Missed.ensures.step c.bring.new.out)
+
+pub returns-in_ok-start-in-Missed-clause-disks : goal.returns-in_ok-start-in-Missed-clause-disks
+returns-in_ok-start-in-Missed-clause-disks g c =
+    disks_apart _ _ c.args.self.now c.bring.new.self _ IsSteady c.in_ok-bring.ensures.disks c.start-in-Missed.ensures.apart

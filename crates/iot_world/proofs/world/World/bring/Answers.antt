@@ -1,52 +1,178 @@
-use Rattle.std.proofs.Common.{◌≡◌, [], refl, ap, subst, ◌∙◌}
-use Rattle.iot_tree.specs.Tree.{Nodes}
-use Rattle.iot_client.specs.Ties.{state_of}
-use Rattle.iot_machine.specs.Clients.{hold, snapshot}
+use Rattle.std.proofs.Common.{◌≡◌, [], refl, sym, subst}
+use Rattle.std.proofs.lemmas.Result.{err_from_is_err_and}
+use Rattle.iot_client.specs.Messages.{IsRefresh}
+use Rattle.iot_client.specs.Ties.{state_of, place_of}
+use Rattle.iot_machine.specs.Clients.{hold}
+use Rattle.iot_machine.specs.Serving.{Lends}
+use Rattle.iot_world.specs.Messages.{SpellsTree, BringsTree}
 use Rattle.iot_world.specs.World.{IsIdle}
 use Rattle.iot_world.specs.declared.laptop.Laptop.{Laptop}
+use Rattle.iot_world.proofs.BringingLaws.{ready_came, at_before, brings_tree, held, missed}
+use Rattle.iot_world.proofs.DisksLaws.{untouched_disks}
 use Rattle.iot_world.proofs.ListLaws.{get_set}
-use Rattle.iot_world.proofs.ReadyLaws.{found, found_stands, found_some, holds_still}
-use Rattle.iot_world.proofs.StepsLaws.{brings, lent_tree, lent_spelled}
+use Rattle.iot_world.proofs.ReadyLaws.{found, found_stands, found_some, found_low, holds_still, one_at, can_still}
 use Rattle.iot_world.proofs.world.World.bring.Goals as goal
+
+pub ask-requires-clause-stands : goal.ask-requires-clause-stands
+ask-requires-clause-stands g c = found_some _ _ c.args.client c.args.self.now c.index.result.now c.requires.ready c.index.ensures
+
+pub ask-requires-clause-place : goal.ask-requires-clause-place
+ask-requires-clause-place g c = found_low _ _ c.args.client c.args.self.now c.index.result.now c.requires.ready c.index.ensures
+
+pub ask-requires-clause-idle : goal.ask-requires-clause-idle
+ask-requires-clause-idle g c =
+    (c.requires.can c.index.result.now (found _ _ c.args.client c.args.self.now c.index.result.now c.requires.ready c.index.ensures)).0
+
+pub ask-requires-clause-none : goal.ask-requires-clause-none
+ask-requires-clause-none g c =
+    (c.requires.can c.index.result.now (found _ _ c.args.client c.args.self.now c.index.result.now c.requires.ready c.index.ensures)).1
+
+pub returns-in_err-message-clause-disks : goal.returns-in_err-message-clause-disks
+returns-in_err-message-clause-disks g c =
+    let p = err_from_is_err_and c.from_residual.result c.from_residual.ensures.1 in
+    rw (p.1, p.2)
+    (untouched_disks _ _ g.D.Disk.reads g.D.Disk.may_leave c.args.self.now c.args.self.now c.requires.ready.machine.server _ (λ n. refl)
+    c.requires.ready.stands.server refl refl)
 
 pub take-requires-clause-stands : goal.take-requires-clause-stands
 take-requires-clause-stands g c =
-    found_some _ _ c.args.client c.args.self.now c.index_mut-laptop.result.now c.requires.ready c.index_mut-laptop.ensures.value
+    let was : Laptop = c.index.result.now in
+    let now : Laptop = c.index_mut.result.now in
+    let at = found _ _ c.args.client c.args.self.now c.index.result.now c.requires.ready c.index.ensures in
+    let keeps = c.in_ok-reply.ensures.clients in
+    let exchanged = c.in_ok-reply.ensures.lends (place_of was.client) (state_of was.client).held c.args.want.now c.in_ok-message.ensures in
+    let ready = ready_came g.D.Disk.reads g.D.Disk.may_leave c.args.client c.args.self.now c.exchange.new.self c.args.out.now
+    c.exchange.new.out
+    c.in_ok-reply.field-0 (Lends (state_of was.client).held c.args.want.now) SpellsTree exchanged c.in-Some.reply c.in-Some.is
+    c.requires.ready
+    c.in_ok-reply.ensures.counts in
+    let there = found _ _ c.args.client c.exchange.new.self now ready c.index_mut.ensures.value in
+    let before = at_before g.D.Disk.reads g.D.Disk.may_leave c.args.client c.args.self.now c.exchange.new.self c.args.out.now
+    c.exchange.new.out
+    c.in_ok-reply.field-0 c.in-Some.reply now c.in-Some.is keeps there in
+    let one = one_at c.args.self.now c.args.client was now at before in
+    found_some _ _ c.args.client c.exchange.new.self now ready c.index_mut.ensures.value
 
 pub take-requires-clause-idle : goal.take-requires-clause-idle
 take-requires-clause-idle g c =
-    (c.requires.can c.index_mut-laptop.result.now
-    (found _ _ c.args.client c.args.self.now c.index_mut-laptop.result.now c.requires.ready c.index_mut-laptop.ensures.value)).0
+    let was : Laptop = c.index.result.now in
+    let now : Laptop = c.index_mut.result.now in
+    let at = found _ _ c.args.client c.args.self.now c.index.result.now c.requires.ready c.index.ensures in
+    let keeps = c.in_ok-reply.ensures.clients in
+    let exchanged = c.in_ok-reply.ensures.lends (place_of was.client) (state_of was.client).held c.args.want.now c.in_ok-message.ensures in
+    let ready = ready_came g.D.Disk.reads g.D.Disk.may_leave c.args.client c.args.self.now c.exchange.new.self c.args.out.now
+    c.exchange.new.out
+    c.in_ok-reply.field-0 (Lends (state_of was.client).held c.args.want.now) SpellsTree exchanged c.in-Some.reply c.in-Some.is
+    c.requires.ready
+    c.in_ok-reply.ensures.counts in
+    let there = found _ _ c.args.client c.exchange.new.self now ready c.index_mut.ensures.value in
+    let before = at_before g.D.Disk.reads g.D.Disk.may_leave c.args.client c.args.self.now c.exchange.new.self c.args.out.now
+    c.exchange.new.out
+    c.in_ok-reply.field-0 c.in-Some.reply now c.in-Some.is keeps there in
+    let one = one_at c.args.self.now c.args.client was now at before in
+    (c.requires.can now before).0
 
 pub take-requires-clause-none : goal.take-requires-clause-none
 take-requires-clause-none g c =
-    (c.requires.can c.index_mut-laptop.result.now
-    (found _ _ c.args.client c.args.self.now c.index_mut-laptop.result.now c.requires.ready c.index_mut-laptop.ensures.value)).1
+    let was : Laptop = c.index.result.now in
+    let now : Laptop = c.index_mut.result.now in
+    let at = found _ _ c.args.client c.args.self.now c.index.result.now c.requires.ready c.index.ensures in
+    let keeps = c.in_ok-reply.ensures.clients in
+    let exchanged = c.in_ok-reply.ensures.lends (place_of was.client) (state_of was.client).held c.args.want.now c.in_ok-message.ensures in
+    let ready = ready_came g.D.Disk.reads g.D.Disk.may_leave c.args.client c.args.self.now c.exchange.new.self c.args.out.now
+    c.exchange.new.out
+    c.in_ok-reply.field-0 (Lends (state_of was.client).held c.args.want.now) SpellsTree exchanged c.in-Some.reply c.in-Some.is
+    c.requires.ready
+    c.in_ok-reply.ensures.counts in
+    let there = found _ _ c.args.client c.exchange.new.self now ready c.index_mut.ensures.value in
+    let before = at_before g.D.Disk.reads g.D.Disk.may_leave c.args.client c.args.self.now c.exchange.new.self c.args.out.now
+    c.exchange.new.out
+    c.in_ok-reply.field-0 c.in-Some.reply now c.in-Some.is keeps there in
+    let one = one_at c.args.self.now c.args.client was now at before in
+    (c.requires.can now before).1
 
-pub take-requires-clause-tree : goal.take-requires-clause-tree
-take-requires-clause-tree g c =
-    lent_tree _ _ c.args.self.now c.requires.ready.machine c.held.result.now c.in_ok-t.t c.args.want.now c.requires.ready.up
-    c.in_ok-t.ensures c.requires.ready.stands
+pub take-requires-clause-brings : goal.take-requires-clause-brings
+take-requires-clause-brings g c =
+    let was : Laptop = c.index.result.now in
+    let now : Laptop = c.index_mut.result.now in
+    let at = found _ _ c.args.client c.args.self.now c.index.result.now c.requires.ready c.index.ensures in
+    let keeps = c.in_ok-reply.ensures.clients in
+    let exchanged = c.in_ok-reply.ensures.lends (place_of was.client) (state_of was.client).held c.args.want.now c.in_ok-message.ensures in
+    let ready = ready_came g.D.Disk.reads g.D.Disk.may_leave c.args.client c.args.self.now c.exchange.new.self c.args.out.now
+    c.exchange.new.out
+    c.in_ok-reply.field-0 (Lends (state_of was.client).held c.args.want.now) SpellsTree exchanged c.in-Some.reply c.in-Some.is
+    c.requires.ready
+    c.in_ok-reply.ensures.counts in
+    let there = found _ _ c.args.client c.exchange.new.self now ready c.index_mut.ensures.value in
+    let before = at_before g.D.Disk.reads g.D.Disk.may_leave c.args.client c.args.self.now c.exchange.new.self c.args.out.now
+    c.exchange.new.out
+    c.in_ok-reply.field-0 c.in-Some.reply now c.in-Some.is keeps there in
+    let one = one_at c.args.self.now c.args.client was now at before in
+    subst BringsTree (sym c.deref.ensures.value)
+    (brings_tree g.D.Disk.reads g.D.Disk.may_leave c.args.client c.args.self.now c.exchange.new.self c.args.out.now c.exchange.new.out
+    c.in_ok-reply.field-0 was c.args.want.now exchanged c.in-Some.reply c.in-Some.is)
 
-pub take-requires-clause-spelled : goal.take-requires-clause-spelled
-take-requires-clause-spelled g c =
-    lent_spelled _ _ c.args.self.now c.requires.ready.machine c.held.result.now c.in_ok-t.t c.args.want.now c.requires.ready.up
-    c.in_ok-t.ensures c.requires.ready.stands
+pub returns-in-Some-clause-step : goal.returns-in-Some-clause-step
+returns-in-Some-clause-step g c =
+    let was : Laptop = c.index.result.now in
+    let now : Laptop = c.index_mut.result.now in
+    let at = found _ _ c.args.client c.args.self.now c.index.result.now c.requires.ready c.index.ensures in
+    let keeps = c.in_ok-reply.ensures.clients in
+    let exchanged = c.in_ok-reply.ensures.lends (place_of was.client) (state_of was.client).held c.args.want.now c.in_ok-message.ensures in
+    let ready = ready_came g.D.Disk.reads g.D.Disk.may_leave c.args.client c.args.self.now c.exchange.new.self c.args.out.now
+    c.exchange.new.out
+    c.in_ok-reply.field-0 (Lends (state_of was.client).held c.args.want.now) SpellsTree exchanged c.in-Some.reply c.in-Some.is
+    c.requires.ready
+    c.in_ok-reply.ensures.counts in
+    let there = found _ _ c.args.client c.exchange.new.self now ready c.index_mut.ensures.value in
+    let before = at_before g.D.Disk.reads g.D.Disk.may_leave c.args.client c.args.self.now c.exchange.new.self c.args.out.now
+    c.exchange.new.out
+    c.in_ok-reply.field-0 c.in-Some.reply now c.in-Some.is keeps there in
+    let one = one_at c.args.self.now c.args.client was now at before in
+    let exchanged_now = c.in_ok-reply.ensures.lends (place_of now.client) (state_of now.client).held c.args.want.now
+    (subst (λ (l : Laptop). IsRefresh (place_of l.client) (state_of l.client).held c.args.want.now
+    c.in_ok-message.message.request.items) one
+    c.in_ok-message.ensures) in
+    held _ _ c.args.client c.args.self.now c.exchange.new.self c.args.out.now c.exchange.new.out c.in_ok-reply.field-0 now c.args.want.now
+    exchanged_now c.in-Some.reply _ c.take.new.self hold c.in-Some.is keeps there (record { server = refl; scripts = refl; clients = refl })
+    (λ t spelled. c.in_ok-take-in-Some.ensures t (subst (λ bytes. SpellsTree bytes t) (sym c.deref.ensures.value) spelled))
+
+pub returns-in-Some-clause-can : goal.returns-in-Some-clause-can
+returns-in-Some-clause-can g c =
+    let was : Laptop = c.index.result.now in
+    let now : Laptop = c.index_mut.result.now in
+    let at = found _ _ c.args.client c.args.self.now c.index.result.now c.requires.ready c.index.ensures in
+    let keeps = c.in_ok-reply.ensures.clients in
+    let exchanged = c.in_ok-reply.ensures.lends (place_of was.client) (state_of was.client).held c.args.want.now c.in_ok-message.ensures in
+    let ready = ready_came g.D.Disk.reads g.D.Disk.may_leave c.args.client c.args.self.now c.exchange.new.self c.args.out.now
+    c.exchange.new.out
+    c.in_ok-reply.field-0 (Lends (state_of was.client).held c.args.want.now) SpellsTree exchanged c.in-Some.reply c.in-Some.is
+    c.requires.ready
+    c.in_ok-reply.ensures.counts in
+    let there = found _ _ c.args.client c.exchange.new.self now ready c.index_mut.ensures.value in
+    let before = at_before g.D.Disk.reads g.D.Disk.may_leave c.args.client c.args.self.now c.exchange.new.self c.args.out.now
+    c.exchange.new.out
+    c.in_ok-reply.field-0 c.in-Some.reply now c.in-Some.is keeps there in
+    let one = one_at c.args.self.now c.args.client was now at before in
+    let brought = brings_tree g.D.Disk.reads g.D.Disk.may_leave c.args.client c.args.self.now c.exchange.new.self c.args.out.now
+    c.exchange.new.out
+    c.in_ok-reply.field-0 was c.args.want.now exchanged c.in-Some.reply c.in-Some.is in
+    λ laptop is. subst (λ (l : Laptop). IsIdle l × ((state_of l.client).items ≡ []))
+    (get_set c.exchange.new.self.clients.items c.args.client c.take.new.self laptop is)
+    (holds_still brought.tree now c.take.new.self _
+    (found_stands _ _ c.args.client c.exchange.new.self now ready c.index_mut.ensures.value)
+    (c.in_ok-take-in-Some.ensures brought.tree (subst (λ bytes. SpellsTree bytes brought.tree) (sym c.deref.ensures.value) brought.is))
+    (c.requires.can now before).0 (c.requires.can now before).1)
 
 pub returns-clause-step : goal.returns-clause-step
 returns-clause-step g c =
-    λ text. brings _ _ c.args.client c.args.self.now _ c.index_mut-laptop.result.now c.take.new.self hold c.args.want.now c.in_ok-t.t text
-    (found _ _ c.args.client c.args.self.now c.index_mut-laptop.result.now c.requires.ready c.index_mut-laptop.ensures.value)
-    c.requires.ready.up
-    (λ tree is. c.in_ok-t.ensures tree is ∙ ap (λ (held : Nodes). snapshot held c.args.want.now tree) c.held.ensures)
-    (record { server = refl; scripts = refl; clients = refl }) c.in_ok-take.ensures
+    let was : Laptop = c.index.result.now in
+    let at = found _ _ c.args.client c.args.self.now c.index.result.now c.requires.ready c.index.ensures in
+    missed _ _ c.args.client c.args.self.now c.exchange.new.self c.args.out.now c.exchange.new.out c.in_ok-reply.field-0 was c.args.want.now
+    (c.in_ok-reply.ensures.lends (place_of was.client) (state_of was.client).held c.args.want.now c.in_ok-message.ensures) hold
+    c.in-None.is at
 
 pub returns-clause-can : goal.returns-clause-can
 returns-clause-can g c =
-    let old = c.index_mut-laptop.result.now in
-    let at = found _ _ c.args.client c.args.self.now old c.requires.ready c.index_mut-laptop.ensures.value in
-    λ laptop is. subst (λ (l : Laptop). IsIdle l × ((state_of l.client).items ≡ []))
-    (get_set c.args.self.now.clients.items c.args.client c.take.new.self laptop is)
-    (holds_still c.in_ok-t.t old c.take.new.self _
-    (found_stands _ _ c.args.client c.args.self.now old c.requires.ready c.index_mut-laptop.ensures.value)
-    c.in_ok-take.ensures (c.requires.can old at).0 (c.requires.can old at).1)
+    let at = found _ _ c.args.client c.args.self.now c.index.result.now c.requires.ready c.index.ensures in
+    can_still c.args.client c.args.self.now c.exchange.new.self c.index.result.now at c.requires.can c.in_ok-reply.ensures.state

@@ -1,10 +1,12 @@
 use Rattle.std.proofs.Common.{refl}
-use Rattle.iot_world.proofs.EndsLaws.{at_server}
 use Rattle.iot_world.proofs.ServersLaws.{has_disk}
+use Rattle.iot_world.proofs.WorldLaws.{at_server, down_answered}
 use Rattle.iot_world.proofs.world.World.crash.Goals as goal
 
 pub crash-requires : goal.crash-requires
 crash-requires g c = has_disk g.D.Disk.reads g.D.Disk.may_leave c.args.self.now.server _ _ c.requires.stands.server.keeps
 
 pub returns-clause-step : goal.returns-clause-step
-returns-clause-step g c = at_server _ _ c.args.self.now _ c.args.out.now c.crash.new.out _ refl refl c.in_ok-crash.ensures.step
+returns-clause-step g c =
+    at_server _ _ c.args.self.now _ refl refl c.args.out.now c.crash.new.out _
+    (λ n counts. down_answered n c.crash.new.self c.in_ok-crash.ensures.down) c.in_ok-crash.ensures.step

@@ -1,16 +1,14 @@
-use Rattle.std.proofs.Common.{ℕ, List, ◌++◌, refl, sym, ap, ◌∙◌}
+use Rattle.std.proofs.Common.{refl, sym, ◌∙◌}
 use Rattle.std.proofs.lemmas.Result.{err_from_is_err_and}
-use Rattle.std.specs.Vec.{with_item}
-use Rattle.iot_tree.specs.declared.acts.Act.{Act}
 use Rattle.iot_machine.specs.Clients as clients
-use Rattle.iot_machine.specs.Texts.{acts_output, end_line, pending_line, transaction_name}
-use Rattle.iot_world.specs.declared.world.World.{World}
 use Rattle.iot_world.proofs.DisksLaws.{untouched_disks}
-use Rattle.iot_world.proofs.EndsLaws.{ended_name, ends_idle, ends_early, ends_synced, ends_waiting, ready_noted, unended}
+use Rattle.iot_world.proofs.EndsLaws.{ends_idle, ends_early, ends_told, ends_unanswered, ends_waiting, ready_noted}
+use Rattle.iot_world.proofs.LaptopEndsLaws.{unended}
 use Rattle.iot_world.proofs.ReadyLaws.{found, found_stands, found_some}
-use Rattle.iot_world.proofs.StepsLaws.{it_runs, none_runs}
-use Rattle.iot_world.proofs.TransactionsLaws.{to_same, put_back}
+use Rattle.iot_world.proofs.StepsLaws.{it_runs, none_runs, put_back}
+use Rattle.iot_world.proofs.TransactionsLaws.{to_same}
 use Rattle.iot_world.proofs.world.World.end.Goals as goal
+use Rattle.iot_world.proofs.world.World.end.Goals.{in-Unanswered+in_ok-say_pending-in-Unanswered, in-Empty}
 
 pub runs-requires : goal.runs-requires
 runs-requires g c =
@@ -86,41 +84,38 @@ returns-in_err-say_end-clause-disks g c =
     (untouched_disks _ _ g.D.Disk.reads g.D.Disk.may_leave c.args.self.now _ c.requires.ready.machine.server _ (λ n. refl)
     c.requires.ready.stands.server refl refl)
 
-pub sync-requires : goal.sync-requires
-sync-requires g c =
-    let old = c.args.self.now in
-    let was = c.index_mut-laptop.result.now in
-    let at = found _ _ c.args.client old was c.requires.ready c.index_mut-laptop.ensures.value in
-    record {
-      ready =
-          ready_noted _ _ c.args.client old _ was c.end.new.self clients.end c.requires.ready at
-          (record { server = refl; scripts = refl; clients = refl }) c.in_ok-gone.ensures.noted;
-    }
-
-pub returns-then-gone-clause-step : goal.returns-then-gone-clause-step
-returns-then-gone-clause-step g c =
-    let old = c.args.self.now in
-    let was = c.index_mut-laptop.result.now in
-    let at = found _ _ c.args.client old was c.requires.ready c.index_mut-laptop.ensures.value in
-    let here = found_stands _ _ c.args.client old was c.requires.ready c.index_mut-laptop.ensures.value in
-    let runs = it_runs was _ here (sym c.runs.ensures ∙ c.if-not-runs.false) in
-    let laptop = c.end.new.self in
-    let gone = c.in_ok-gone.gone in
-    let acts = c.in_ok-gone.acts in
-    let named =
-    ended_name gone acts was laptop _ c.transaction-transaction.result here c.in_ok-gone.ensures c.transaction-transaction.ensures in
-    let mid : World g.row.D.Denot = record old { clients = with_item old.clients c.args.client laptop } in
-    ends_synced g.D.Disk.reads g.D.Disk.may_leave c.args.client old was c.args.out.now at runs.it runs.is gone acts laptop mid
-    c.in_ok-gone.ensures (record { server = refl; scripts = refl; clients = refl }) c.sync.new.self c.say_end.new.out
-    c.sync.new.out c.if-gone.true
-    (c.in_ok-say_end.ensures ∙ ap (λ (n : List ℕ). c.args.out.now ++ end_line n) named) c.in_ok-sync.ensures.step
-
 pub returns-in_err-say_pending-clause-disks : goal.returns-in_err-say_pending-clause-disks
 returns-in_err-say_pending-clause-disks g c =
     let p = err_from_is_err_and c.from_residual-in_err-say_pending.result c.from_residual-in_err-say_pending.ensures.1 in
     rw (p.1, p.2)
     (untouched_disks _ _ g.D.Disk.reads g.D.Disk.may_leave c.args.self.now _ c.requires.ready.machine.server _ (λ n. refl)
     c.requires.ready.stands.server refl refl)
+
+pub returns-then-not-gone-clause-step : goal.returns-then-not-gone-clause-step
+returns-then-not-gone-clause-step g c =
+    let old = c.args.self.now in
+    let was = c.index_mut-laptop.result.now in
+    let at = found _ _ c.args.client old was c.requires.ready c.index_mut-laptop.ensures.value in
+    let here = found_stands _ _ c.args.client old was c.requires.ready c.index_mut-laptop.ensures.value in
+    let runs = it_runs was _ here (sym c.runs.ensures ∙ c.if-not-runs.false) in
+    ends_waiting g.D.Disk.reads g.D.Disk.may_leave c.args.client old was c.args.out.now at runs.it runs.is c.in_ok-gone.gone
+    c.end.new.self _ c.in_ok-gone.ensures (record { server = refl; scripts = refl; clients = refl }) c.say_end.new.out
+    c.say_pending.new.out c.if-not-gone.true c.in_ok-say_end.ensures c.in_ok-say_pending.ensures
+
+pub returns-then-not-gone-clause-disks : goal.returns-then-not-gone-clause-disks
+returns-then-not-gone-clause-disks g c =
+    untouched_disks _ _ g.D.Disk.reads g.D.Disk.may_leave c.args.self.now _ c.requires.ready.machine.server _ (λ n. refl)
+    c.requires.ready.stands.server refl refl
+
+pub sync-requires : goal.sync-requires
+sync-requires g c =
+    let was = c.index_mut-laptop.result.now in
+    let at = found _ _ c.args.client c.args.self.now was c.requires.ready c.index_mut-laptop.ensures.value in
+    record {
+      ready =
+          ready_noted _ _ c.args.client c.args.self.now _ was c.end.new.self clients.end c.requires.ready at
+          (record { server = refl; scripts = refl; clients = refl }) c.in_ok-gone.ensures.noted;
+    }
 
 pub returns-clause-step : goal.returns-clause-step
 returns-clause-step g c =
@@ -129,21 +124,15 @@ returns-clause-step g c =
     let at = found _ _ c.args.client old was c.requires.ready c.index_mut-laptop.ensures.value in
     let here = found_stands _ _ c.args.client old was c.requires.ready c.index_mut-laptop.ensures.value in
     let runs = it_runs was _ here (sym c.runs.ensures ∙ c.if-not-runs.false) in
-    let laptop = c.end.new.self in
-    let gone = c.in_ok-gone.gone in
-    let acts = c.in_ok-gone.acts in
-    let named =
-    ended_name gone acts was laptop _ c.transaction-transaction.result here c.in_ok-gone.ensures c.transaction-transaction.ensures in
-    let mid : World g.row.D.Denot = record old { clients = with_item old.clients c.args.client laptop } in
-    ends_waiting g.D.Disk.reads g.D.Disk.may_leave c.args.client old was c.args.out.now at runs.it runs.is gone acts laptop mid
-    c.in_ok-gone.ensures (record { server = refl; scripts = refl; clients = refl }) c.say_end.new.out c.say_pending.new.out c.if-gone.false
-    (c.in_ok-say_end.ensures ∙ ap (λ (n : List ℕ). c.args.out.now ++ end_line n) named)
-    (c.in_ok-say_pending.ensures
-    ∙ ap (λ (n : List ℕ). c.say_end.new.out ++ (pending_line n ++ acts_output c.as_slice.result.now)) named
-    ∙ ap (λ (them : List Act). c.say_end.new.out ++ (pending_line (transaction_name was.name gone.tid) ++ acts_output them))
-    c.as_slice.ensures)
-
-pub returns-clause-disks : goal.returns-clause-disks
-returns-clause-disks g c =
-    untouched_disks _ _ g.D.Disk.reads g.D.Disk.may_leave c.args.self.now _ c.requires.ready.machine.server _ (λ n. refl)
-    c.requires.ready.stands.server refl refl
+    elim c.match-branch-7.branch [
+      | in-Unanswered+in_ok-say_pending-in-Unanswered w ↦
+          ends_unanswered g.D.Disk.reads g.D.Disk.may_leave c.args.client old was c.args.out.now at runs.it runs.is c.in_ok-gone.gone
+          c.end.new.self _ c.in_ok-gone.ensures (record { server = refl; scripts = refl; clients = refl }) c.sync.new.self
+          c.say_end.new.out c.match-branch-7.out c.in_ok-say_end.ensures c.sync.new.out c.in_ok-sync.field-0 c.if-not-gone.false
+          w.in-Unanswered.is c.in_ok-sync.ensures.step (w.out-is ∙ w.in_ok-say_pending-in-Unanswered.ensures)
+      | in-Empty w ↦
+          ends_told g.D.Disk.reads g.D.Disk.may_leave c.args.client old was c.args.out.now at runs.it runs.is c.in_ok-gone.gone
+          c.end.new.self _ c.in_ok-gone.ensures (record { server = refl; scripts = refl; clients = refl }) c.sync.new.self
+          c.say_end.new.out c.match-branch-7.out c.in_ok-say_end.ensures c.sync.new.out c.in_ok-sync.field-0 c.if-not-gone.false
+          w.in-Empty.is c.in_ok-sync.ensures.step w.out-is
+    ]

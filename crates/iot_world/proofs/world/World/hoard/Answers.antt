@@ -1,4 +1,5 @@
-use Rattle.std.proofs.Common.{subst}
+use Rattle.std.proofs.lemmas.Result.{err_from_is_err_and}
+use Rattle.std.proofs.Common.{refl, subst}
 use Rattle.iot_tree.specs.Tree.{Path}
 use Rattle.iot_world.specs.World.{Steps}
 use Rattle.iot_tree.specs.declared.want.Want.TheVariants as wanted
@@ -8,6 +9,7 @@ use Rattle.iot_machine.specs.Texts.{hoard_line}
 use Rattle.iot_machine.specs.Transactions.{Takes}
 use Rattle.iot_world.proofs.EventsLaws.{goes, stays, says_name}
 use Rattle.iot_world.proofs.ReadyLaws.{found, ready_after}
+use Rattle.iot_world.proofs.DisksLaws.{untouched_disks}
 use Rattle.iot_world.proofs.world.World.hoard.Goals as goal
 
 pub returns-then-not-branch-clause-step : goal.returns-then-not-branch-clause-step
@@ -23,7 +25,7 @@ returns-clause-step g c =
     let reads = g.D.Disk.reads in
     let leaves = g.D.Disk.may_leave in
     let ready = ready_after reads leaves c.args.client c.args.self.now c.take.new.self c.args.out.now c.take.new.out _ c.requires.ready
-    c.in_ok-take.ensures.step c.in_ok-take.ensures.apart in
+    c.in_ok-take.ensures.step c.in_ok-take.ensures.counts in
     goes reads leaves (Takes c.args.client (wanted.Below c.args.path.now))
     (Says (λ m. hoard_line (name_of c.args.client m) c.args.path.now)) c.args.self.now
     c.take.new.self c.take.new.self c.args.out.now c.take.new.out c.say_hoard.new.out _ c.if-not-branch.false
@@ -32,3 +34,10 @@ returns-clause-step g c =
     (says_name reads leaves c.args.client c.take.new.self c.index.result.now
     (found reads leaves c.args.client c.take.new.self c.index.result.now ready c.index.ensures) c.take.new.out c.say_hoard.new.out
     (λ n. hoard_line n c.args.path.now) c.in_ok-say_hoard.ensures)
+
+pub returns-in_err-copy-clause-disks : goal.returns-in_err-copy-clause-disks
+returns-in_err-copy-clause-disks g c =
+    let p = err_from_is_err_and c.from_residual.result c.from_residual.ensures.1 in
+    rw (p.1, p.2)
+    (untouched_disks _ _ g.D.Disk.reads g.D.Disk.may_leave c.args.self.now c.args.self.now c.requires.ready.machine.server _ (λ n. refl)
+    c.requires.ready.stands.server refl refl)

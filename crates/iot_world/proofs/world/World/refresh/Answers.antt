@@ -7,19 +7,19 @@ use Rattle.iot_world.proofs.EventsLaws.{goes, stays, says_name}
 use Rattle.iot_world.proofs.ReadyLaws.{found, ready_after}
 use Rattle.iot_world.proofs.world.World.refresh.Goals as goal
 
-pub returns-in_ok-say_refresh-clause-step : goal.returns-in_ok-say_refresh-clause-step
-returns-in_ok-say_refresh-clause-step g c =
+pub returns-clause-step : goal.returns-clause-step
+returns-clause-step g c =
     let reads = g.D.Disk.reads in
     let leaves = g.D.Disk.may_leave in
     let ready = ready_after reads leaves c.args.client c.args.self.now c.take.new.self c.args.out.now c.take.new.out _ c.requires.ready
-    c.in_ok-take.ensures.step c.in_ok-take.ensures.apart in
+    c.in_ok-take.ensures.step c.in_ok-take.ensures.counts in
     goes reads leaves (Takes c.args.client wanted.Nothing) (Says (λ m. refresh_line (name_of c.args.client m))) c.args.self.now
-    c.take.new.self c.take.new.self c.args.out.now c.take.new.out c.say_refresh.new.out _ c.if-branch.true c.in_ok-take.ensures.step
+    c.take.new.self c.take.new.self c.args.out.now c.take.new.out c.say_refresh.new.out _ c.if-not-branch.false c.in_ok-take.ensures.step
     (says_name reads leaves c.args.client c.take.new.self c.index.result.now
     (found reads leaves c.args.client c.take.new.self c.index.result.now ready c.index.ensures) c.take.new.out c.say_refresh.new.out
     refresh_line c.in_ok-say_refresh.ensures)
 
-pub returns-else-branch-clause-step : goal.returns-else-branch-clause-step
-returns-else-branch-clause-step g c =
+pub returns-then-not-branch-clause-step : goal.returns-then-not-branch-clause-step
+returns-then-not-branch-clause-step g c =
     stays g.D.Disk.reads g.D.Disk.may_leave (Takes c.args.client wanted.Nothing) (Says (λ m. refresh_line (name_of c.args.client m)))
-    c.args.self.now c.take.new.self c.args.out.now c.take.new.out _ c.if-branch.false c.in_ok-take.ensures.step
+    c.args.self.now c.take.new.self c.args.out.now c.take.new.out _ c.if-not-branch.true c.in_ok-take.ensures.step

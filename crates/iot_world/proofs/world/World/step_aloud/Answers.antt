@@ -1,5 +1,7 @@
-use Rattle.std.proofs.Common.{sym, ◌∙◌}
+use Rattle.std.proofs.Common.{refl, sym, ◌∙◌}
+use Rattle.std.proofs.lemmas.Result.{err_from_is_err_and}
 use Rattle.iot_machine.specs.Machine.{client_in}
+use Rattle.iot_world.proofs.DisksLaws.{untouched_disks}
 use Rattle.iot_world.proofs.EventsLaws.{steps_aloud, none_to_step}
 use Rattle.iot_world.proofs.ReadyLaws.{found, found_stands, found_some}
 use Rattle.iot_world.proofs.StepsLaws.{it_runs, none_runs}
@@ -23,4 +25,16 @@ returns-clause-step g c =
     steps_aloud g.D.Disk.reads g.D.Disk.may_leave c.args.client c.args.most c.args.self.now c.steps.new.self c.index.result.now
     c.args.out.now c.steps.new.out c.say_stepped.new.out one.it _
     (found g.D.Disk.reads g.D.Disk.may_leave c.args.client c.args.self.now c.index.result.now c.requires.ready c.index.ensures) one.is
-    c.in_ok-_went.ensures.step c.in_ok-say_stepped.ensures
+    c.in_ok-_stepped.ensures.step c.in_ok-say_stepped.ensures
+
+pub returns-in_err-say-clause-disks : goal.returns-in_err-say-clause-disks
+returns-in_err-say-clause-disks g c =
+    let p = err_from_is_err_and c.from_residual.result c.from_residual.ensures.1 in
+    rw (p.1, p.2)
+    (untouched_disks _ _ g.D.Disk.reads g.D.Disk.may_leave c.args.self.now _ c.requires.ready.machine.server _ (λ n. refl)
+    c.requires.ready.stands.server refl refl)
+
+pub returns-then-not-runs-clause-disks : goal.returns-then-not-runs-clause-disks
+returns-then-not-runs-clause-disks g c =
+    untouched_disks _ _ g.D.Disk.reads g.D.Disk.may_leave c.args.self.now _ c.requires.ready.machine.server _ (λ n. refl)
+    c.requires.ready.stands.server refl refl

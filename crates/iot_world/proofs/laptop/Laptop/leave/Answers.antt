@@ -1,8 +1,0 @@
-use Rattle.std.proofs.Common.{refl}
-use Rattle.iot_world.proofs.LaptopCallsLaws.{noted_left}
-use Rattle.iot_world.proofs.laptop.Laptop.leave.Goals as goal
-
-pub returns-in-Ok : goal.returns-in-Ok
-returns-in-Ok c =
-    noted_left c.args.self.now (record { name = c.args.self.now.name; client = c.take_verdict.new.self }) refl c.in-Ok.ensures.tied
-    c.in-Ok.ensures.notes c.in-Ok.ensures.live

@@ -1,0 +1,25 @@
+use Rattle.std.proofs.Common.{refl}
+use Rattle.iot_world.proofs.DisksLaws.{untouched_disks}
+use Rattle.iot_world.proofs.QueuesLaws.{drained, not_drained}
+use Rattle.iot_world.proofs.ReadyLaws.{found, found_some}
+use Rattle.iot_world.proofs.world.World.refresh_drained.Goals as goal
+
+pub is_drained-requires : goal.is_drained-requires
+is_drained-requires g c = found_some _ _ c.args.client c.args.self.now c.index.result.now c.requires.ready c.index.ensures
+
+pub returns-then-not-is_drained-clause-step : goal.returns-then-not-is_drained-clause-step
+returns-then-not-is_drained-clause-step g c =
+    not_drained _ _ c.args.client c.args.self.now c.args.out.now c.index.result.now c.is_drained.result
+    (found _ _ c.args.client c.args.self.now c.index.result.now c.requires.ready c.index.ensures) c.is_drained.ensures
+    c.if-not-is_drained.true
+
+pub returns-then-not-is_drained-clause-disks : goal.returns-then-not-is_drained-clause-disks
+returns-then-not-is_drained-clause-disks g c =
+    untouched_disks _ _ g.D.Disk.reads g.D.Disk.may_leave c.args.self.now _ c.requires.ready.machine.server _ (λ n. refl)
+    c.requires.ready.stands.server refl refl
+
+pub returns-clause-step : goal.returns-clause-step
+returns-clause-step g c =
+    drained _ _ c.args.client c.args.self.now c.args.out.now c.index.result.now c.is_drained.result
+    (found _ _ c.args.client c.args.self.now c.index.result.now c.requires.ready c.index.ensures) c.is_drained.ensures
+    c.refresh.new.self c.refresh.new.out c.if-not-is_drained.false c.in_ok-refresh.ensures.step

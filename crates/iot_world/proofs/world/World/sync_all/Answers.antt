@@ -1,0 +1,76 @@
+use Rattle.std.proofs.Common.{refl, subst}
+use Rattle.std.proofs.lemmas.Result.{err_from_is_err_and}
+use Rattle.iot_count.specs.Counts.{IsSteady}
+use Rattle.iot_client.specs.Ties.{state_of}
+use Rattle.iot_machine.specs.Transactions.{Syncs, Empty, Unanswered}
+use Rattle.iot_world.specs.Laptops.{waits_of}
+use Rattle.iot_world.specs.World.{Steps, synced_of}
+use Rattle.iot_world.specs.declared.answers.Synced.{Synced}
+use Rattle.iot_world.proofs.DisksLaws.{untouched_disks, then_done_disks}
+use Rattle.iot_world.proofs.QueuesLaws.{syncs_start, syncs_over, syncs_on, syncs_out, syncs_end, waiting, not_waiting}
+use Rattle.iot_world.proofs.ReadyLaws.{found}
+use Rattle.iot_world.proofs.world.World.sync_all.Goals as goal
+
+pub returns-in_err-most-clause-disks : goal.returns-in_err-most-clause-disks
+returns-in_err-most-clause-disks g c =
+    let p = err_from_is_err_and c.from_residual.result c.from_residual.ensures.1 in
+    rw (p.1, p.2)
+    (untouched_disks _ _ g.D.Disk.reads g.D.Disk.may_leave c.args.self.now _ c.requires.ready.machine.server _ (λ n. refl)
+    c.requires.ready.stands.server refl refl)
+
+pub syncs-init : goal.syncs-init
+syncs-init g c = (
+  syncs_start g.D.Disk.reads g.D.Disk.may_leave c.args.client c.in_ok-most.most c.args.self.now c.args.out.now c.index.result.now
+      (found _ _ c.args.client c.args.self.now c.index.result.now c.requires.ready c.index.ensures) c.in_ok-most.ensures c.requires.ready,
+  untouched_disks _ _ g.D.Disk.reads g.D.Disk.may_leave c.args.self.now _ c.requires.ready.machine.server IsSteady (λ n. refl)
+      c.requires.ready.stands.server refl refl,
+)
+
+pub returns-then-not-waits-clause-step : goal.returns-then-not-waits-clause-step
+returns-then-not-waits-clause-step g c =
+    syncs_over _ _ c.args.client c.in_ok-most.most c.args.self.now c.args.out.now c.syncs.counter c.syncs.self c.syncs.out
+    c.syncs-test.true c.syncs.invariant.0
+    c.index-in-syncs.result.now (found _ _ c.args.client c.syncs.self c.index-in-syncs.result.now c.syncs.invariant.0.ready
+    c.index-in-syncs.ensures)
+    (not_waiting c.waits.result (waits_of (state_of c.index-in-syncs.result.now.client).items) c.waits.ensures c.if-not-waits.true)
+
+pub returns-in-Empty-clause-step : goal.returns-in-Empty-clause-step
+returns-in-Empty-clause-step g c =
+    syncs_out _ _ c.args.client c.in_ok-most.most c.args.self.now c.args.out.now c.syncs.counter c.syncs.self c.syncs.out
+    c.syncs-test.true c.syncs.invariant.0
+    c.index-in-syncs.result.now (found _ _ c.args.client c.syncs.self c.index-in-syncs.result.now c.syncs.invariant.0.ready
+    c.index-in-syncs.ensures)
+    (waiting c.waits.result (waits_of (state_of c.index-in-syncs.result.now.client).items) c.waits.ensures c.if-not-waits.false)
+    c.sync.new.self c.sync.new.out Empty refl
+    (subst (λ (s : Synced). Steps g.D.Disk.reads g.D.Disk.may_leave (Syncs c.args.client) c.syncs.self c.sync.new.self c.syncs.out
+    c.sync.new.out (synced_of s)) c.in-Empty.is c.in_ok-sync.ensures.step)
+
+pub returns-in-Unanswered-clause-step : goal.returns-in-Unanswered-clause-step
+returns-in-Unanswered-clause-step g c =
+    syncs_out _ _ c.args.client c.in_ok-most.most c.args.self.now c.args.out.now c.syncs.counter c.syncs.self c.syncs.out
+    c.syncs-test.true c.syncs.invariant.0
+    c.index-in-syncs.result.now (found _ _ c.args.client c.syncs.self c.index-in-syncs.result.now c.syncs.invariant.0.ready
+    c.index-in-syncs.ensures)
+    (waiting c.waits.result (waits_of (state_of c.index-in-syncs.result.now.client).items) c.waits.ensures c.if-not-waits.false)
+    c.sync.new.self c.sync.new.out Unanswered refl
+    (subst (λ (s : Synced). Steps g.D.Disk.reads g.D.Disk.may_leave (Syncs c.args.client) c.syncs.self c.sync.new.self c.syncs.out
+    c.sync.new.out (synced_of s)) c.in-Unanswered.is c.in_ok-sync.ensures.step)
+
+pub syncs-preserved : goal.syncs-preserved
+syncs-preserved g c = (
+  syncs_on _ _ c.args.client c.in_ok-most.most c.args.self.now c.args.out.now c.syncs.counter c.syncs.self c.syncs.out
+      c.syncs-test.true c.syncs.invariant.0
+      c.index-in-syncs.result.now (found _ _ c.args.client c.syncs.self c.index-in-syncs.result.now c.syncs.invariant.0.ready
+      c.index-in-syncs.ensures)
+      (waiting c.waits.result (waits_of (state_of c.index-in-syncs.result.now.client).items) c.waits.ensures c.if-not-waits.false)
+      c.sync.new.self c.sync.new.out
+      (subst (λ (s : Synced). Steps g.D.Disk.reads g.D.Disk.may_leave (Syncs c.args.client) c.syncs.self c.sync.new.self c.syncs.out
+      c.sync.new.out (synced_of s)) c.in-Left.is c.in_ok-sync.ensures.step) c.in_ok-sync.ensures.counts,
+  then_done_disks _ _ c.args.self.now c.syncs.self c.sync.new.self IsSteady c.syncs.invariant.1 c.in_ok-sync.ensures.disks,
+)
+
+pub returns-clause-step : goal.returns-clause-step
+returns-clause-step g c =
+    syncs_end g.D.Disk.reads g.D.Disk.may_leave c.args.client c.in_ok-most.most c.args.self.now c.args.out.now c.syncs.counter
+    c.syncs.self c.syncs.out
+    c.syncs-test.false c.syncs.invariant.0

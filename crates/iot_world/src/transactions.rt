@@ -1,0 +1,323 @@
+//! What a client does with its transactions: they begin, are stepped and end.
+ghost use Rattle.std.specs.Prelude.{◌≡◌, ◌<◌, ℕ, List, OnOk, IfOk, true, length};
+ghost use Rattle.iot_machine.specs.Calls.{Asks, Says, Then};
+ghost use Rattle.iot_machine.specs.Events.{BeginsAloud, StepsAloud, Runs, SyncsIf, is_connected, runs_script, begin_text, step_text};
+ghost use Rattle.iot_machine.specs.Texts.{fetch_line};
+ghost use Rattle.iot_machine.specs.Transactions.{Starts, Begins, Steps as SingleStep, StepsAll, Ends};
+ghost use Rattle.iot_world.specs.Faults.{CallCounts};
+ghost use Rattle.iot_world.specs.Saying.{SaidIf};
+
+use crate::answers::{Brought, Stepped, Synced};
+use crate::fault::WorldFault;
+use crate::texts::{say, say_begin, say_end, say_fetch, say_pending, say_step};
+use crate::world::World;
+use iot_client::Step;
+use iot_disk::Disk;
+use iot_text::{NoMemory, Path, Text};
+use iot_tree::Want;
+use std::alloc::Global;
+
+/// The most single steps that one run makes.
+const RUN_STEPS: u64 = 100_000;
+
+impl<D: Disk> World<D> {
+    ghost use Rattle.iot_world.specs.World.{Steps, IsReady, SameCounts, SameDisks, IsApart, CanHold, ClientIs, IsIdle};
+    ghost use Rattle.iot_world.specs.World.{declared_in, stepped_of};
+
+    // ---- begin
+
+    pub(crate) fn begin_aloud(
+        &mut self,
+        alloc: Global,
+        client: u64,
+        script: u64,
+        out: &mut Text,
+    ) -> Result<(), WorldFault>
+        requires ready { IsReady D.reads D.may_leave client self.old }
+        requires script { script < length self.old.scripts.items }
+        ensures step { OnOk result (Steps D.reads D.may_leave (BeginsAloud client script) self.old self.new out.old out.new tt) }
+        ensures counts { OnOk result (SameCounts self.old self.new) }
+        ensures disks { SameDisks D.arms D.faults (CallCounts result) self.old self.new }
+    {
+        if !self.begin(alloc, client, script, out)? {
+            return Ok(());
+        }
+        self.say_begun(client, out)?;
+        Ok(())
+    }
+
+    /// Begins the client's next transaction, unless one runs; and whether it did.
+    fn begin(
+        &mut self,
+        alloc: Global,
+        client: u64,
+        script: u64,
+        out: &mut Text,
+    ) -> Result<bool, WorldFault>
+        requires ready { IsReady D.reads D.may_leave client self.old }
+        requires script { script < length self.old.scripts.items }
+        ensures step { IfOk result (Steps D.reads D.may_leave (Begins client script) self.old self.new out.old out.new) }
+        ensures counts { OnOk result (SameCounts self.old self.new) }
+        ensures disks { SameDisks D.arms D.faults (CallCounts result) self.old self.new }
+    {
+        let laptop = &self.clients[client as usize];
+        if laptop.runs() {
+            say(b"busy", out)?;
+            return Ok(false);
+        }
+        if laptop.waits() {
+            self.start(alloc, client, script, false)?;
+            return Ok(true);
+        }
+        match self.bring(alloc, client, &Want::Nothing, out)? {
+            Brought::Held => self.start(alloc, client, script, true)?,
+            Brought::Missed => self.start(alloc, client, script, false)?,
+        }
+        Ok(true)
+    }
+
+    fn start(
+        &mut self,
+        alloc: Global,
+        client: u64,
+        script: u64,
+        first: bool,
+    ) -> Result<(), NoMemory>
+        requires ready { IsReady D.reads D.may_leave client self.old }
+        requires script { script < length self.old.scripts.items }
+        requires idle { ClientIs IsIdle client self.old }
+        requires alone { first ≡ true → CanHold client self.old }
+        ensures step { OnOk result ((text : List ℕ)
+            → Steps D.reads D.may_leave (Starts client (declared_in self.old script) first) self.old self.new text text true) }
+        ensures apart { IsApart self.old self.new }
+    {
+        let declared = &self.scripts[script as usize];
+        let code = declared.script.shared()?;
+        self.clients[client as usize].begin(alloc, &declared.name, code, first)?;
+        Ok(())
+    }
+
+    fn say_begun(&self, client: u64, out: &mut Text) -> Result<(), NoMemory>
+        requires ready { IsReady D.reads D.may_leave client self.now }
+        ensures { OnOk result (Steps D.reads D.may_leave (Says (begin_text client)) self.now self.now out.old out.new tt) }
+    {
+        let laptop = &self.clients[client as usize];
+        match laptop.client.running() {
+            Some(running) => {
+                let transaction = laptop.transaction(running.tid);
+                say_begin(&transaction, &running.script, running.first, out)?;
+                Ok(())
+            }
+            None => Ok(()),
+        }
+    }
+
+    // ---- steps
+
+    pub(crate) fn step_aloud(
+        &mut self,
+        alloc: Global,
+        client: u64,
+        most: u64,
+        out: &mut Text,
+    ) -> Result<(), WorldFault>
+        requires ready { IsReady D.reads D.may_leave client self.old }
+        ensures step { OnOk result (Steps D.reads D.may_leave (StepsAloud client most) self.old self.new out.old out.new tt) }
+        ensures counts { OnOk result (SameCounts self.old self.new) }
+        ensures disks { SameDisks D.arms D.faults (CallCounts result) self.old self.new }
+    {
+        if !self.clients[client as usize].runs() {
+            say(b"idle", out)?;
+            return Ok(());
+        }
+        let _stepped = self.steps(alloc, client, most, true, out)?;
+        self.say_stepped(client, out)?;
+        Ok(())
+    }
+
+    fn say_stepped(&self, client: u64, out: &mut Text) -> Result<(), NoMemory>
+        requires ready { IsReady D.reads D.may_leave client self.now }
+        ensures { OnOk result (Steps D.reads D.may_leave (Says (step_text client)) self.now self.now out.old out.new tt) }
+    {
+        let laptop = &self.clients[client as usize];
+        match laptop.client.running() {
+            Some(running) => {
+                let transaction = laptop.transaction(running.tid);
+                say_step(
+                    &transaction,
+                    running.acts.len() as u64,
+                    laptop.client.at_end(),
+                    out,
+                )?;
+                Ok(())
+            }
+            None => Ok(()),
+        }
+    }
+
+    /// At most so many single steps, and how the last one went.
+    fn steps(
+        &mut self,
+        alloc: Global,
+        client: u64,
+        most: u64,
+        loud: bool,
+        out: &mut Text,
+    ) -> Result<Stepped, WorldFault>
+        requires ready { IsReady D.reads D.may_leave client self.old }
+        ensures step { IfOk result (λ stepped.
+            Steps D.reads D.may_leave (StepsAll client loud most) self.old self.new out.old out.new (stepped_of stepped)) }
+        ensures counts { OnOk result (SameCounts self.old self.new) }
+        ensures disks { SameDisks D.arms D.faults (CallCounts result) self.old self.new }
+    {
+        'steps: for _ in 0..most {
+            let stepped = self.step(alloc, client, loud, out)?;
+            if stepped.ends(loud) {
+                return Ok(stepped);
+            }
+        }
+        Ok(Stepped::Went)
+    }
+
+    /// A single step, and how it went.
+    fn step(
+        &mut self,
+        alloc: Global,
+        client: u64,
+        loud: bool,
+        out: &mut Text,
+    ) -> Result<Stepped, WorldFault>
+        requires ready { IsReady D.reads D.may_leave client self.old }
+        ensures step { IfOk result (λ stepped.
+            Steps D.reads D.may_leave (SingleStep client loud) self.old self.new out.old out.new (stepped_of stepped)) }
+        ensures counts { OnOk result (SameCounts self.old self.new) }
+        ensures disks { SameDisks D.arms D.faults (CallCounts result) self.old self.new }
+    {
+        let laptop = &mut self.clients[client as usize];
+        if !laptop.runs() {
+            return Ok(Stepped::Over);
+        }
+        match laptop.step(alloc)? {
+            Step::Acted { .. } => Ok(Stepped::Went),
+            Step::Fetch { request, path } => match self.fetch(alloc, client, request, out)? {
+                Brought::Held => {
+                    say_fetched(loud, &path, false, out)?;
+                    Ok(Stepped::Went)
+                }
+                Brought::Missed => {
+                    say_fetched(loud, &path, true, out)?;
+                    Ok(Stepped::Away)
+                }
+            },
+            Step::AtEnd { .. } => Ok(Stepped::Over),
+            Step::AtLimit { .. } => Ok(Stepped::Over),
+        }
+    }
+
+    // ---- end
+
+    pub(crate) fn end(
+        &mut self,
+        alloc: Global,
+        client: u64,
+        out: &mut Text,
+    ) -> Result<(), WorldFault>
+        requires ready { IsReady D.reads D.may_leave client self.old }
+        ensures step { OnOk result (Steps D.reads D.may_leave (Ends client) self.old self.new out.old out.new tt) }
+        ensures counts { OnOk result (SameCounts self.old self.new) }
+        ensures disks { SameDisks D.arms D.faults (CallCounts result) self.old self.new }
+    {
+        let laptop = &mut self.clients[client as usize];
+        if !laptop.runs() {
+            say(b"idle", out)?;
+            return Ok(());
+        }
+        if !laptop.may_end() {
+            say(b"not at end", out)?;
+            return Ok(());
+        }
+        let gone = laptop.end(alloc)?;
+        say_end(&gone.printed.transaction, out)?;
+        if !gone.first {
+            say_pending(&gone.printed, out)?;
+            return Ok(());
+        }
+        match self.sync(alloc, client, out)? {
+            Synced::Unanswered => say_pending(&gone.printed, out)?,
+            Synced::Empty | Synced::Left => (),
+        }
+        Ok(())
+    }
+
+    // ---- run
+
+    /// Over a link that is up, submits what waits; then begins a transaction of the script, does its single steps, and ends it.
+    pub(crate) fn run(
+        &mut self,
+        alloc: Global,
+        client: u64,
+        script: u64,
+        out: &mut Text,
+    ) -> Result<(), WorldFault>
+        requires ready { IsReady D.reads D.may_leave client self.old }
+        requires script { script < length self.old.scripts.items }
+        ensures step { OnOk result (Steps D.reads D.may_leave (Runs client script) self.old self.new out.old out.new tt) }
+        ensures counts { OnOk result (SameCounts self.old self.new) }
+        ensures disks { SameDisks D.arms D.faults (CallCounts result) self.old self.new }
+    {
+        if self.clients[client as usize].runs() {
+            say(b"busy", out)?;
+            return Ok(());
+        }
+        self.sync_if_up(alloc, client, out)?;
+        self.run_script(alloc, client, script, out)?;
+        Ok(())
+    }
+
+    /// Submits the transactions that wait, if the link is up.
+    fn sync_if_up(&mut self, alloc: Global, client: u64, out: &mut Text) -> Result<(), WorldFault>
+        requires ready { IsReady D.reads D.may_leave client self.old }
+        ensures step { OnOk result (Steps D.reads D.may_leave (Then (Asks (is_connected client)) (SyncsIf client))
+            self.old self.new out.old out.new tt) }
+        ensures counts { OnOk result (SameCounts self.old self.new) }
+        ensures disks { SameDisks D.arms D.faults (CallCounts result) self.old self.new }
+    {
+        if !self.clients[client as usize].link.is_up() {
+            return Ok(());
+        }
+        let _synced = self.sync_all(alloc, client, out)?;
+        Ok(())
+    }
+
+    /// Begins a transaction of the script, does its single steps, and ends it.
+    fn run_script(
+        &mut self,
+        alloc: Global,
+        client: u64,
+        script: u64,
+        out: &mut Text,
+    ) -> Result<(), WorldFault>
+        requires ready { IsReady D.reads D.may_leave client self.old }
+        requires script { script < length self.old.scripts.items }
+        ensures step { OnOk result (Steps D.reads D.may_leave (runs_script client script) self.old self.new out.old out.new tt) }
+        ensures counts { OnOk result (SameCounts self.old self.new) }
+        ensures disks { SameDisks D.arms D.faults (CallCounts result) self.old self.new }
+    {
+        if !self.begin(alloc, client, script, out)? {
+            return Ok(());
+        }
+        let _stepped = self.steps(alloc, client, RUN_STEPS, false, out)?;
+        self.end(alloc, client, out)?;
+        Ok(())
+    }
+}
+
+/// Says that it was fetched, or that nothing came, unless nothing is to be said.
+fn say_fetched(loud: bool, path: &Path, away: bool, out: &mut Text) -> Result<(), NoMemory>
+    ensures { OnOk result (SaidIf loud (fetch_line path.now away) out.old out.new) }
+{
+    if loud {
+        say_fetch(path, away, out)?;
+    }
+    Ok(())
+}
