@@ -17,6 +17,7 @@ CLIENTS = 8
 DIRECTORIES = 16
 FILES_IN_EACH = 250
 ROUNDS = 4
+QUEUED_FILES = 250
 
 
 def script(name, statements):
@@ -130,6 +131,17 @@ def steps(size):
     return Work(lines + ['step laptop'] * acts, 'steps', acts, len(lines))
 
 
+def queue(size):
+    """More and more transactions that wait at a client without the server, and are then submitted one after the other."""
+    items = QUEUED_FILES * size
+    lines = ['client laptop']
+    for i in range(QUEUED_FILES):
+        lines += script(f's{i}', [f'write /q{i} x'])
+    lines += ['hoard laptop /', 'disconnect laptop']
+    work = [run(f's{i % QUEUED_FILES}') for i in range(items)] + ['connect laptop', 'drain laptop']
+    return Work(lines + work, 'transactions', items, len(lines))
+
+
 # The cases in the order of the table, and those that need no more than `mkdir`, `write` and `cat`.
-CASES = [transactions, tree, loops, moves, text, journal, clients, steps]
+CASES = [transactions, tree, loops, moves, text, journal, clients, steps, queue]
 FIRST = [transactions, tree]
