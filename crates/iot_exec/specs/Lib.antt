@@ -13,6 +13,7 @@ pub mod Positions
 pub mod Passing
 pub mod Going
 pub mod Misses
+pub mod Files
 pub mod Finding
 pub mod Execs
 pub mod Parting

@@ -18,7 +18,8 @@ use Rattle.iot_tree.specs.declared.nodes.Node.TheVariants.{Dir, File, FarDir, Fa
 use Rattle.iot_tree.proofs.PlaceLaws.{is_less}
 use Rattle.iot_tree.proofs.RowLaws.{is_tested}
 use Rattle.iot_tree.proofs.TreeLaws.{same_or_apart}
-use Rattle.iot_resolve.specs.Files.{file_of, files_of, offered, OffersFilesOf}
+use Rattle.iot_exec.specs.Files.{file_of, files_of}
+use Rattle.iot_resolve.specs.Files.{offered, OffersFilesOf}
 
 -- ---- one row after the other
 

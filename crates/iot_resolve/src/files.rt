@@ -1,6 +1,7 @@
 //! The files of a tree.
 ghost use Rattle.std.specs.Prelude.{◌≡◌, IfOk};
-ghost use Rattle.iot_resolve.specs.Files.{file_of, files_of, offered};
+ghost use Rattle.iot_exec.specs.Files.{file_of, files_of};
+ghost use Rattle.iot_resolve.specs.Files.{offered};
 
 use iot_text::{NoMemory, Path};
 use iot_tree::{Blob, Duplicate, Files, Node, Tree};

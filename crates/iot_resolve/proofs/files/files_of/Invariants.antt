@@ -1,6 +1,6 @@
 use Rattle.std.proofs.Common.{◌≡◌, take}
 use Rattle.std.specs.List.{filter_map}
-use Rattle.iot_resolve.specs.Files.{file_of}
+use Rattle.iot_exec.specs.Files.{file_of}
 use Rattle.iot_resolve.proofs.files.files_of.Given as goal
 
 abbrev pub invariant-rows : goal.invariant-rows
