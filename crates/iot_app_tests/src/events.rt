@@ -1,11 +1,11 @@
 //! Event scripts whose events, or whose first bad line, were written by hand.
-use iot_event::{Event, EventFault, parse};
+use iot_event::{Choice, Event, EventFault, parse};
 use std::test::Fail;
 
 /// A script with a comment, blank lines and blocks, and other forms of line.
 const INPUT: &[u8] =
     b"# two clients\nclient laptop\nclient desk\n\nscript init {\nif ok {\n# made\nmkdir /src\n}\n}\n \t\n\
-    run laptop init abort\nhoard desk /src\nstep desk 7\nshow desk\ncrash server\n\n#\n\trestart  server\nshow server";
+    run laptop init resolver init\nhoard desk /src\nstep desk 7\nshow desk\ncrash server\n\n#\n\trestart  server\nshow server";
 
 #[test]
 fn gives_events(rt: HostRuntime) -> Result<(), Fail> {
@@ -17,6 +17,7 @@ fn gives_events(rt: HostRuntime) -> Result<(), Fail> {
         Event::Run {
             client: 0,
             script: 0,
+            option: Choice::Resolver(0),
         },
         Event::Hoard { client: 1, .. },
         Event::Step {

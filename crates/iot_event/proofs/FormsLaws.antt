@@ -1,7 +1,7 @@
--- Laws of the forms of event lines: a form has two to four words, and the number of its steps is within its limits.
+-- Laws of the forms of event lines: a form has two to five words, and the number of its steps is within its limits.
 use Rattle.std.proofs.Common.{◌≡◌, ℕ, ◌<◌, ◌≤◌, ◌&&◌, not, nat_le, Bool, true, false, List, [], ◌∷◌, length, map, Option, Some, None}
 use Rattle.std.proofs.Common.{codes, bytes_eq, refl, arith}
-use Rattle.std.specs.Option.{option_map, option_or}
+use Rattle.std.specs.Option.{option_map, option_or, option_and_then}
 use Rattle.std.specs.Prelude.{if◌then◌else◌}
 use Rattle.std.specs.Str.Parse.{digits_value}
 use Rattle.std.proofs.lemmas.Bool.Decides.{nat_tests}
@@ -10,8 +10,10 @@ use Rattle.iot_link.specs.declared.passages.Loss.{Loss}
 use Rattle.iot_event.specs.declared.form.TheConstants.{STEP_LIMIT}
 use Rattle.iot_event.specs.declared.form.Form.{Form}
 use Rattle.iot_event.specs.declared.form.Form.TheVariants as forms
+use Rattle.iot_event.specs.declared.form.NamedChoice.{NamedChoice}
 use Rattle.iot_event.specs.Numbers.{is_number, number_of}
-use Rattle.iot_event.specs.Forms.{server_form, client_form, loss_of, three_words, script_form, four_words, form_of}
+use Rattle.iot_event.specs.Forms.{server_form, client_form, loss_of, three_words, plain_choice, resolver_choice, script_form}
+use Rattle.iot_event.specs.Forms.{choosing_form, form_of}
 
 -- ---- how many words a form has
 
@@ -20,13 +22,14 @@ too_few word [] few = refl
 too_few word (a ∷ []) few = refl
 too_few word (a ∷ b ∷ more) few = absurd (omega arith)
 
-pub too_many : {X : Type 0} (word : X → List ℕ) (found : List X) → 5 ≤ length found → None ≡ form_of (map word found)
+pub too_many : {X : Type 0} (word : X → List ℕ) (found : List X) → 6 ≤ length found → None ≡ form_of (map word found)
 too_many word [] many = absurd (omega arith)
 too_many word (a ∷ []) many = absurd (omega arith)
 too_many word (a ∷ b ∷ []) many = absurd (omega arith)
 too_many word (a ∷ b ∷ c ∷ []) many = absurd (omega arith)
 too_many word (a ∷ b ∷ c ∷ d ∷ []) many = absurd (omega arith)
-too_many word (a ∷ b ∷ c ∷ d ∷ e ∷ more) many = refl
+too_many word (a ∷ b ∷ c ∷ d ∷ e ∷ []) many = absurd (omega arith)
+too_many word (a ∷ b ∷ c ∷ d ∷ e ∷ f ∷ more) many = refl
 
 -- ---- the number of steps in a form
 
@@ -84,12 +87,18 @@ counted_client first client =
     (counted_if (bytes_eq first (codes "disconnect")) (Some (forms.Disconnect client)) _ (record { counted = tt })
     (counted_if (bytes_eq first (codes "sync")) (Some (forms.Sync client)) _ (record { counted = tt })
     (counted_if (bytes_eq first (codes "drain")) (Some (forms.Drain client)) _ (record { counted = tt })
-    (counted_if (bytes_eq first (codes "show")) (Some (forms.ShowClient client)) None (record { counted = tt }) none_counted))))))))
+    (counted_if (bytes_eq first (codes "discard")) (Some (forms.Discard client)) _ (record { counted = tt })
+    (counted_if (bytes_eq first (codes "show")) (Some (forms.ShowClient client)) None (record { counted = tt }) none_counted)))))))))
 
-counted_script : (first client script : List ℕ) → Counted (script_form first client script)
-counted_script first client script =
-    counted_if (bytes_eq first (codes "run")) (Some (forms.Run client script)) _ (record { counted = tt })
-    (counted_if (bytes_eq first (codes "begin")) (Some (forms.Begin client script)) None (record { counted = tt }) none_counted)
+counted_script : (first client script : List ℕ) (option : NamedChoice) → Counted (script_form first client script option)
+counted_script first client script option =
+    counted_if (bytes_eq first (codes "run")) (Some (forms.Run client script option)) _ (record { counted = tt })
+    (counted_if (bytes_eq first (codes "begin")) (Some (forms.Begin client script option)) None (record { counted = tt }) none_counted)
+
+counted_option : (first client script : List ℕ) (option : Option NamedChoice)
+    → Counted (option_and_then (λ choice. script_form first client script choice) option)
+counted_option first client script None = none_counted
+counted_option first client script (Some choice) = counted_script first client script choice
 
 counted_three : (first second third : List ℕ) → Counted (three_words first second third)
 counted_three first second third =
@@ -97,11 +106,13 @@ counted_three first second third =
     (counted_if (bytes_eq first (codes "script") && bytes_eq third (codes "{")) (Some (forms.Script second)) _ (record { counted = tt })
     (counted_if (bytes_eq first (codes "hoard")) (Some (forms.Hoard second third)) _ (record { counted = tt })
     (counted_if (bytes_eq first (codes "step")) _ _ (counted_number second third)
-    (counted_if (bytes_eq first (codes "lose")) _ None (counted_loss second (loss_of third)) none_counted))))
+    (counted_if (bytes_eq first (codes "lose")) _ _ (counted_loss second (loss_of third))
+    (counted_if (bytes_eq first (codes "repair")) _ None
+    (counted_if (is_name third) (Some (forms.Repair second third)) None (record { counted = tt }) none_counted) none_counted)))))
 
-counted_four : (first second third fourth : List ℕ) → Counted (four_words first second third fourth)
-counted_four first second third fourth =
-    counted_if (bytes_eq fourth (codes "abort") && is_name second && is_name third) _ None (counted_script first second third) none_counted
+counted_choosing : (first client script : List ℕ) (option : Option NamedChoice) → Counted (choosing_form first client script option)
+counted_choosing first client script option =
+    counted_if (is_name client && is_name script) _ None (counted_option first client script option) none_counted
 
 pub form_counted : (found : List (List ℕ)) → Counted (form_of found)
 form_counted [] = none_counted
@@ -109,5 +120,6 @@ form_counted (a ∷ []) = none_counted
 form_counted (a ∷ b ∷ []) =
     counted_or (server_form a b) _ (counted_server a b) (counted_if (is_name b) _ None (counted_client a b) none_counted)
 form_counted (a ∷ b ∷ c ∷ []) = counted_three a b c
-form_counted (a ∷ b ∷ c ∷ d ∷ []) = counted_four a b c d
-form_counted (a ∷ b ∷ c ∷ d ∷ e ∷ more) = none_counted
+form_counted (a ∷ b ∷ c ∷ d ∷ []) = counted_choosing a b c (plain_choice d)
+form_counted (a ∷ b ∷ c ∷ d ∷ e ∷ []) = counted_choosing a b c (resolver_choice d e)
+form_counted (a ∷ b ∷ c ∷ d ∷ e ∷ f ∷ more) = none_counted

@@ -1,6 +1,6 @@
 -- The forms of event lines.
 use Rattle.std.specs.Prelude.{ℕ, ◌&&◌, not, List, [], ◌∷◌, Option, Some, None, codes, bytes_eq, if◌then◌else◌}
-use Rattle.std.specs.Option.{option_map, option_or}
+use Rattle.std.specs.Option.{option_map, option_or, option_and_then}
 use Rattle.iot_text.specs.Names.{is_name}
 use Rattle.iot_link.specs.declared.passages.Loss.{Loss}
 use Rattle.iot_link.specs.declared.passages.Loss.TheVariants.{Request, Reply}
@@ -8,8 +8,10 @@ use Rattle.iot_event.specs.Numbers.{number_of}
 use Rattle.iot_event.specs.declared.form.TheConstants.{STEP_LIMIT}
 use Rattle.iot_event.specs.declared.form.Form.{Form}
 use Rattle.iot_event.specs.declared.form.Form.TheVariants.{Client, Script, Run, Hoard, Refresh, Begin, Step, End}
-use Rattle.iot_event.specs.declared.form.Form.TheVariants.{Connect, Disconnect, Lose, Sync, Drain}
+use Rattle.iot_event.specs.declared.form.Form.TheVariants.{Connect, Disconnect, Lose, Sync, Drain, Repair, Discard}
 use Rattle.iot_event.specs.declared.form.Form.TheVariants.{ShowServer, ShowClient, CrashServer, RestartServer}
+use Rattle.iot_event.specs.declared.form.NamedChoice.{NamedChoice}
+use Rattle.iot_event.specs.declared.form.NamedChoice.TheVariants.{Reexec, Resolver, Abort, Manual}
 
 -- `show server`, `crash server` or `restart server`
 abbrev pub server_form : List ℕ → List ℕ → Option Form
@@ -20,7 +22,7 @@ server_form first second =
     else if bytes_eq first (codes "restart") then Some RestartServer
     else None
 
--- `client N`, `refresh C`, `step C`, `end C`, `connect C`, `disconnect C`, `sync C`, `drain C` or `show C`
+-- `client N`, `refresh C`, `step C`, `end C`, `connect C`, `disconnect C`, `sync C`, `drain C`, `discard C` or `show C`
 abbrev pub client_form : List ℕ → (client : List ℕ) → Option Form
 client_form first client =
     if bytes_eq first (codes "client") then Some (Client client)
@@ -31,6 +33,7 @@ client_form first client =
     else if bytes_eq first (codes "disconnect") then Some (Disconnect client)
     else if bytes_eq first (codes "sync") then Some (Sync client)
     else if bytes_eq first (codes "drain") then Some (Drain client)
+    else if bytes_eq first (codes "discard") then Some (Discard client)
     else if bytes_eq first (codes "show") then Some (ShowClient client)
     else None
 
@@ -45,7 +48,7 @@ loss_of word =
     else if bytes_eq word (codes "reply") then Some Reply
     else None
 
--- `script N {`, `hoard C P`, `step C k`, `lose C request` or `lose C reply`
+-- `script N {`, `hoard C P`, `step C k`, `lose C request`, `lose C reply` or `repair C S`
 abbrev pub three_words : List ℕ → List ℕ → List ℕ → Option Form
 three_words first second third =
     if not (is_name second) then None
@@ -53,23 +56,45 @@ three_words first second third =
     else if bytes_eq first (codes "hoard") then Some (Hoard second third)
     else if bytes_eq first (codes "step") then option_map (λ count. Step second count) (number_of third STEP_LIMIT)
     else if bytes_eq first (codes "lose") then option_map (λ loss. Lose second loss) (loss_of third)
+    else if bytes_eq first (codes "repair") then (if is_name third then Some (Repair second third) else None)
     else None
 
--- `run C S` or `begin C S`, before its option
-abbrev pub script_form : List ℕ → (client script : List ℕ) → Option Form
-script_form first client script =
-    if bytes_eq first (codes "run") then Some (Run client script)
-    else if bytes_eq first (codes "begin") then Some (Begin client script)
+-- `reexec`, `abort` or `manual`
+abbrev pub plain_choice : List ℕ → Option NamedChoice
+plain_choice word =
+    if bytes_eq word (codes "reexec") then Some Reexec
+    else if bytes_eq word (codes "abort") then Some Abort
+    else if bytes_eq word (codes "manual") then Some Manual
     else None
 
--- `run C S abort` or `begin C S abort`
+-- `resolver S`
+abbrev pub resolver_choice : List ℕ → (script : List ℕ) → Option NamedChoice
+resolver_choice word script = if bytes_eq word (codes "resolver") && is_name script then Some (Resolver script) else None
+
+-- `run C S` or `begin C S`, with its option
+abbrev pub script_form : List ℕ → (client script : List ℕ) → NamedChoice → Option Form
+script_form first client script option =
+    if bytes_eq first (codes "run") then Some (Run client script option)
+    else if bytes_eq first (codes "begin") then Some (Begin client script option)
+    else None
+
+-- the same, if the client and the script are names and the option is one
+abbrev pub choosing_form : List ℕ → (client script : List ℕ) → Option NamedChoice → Option Form
+choosing_form first client script option =
+    if is_name client && is_name script then option_and_then (λ choice. script_form first client script choice) option else None
+
+-- `run C S OPTION` or `begin C S OPTION`, where the option is one word
 abbrev pub four_words : List ℕ → List ℕ → List ℕ → List ℕ → Option Form
-four_words first second third fourth =
-    if bytes_eq fourth (codes "abort") && is_name second && is_name third then script_form first second third else None
+four_words first second third fourth = choosing_form first second third (plain_choice fourth)
+
+-- the same where the option is two words
+abbrev pub five_words : List ℕ → List ℕ → List ℕ → List ℕ → List ℕ → Option Form
+five_words first second third fourth fifth = choosing_form first second third (resolver_choice fourth fifth)
 
 -- the form of a line with these words, if it has one
 abbrev pub form_of : List (List ℕ) → Option Form
 form_of (a ∷ b ∷ []) = two_words a b
 form_of (a ∷ b ∷ c ∷ []) = three_words a b c
 form_of (a ∷ b ∷ c ∷ d ∷ []) = four_words a b c d
+form_of (a ∷ b ∷ c ∷ d ∷ e ∷ []) = five_words a b c d e
 form_of _ = None

@@ -2,6 +2,7 @@
 use Rattle.std.specs.Prelude.{ℕ, ◌||◌, not, nat_lt, Bool, List, [], ◌∷◌, ◌++◌, length, position, Option, Some, None}
 use Rattle.std.specs.Prelude.{codes, bytes_eq, if◌then◌else◌}
 use Rattle.std.specs.List.{list_any}
+use Rattle.std.specs.Option.{option_map}
 use Rattle.iot_lines.specs.Words.{words, is_skipped}
 use Rattle.iot_text.specs.Paths.{path_of}
 use Rattle.iot_link.specs.declared.passages.Loss.{Loss}
@@ -11,9 +12,14 @@ use Rattle.iot_event.specs.Closing.{Closed, closed_by}
 use Rattle.iot_event.specs.declared.declared.TheConstants.{CLIENT_LIMIT, SCRIPT_LIMIT}
 use Rattle.iot_event.specs.declared.form.Form.{Form}
 use Rattle.iot_event.specs.declared.form.Form.TheVariants as forms
+use Rattle.iot_event.specs.declared.form.NamedChoice.{NamedChoice}
+use Rattle.iot_event.specs.declared.form.NamedChoice.TheVariants as named
+use Rattle.iot_event.specs.declared.event.Choice.{Choice}
+use Rattle.iot_event.specs.declared.event.Choice.TheVariants.{Reexec, Resolver, Abort, Manual}
 use Rattle.iot_event.specs.declared.event.Event.{Event}
-use Rattle.iot_event.specs.declared.event.Event.TheVariants.{Client, Run, Hoard, Refresh, Begin, Step, End, ShowServer, ShowClient}
-use Rattle.iot_event.specs.declared.event.Event.TheVariants.{Connect, Disconnect, Lose, Sync, Drain, CrashServer, RestartServer}
+use Rattle.iot_event.specs.declared.event.Event.TheVariants.{Client, Run, Hoard, Refresh, Begin, Step, End}
+use Rattle.iot_event.specs.declared.event.Event.TheVariants.{Connect, Disconnect, Lose, Sync, Drain, Repair, Discard}
+use Rattle.iot_event.specs.declared.event.Event.TheVariants.{ShowServer, ShowClient, CrashServer, RestartServer}
 use Rattle.iot_event.specs.declared.fault.EventFault.{EventFault}
 use Rattle.iot_event.specs.declared.fault.EventFault.TheVariants.{BadLine, UnknownName, Twice, TooMany}
 
@@ -31,6 +37,13 @@ is_declared name names = list_any (bytes_eq name) names
 -- the place of a name, from 0
 abbrev pub place_of : List ℕ → List (List ℕ) → Option ℕ
 place_of name names = position (bytes_eq name) names
+
+-- an option, with the place of its resolver
+abbrev pub choice_of : NamedChoice → (scripts : List (List ℕ)) → Option Choice
+choice_of named.Reexec scripts = Some Reexec
+choice_of (named.Resolver script) scripts = option_map (λ s. Resolver s) (place_of script scripts)
+choice_of named.Abort scripts = Some Abort
+choice_of named.Manual scripts = Some Manual
 
 -- what a line means: it is refused, it says nothing, it is an event, or it opens a script; the last two with what is known after it
 pub data Meaning : Type 0 where
@@ -56,10 +69,10 @@ script_line scope number name (Some script) =
     then Opens name script (record scope { scripts = scope.scripts ++ name ∷ [] })
     else Refused (TooMany number)
 
--- what a line says of the place of a name, if the name is declared
-abbrev pub if_known : (place : Option ℕ) (number : ℕ) → (ℕ → Meaning) → Meaning
+-- what a line says of what its names stand for, if they are declared
+abbrev pub if_known : {X : Type 0} → Option X → (number : ℕ) → (X → Meaning) → Meaning
 if_known None number says = Refused (UnknownName number)
-if_known (Some place) number says = says place
+if_known (Some known) number says = says known
 
 -- an event of a client, if it is declared
 abbrev pub of_client : Scope → (number : ℕ) (client : List ℕ) → (ℕ → Event) → Meaning
@@ -71,11 +84,18 @@ of_script scope number client script event =
     if_known (place_of client scope.clients) number
     (λ c. if_known (place_of script scope.scripts) number (λ s. Says (event c s) scope))
 
-abbrev pub run_line : Scope → (number : ℕ) (client script : List ℕ) → Meaning
-run_line scope number client script = of_script scope number client script (λ c s. Run c s)
+-- an event of a client and a script with an option, if both and the resolver are declared
+abbrev pub of_choice : Scope → (number : ℕ) (client script : List ℕ) (option : NamedChoice) → (ℕ → ℕ → Choice → Event) → Meaning
+of_choice scope number client script option event =
+    if_known (place_of client scope.clients) number
+    (λ c. if_known (place_of script scope.scripts) number
+    (λ s. if_known (choice_of option scope.scripts) number (λ o. Says (event c s o) scope)))
 
-abbrev pub begin_line : Scope → (number : ℕ) (client script : List ℕ) → Meaning
-begin_line scope number client script = of_script scope number client script (λ c s. Begin c s)
+abbrev pub run_line : Scope → (number : ℕ) (client script : List ℕ) (option : NamedChoice) → Meaning
+run_line scope number client script option = of_choice scope number client script option (λ c s o. Run c s o)
+
+abbrev pub begin_line : Scope → (number : ℕ) (client script : List ℕ) (option : NamedChoice) → Meaning
+begin_line scope number client script option = of_choice scope number client script option (λ c s o. Begin c s o)
 
 -- the hoard of a client's path, if the text is that of a path
 abbrev pub hoard_at : Option (List (List ℕ)) → Scope → (number : ℕ) (client : List ℕ) → Meaning
@@ -109,6 +129,12 @@ sync_line scope number client = of_client scope number client (λ c. Sync c)
 abbrev pub drain_line : Scope → (number : ℕ) (client : List ℕ) → Meaning
 drain_line scope number client = of_client scope number client (λ c. Drain c)
 
+abbrev pub repair_line : Scope → (number : ℕ) (client script : List ℕ) → Meaning
+repair_line scope number client script = of_script scope number client script (λ c s. Repair c s)
+
+abbrev pub discard_line : Scope → (number : ℕ) (client : List ℕ) → Meaning
+discard_line scope number client = of_client scope number client (λ c. Discard c)
+
 abbrev pub show_line : Scope → (number : ℕ) (client : List ℕ) → Meaning
 show_line scope number client = of_client scope number client (λ c. ShowClient c)
 
@@ -117,10 +143,10 @@ abbrev pub meaning_of_form : Option Form → Scope → (number : ℕ) (later : L
 meaning_of_form None scope number later = Refused (BadLine number)
 meaning_of_form (Some (forms.Client name)) scope number later = client_line scope number name
 meaning_of_form (Some (forms.Script name)) scope number later = script_line scope number name (closed_by later 0)
-meaning_of_form (Some (forms.Run client script)) scope number later = run_line scope number client script
+meaning_of_form (Some (forms.Run client script option)) scope number later = run_line scope number client script option
 meaning_of_form (Some (forms.Hoard client path)) scope number later = hoard_line scope number client path
 meaning_of_form (Some (forms.Refresh client)) scope number later = refresh_line scope number client
-meaning_of_form (Some (forms.Begin client script)) scope number later = begin_line scope number client script
+meaning_of_form (Some (forms.Begin client script option)) scope number later = begin_line scope number client script option
 meaning_of_form (Some (forms.Step client count)) scope number later = step_line scope number client count
 meaning_of_form (Some (forms.End client)) scope number later = end_line scope number client
 meaning_of_form (Some (forms.Connect client)) scope number later = connect_line scope number client
@@ -128,6 +154,8 @@ meaning_of_form (Some (forms.Disconnect client)) scope number later = disconnect
 meaning_of_form (Some (forms.Lose client loss)) scope number later = lose_line scope number client loss
 meaning_of_form (Some (forms.Sync client)) scope number later = sync_line scope number client
 meaning_of_form (Some (forms.Drain client)) scope number later = drain_line scope number client
+meaning_of_form (Some (forms.Repair client script)) scope number later = repair_line scope number client script
+meaning_of_form (Some (forms.Discard client)) scope number later = discard_line scope number client
 meaning_of_form (Some forms.ShowServer) scope number later = Says ShowServer scope
 meaning_of_form (Some (forms.ShowClient client)) scope number later = show_line scope number client
 meaning_of_form (Some forms.CrashServer) scope number later = Says CrashServer scope

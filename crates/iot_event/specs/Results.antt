@@ -32,9 +32,9 @@ abbrev pub AnswersEvent : Meaning → Result Event EventFault → Declared → T
 AnswersEvent meaning (Ok event) declared = meaning ≡ Says event (scope_of declared)
 AnswersEvent meaning (Err fault) declared = SaidOf fault (meaning ≡ Refused fault)
 
--- the place of a name, unless it was not declared
-abbrev pub AnswersPlace : Option ℕ → (number : ℕ) → Result ℕ EventFault → Type 0
-AnswersPlace place number result = result ≡ ok_or place (UnknownName number)
+-- what a name stands for, unless it was not declared
+abbrev pub AnswersKnown : {X : Type 0} → Option X → (number : ℕ) → Result X EventFault → Type 0
+AnswersKnown known number result = result ≡ ok_or known (UnknownName number)
 
 -- the path of a text, unless the text is that of no path
 abbrev pub AnswersPath : Option (List (List ℕ)) → (number : ℕ) → Result (List (List ℕ)) EventFault → Type 0

@@ -5,17 +5,18 @@ ghost use Rattle.iot_lines.specs.Words.{words};
 ghost use Rattle.iot_text.specs.Paths.{path_of};
 ghost use Rattle.iot_event.specs.Forms.{form_of};
 ghost use Rattle.iot_event.specs.Closing.{closed_by};
-ghost use Rattle.iot_event.specs.Meanings.{Scope, Meaning, nothing_declared, place_of, client_line, script_line, run_line};
+ghost use Rattle.iot_event.specs.Meanings.{Scope, Meaning, nothing_declared, place_of, choice_of, client_line, script_line, run_line};
 ghost use Rattle.iot_event.specs.Meanings.{hoard_line, refresh_line, begin_line, step_line, end_line, show_line};
-ghost use Rattle.iot_event.specs.Meanings.{connect_line, disconnect_line, lose_line, sync_line, drain_line, meaning_of_form};
+ghost use Rattle.iot_event.specs.Meanings.{connect_line, disconnect_line, lose_line, sync_line, drain_line};
+ghost use Rattle.iot_event.specs.Meanings.{repair_line, discard_line, meaning_of_form};
 ghost use Rattle.iot_event.specs.Events.{IsStep, IsStepOf};
-ghost use Rattle.iot_event.specs.Results.{scope_of, AnswersEvent, AnswersPlace, AnswersPath, AnswersScript, Answers};
+ghost use Rattle.iot_event.specs.Results.{scope_of, AnswersEvent, AnswersKnown, AnswersPath, AnswersScript, Answers};
 
 use crate::bytes::fits_line;
 use crate::closing::{Closed, find_closing};
-use crate::event::{Event, SharedScript};
+use crate::event::{Choice, Event, SharedScript};
 use crate::fault::EventFault;
-use crate::form::{Form, form_of_line};
+use crate::form::{Form, NamedChoice, form_of_line};
 use crate::script::parse_script;
 use indexmap::IndexSet;
 use iot_lines::is_skipped;
@@ -46,11 +47,30 @@ pub(crate) struct Declared {
 
 /// The place of a name that a line gives, among those that were declared.
 fn place_of(names: &IndexSet<Name>, name: Name, number: u64) -> Result<u64, EventFault>
-    ensures { AnswersPlace (place_of name names.now.keys) number result }
+    ensures { AnswersKnown (place_of name names.now.keys) number result }
 {
     match names.get_index_of(&name) {
         Some(place) => Ok(place as u64),
         None => Err(EventFault::UnknownName { line: number }),
+    }
+}
+
+/// The option that a line gives, with the place of its resolver among the scripts that were declared.
+fn choice_of(
+    scripts: &IndexSet<Name>,
+    option: NamedChoice,
+    number: u64,
+) -> Result<Choice, EventFault>
+    ensures { AnswersKnown (choice_of option scripts.now.keys) number result }
+{
+    match option {
+        NamedChoice::Reexec => Ok(Choice::Reexec),
+        NamedChoice::Resolver(script) => {
+            let place = place_of(scripts, script, number)?;
+            Ok(Choice::Resolver(place))
+        }
+        NamedChoice::Abort => Ok(Choice::Abort),
+        NamedChoice::Manual => Ok(Choice::Manual),
     }
 }
 
@@ -134,22 +154,44 @@ impl Declared {
         Ok(script)
     }
 
-    /// `run C S abort`
-    fn run_line(&self, client: Name, script: Name, number: u64) -> Result<Event, EventFault>
-        ensures { AnswersEvent (run_line (scope_of self.now) number client script) result self.now }
+    /// `run C S OPTION`
+    fn run_line(
+        &self,
+        client: Name,
+        script: Name,
+        option: NamedChoice,
+        number: u64,
+    ) -> Result<Event, EventFault>
+        ensures { AnswersEvent (run_line (scope_of self.now) number client script option) result self.now }
     {
         let client = place_of(&self.clients, client, number)?;
         let script = place_of(&self.scripts, script, number)?;
-        Ok(Event::Run { client, script })
+        let option = choice_of(&self.scripts, option, number)?;
+        Ok(Event::Run {
+            client,
+            script,
+            option,
+        })
     }
 
-    /// `begin C S abort`
-    fn begin_line(&self, client: Name, script: Name, number: u64) -> Result<Event, EventFault>
-        ensures { AnswersEvent (begin_line (scope_of self.now) number client script) result self.now }
+    /// `begin C S OPTION`
+    fn begin_line(
+        &self,
+        client: Name,
+        script: Name,
+        option: NamedChoice,
+        number: u64,
+    ) -> Result<Event, EventFault>
+        ensures { AnswersEvent (begin_line (scope_of self.now) number client script option) result self.now }
     {
         let client = place_of(&self.clients, client, number)?;
         let script = place_of(&self.scripts, script, number)?;
-        Ok(Event::Begin { client, script })
+        let option = choice_of(&self.scripts, option, number)?;
+        Ok(Event::Begin {
+            client,
+            script,
+            option,
+        })
     }
 
     /// `hoard C P`
@@ -231,6 +273,23 @@ impl Declared {
         Ok(Event::Drain { client })
     }
 
+    /// `repair C S`
+    fn repair_line(&self, client: Name, script: Name, number: u64) -> Result<Event, EventFault>
+        ensures { AnswersEvent (repair_line (scope_of self.now) number client script) result self.now }
+    {
+        let client = place_of(&self.clients, client, number)?;
+        let script = place_of(&self.scripts, script, number)?;
+        Ok(Event::Repair { client, script })
+    }
+
+    /// `discard C`
+    fn discard_line(&self, client: Name, number: u64) -> Result<Event, EventFault>
+        ensures { AnswersEvent (discard_line (scope_of self.now) number client) result self.now }
+    {
+        let client = place_of(&self.clients, client, number)?;
+        Ok(Event::Discard { client })
+    }
+
     /// `show C`
     fn show_line(&self, client: Name, number: u64) -> Result<Event, EventFault>
         ensures { AnswersEvent (show_line (scope_of self.now) number client) result self.now }
@@ -284,9 +343,11 @@ impl Declared {
         match form {
             Form::Client(name) => after_line(self.client_line(name, number), later, number),
             Form::Script(name) => self.script(alloc, name, later, number),
-            Form::Run { client, script } => {
-                after_line(self.run_line(client, script, number), later, number)
-            }
+            Form::Run {
+                client,
+                script,
+                option,
+            } => after_line(self.run_line(client, script, option, number), later, number),
             Form::Hoard { client, path } => after_line(
                 self.hoard_line(alloc, client, path.as_bytes(), number),
                 later,
@@ -295,9 +356,15 @@ impl Declared {
             Form::Refresh { client } => {
                 after_line(self.refresh_line(client, number), later, number)
             }
-            Form::Begin { client, script } => {
-                after_line(self.begin_line(client, script, number), later, number)
-            }
+            Form::Begin {
+                client,
+                script,
+                option,
+            } => after_line(
+                self.begin_line(client, script, option, number),
+                later,
+                number,
+            ),
             Form::Step { client, count } => {
                 after_line(self.step_line(client, count, number), later, number)
             }
@@ -313,6 +380,12 @@ impl Declared {
             }
             Form::Sync { client } => after_line(self.sync_line(client, number), later, number),
             Form::Drain { client } => after_line(self.drain_line(client, number), later, number),
+            Form::Repair { client, script } => {
+                after_line(self.repair_line(client, script, number), later, number)
+            }
+            Form::Discard { client } => {
+                after_line(self.discard_line(client, number), later, number)
+            }
             Form::ShowServer => after_line(Ok(Event::ShowServer), later, number),
             Form::ShowClient { client } => {
                 after_line(self.show_line(client, number), later, number)

@@ -6,6 +6,22 @@ use std::alloc::Global;
 use std::marker::Model;
 use std::rc::Rc;
 
+/// What is done with a transaction that is in conflict. A resolver is named by its place among the scripts that were declared, from 0.
+#[derive(Clone, Copy, Debug, PartialEq, Eq)]
+pub enum Choice {
+    /// `reexec`: its script is run again.
+    Reexec,
+
+    /// `resolver S`: this script is run in its place.
+    Resolver(u64),
+
+    /// `abort`: it is given up.
+    Abort,
+
+    /// `manual`: it waits for a decision by hand.
+    Manual,
+}
+
 /// One event. It names clients and scripts by their place among those that were declared, from 0.
 #[derive(Drop)]
 pub enum Event {
@@ -15,44 +31,87 @@ pub enum Event {
     /// `script N {` up to its `}`: the script of this name can be run from now on.
     Script(Name, SharedScript),
 
-    /// `run C S abort`: the client runs the script, and gives up if it is in conflict.
-    Run { client: u64, script: u64 },
+    /// `run C S OPTION`: the client runs the script. The option says what is done if it is in conflict.
+    Run {
+        client: u64,
+        script: u64,
+        option: Choice,
+    },
 
     /// `hoard C P`: the client fetches what lies on the way to the path, at it and below it.
-    Hoard { client: u64, path: Path },
+    Hoard {
+        client: u64,
+        path: Path,
+    },
 
     /// `refresh C`: the client fetches anew what it knows.
-    Refresh { client: u64 },
+    Refresh {
+        client: u64,
+    },
 
-    /// `begin C S abort`: the client begins a transaction of the script, and gives up if it is in conflict.
-    Begin { client: u64, script: u64 },
+    /// `begin C S OPTION`: the client begins a transaction of the script. The option says what is done if it is in conflict.
+    Begin {
+        client: u64,
+        script: u64,
+        option: Choice,
+    },
 
     /// `step C` or `step C k`: the client makes at most so many steps of its transaction.
-    Step { client: u64, count: u64 },
+    Step {
+        client: u64,
+        count: u64,
+    },
 
     /// `end C`: the client ends its transaction.
-    End { client: u64 },
+    End {
+        client: u64,
+    },
 
     /// `connect C`: the client's link with the server comes up.
-    Connect { client: u64 },
+    Connect {
+        client: u64,
+    },
 
     /// `disconnect C`: the client's link with the server goes down.
-    Disconnect { client: u64 },
+    Disconnect {
+        client: u64,
+    },
 
     /// `lose C request` or `lose C reply`: the client's link loses this message of the next exchange.
-    Lose { client: u64, loss: Loss },
+    Lose {
+        client: u64,
+        loss: Loss,
+    },
 
     /// `sync C`: the client sends the first transaction that it has queued.
-    Sync { client: u64 },
+    Sync {
+        client: u64,
+    },
 
     /// `drain C`: the client sends the transactions that it has queued, one after the other.
-    Drain { client: u64 },
+    Drain {
+        client: u64,
+    },
+
+    /// `repair C S`: the first transaction that the client has queued, which waits for a decision by hand, gets this script as its
+    /// resolver.
+    Repair {
+        client: u64,
+        script: u64,
+    },
+
+    /// `discard C`: the first transaction that the client has queued, which waits for a decision by hand, is given up.
+    Discard {
+        client: u64,
+    },
 
     /// `show server`: the server's tree is printed.
     ShowServer,
 
     /// `show C`: the client's view is printed.
-    ShowClient { client: u64 },
+    ShowClient {
+        client: u64,
+    },
 
     /// `crash server`: the server stops.
     CrashServer,

@@ -2,7 +2,8 @@
 ghost use Rattle.std.specs.Prelude.{◌≡◌, map, if◌then◌else◌, Some, None};
 ghost use Rattle.iot_lines.specs.Words.{words};
 ghost use Rattle.iot_text.specs.Names.{is_name};
-ghost use Rattle.iot_event.specs.Forms.{form_of, server_form, client_form, two_words, loss_of, three_words, script_form, four_words};
+ghost use Rattle.iot_event.specs.Forms.{form_of, server_form, client_form, two_words, loss_of, three_words};
+ghost use Rattle.iot_event.specs.Forms.{plain_choice, resolver_choice, script_form, four_words, five_words};
 
 use crate::number::number_of;
 use iot_lines::split_words;
@@ -14,7 +15,7 @@ use std::marker::Model;
 pub const STEP_LIMIT: u64 = 100_000;
 
 /// How many words the longest form has.
-const WORD_LIMIT: usize = 4;
+const WORD_LIMIT: usize = 5;
 
 /// A word that belongs where a path does, and that may be none. Contracts see it as its bytes.
 #[derive(Drop)]
@@ -46,6 +47,22 @@ impl<'a> PathWord<'a> {
     }
 }
 
+/// What is done with a transaction that is in conflict, before it is known whether the resolver is declared.
+#[derive(Clone, Copy)]
+pub(crate) enum NamedChoice {
+    /// `reexec`
+    Reexec,
+
+    /// `resolver S`
+    Resolver(Name),
+
+    /// `abort`
+    Abort,
+
+    /// `manual`
+    Manual,
+}
+
 /// What a line says by its words alone, before it is known which names are declared.
 #[derive(Drop)]
 pub(crate) enum Form<'a> {
@@ -55,44 +72,86 @@ pub(crate) enum Form<'a> {
     /// `script N {`
     Script(Name),
 
-    /// `run C S abort`
-    Run { client: Name, script: Name },
+    /// `run C S OPTION`
+    Run {
+        client: Name,
+        script: Name,
+        option: NamedChoice,
+    },
 
     /// `hoard C P`
-    Hoard { client: Name, path: PathWord<'a> },
+    Hoard {
+        client: Name,
+        path: PathWord<'a>,
+    },
 
     /// `refresh C`
-    Refresh { client: Name },
+    Refresh {
+        client: Name,
+    },
 
-    /// `begin C S abort`
-    Begin { client: Name, script: Name },
+    /// `begin C S OPTION`
+    Begin {
+        client: Name,
+        script: Name,
+        option: NamedChoice,
+    },
 
     /// `step C` or `step C k`
-    Step { client: Name, count: u64 },
+    Step {
+        client: Name,
+        count: u64,
+    },
 
     /// `end C`
-    End { client: Name },
+    End {
+        client: Name,
+    },
 
     /// `connect C`
-    Connect { client: Name },
+    Connect {
+        client: Name,
+    },
 
     /// `disconnect C`
-    Disconnect { client: Name },
+    Disconnect {
+        client: Name,
+    },
 
     /// `lose C request` or `lose C reply`
-    Lose { client: Name, loss: Loss },
+    Lose {
+        client: Name,
+        loss: Loss,
+    },
 
     /// `sync C`
-    Sync { client: Name },
+    Sync {
+        client: Name,
+    },
 
     /// `drain C`
-    Drain { client: Name },
+    Drain {
+        client: Name,
+    },
+
+    /// `repair C S`
+    Repair {
+        client: Name,
+        script: Name,
+    },
+
+    /// `discard C`
+    Discard {
+        client: Name,
+    },
 
     /// `show server`
     ShowServer,
 
     /// `show C`
-    ShowClient { client: Name },
+    ShowClient {
+        client: Name,
+    },
 
     /// `crash server`
     CrashServer,
@@ -155,6 +214,9 @@ fn client_form(first: &[u8], client: Name) -> Option<Form<'static>>
     if first == b"drain".as_slice() {
         return Some(Form::Drain { client });
     }
+    if first == b"discard".as_slice() {
+        return Some(Form::Discard { client });
+    }
     if first == b"show".as_slice() {
         return Some(Form::ShowClient { client });
     }
@@ -210,18 +272,63 @@ fn three_words<'a>(first: &[u8], second: &[u8], third: &'a [u8]) -> Option<Form<
             loss: loss_of(third)?,
         });
     }
+    if first == b"repair".as_slice() {
+        return Some(Form::Repair {
+            client: name,
+            script: name_of(third)?,
+        });
+    }
     None
 }
 
-/// The form of a line that has this client do this script.
-fn script_form(first: &[u8], client: Name, script: Name) -> Option<Form<'static>>
-    ensures { result ≡ script_form first.now client script }
+/// The option of one word, if it is one.
+fn plain_choice(word: &[u8]) -> Option<NamedChoice>
+    ensures { result ≡ plain_choice word.now }
+{
+    if word == b"reexec".as_slice() {
+        return Some(NamedChoice::Reexec);
+    }
+    if word == b"abort".as_slice() {
+        return Some(NamedChoice::Abort);
+    }
+    if word == b"manual".as_slice() {
+        return Some(NamedChoice::Manual);
+    }
+    None
+}
+
+/// The option of two words, if they are one.
+fn resolver_choice(word: &[u8], script: &[u8]) -> Option<NamedChoice>
+    ensures { result ≡ resolver_choice word.now script.now }
+{
+    if word != b"resolver".as_slice() {
+        return None;
+    }
+    Some(NamedChoice::Resolver(name_of(script)?))
+}
+
+/// The form of a line that has this client do this script, with this option.
+fn script_form(
+    first: &[u8],
+    client: Name,
+    script: Name,
+    option: NamedChoice,
+) -> Option<Form<'static>>
+    ensures { result ≡ script_form first.now client script option }
 {
     if first == b"run".as_slice() {
-        return Some(Form::Run { client, script });
+        return Some(Form::Run {
+            client,
+            script,
+            option,
+        });
     }
     if first == b"begin".as_slice() {
-        return Some(Form::Begin { client, script });
+        return Some(Form::Begin {
+            client,
+            script,
+            option,
+        });
     }
     None
 }
@@ -230,10 +337,30 @@ fn script_form(first: &[u8], client: Name, script: Name) -> Option<Form<'static>
 fn four_words(first: &[u8], second: &[u8], third: &[u8], fourth: &[u8]) -> Option<Form<'static>>
     ensures { result ≡ four_words first.now second.now third.now fourth.now }
 {
-    if fourth != b"abort".as_slice() {
-        return None;
-    }
-    script_form(first, name_of(second)?, name_of(third)?)
+    script_form(
+        first,
+        name_of(second)?,
+        name_of(third)?,
+        plain_choice(fourth)?,
+    )
+}
+
+/// The form of a line of five words.
+fn five_words(
+    first: &[u8],
+    second: &[u8],
+    third: &[u8],
+    fourth: &[u8],
+    fifth: &[u8],
+) -> Option<Form<'static>>
+    ensures { result ≡ five_words first.now second.now third.now fourth.now fifth.now }
+{
+    script_form(
+        first,
+        name_of(second)?,
+        name_of(third)?,
+        resolver_choice(fourth, fifth)?,
+    )
 }
 
 /// The form of a line with these words, if it has one.
@@ -245,6 +372,7 @@ fn form_of<'a>(found: &[&'a [u8]]) -> Option<Form<'a>>
         [first, second] => two_words(first, second),
         [first, second, third] => three_words(first, second, third),
         [first, second, third, fourth] => four_words(first, second, third, fourth),
+        [first, second, third, fourth, fifth] => five_words(first, second, third, fourth, fifth),
         _ => None,
     }
 }

@@ -13,7 +13,7 @@ mod script;
 
 pub use bytes::LINE_LIMIT;
 pub use declared::{CLIENT_LIMIT, SCRIPT_LIMIT};
-pub use event::{Event, SharedScript};
+pub use event::{Choice, Event, SharedScript};
 pub use fault::EventFault;
 pub use form::STEP_LIMIT;
 pub use iot_text::NoMemory;

@@ -1,5 +1,5 @@
 //! Parsing event scripts.
-ghost use Rattle.std.specs.Prelude.{◌≡◌, IfOk, IfErr};
+ghost use Rattle.std.specs.Prelude.{◌≡◌, [], IfOk, IfErr};
 ghost use Rattle.iot_event.specs.Events.{Gives, Outcome, Events};
 ghost use Rattle.iot_event.specs.Declarations.{AreDeclared};
 ghost use Rattle.iot_event.specs.Results.{HasFault, UnlessMemory};
@@ -20,7 +20,7 @@ use std::alloc::Global;
 /// The fault of the first bad line, exactly if there is one; `NoMemory` if memory runs out.
 pub fn parse(alloc: Global, input: &[u8]) -> Result<Vec<Event>, EventFault>
     ensures events { IfOk result (λ events. Gives input.now (Events events.items)) }
-    ensures declared { IfOk result (λ events. AreDeclared events.items 0 0) }
+    ensures declared { IfOk result (λ events. AreDeclared events.items 0 []) }
     ensures fault { IfErr result (HasFault input.now) }
 
     // An input gives one outcome, and that is the result unless memory runs out.

@@ -6,6 +6,6 @@ use Rattle.iot_event.proofs.form.form_of_line.Given as goal
 abbrev pub invariant-loop-word : goal.invariant-loop-word
 invariant-loop-word l = record {
   words : words l.line ≡ map (λ word. word.now) (take l.count l.found) ++ l.word-iterator;
-  few : l.count ≤ 4;
-  room : length l.found ≡ 4;
+  few : l.count ≤ 5;
+  room : length l.found ≡ 5;
 }
