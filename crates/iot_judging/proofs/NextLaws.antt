@@ -11,7 +11,9 @@ use Rattle.iot_exec.specs.declared.exec.Exec.{Exec}
 use Rattle.iot_exec.specs.declared.ran.Ran.{Ran}
 use Rattle.iot_machine.specs.Clients.{Declared, Item, Running, ClientState, local_run, after_items, base, so_far, view, view_by}
 use Rattle.iot_machine.specs.Clients.{joined, end, leave, leave_by, AtEnd, AtLimit, next_away, next_by, next_step, item_of}
-use Rattle.iot_machine.specs.Clients.{begin, fetch, anew, act_once, one_more}
+use Rattle.iot_machine.specs.Clients.{begin, fetch, anew, act_once, one_more, plain_run}
+use Rattle.iot_machine.specs.Clients.{Stage, with_first, at_stage, reach, resolved_by, repair}
+use Rattle.iot_machine.specs.Options.{OnConflict}
 use Rattle.iot_judging.proofs.BudgetLaws.{ended_stays, nothing_done, tree_is, so_far_more}
 
 -- ---- the next step
@@ -35,7 +37,7 @@ module _ (t : Nodes) (it : Running) where
 
   -- or if it is at its limit
   pub full_waits : it.acts ≡ ACT_LIMIT → local_run t (item_of it) ≡ so_far t it
-  full_waits full = ap (λ (n : ℕ). local_run t (record { number = it.number; script = it.script; budget = n })) (sym full)
+  full_waits full = ap (plain_run it.script t) (sym full)
 
 -- one more that waits
 pub after_more : (items : List Item) (item : Item) (t : Nodes)
@@ -60,11 +62,26 @@ base_stays s = by s.items refl
     by [] is = refl
     by (item ∷ items) is = ap (after_items s.held) (sym is)
 
+-- how far the first one is, and what becomes of it, is no matter to what is seen, nor to what the later ones read
+pub view_reached : (s : ClientState) (stage : Stage) → view (reach stage s) ≡ view s
+view_reached s stage = ap (λ (t : Nodes). view_by t s.running) (by s.items)
+  where
+    by : (items : List Item) → after_items s.held (with_first (at_stage stage) items) ≡ after_items s.held items
+    by [] = refl
+    by (item ∷ items) = refl
+
+pub view_repaired : (s : ClientState) (script : Declared) → view (repair script s) ≡ view s
+view_repaired s script = ap (λ (t : Nodes). view_by t s.running) (by s.items)
+  where
+    by : (items : List Item) → after_items s.held (with_first (resolved_by script) items) ≡ after_items s.held items
+    by [] = refl
+    by (item ∷ items) = refl
+
 -- ---- the view
 
 -- one that begins has not changed it
-pub view_begun : (s : ClientState) (script : Declared) → view (begin script s) ≡ base s
-view_begun s script = nothing_done script.code empty (base s)
+pub view_begun : (s : ClientState) (script : Declared) (option : OnConflict Declared) → view (begin script option s) ≡ base s
+view_begun s script option = nothing_done script.code empty (base s)
 
 -- nor one that begins anew
 pub view_anew : (s : ClientState) (t : Nodes) → view (fetch t s) ≡ after_items t s.items

@@ -34,6 +34,11 @@ module _ {S : Type 0} {P : S → Type 0} where
   pub stays_says : {text : S → List ℕ} → Stays P (Says text)
   stays_says = keeps_does (λ m here. here)
 
+  -- from less
+  pub keeps_from : {A : Type 0} {P_ : S → Type 0} {call : Call S A} {Q : A → S → Type 0} → ((m : S) → P m → P_ m) → Keeps P_ call Q
+      → Keeps P call Q
+  keeps_from less it = record { at = λ m n text a here step. it.at m n text a (less m here) step }
+
   -- ---- one after the other
 
   pub keeps_then : {A B : Type 0} {one : Call S A} {next : A → Call S B} {Q : A → S → Type 0} {R : B → S → Type 0} → Keeps P one Q

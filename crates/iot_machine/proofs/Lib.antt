@@ -1,2 +1,3 @@
 pub mod KeepsLaws
 pub mod SoundLaws
+pub mod WholeLaws

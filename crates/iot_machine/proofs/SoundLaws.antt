@@ -16,29 +16,36 @@ use Rattle.iot_link.specs.declared.passages.Passage.{Passage}
 use Rattle.iot_link.specs.declared.passages.Passage.TheVariants as passages
 use Rattle.iot_event.specs.declared.event.Event.{Event}
 use Rattle.iot_event.specs.declared.event.Event.TheVariants as events
-use Rattle.iot_machine.specs.Calls.{Call, Part, At}
-use Rattle.iot_machine.specs.Clients.{Declared, Item, Running, ClientState, Next, AtEnd, AtLimit, Acts, Fetches}
+use Rattle.iot_machine.specs.Calls.{Call, Part, At, either}
+use Rattle.iot_machine.specs.Clients as stages
+use Rattle.iot_machine.specs.Clients.{Declared, Stage, Item, Running, ClientState, Next, AtEnd, AtLimit, Acts, Fetches, Plan, resolution_of}
 use Rattle.iot_machine.specs.Clients.{new_client, view, hold, begin, anew, fetch, one_more, act_once, item_of, joined, end, leave_by, leave}
+use Rattle.iot_machine.specs.Clients.{with_first, change_first, at_stage, reach, resolved_by, repair}
 use Rattle.iot_machine.specs.Machine.{Machine, Client, Commit, no_client, client_in, put_client, kept_by, server, node_at, add_commit}
 use Rattle.iot_machine.specs.Machine.{set_class, set_link, cut_off, link_of, break, tree_after, count_request, opening}
 use Rattle.iot_machine.specs.Nodes.{Node, opened, changed}
+use Rattle.iot_machine.specs.Options as options
+use Rattle.iot_machine.specs.Options.{OnConflict}
 use Rattle.iot_machine.specs.Stops.{Appends, ComesBack, Crashes, Restarts, Shows}
-use Rattle.iot_machine.specs.Serving.{is_of, number_of, Submission, Verdict, Lends, Judges, judged}
+use Rattle.iot_machine.specs.Serving.{is_of, number_of, Submission, Verdict, Settled, Conflict, Lends, Judges, judged}
 use Rattle.iot_machine.specs.Serving.{Certifies, holds, conflicts, Commits, committed, server_name}
 use Rattle.iot_machine.specs.Transactions as transactions
 use Rattle.iot_machine.specs.Transactions.{submission_of, Notes, counted, Handles, received, exchange_by, Exchange, Brings, Refuses, IfIdle}
 use Rattle.iot_machine.specs.Transactions.{IfNonePends, if_runs, IfRuns, Brought, Held, Missed, Stopped, Holds, took, Takes}
 use Rattle.iot_machine.specs.Transactions.{Starts, starts_on, starts_if, Begins, SaysIf, fetched, step_by, step_of, Steps, Went, StepsAll}
-use Rattle.iot_machine.specs.Transactions.{Synced, Empty, Left, Unanswered, Halted, told, submits, sync_head, Syncs, sync_if, SyncsAll}
+use Rattle.iot_machine.specs.Transactions.{Synced, Empty, Left, Moved, ByHand, Unanswered, Halted, Tells, conflicted, told, resolved_on}
+use Rattle.iot_machine.specs.Transactions.{resolves, Resolves, sync_at, sync_head, Syncs, sync_if, SyncsAll, IfManual, if_manual, is_manual}
+use Rattle.iot_machine.specs.Transactions.{says_word}
 use Rattle.iot_machine.specs.Transactions.{Ended, waits_unless, syncs_or_waits, joins, end_by, Ends}
-use Rattle.iot_machine.specs.Texts.{fetch_line, tree_text}
+use Rattle.iot_machine.specs.Texts.{fetch_line, conflict_line, tree_text}
 use Rattle.iot_machine.specs.Events.{declare_client, declare_script, Refreshes, run_steps, SyncsIf, runs_script, runs_by, Runs, Drains}
-use Rattle.iot_machine.specs.Events.{counts_anew, RestartsServer, event_part}
+use Rattle.iot_machine.specs.Events.{Repairs, Discards}
+use Rattle.iot_machine.specs.Events.{counts_anew, RestartsServer, chosen, event_part}
 use Rattle.iot_machine.specs.Sound.{Rise, last_of, IsNewest, AreNumbered, IsNumbered, IsAnother, WaitsFirst, RunsAnother}
-use Rattle.iot_machine.specs.Sound.{IsListed, AreOnce, IsSound}
-use Rattle.iot_machine.proofs.KeepsLaws.{Keeps, Stays, keeps_gets, keeps_asks, keeps_does, stays_asks, stays_answers, stays_says}
+use Rattle.iot_machine.specs.Sound.{IsReady, CanResolve, IsPlanned, HasPlan, HasPlans, IsListed, AreOnce, IsSound}
+use Rattle.iot_machine.proofs.KeepsLaws.{Keeps, Stays, keeps_gets, keeps_asks, keeps_does, stays_answers, stays_says}
 use Rattle.iot_machine.proofs.KeepsLaws.{keeps_then, stays_then, asks_then, keeps_either, stays_goes_on, stays_rounds, stays_or_says}
-use Rattle.iot_machine.proofs.KeepsLaws.{keeps_at}
+use Rattle.iot_machine.proofs.KeepsLaws.{keeps_at, keeps_from}
 
 -- ---- lists
 
@@ -59,13 +66,14 @@ module _ {A : Type 0} (P : A → Type 0) where
   all_set (y ∷ ys) zero x d goes all = (goes all.0, all.1)
   all_set (y ∷ ys) (suc place) x d goes all = (all.0, all_set ys place x d goes all.1)
 
-  at_set : (xs : List A) (place other : ℕ) (x d : A) → (P (slice_index_or xs place d) → P x) → P (slice_index_or xs other d)
-      → P (slice_index_or (slice_set xs place x) other d)
+  -- at another place too, which may be the same one
+  at_set : (xs : List A) (place other : ℕ) (x d : A) → (other ≡ place → P (slice_index_or xs place d) → P x)
+      → P (slice_index_or xs other d) → P (slice_index_or (slice_set xs place x) other d)
   at_set [] place other x d goes it = it
-  at_set (y ∷ ys) zero zero x d goes it = goes it
+  at_set (y ∷ ys) zero zero x d goes it = goes refl it
   at_set (y ∷ ys) zero (suc other) x d goes it = it
   at_set (y ∷ ys) (suc place) zero x d goes it = it
-  at_set (y ∷ ys) (suc place) (suc other) x d goes it = at_set ys place other x d goes it
+  at_set (y ∷ ys) (suc place) (suc other) x d goes it = at_set ys place other x d (λ same. goes (ap suc same)) it
 
   -- one more at the end
   at_push : (xs : List A) (place : ℕ) (x d : A) → place < length xs → P (slice_index_or xs place d)
@@ -77,6 +85,15 @@ module _ {A : Type 0} (P : A → Type 0) where
 all_as : {A : Type 0} (P Q : A → Type 0) (xs : List A) → ((x : A) → P x → Q x) → AllByRecursion P xs → AllByRecursion Q xs
 all_as P Q [] goes all = tt
 all_as P Q (x ∷ xs) goes all = (goes x all.0, all_as P Q xs goes all.1)
+
+all_with : {A : Type 0} (P Q R : A → Type 0) (xs : List A) → ((x : A) → P x → Q x → R x) → AllByRecursion P xs → AllByRecursion Q xs
+    → AllByRecursion R xs
+all_with P Q R [] goes all others = tt
+all_with P Q R (x ∷ xs) goes all others = (goes x all.0 others.0, all_with P Q R xs goes all.1 others.1)
+
+all_of : {A : Type 0} (P : A → Type 0) (xs : List A) → ((x : A) → P x) → AllByRecursion P xs
+all_of P [] each = tt
+all_of P (x ∷ xs) each = (each x, all_of P xs each)
 
 -- ---- numbers that rise
 
@@ -119,20 +136,23 @@ record IsKnown (commit : Commit) (state : ClientState) : Type 0 where
 -- what must hold of the one holds of the other too
 record Follows (old new : ClientState) : Type 0 where
   numbered : AreNumbered old → AreNumbered new
+  planned : AllByRecursion HasPlan old.items → AllByRecursion HasPlan new.items
   known : (commit : Commit) → IsKnown commit old → IsKnown commit new
 
 follows_same : (s : ClientState) → Follows s s
-follows_same s = record { numbered = λ it. it; known = λ commit it. it }
+follows_same s = record { numbered = λ it. it; planned = λ it. it; known = λ commit it. it }
 
 hold_follows : (t : Nodes) (s : ClientState) → Follows s (hold t s)
 hold_follows t s = record {
   numbered = λ it. record { rise = it.rise; newest = newest_from s (hold t s) s.running refl (le_refl (last_of 0 s.items)) it.newest };
+  planned = λ it. it;
   known = λ commit it. record { given = it.given; waits = it.waits; runs = it.runs };
 }
 
-begin_follows : (script : Declared) (s : ClientState) → Follows s (begin script s)
-begin_follows script s = record {
+begin_follows : (script : Declared) (option : OnConflict Declared) (s : ClientState) → Follows s (begin script option s)
+begin_follows script option s = record {
   numbered = λ it. record { rise = it.rise; newest = (refl, by_running s.running it.newest) };
+  planned = λ it. it;
   known = λ commit it. record { given = omega (arith, it.given); waits = it.waits; runs = omega (arith, it.given) };
 }
   where
@@ -145,6 +165,7 @@ running_follows : (change : Running → Running) → ((it : Running) → (change
     → Follows s (record s { held = t; running = option_map change s.running })
 running_follows change same t s = record {
   numbered = λ it. record { rise = it.rise; newest = newest s.running it.newest };
+  planned = λ it. it;
   known = λ commit it. record { given = it.given; waits = it.waits; runs = runs commit s.running it.runs };
 }
   where
@@ -177,6 +198,7 @@ end_follows s = by_running s.running refl
     by_running : (running : Option Running) → s.running ≡ running → Follows s (record s { items = joined s.items running; running = None })
     by_running None is = record {
       numbered = λ it. record { rise = it.rise; newest = subst (IsNewest s) is it.newest };
+      planned = λ it. it;
       known = λ commit it. record { given = it.given; waits = it.waits; runs = tt };
     }
     by_running (Some one) is = record {
@@ -186,6 +208,7 @@ end_follows s = by_running s.running refl
             rise = rise_push 0 s.items (item_of one) (omega (arith, newest.0, newest.1)) it.rise;
             newest = le_of (last_push 0 s.items (item_of one)) newest.0;
           };
+      planned = λ it. all_push HasPlan s.items (item_of one) tt it;
       known = λ commit it. record {
         given = it.given;
         waits = waits_push commit s.items (item_of one) (subst (RunsAnother commit) is it.runs) it.waits;
@@ -213,12 +236,50 @@ leave_follows s = by_items s.items refl
             newest = newest_from s (leave_by (item ∷ items) s) s.running refl
                 (rw is (last_lower item.number items)) it.newest;
           };
+      planned = λ it. (subst (AllByRecursion HasPlan) is it).1;
       known = λ commit it. record {
         given = it.given;
         waits = first_waits commit items (subst (WaitsFirst commit) is it.waits).1;
         runs = it.runs;
       };
     }
+
+-- the first transaction is not the one that was committed
+abbrev FirstIsAnother : Commit → List Item → Type 0
+FirstIsAnother commit [] = Unit {0}
+FirstIsAnother commit (item ∷ items) = IsAnother commit item
+
+-- a change of the first transaction that leaves its number
+module _ (change : Item → Item) (same : (item : Item) → (change item).number ≡ item.number) where
+  first_numbered : (s : ClientState) → AreNumbered s → AreNumbered (change_first change s)
+  first_numbered s it = record {
+    rise = rise s.items it.rise;
+    newest = newest_from s (change_first change s) s.running refl (last s.items) it.newest;
+  }
+    where
+      rise : (items : List Item) → Rise 0 items → Rise 0 (with_first change items)
+      rise [] it = it
+      rise (item ∷ items) it = rw (same item) it
+
+      last : (items : List Item) → last_of 0 (with_first change items) ≤ last_of 0 items
+      last [] = le_refl 0
+      last (item ∷ items) = rw (same item) (le_refl (last_of item.number items))
+
+  -- it still has a plan
+  first_planned : (item : Item) (items : List Item) (s : ClientState) → s.items ≡ item ∷ items → (HasPlan item → HasPlan (change item))
+      → AllByRecursion HasPlan s.items → AllByRecursion HasPlan (change_first change s).items
+  first_planned item items s first goes all =
+      let now : AllByRecursion HasPlan (item ∷ items) = subst (AllByRecursion HasPlan) first all in
+      subst (λ (xs : List Item). AllByRecursion HasPlan (with_first change xs)) (sym first) (goes now.0, now.1)
+
+  -- what was committed is another one
+  first_known_still : (commit : Commit) (s : ClientState) → FirstIsAnother commit s.items → IsKnown commit s
+      → IsKnown commit (change_first change s)
+  first_known_still commit s another it = record { given = it.given; waits = waits s.items another it.waits; runs = it.runs }
+    where
+      waits : (items : List Item) → FirstIsAnother commit items → WaitsFirst commit items → WaitsFirst commit (with_first change items)
+      waits [] another it = it
+      waits (item ∷ items) another it = ((λ is. absurd (another (sym (same item) ∙ is))), it.1)
 
 -- ---- a machine, and one of its parts anew
 
@@ -234,6 +295,7 @@ listed_from m n same commit it = record {
 sound_from : (m n : Machine) → n.clients ≡ m.clients → n.server.durable ≡ m.server.durable → IsSound m → IsSound n
 sound_from m n clients list sound = record {
   numbered = rw clients sound.numbered;
+  planned = rw clients sound.planned;
   listed = subst (AllByRecursion (IsListed n)) (sym list)
       (all_as (IsListed m) (IsListed n) m.server.durable (listed_from m n clients) sound.listed);
   once = rw list sound.once;
@@ -247,20 +309,31 @@ listed_by m n commit within known it =
     let so : IsKnown commit (kept_by commit.entry.client n) = known (record { given = it.given; waits = it.waits; runs = it.runs }) in
     record { client = within it.client; given = so.given; waits = so.waits; runs = so.runs }
 
+-- a commit of this client that was known to it is known to the other one
+abbrev StaysKnown : (c : ℕ) → Client → Machine → Commit → Type 0
+StaysKnown c client m commit = commit.entry.client ≡ c → IsKnown commit (kept_by c m) → IsKnown commit client.node.durable
+
 -- another client at a place
-put_sound : (c : ℕ) (client : Client) (m : Machine) → Follows (kept_by c m) client.node.durable → IsSound m
-    → IsSound (put_client c client m)
-put_sound c client m follows sound = record {
-  numbered = all_set IsNumbered m.clients c client no_client follows.numbered sound.numbered;
-  listed = all_as (IsListed m) (IsListed (put_client c client m)) m.server.durable stays sound.listed;
+put_known : (c : ℕ) (client : Client) (m : Machine) → (AreNumbered (kept_by c m) → AreNumbered client.node.durable)
+    → (AllByRecursion HasPlan (kept_by c m).items → AllByRecursion HasPlan client.node.durable.items)
+    → AllByRecursion (StaysKnown c client m) m.server.durable → IsSound m → IsSound (put_client c client m)
+put_known c client m numbered planned known sound = record {
+  numbered = all_set IsNumbered m.clients c client no_client numbered sound.numbered;
+  planned = all_set HasPlans m.clients c client no_client planned sound.planned;
+  listed = all_with (StaysKnown c client m) (IsListed m) (IsListed (put_client c client m)) m.server.durable stays known sound.listed;
   once = sound.once;
 }
   where
-    stays : (commit : Commit) → IsListed m commit → IsListed (put_client c client m) commit
-    stays commit it = listed_by m (put_client c client m) commit
+    stays : (commit : Commit) → StaysKnown c client m commit → IsListed m commit → IsListed (put_client c client m) commit
+    stays commit known it = listed_by m (put_client c client m) commit
         (subst (λ (n : ℕ). commit.entry.client < n) (sym (length-set m.clients c client)))
-        (at_set (λ one. IsKnown commit one.node.durable) m.clients c commit.entry.client client no_client (follows.known commit))
+        (at_set (λ one. IsKnown commit one.node.durable) m.clients c commit.entry.client client no_client known)
         it
+
+put_sound : (c : ℕ) (client : Client) (m : Machine) → Follows (kept_by c m) client.node.durable → IsSound m
+    → IsSound (put_client c client m)
+put_sound c client m follows sound = put_known c client m follows.numbered follows.planned
+    (all_of (StaysKnown c client m) m.server.durable (λ commit same. follows.known commit)) sound
 
 -- one with the same node
 same_node_sound : (c : ℕ) (client : Client) (m : Machine) → client.node ≡ (client_in m c).node → IsSound m
@@ -271,6 +344,7 @@ same_node_sound c client m same sound = put_sound c client m (rw same (follows_s
 declared_sound : (name : List ℕ) (m : Machine) → IsSound m → IsSound (declare_client name m)
 declared_sound name m sound = record {
   numbered = all_push IsNumbered m.clients new (record { rise = tt; newest = le_refl 0 }) sound.numbered;
+  planned = all_push HasPlans m.clients new tt sound.planned;
   listed = all_as (IsListed m) (IsListed (declare_client name m)) m.server.durable stays sound.listed;
   once = sound.once;
 }
@@ -337,11 +411,11 @@ once_push (first ∷ list) commit all once = (
 -- ---- a commit of the first that waits
 
 -- sound, and this is the commit of the first transaction
-record Submits (c : ℕ) (commit : Commit) (m : Machine) : Type 0 where
-  item : Item
+record Submits (c : ℕ) (item : Item) (commit : Commit) (m : Machine) : Type 0 where
   items : List Item
   sound : IsSound m
   first : (kept_by c m).items ≡ item ∷ items
+  stage : IsReady item.stage
   is : commit ≡ (submission_of c m item).commit
 
 -- a client that is not there has none
@@ -363,14 +437,14 @@ all_above commit low (item ∷ items) less rise = (
 
 -- it is known to what its client keeps
 first_known : (c : ℕ) (m : Machine) (item : Item) (items : List Item) (state : ClientState) → AreNumbered state
-    → state.items ≡ item ∷ items → IsKnown (submission_of c m item).commit state
-first_known c m item items state numbered first =
+    → state.items ≡ item ∷ items → IsReady item.stage → IsKnown (submission_of c m item).commit state
+first_known c m item items state numbered first stage =
     let rise : Rise 0 (item ∷ items) = subst (Rise 0) first numbered.rise in
     let above : item.number ≤ last_of 0 state.items = rw first (last_above item.number items rise.1) in
     record {
       given = given state.running above numbered.newest;
       waits = subst (WaitsFirst (submission_of c m item).commit) (sym first) (
-        (λ same. record { name = refl; script = refl; budget = refl; way = refl; kept = refl }),
+        (λ same. record { stage = stage; name = refl; script = refl; budget = refl; way = refl; kept = refl }),
         all_above (submission_of c m item).commit item.number items (le_refl item.number) rise.1,
       );
       runs = runs state.running above numbered.newest;
@@ -385,10 +459,11 @@ first_known c m item items state numbered first =
     runs None above newest = tt
     runs (Some it) above newest = omega (arith, above, newest.0, newest.1)
 
-commit_sound : (c : ℕ) (commit : Commit) (m n : Machine) → Submits c commit m → number_of commit m.server.durable ≡ None
+commit_sound : (c : ℕ) (item : Item) (commit : Commit) (m n : Machine) → Submits c item commit m → number_of commit m.server.durable ≡ None
     → n.clients ≡ m.clients → n.server.durable ≡ add_commit commit m.server.durable → IsSound n
-commit_sound c commit m n here none clients list = record {
+commit_sound c item commit m n here none clients list = record {
   numbered = rw clients here.sound.numbered;
+  planned = rw clients here.sound.planned;
   listed = subst (AllByRecursion (IsListed n)) (sym list) (all_push (IsListed n) m.server.durable commit new before);
   once = rw list (once_push m.server.durable commit (none_of commit m.server.durable none) here.sound.once);
 }
@@ -399,12 +474,12 @@ commit_sound c commit m n here none clients list = record {
     numbered : IsNumbered (client_in m c)
     numbered = all_at IsNumbered m.clients c no_client (record { rise = tt; newest = le_refl 0 }) here.sound.numbered
 
-    known : IsKnown (submission_of c m here.item).commit (kept_by c m)
-    known = first_known c m here.item here.items (kept_by c m) numbered here.first
+    known : IsKnown (submission_of c m item).commit (kept_by c m)
+    known = first_known c m item here.items (kept_by c m) numbered here.first here.stage
 
-    listed : IsListed m (submission_of c m here.item).commit
+    listed : IsListed m (submission_of c m item).commit
     listed = record {
-      client = is_there m.clients c here.item here.items here.first;
+      client = is_there m.clients c item here.items here.first;
       given = known.given;
       waits = known.waits;
       runs = known.runs;
@@ -412,6 +487,82 @@ commit_sound c commit m n here none clients list = record {
 
     new : IsListed n commit
     new = listed_from m n clients commit (subst (IsListed m) (sym here.is) listed)
+
+-- ---- a first transaction that is not in the list
+
+abbrev IsOther : ℕ → List Item → Commit → Type 0
+IsOther c items commit = commit.entry.client ≡ c → FirstIsAnother commit items
+
+-- no commit in the list is of the first transaction of this client
+record IsFree (c : ℕ) (m : Machine) : Type 0 where
+  each : AllByRecursion (IsOther c (kept_by c m).items) m.server.durable
+
+free_from : (c : ℕ) (m n : Machine) → (kept_by c n).items ≡ (kept_by c m).items → n.server.durable ≡ m.server.durable → IsFree c m
+    → IsFree c n
+free_from c m n items list it = record {
+  each = subst (AllByRecursion (IsOther c (kept_by c n).items)) (sym list)
+      (subst (λ (items : List Item). AllByRecursion (IsOther c items) m.server.durable) (sym items) it.each);
+}
+
+-- with the same node in the client's place
+items_put : (c : ℕ) (client : Client) (m : Machine) → client.node ≡ (client_in m c).node
+    → (kept_by c (put_client c client m)).items ≡ (kept_by c m).items
+items_put c client m same = at_set (λ one. one.node.durable.items ≡ (kept_by c m).items) m.clients c c client no_client
+    (λ _ _. ap (λ node. node.durable.items) same) refl
+
+-- one that submits nothing is not in the list
+stuck_free : (c : ℕ) (m : Machine) (item : Item) (items : List Item) → (IsReady item.stage → ⊥) → IsSound m
+    → (kept_by c m).items ≡ item ∷ items → IsFree c m
+stuck_free c m item items stuck sound first = record {
+  each = all_as (IsListed m) (IsOther c (kept_by c m).items) m.server.durable other sound.listed;
+}
+  where
+    other : (commit : Commit) → IsListed m commit → IsOther c (kept_by c m).items commit
+    other commit it same =
+        let waits : WaitsFirst commit (kept_by c m).items = subst (λ (n : ℕ). WaitsFirst commit (kept_by n m).items) same it.waits in
+        subst (FirstIsAnother commit) (sym first) (λ is. stuck ((subst (WaitsFirst commit) first waits).0 is).stage)
+
+-- nor is one whose commit has no number
+apart_free : (c : ℕ) (item : Item) (commit : Commit) (m : Machine) → Submits c item commit m
+    → number_of commit m.server.durable ≡ None → IsFree c m
+apart_free c item commit m here none = record {
+  each = all_as (IsApart commit) (IsOther c (kept_by c m).items) m.server.durable other (none_of commit m.server.durable none);
+}
+  where
+    not_both : (a b n k : ℕ) → a ≡ b → n ≡ k → ((a == b) && (n == k)) ≡ false → ⊥
+    not_both a b n k = grind (arith, nat_tests)
+
+    other : (one : Commit) → IsApart commit one → IsOther c (kept_by c m).items one
+    other one apart same = subst (FirstIsAnother one) (sym here.first) (λ is.
+        not_both commit.entry.client one.entry.client commit.entry.number one.entry.number
+        (ap (λ it. it.entry.client) here.is ∙ sym same) (ap (λ it. it.entry.number) here.is ∙ is) apart)
+
+-- the answer to a submission is a conflict
+abbrev Contests : Option Verdict → Type 0
+Contests None = ⊥
+Contests (Some (Settled number)) = ⊥
+Contests (Some (Conflict read question)) = Unit {0}
+
+-- sound, and this is the first transaction, and is not in the list
+record IsOpen (c : ℕ) (item : Item) (m : Machine) : Type 0 where
+  items : List Item
+  sound : IsSound m
+  first : (kept_by c m).items ≡ item ∷ items
+  free : IsFree c m
+
+open_from : (c : ℕ) (item : Item) (m n : Machine) → (kept_by c n).items ≡ (kept_by c m).items → n.server.durable ≡ m.server.durable
+    → IsSound n → IsOpen c item m → IsOpen c item n
+open_from c item m n same list sound it = record {
+  items = it.items;
+  sound = sound;
+  first = same ∙ it.first;
+  free = free_from c m n same list it.free;
+}
+
+-- sound, and what conflicts is not in the list
+record IsJudged (c : ℕ) (item : Item) (verdict : Option Verdict) (m : Machine) : Type 0 where
+  sound : IsSound m
+  apart : Contests verdict → IsOpen c item m
 
 -- ---- requests to the server
 
@@ -425,62 +576,77 @@ IsSoundWith m node = IsSound (record m { server = node })
 sound_with : (m : Machine) (node : Node (List Commit)) → node.durable ≡ m.server.durable → IsSound m → IsSoundWith m node
 sound_with m node same sound = sound_from m (record m { server = node }) refl same sound
 
+open_with : (c : ℕ) (item : Item) (m : Machine) (node : Node (List Commit)) → node.durable ≡ m.server.durable → IsOpen c item m
+    → IsOpen c item (record m { server = node })
+open_with c item m node same it = open_from c item m (record m { server = node }) refl same (sound_with m node same it.sound) it
+
+lends_open : (c : ℕ) (item : Item) (held : Nodes) (want : Want)
+    → Keeps (IsOpen c item) (At server (Lends held want)) (λ _. IsOpen c item)
+lends_open c item held want = keeps_at (λ m it. keeps_asks (λ node is. open_with c item m node (ap (λ n. n.durable) is) it))
+
 lends_sound : (held : Nodes) (want : Want) → StaysSound (At server (Lends held want))
 lends_sound held want = keeps_at (λ m sound. keeps_asks (λ node is. sound_with m node (ap (λ n. n.durable) is) sound))
 
-module _ (c : ℕ) (it : Submission) where
-  commits_sound : (m : Machine) → Submits c it.commit m → number_of it.commit m.server.durable ≡ None
-      → Keeps (λ node. node ≡ m.server) (Commits it.name it.commit) (λ _. IsSoundWith m)
+module _ (c : ℕ) (item : Item) (it : Submission) where
+  abbrev IsJudgedWith : Machine → Option Verdict → Node (List Commit) → Type 0
+  IsJudgedWith m verdict node = IsJudged c item verdict (record m { server = node })
+
+  commits_sound : (m : Machine) → Submits c item it.commit m → number_of it.commit m.server.durable ≡ None
+      → Keeps (λ node. node ≡ m.server) (Commits it.name it.commit) (IsJudgedWith m)
   commits_sound m here none = asks_then (λ text. keeps_then {Q = λ _. IsSoundWith m} append (by_answer text))
     where
       append : Keeps (λ node. node ≡ m.server) (Appends server_name (add_commit it.commit)) (λ _. IsSoundWith m)
       append = record {
         at = λ node after text on is step.
-            commit_sound c it.commit m (record m { server = after }) here none refl
+            commit_sound c item it.commit m (record m { server = after }) here none refl
             (ap (λ n. n.durable) step.2 ∙ ap (λ n. add_commit it.commit n.durable) is);
       }
 
-      by_answer : (text : List ℕ) (on : Bool) → Stays (IsSoundWith m) (committed text on)
-      by_answer text true = stays_then stays_says (λ _. stays_asks)
-      by_answer text false = stays_answers
+      by_answer : (text : List ℕ) (on : Bool) → Keeps (IsSoundWith m) (committed text on) (IsJudgedWith m)
+      by_answer text true =
+          stays_then stays_says (λ _. keeps_asks (λ node sound. record { sound = sound; apart = λ no_conflict. absurd no_conflict }))
+      by_answer text false = keeps_gets (λ node sound. record { sound = sound; apart = λ no_conflict. absurd no_conflict })
 
-  judges_sound : Keeps (Submits c it.commit) (At server (Judges it)) (λ _. IsSound)
+  judges_sound : Keeps (Submits c item it.commit) (At server (Judges it)) (IsJudged c item)
   judges_sound = keeps_at (λ m here. keeps_then {Q = λ number node. (node ≡ m.server) × (number ≡ number_of it.commit m.server.durable)}
       (keeps_asks (λ node is. (is, ap (λ n. number_of it.commit n.durable) is))) (by_number m here))
     where
-      same : (m : Machine) (node : Node (List Commit)) → Submits c it.commit m → node ≡ m.server → IsSoundWith m node
+      same : (m : Machine) (node : Node (List Commit)) → Submits c item it.commit m → node ≡ m.server → IsSoundWith m node
       same m node here is = sound_with m node (ap (λ n. n.durable) is) here.sound
 
-      certifies : (m : Machine) (node after : Node (List Commit)) (text : List ℕ) (verdict : Option Verdict) → Submits c it.commit m
-          → node ≡ m.server → number_of it.commit m.server.durable ≡ None → Certifies it node text verdict after → IsSoundWith m after
+      certifies : (m : Machine) (node after : Node (List Commit)) (text : List ℕ) (verdict : Option Verdict) → Submits c item it.commit m
+          → node ≡ m.server → number_of it.commit m.server.durable ≡ None → Certifies it node text verdict after
+          → IsJudgedWith m verdict after
       certifies m node after text verdict here is none (holds reads commits) =
           (commits_sound m here none).at node after text verdict is commits
-      certifies m node after text verdict here is none (conflicts parts nothing stays) = same m after here (stays ∙ is)
+      certifies m node after text verdict here is none (conflicts parts nothing stays) =
+          let before : IsOpen c item m =
+          record { items = here.items; sound = here.sound; first = here.first; free = apart_free c item it.commit m here none } in
+          let still : IsOpen c item (record m { server = after }) =
+          open_with c item m after (ap (λ n. n.durable) (stays ∙ is)) before in
+          record { sound = still.sound; apart = λ _. still }
 
-      by_number : (m : Machine) → Submits c it.commit m → (number : Option ℕ)
-          → Keeps (λ node. (node ≡ m.server) × (number ≡ number_of it.commit m.server.durable)) (judged it number) (λ _. IsSoundWith m)
-      by_number m here (Some number) = keeps_gets (λ node is. same m node here is.0)
+      by_number : (m : Machine) → Submits c item it.commit m → (number : Option ℕ)
+          → Keeps (λ node. (node ≡ m.server) × (number ≡ number_of it.commit m.server.durable)) (judged it number) (IsJudgedWith m)
+      by_number m here (Some number) =
+          keeps_gets (λ node is. record { sound = same m node here is.0; apart = λ no_conflict. absurd no_conflict })
       by_number m here None = record {
         at = λ node after text verdict is step. certifies m node after text verdict here is.0 (sym is.1) step;
       }
 
 -- ---- exchanges
 
-handles_sound : {A : Type 0} {P : Machine → Type 0} {request : Call (Node (List Commit)) (Option A)}
-    → Keeps P (At server request) (λ _. IsSound) → Keeps P (Handles request) (λ _. IsSound)
-handles_sound {A} served = keeps_then served by_answer
-  where
-    by_answer : (answer : Option A) → StaysSound (counted answer)
-    by_answer None = stays_answers
-    by_answer (Some a) = keeps_gets (λ m sound. sound_from m (count_request m) refl refl sound)
+-- what holds by the answer, whatever becomes of the link, if the request brings it about
+record Passes (c : ℕ) (A : Type 0) (P : Machine → Type 0) (Q : Option A → Machine → Type 0) : Type 0 where
+  nothing : (m : Machine) → P m → Q None m
+  lost : (a : Option A) (m : Machine) → Q a m → Q None m
+  counts : (a : Option A) (m : Machine) → Q a m → Q a (count_request m)
+  puts : (client : Client) (m : Machine) → client.node ≡ (client_in m c).node → Q None m → Q None (put_client c client m)
 
 refuses_sound : (word : List ℕ) → StaysSound (Refuses word)
 refuses_sound word = stays_then stays_says (λ _. stays_answers)
 
 module _ (c : ℕ) where
-  break_sound : (m : Machine) → IsSound m → IsSound (break c m)
-  break_sound m sound = same_node_sound c (record (client_in m c) { link = link.broken; first = false }) m refl sound
-
   class_sound : (first : Bool) (m : Machine) → IsSound m → IsSound (set_class c first m)
   class_sound first m sound = same_node_sound c (record (client_in m c) { first = first }) m refl sound
 
@@ -490,32 +656,95 @@ module _ (c : ℕ) where
   link_sound : (link : LinkState) (m : Machine) → IsSound m → IsSound (set_link c link m)
   link_sound link m sound = same_node_sound c (record (client_in m c) { link = link }) m refl sound
 
-  received_sound : {A : Type 0} (answer : Option A) → StaysSound (received c answer)
-  received_sound None = keeps_gets break_sound
-  received_sound (Some a) = stays_answers
+  module _ {A : Type 0} {P : Machine → Type 0} {Q : Option A → Machine → Type 0} (passes : Passes c A P Q) where
+    class_passes : (m : Machine) → Q None m → Q None (set_class c false m)
+    class_passes m here = passes.puts (record (client_in m c) { first = false }) m refl here
 
-  -- if its request keeps the machine sound
-  exchange_sound : {A : Type 0} {P : Machine → Type 0} {request : Call (Node (List Commit)) (Option A)}
-      → ((m : Machine) → P m → IsSound m) → Keeps P (At server request) (λ _. IsSound) → Keeps P (Exchange c request) (λ _. IsSound)
-  exchange_sound {P} {request} sound served = asks_then by_passage
-    where
-      by_passage : (passage : Passage) → Keeps P (exchange_by c request passage) (λ _. IsSound)
-      by_passage passages.Away = keeps_gets (λ m here. class_sound false m (sound m here))
-      by_passage passages.RequestLost = keeps_gets (λ m here. break_sound m (sound m here))
-      by_passage passages.ReplyLost = keeps_then (handles_sound served) (λ _. keeps_gets break_sound)
-      by_passage passages.Both = keeps_then (handles_sound served) received_sound
+    break_passes : (m : Machine) → Q None m → Q None (break c m)
+    break_passes m here = passes.puts (record (client_in m c) { link = link.broken; first = false }) m refl here
+
+    exchange_keeps : {request : Call (Node (List Commit)) (Option A)} → Keeps P (At server request) Q → Keeps P (Exchange c request) Q
+    exchange_keeps {request} served = asks_then by_passage
+      where
+        counted_keeps : (answer : Option A) → Keeps (Q answer) (counted answer) Q
+        counted_keeps None = keeps_gets (λ m here. here)
+        counted_keeps (Some a) = keeps_gets (λ m here. passes.counts (Some a) m here)
+
+        handled : Keeps P (Handles request) Q
+        handled = keeps_then served counted_keeps
+
+        received_keeps : (answer : Option A) → Keeps (Q answer) (received c answer) Q
+        received_keeps None = keeps_gets break_passes
+        received_keeps (Some a) = keeps_gets (λ m here. here)
+
+        by_passage : (passage : Passage) → Keeps P (exchange_by c request passage) Q
+        by_passage passages.Away = keeps_gets (λ m here. class_passes m (passes.nothing m here))
+        by_passage passages.RequestLost = keeps_gets (λ m here. break_passes m (passes.nothing m here))
+        by_passage passages.ReplyLost =
+            keeps_then handled (λ answer. keeps_gets (λ m here. break_passes m (passes.lost answer m here)))
+        by_passage passages.Both = keeps_then handled received_keeps
+
+  sound_passes : {A : Type 0} → Passes c A IsSound (λ _. IsSound)
+  sound_passes = record {
+    nothing = λ m sound. sound;
+    lost = λ a m sound. sound;
+    counts = λ a m sound. sound_from m (count_request m) refl refl sound;
+    puts = λ client m same sound. same_node_sound c client m same sound;
+  }
+
+  open_passes : {A : Type 0} (item : Item) → Passes c A (IsOpen c item) (λ _. IsOpen c item)
+  open_passes item = record {
+    nothing = λ m it. it;
+    lost = λ a m it. it;
+    counts = λ a m it. open_from c item m (count_request m) refl refl (sound_from m (count_request m) refl refl it.sound) it;
+    puts = λ client m same it. open_from c item m (put_client c client m) (items_put c client m same) refl
+        (same_node_sound c client m same it.sound) it;
+  }
+
+  judged_passes : (item : Item) (commit : Commit) → Passes c Verdict (Submits c item commit) (IsJudged c item)
+  judged_passes item commit = record {
+    nothing = λ m here. record { sound = here.sound; apart = λ no_conflict. absurd no_conflict };
+    lost = λ a m it. record { sound = it.sound; apart = λ no_conflict. absurd no_conflict };
+    counts = λ a m it.
+        let sound : IsSound (count_request m) = sound_from m (count_request m) refl refl it.sound in
+        record { sound = sound; apart = λ conflict. open_from c item m (count_request m) refl refl sound (it.apart conflict) };
+    puts = λ client m same it. record {
+      sound = same_node_sound c client m same it.sound;
+      apart = λ no_conflict. absurd no_conflict;
+    };
+  }
 
   brings_sound : (want : Want) → StaysSound (Brings c want)
-  brings_sound want = asks_then (λ held. exchange_sound (λ m sound. sound) (lends_sound held want))
+  brings_sound want = asks_then (λ held. exchange_keeps sound_passes (lends_sound held want))
 
   -- ---- its record, refusals and tests
 
+  -- its client with what it keeps changed
+  abbrev noted : (ClientState → ClientState) → Machine → Client
+  noted change m = record (client_in m c) { node = changed change (client_in m c).node }
+
+  notes_keeps : {P : Machine → Type 0} (change : ClientState → ClientState) → ((m : Machine) → P m
+      → IsSound (put_client c (noted change m) m)) → Keeps P (Notes c change) (λ _. IsSound)
+  notes_keeps change goes = record { at = λ m n text on here step. rw (step.is, step.step.2) (goes m here) }
+
+  followed : (change : ClientState → ClientState) → ((s : ClientState) → Follows s (change s)) → (m : Machine) → IsSound m
+      → IsSound (put_client c (noted change m) m)
+  followed change follows m sound = put_sound c (noted change m) m (follows (kept_by c m)) sound
+
   notes_sound : {change : ClientState → ClientState} → ((s : ClientState) → Follows s (change s)) → StaysSound (Notes c change)
-  notes_sound {change} follows = record {
-    at = λ m n text on sound step.
-        let client : Client = record (client_in m c) { node = changed change (client_in m c).node } in
-        rw (step.is, step.step.2) (put_sound c client m (follows (kept_by c m)) sound);
-  }
+  notes_sound {change} follows = notes_keeps change (followed change follows)
+
+  -- the first transaction, which is not in the list, may change
+  first_sound : (change : Item → Item) → ((item : Item) → (change item).number ≡ item.number) → (item : Item)
+      → (HasPlan item → HasPlan (change item)) → (m : Machine) → IsOpen c item m → IsSound (put_client c (noted (change_first change) m) m)
+  first_sound change same item plan m it = put_known c (noted (change_first change) m) m (first_numbered change same (kept_by c m))
+      (first_planned change same item it.items (kept_by c m) it.first plan)
+      (all_as (IsOther c (kept_by c m).items) (StaysKnown c (noted (change_first change) m) m) m.server.durable
+      (λ commit other is. first_known_still change same commit (kept_by c m) (other is)) it.free.each) it.sound
+
+  reach_sound : (stage : Stage) (item : Item) → (HasPlan item → IsPlanned item.option stage) → (m : Machine) → IsOpen c item m
+      → IsSound (put_client c (noted (reach stage) m) m)
+  reach_sound stage = first_sound (at_stage stage) (λ item. refl)
 
   if_idle_sound : {call : Call Machine Bool} → StaysSound call → StaysSound (IfIdle c call)
   if_idle_sound call = asks_then (keeps_either (refuses_sound (codes "busy")) call)
@@ -550,20 +779,20 @@ module _ (c : ℕ) where
 
   -- ---- begin
 
-  starts_sound : (script : Declared) (first : Bool) → StaysSound (Starts c script first)
-  starts_sound script first = stays_then (notes_sound (begin_follows script)) (λ on. keeps_gets (class_sound first))
+  starts_sound : (script : Declared) (option : OnConflict Declared) (first : Bool) → StaysSound (Starts c script option first)
+  starts_sound script option first = stays_then (notes_sound (begin_follows script option)) (λ on. keeps_gets (class_sound first))
 
-  begins_sound : (s : ℕ) → StaysSound (Begins c s)
-  begins_sound s = if_idle_sound (asks_then (λ script. asks_then (by_pending script)))
+  begins_sound : (s : ℕ) (on_conflict : OnConflict ℕ) → StaysSound (Begins c s on_conflict)
+  begins_sound s on_conflict = if_idle_sound (asks_then (λ script. asks_then (λ option. asks_then (by_pending script option))))
     where
-      by_brought : (script : Declared) (brought : Brought) → StaysSound (starts_on c script brought)
-      by_brought script Held = starts_sound script true
-      by_brought script Missed = starts_sound script false
-      by_brought script Stopped = stays_answers
+      by_brought : (script : Declared) (option : OnConflict Declared) (brought : Brought) → StaysSound (starts_on c script option brought)
+      by_brought script option Held = starts_sound script option true
+      by_brought script option Missed = starts_sound script option false
+      by_brought script option Stopped = stays_answers
 
-      by_pending : (script : Declared) (pends : Bool) → StaysSound (starts_if c script pends)
-      by_pending script true = starts_sound script false
-      by_pending script false = stays_then (holds_sound hold_follows wanted.Nothing) (by_brought script)
+      by_pending : (script : Declared) (option : OnConflict Declared) (pends : Bool) → StaysSound (starts_if c script option pends)
+      by_pending script option true = starts_sound script option false
+      by_pending script option false = stays_then (holds_sound hold_follows wanted.Nothing) (by_brought script option)
 
   -- ---- steps
 
@@ -593,21 +822,67 @@ module _ (c : ℕ) where
 
   -- ---- syncs
 
+  tells_sound : {P : Machine → Type 0} (change : ClientState → ClientState) (text : List ℕ) (synced : Synced) → ((m : Machine) → P m
+      → IsSound (put_client c (noted change m) m)) → Keeps P (Tells c change text synced) (λ _. IsSound)
+  tells_sound change text synced goes =
+      keeps_then (notes_keeps change goes) (λ on. stays_then (stays_goes_on stays_says on) (λ _. stays_answers))
+
+  conflicted_sound : (item : Item) (name said : List ℕ) (option : OnConflict Declared) → item.option ≡ option
+      → Keeps (IsOpen c item) (conflicted c name said option) (λ _. IsSound)
+  conflicted_sound item name said options.Abort is = tells_sound _ _ _ (λ m it. followed leave leave_follows m it.sound)
+  conflicted_sound item name said options.Manual is = tells_sound _ _ _ (reach_sound stages.Manual item (λ _. tt))
+  conflicted_sound item name said options.Reexec is =
+      tells_sound _ _ _ (reach_sound stages.Conflict item (λ _. subst CanResolve (sym is) tt))
+  conflicted_sound item name said (options.Resolver script) is =
+      tells_sound _ _ _ (reach_sound stages.Conflict item (λ _. subst CanResolve (sym is) tt))
+
+  submits_sound : (item : Item) (items : List Item) → IsReady item.stage
+      → Keeps (λ m. IsSound m × ((kept_by c m).items ≡ item ∷ items)) (transactions.Submits c item) (λ _. IsSound)
+  submits_sound item items stage = keeps_then {Q = λ it. Submits c item it.commit}
+      (keeps_asks (λ m here. record { items = items; sound = here.0; first = here.1; stage = stage; is = refl }))
+      (λ it. keeps_then (exchange_keeps (judged_passes item it.commit) (judges_sound c item it)) (by_verdict it.name))
+    where
+      by_verdict : (name : List ℕ) (verdict : Option Verdict)
+          → Keeps (IsJudged c item verdict) (told c name item.option verdict) (λ _. IsSound)
+      by_verdict name None = keeps_then {Q = λ _. IsSound} (keeps_does (λ m it. it.sound)) (λ _. stays_answers)
+      by_verdict name (Some (Settled number)) = tells_sound _ _ _ (λ m it. followed leave leave_follows m it.sound)
+      by_verdict name (Some (Conflict read question)) = keeps_from (λ m it. it.apart tt)
+          (conflicted_sound item name (conflict_line name read question) item.option refl)
+
+  resolves_sound : (item : Item) → item.stage ≡ stages.Conflict → Keeps (IsOpen c item) (Resolves c item) (λ _. IsSound)
+  resolves_sound item is = asks_then (λ name. asks_then (by_plan name))
+    where
+      by_answer : (name : List ℕ) (plan : Plan) (answer : Option Nodes)
+          → Keeps (IsOpen c item) (resolved_on c name plan answer) (λ _. IsSound)
+      by_answer name plan None = keeps_then {Q = λ _. IsSound} (keeps_does (λ m it. it.sound)) (λ _. stays_answers)
+      by_answer name plan (Some t) =
+          tells_sound _ _ _ (reach_sound (stages.Resolved (resolution_of plan t)) item (λ has. subst (IsPlanned item.option) is has))
+
+      by_plan : (name : List ℕ) (plan : Option Plan) → Keeps (IsOpen c item) (resolves c name plan) (λ _. IsSound)
+      by_plan name None = keeps_gets (λ m it. it.sound)
+      by_plan name (Some plan) =
+          keeps_then (exchange_keeps (open_passes item) (lends_open c item new_client.held (wanted.Below []))) (by_answer name plan)
+
+  -- one that submits nothing is not in the list
+  opens : (item : Item) (items : List Item) → (IsReady item.stage → ⊥) → (m : Machine)
+      → IsSound m × ((kept_by c m).items ≡ item ∷ items) → IsOpen c item m
+  opens item items stuck m here =
+      record { items = items; sound = here.0; first = here.1; free = stuck_free c m item items stuck here.0 here.1 }
+
   syncs_sound : StaysSound (Syncs c)
   syncs_sound = keeps_then {Q = λ items m. IsSound m × ((kept_by c m).items ≡ items)} (keeps_asks (λ m sound. (sound, refl))) by_items
     where
-      by_verdict : (name : List ℕ) (verdict : Option Verdict) → StaysSound (told c name verdict)
-      by_verdict name None = stays_then stays_says (λ _. stays_answers)
-      by_verdict name (Some verdict) =
-          stays_then (notes_sound leave_follows) (λ on. stays_then (stays_goes_on stays_says on) (λ _. stays_answers))
-
-      submits_sound : (it : Submission) → Keeps (Submits c it.commit) (submits c it) (λ _. IsSound)
-      submits_sound it = keeps_then (exchange_sound (λ m here. here.sound) (judges_sound c it)) (by_verdict it.name)
+      by_stage : (item : Item) (items : List Item) (stage : Stage) → item.stage ≡ stage
+          → Keeps (λ m. IsSound m × ((kept_by c m).items ≡ item ∷ items)) (sync_at c item stage) (λ _. IsSound)
+      by_stage item items stages.Waiting is = submits_sound item items (subst IsReady (sym is) tt)
+      by_stage item items (stages.Resolved it) is = submits_sound item items (subst IsReady (sym is) tt)
+      by_stage item items stages.Conflict is =
+          keeps_from (opens item items (λ it. subst IsReady is it)) (resolves_sound item is)
+      by_stage item items stages.Manual is = keeps_then {Q = λ _. IsSound} (keeps_does (λ m here. here.0)) (λ _. stays_answers)
 
       by_items : (items : List Item) → Keeps (λ m. IsSound m × ((kept_by c m).items ≡ items)) (sync_head c items) (λ _. IsSound)
       by_items [] = keeps_then {Q = λ _. IsSound} (keeps_does (λ m here. here.0)) (λ _. stays_answers)
-      by_items (item ∷ items) = keeps_then {Q = λ it. Submits c it.commit}
-          (keeps_asks (λ m here. record { item = item; items = items; sound = here.0; first = here.1; is = refl })) submits_sound
+      by_items (item ∷ items) = by_stage item items item.stage refl
 
   syncs_all_sound : StaysSound (SyncsAll c)
   syncs_all_sound = asks_then (λ n. stays_rounds Left (asks_then by_pending) (3 * n))
@@ -624,6 +899,8 @@ module _ (c : ℕ) where
       by_synced : (gone : Ended) (synced : Synced) → StaysSound (waits_unless gone synced)
       by_synced gone Unanswered = stays_says
       by_synced gone Left = stays_says
+      by_synced gone Moved = stays_says
+      by_synced gone ByHand = stays_says
       by_synced gone Empty = stays_says
       by_synced gone Halted = stays_says
 
@@ -645,21 +922,50 @@ module _ (c : ℕ) where
   refreshes_sound : StaysSound (Refreshes c)
   refreshes_sound = stays_then (takes_sound wanted.Nothing) (stays_goes_on stays_says)
 
-  runs_sound : (s : ℕ) → StaysSound (Runs c s)
-  runs_sound s = asks_then by_running
+  runs_sound : (s : ℕ) (on_conflict : OnConflict ℕ) → StaysSound (Runs c s on_conflict)
+  runs_sound s on_conflict = asks_then by_running
     where
       syncs_if : (up : Bool) → StaysSound (SyncsIf c up)
       syncs_if up = keeps_either (stays_then syncs_all_sound (λ _. stays_says)) stays_says up
 
-      script_sound : StaysSound (runs_script c s)
-      script_sound = stays_then (begins_sound s) (stays_goes_on (stays_then (steps_all_sound false run_steps) (λ _. ends_sound)))
+      script_sound : StaysSound (runs_script c s on_conflict)
+      script_sound =
+          stays_then (begins_sound s on_conflict) (stays_goes_on (stays_then (steps_all_sound false run_steps) (λ _. ends_sound)))
 
-      by_running : (running : Bool) → StaysSound (runs_by c s running)
+      by_running : (running : Bool) → StaysSound (runs_by c s on_conflict running)
       by_running true = stays_says
       by_running false = asks_then (λ up. stays_then (syncs_if up) (λ _. script_sound))
 
   drains_sound : StaysSound (Drains c)
   drains_sound = stays_or_says (stays_then syncs_all_sound (λ _. asks_then (keeps_either refreshes_sound stays_says)))
+
+  -- ---- a decision by hand
+
+  if_manual_sound : {part : Item → Part Machine} → ((item : Item) → Keeps (IsOpen c item) (part item) (λ _. IsSound))
+      → StaysSound (IfManual c part)
+  if_manual_sound {part} each =
+      keeps_then {Q = λ items m. IsSound m × ((kept_by c m).items ≡ items)} (keeps_asks (λ m sound. (sound, refl))) by_items
+    where
+      by_stage : (item : Item) (items : List Item) (stage : Stage) → item.stage ≡ stage
+          → Keeps (λ m. IsSound m × ((kept_by c m).items ≡ item ∷ items))
+          (either (part item) (says_word (codes "not manual")) (is_manual stage)) (λ _. IsSound)
+      by_stage item items stages.Waiting is = keeps_does (λ m here. here.0)
+      by_stage item items (stages.Resolved it) is = keeps_does (λ m here. here.0)
+      by_stage item items stages.Conflict is = keeps_does (λ m here. here.0)
+      by_stage item items stages.Manual is =
+          keeps_from (opens item items (λ it. subst IsReady is it)) (each item)
+
+      by_items : (items : List Item) → Keeps (λ m. IsSound m × ((kept_by c m).items ≡ items)) (if_manual part items) (λ _. IsSound)
+      by_items [] = keeps_does (λ m here. here.0)
+      by_items (item ∷ items) = by_stage item items item.stage refl
+
+  repairs_sound : (s : ℕ) → StaysSound (Repairs c s)
+  repairs_sound s = if_manual_sound (λ item. asks_then (λ script.
+      keeps_then (notes_keeps (repair script) (first_sound (resolved_by script) (λ item. refl) item (λ _. tt))) (stays_goes_on stays_says)))
+
+  discards_sound : StaysSound (Discards c)
+  discards_sound = if_manual_sound (λ item.
+      keeps_then (notes_keeps leave (λ m it. followed leave leave_follows m it.sound)) (stays_goes_on stays_says))
 
   -- what leaves its node's state as it is
   node_stays : {A : Type 0} {call : Call (Node ClientState) A}
@@ -705,10 +1011,10 @@ event_sound : (event : Event) → StaysSound (event_part event)
 event_sound (events.Client name) = keeps_does (declared_sound name)
 event_sound (events.Script name code) =
     keeps_does (λ m sound. sound_from m (declare_script (record { name = name; code = code }) m) refl refl sound)
-event_sound (events.Run client script) = runs_sound client script
+event_sound (events.Run client script option) = runs_sound client script (chosen option)
 event_sound (events.Hoard client path) = stays_then (takes_sound client (wanted.Below path)) (stays_goes_on stays_says)
 event_sound (events.Refresh client) = refreshes_sound client
-event_sound (events.Begin client script) = stays_then (begins_sound client script) (stays_goes_on stays_says)
+event_sound (events.Begin client script option) = stays_then (begins_sound client script (chosen option)) (stays_goes_on stays_says)
 event_sound (events.Step client count) =
     if_runs_sound client (λ _. stays_then (steps_all_sound client true count) (λ _. stays_says))
 event_sound (events.End client) = ends_sound client
@@ -717,6 +1023,8 @@ event_sound (events.Disconnect client) = keeps_does (cut_sound client)
 event_sound (events.Lose client loss) = keeps_does (λ m sound. link_sound client _ m sound)
 event_sound (events.Sync client) = stays_then (syncs_sound client) (λ _. stays_says)
 event_sound (events.Drain client) = drains_sound client
+event_sound (events.Repair client script) = repairs_sound client script
+event_sound (events.Discard client) = discards_sound client
 event_sound events.ShowServer = server_stays (λ list. stays_shows (λ commits. tree_text (tree_after commits)))
 event_sound (events.ShowClient client) = node_stays client (λ state. stays_shows (λ s. tree_text (view s)))
 event_sound events.CrashServer = crash_sound server_name
@@ -726,4 +1034,4 @@ pub sound_event : (event : Event) (m n : Machine) (text : List ℕ) → IsSound 
 sound_event event m n text sound step = (event_sound event).at m n text tt sound step
 
 pub sound_opening : IsSound opening
-sound_opening = record { numbered = tt; listed = tt; once = tt }
+sound_opening = record { numbered = tt; planned = tt; listed = tt; once = tt }

@@ -1,33 +1,60 @@
 -- What a client keeps, what it sees, and how that changes.
 use Rattle.std.specs.Prelude.{ℕ, ◌+◌, Bool, true, false, List, [], ◌∷◌, ◌++◌, Option, Some, None, option_map, option_and_then, slice_get}
-use Rattle.std.specs.Prelude.{nat_lt, if◌then◌else◌}
+use Rattle.std.specs.Prelude.{nat_lt, if◌then◌else◌, codes}
 use Rattle.std.specs.FinMap.{empty}
 use Rattle.iot_tree.specs.Tree.{Nodes, Path, root_alone}
 use Rattle.iot_tree.specs.Snapshots.{has, known, widen, prune}
 use Rattle.iot_tree.specs.declared.acts.Act.{Act}
 use Rattle.iot_tree.specs.declared.limits.TheConstants.{ACT_LIMIT}
+use Rattle.iot_tree.specs.declared.labels.Way.{Way}
+use Rattle.iot_tree.specs.declared.labels.Way.TheVariants as ways
 use Rattle.iot_tree.specs.declared.nodes.Node.TheVariants.{FarDir}
 use Rattle.iot_tree.specs.declared.want.Want.{Want}
 use Rattle.iot_lang.specs.Code.{Code}
+use Rattle.iot_exec.specs.Commands.{Kept, kept_files}
+use Rattle.iot_exec.specs.Files.{files_of}
+use Rattle.iot_exec.specs.Finding.{found_in, files_among}
 use Rattle.iot_exec.specs.Misses.{first_away}
 use Rattle.iot_exec.specs.Runs.{run}
 use Rattle.iot_exec.specs.declared.ran.Ran.{Ran}
+use Rattle.iot_machine.specs.Options as options
+use Rattle.iot_machine.specs.Options.{OnConflict}
 
 -- a script as it was declared
 pub record Declared : Type 0 where
   pub name : List ℕ
   pub code : Code
 
--- a transaction that waits for the server: its number, its script, and how many acts it has
+-- what was run in the place of a transaction that conflicted: the script, how many acts it had, the files that its `keep` commands
+-- found, and the server's whole tree on which it ran
+pub record Resolution : Type 0 where
+  pub script : Declared
+  pub budget : ℕ
+  pub kept : Kept
+  pub tree : Nodes
+
+-- How far a transaction is that waits: it is to be certified with its own run; or it conflicts, and is to be resolved, or waits for
+-- a decision by hand; or it was resolved, and is to be certified with its resolution.
+pub data Stage : Type 0 where
+  Waiting : Stage
+  Conflict : Stage
+  Manual : Stage
+  Resolved : (resolution : Resolution) → Stage
+
+-- a transaction that waits for the server: its number, its script, how many acts it has, what becomes of it if it conflicts, and
+-- how far it is
 pub record Item : Type 0 where
   pub number : ℕ
   pub script : Declared
   pub budget : ℕ
+  pub option : OnConflict Declared
+  pub stage : Stage
 
--- the transaction that runs: its number, its script, and how many acts were done
+-- the transaction that runs: its number, its script, what becomes of it if it conflicts, and how many acts were done
 pub record Running : Type 0 where
   pub number : ℕ
   pub script : Declared
+  pub option : OnConflict Declared
   pub acts : ℕ
 
 -- what a client keeps: the tree that it holds, the transactions that wait, the one that runs, and the number of its last one
@@ -47,7 +74,7 @@ new_client = record { held = root_alone FarDir; items = []; running = None; last
 abbrev pub plain_run : Declared → Nodes → ℕ → Ran
 plain_run script t budget = run script.code empty t budget
 
--- the own run of a transaction that waits
+-- the own run of a transaction that waits, which no resolution changes
 abbrev pub local_run : Nodes → Item → Ran
 local_run t item = plain_run item.script t item.budget
 
@@ -99,14 +126,80 @@ next_step first t it =
     else if nat_lt it.acts ACT_LIMIT then next_by first (next_away t it)
     else AtLimit
 
+-- ---- what the first transaction submits
+
+-- a script with its budget, the way on which it comes, and the files that it keeps
+pub record Attempt : Type 0 where
+  pub script : Declared
+  pub budget : ℕ
+  pub way : Way
+  pub kept : Kept
+
+-- the way of a resolution, by the option; the last two resolve nothing
+abbrev pub way_of : OnConflict Declared → Way
+way_of options.Reexec = ways.Reexecuted
+way_of (options.Resolver script) = ways.Resolved
+way_of options.Abort = ways.Certified
+way_of options.Manual = ways.Certified
+
+-- one that was resolved submits its resolution, and another one its own run
+abbrev pub attempt_by : Item → Stage → Attempt
+attempt_by item (Resolved it) = record { script = it.script; budget = it.budget; way = way_of item.option; kept = it.kept }
+attempt_by item other = record { script = item.script; budget = item.budget; way = ways.Certified; kept = empty }
+
+abbrev pub attempt_of : Item → Attempt
+attempt_of item = attempt_by item item.stage
+
+-- the tree on which that ran: the one that is held, or the resolution's
+abbrev pub ground : (held : Nodes) → Stage → Nodes
+ground held (Resolved it) = it.tree
+ground held other = held
+
+abbrev pub attempted : (held : Nodes) → Item → Ran
+attempted held item =
+    run (attempt_of item).script.code (attempt_of item).kept (ground held item.stage) (attempt_of item).budget
+
+-- ---- resolutions
+
+-- what is to be run in the place of a transaction: what is said of it, the script, how many acts it has, and the files that are
+-- offered to its `keep` commands
+pub record Plan : Type 0 where
+  pub said : List ℕ
+  pub script : Declared
+  pub budget : ℕ
+  pub offered : List (Path × List ℕ)
+
+-- its own script with its own budget, to which no files are offered; or its resolver with the budget of a transaction, to which the
+-- files of the held tree after its own run are offered
+abbrev pub plan_by : (held : Nodes) → Item → OnConflict Declared → Option Plan
+plan_by held item options.Reexec =
+    Some (record { said = codes "reexec"; script = item.script; budget = item.budget; offered = [] })
+plan_by held item (options.Resolver script) =
+    Some (record { said = script.name; script = script; budget = ACT_LIMIT; offered = files_of (local_run held item).tree })
+plan_by held item options.Abort = None
+plan_by held item options.Manual = None
+
+abbrev pub plan_of : (held : Nodes) → Item → Option Plan
+plan_of held item = plan_by held item item.option
+
+-- the files that its run on this tree finds, of those that are offered
+abbrev pub found_by : Plan → Nodes → List (Path × List ℕ)
+found_by plan t = files_among (found_in plan.script.code (kept_files plan.offered) t plan.budget) plan.offered
+
+-- its run on the server's tree, which keeps exactly the files that it finds
+abbrev pub resolution_of : Plan → (server : Nodes) → Resolution
+resolution_of plan server =
+    record { script = plan.script; budget = plan.budget; kept = kept_files (found_by plan server); tree = server }
+
 -- ---- how it changes, a record each
 
 abbrev pub hold : Nodes → ClientState → ClientState
 hold t s = record s { held = t }
 
 -- its next transaction begins
-abbrev pub begin : Declared → ClientState → ClientState
-begin script s = record s { running = Some (record { number = s.last + 1; script = script; acts = 0 }); last = s.last + 1 }
+abbrev pub begin : Declared → OnConflict Declared → ClientState → ClientState
+begin script option s =
+    record s { running = Some (record { number = s.last + 1; script = script; option = option; acts = 0 }); last = s.last + 1 }
 
 abbrev pub anew : Running → Running
 anew it = record it { acts = 0 }
@@ -124,7 +217,7 @@ act_once s = record s { running = option_map one_more s.running }
 
 -- the running transaction, as one that waits
 abbrev pub item_of : Running → Item
-item_of it = record { number = it.number; script = it.script; budget = ACT_LIMIT }
+item_of it = record { number = it.number; script = it.script; budget = ACT_LIMIT; option = it.option; stage = Waiting }
 
 abbrev pub joined : List Item → Option Running → List Item
 joined items None = items
@@ -141,6 +234,28 @@ leave_by (item ∷ items) s = record s { held = (local_run s.held item).tree; it
 
 abbrev pub leave : ClientState → ClientState
 leave s = leave_by s.items s
+
+-- a change of the first transaction
+abbrev pub with_first : (Item → Item) → List Item → List Item
+with_first change [] = []
+with_first change (item ∷ items) = change item ∷ items
+
+abbrev pub change_first : (Item → Item) → ClientState → ClientState
+change_first change s = record s { items = with_first change s.items }
+
+-- it is at this stage
+abbrev pub at_stage : Stage → Item → Item
+at_stage stage item = record item { stage = stage }
+
+abbrev pub reach : Stage → ClientState → ClientState
+reach stage s = change_first (at_stage stage) s
+
+-- it is to be resolved by this script
+abbrev pub resolved_by : Declared → Item → Item
+resolved_by script item = record item { option = options.Resolver script; stage = Conflict }
+
+abbrev pub repair : Declared → ClientState → ClientState
+repair script s = change_first (resolved_by script) s
 
 -- ---- objects of the server
 

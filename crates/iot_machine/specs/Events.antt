@@ -1,21 +1,27 @@
 -- What each event does to the plain machine, and what it prints.
 use Rattle.std.specs.Prelude.{ℕ, ◌&&◌, not, Bool, true, false, List, [], ◌∷◌, ◌++◌, Option, None, Some, codes}
 use Rattle.iot_tree.specs.declared.want.Want.TheVariants as wanted
+use Rattle.iot_event.specs.declared.event.Choice.{Choice}
+use Rattle.iot_event.specs.declared.event.Choice.TheVariants as choices
 use Rattle.iot_event.specs.declared.event.Event.{Event}
 use Rattle.iot_event.specs.declared.event.Event.TheVariants as events
 use Rattle.iot_link.specs.Links as link
 use Rattle.iot_link.specs.Links.{connected, arming}
 use Rattle.iot_link.specs.declared.passages.Loss.{Loss}
 use Rattle.iot_machine.specs.Calls.{Part, Asks, Does, Says, Nothing, Then, At, either, goes_on, OrSays}
-use Rattle.iot_machine.specs.Clients.{Declared, Running, Next, AtEnd, AtLimit, Acts, Fetches, new_client, view}
+use Rattle.iot_machine.specs.Clients.{Declared, Running, Next, AtEnd, AtLimit, Acts, Fetches, new_client, view, leave, repair}
 use Rattle.iot_machine.specs.Machine.{link_of, set_link, cut_off}
-use Rattle.iot_machine.specs.Machine.{Machine, client_in, node_at, kept_by, server, tree_after}
+use Rattle.iot_machine.specs.Machine.{Machine, client_in, node_at, kept_by, script_at, server, tree_after}
 use Rattle.iot_machine.specs.Nodes.{opened}
+use Rattle.iot_machine.specs.Options as options
+use Rattle.iot_machine.specs.Options.{OnConflict}
 use Rattle.iot_machine.specs.Serving.{server_name}
 use Rattle.iot_machine.specs.Stops.{Crashes, Restarts, Shows}
 use Rattle.iot_machine.specs.Texts.{line, connect_line, disconnect_line, lose_line}
-use Rattle.iot_machine.specs.Texts.{client_line, hoard_line, refresh_line, begin_line, step_line, transaction_name, tree_text}
-use Rattle.iot_machine.specs.Transactions.{IfRuns, runs, pends, says_word, Takes, Begins, StepsAll, next_of, Ends, Syncs, SyncsAll}
+use Rattle.iot_machine.specs.Texts.{client_line, hoard_line, refresh_line, begin_line, step_line, repair_line, discard_line}
+use Rattle.iot_machine.specs.Texts.{transaction_name, tree_text}
+use Rattle.iot_machine.specs.Transactions.{Notes, IfRuns, runs, pends, says_word, Takes, Begins, StepsAll, next_of, Ends}
+use Rattle.iot_machine.specs.Transactions.{Syncs, SyncsAll, item_name, IfManual}
 
 -- ---- declarations
 
@@ -46,8 +52,8 @@ abbrev pub begin_text : ℕ → Machine → List ℕ
 begin_text c m =
     said_of (λ it. begin_line (transaction_name (name_of c m) it.number) it.script.name (client_in m c).first) (kept_by c m).running
 
-abbrev pub BeginsAloud : (client script : ℕ) → Part Machine
-BeginsAloud c s = Then (Begins c s) (goes_on (Says (begin_text c)))
+abbrev pub BeginsAloud : (client script : ℕ) → OnConflict ℕ → Part Machine
+BeginsAloud c s on_conflict = Then (Begins c s on_conflict) (goes_on (Says (begin_text c)))
 
 abbrev pub place_text : Next → List ℕ
 place_text AtEnd = codes ", at end"
@@ -76,15 +82,16 @@ abbrev pub SyncsIf : ℕ → Bool → Part Machine
 SyncsIf c up = either (Then (SyncsAll c) (λ _. Nothing)) Nothing up
 
 -- begin, steps, of which nothing is said, and end
-abbrev pub runs_script : (client script : ℕ) → Part Machine
-runs_script c s = Then (Begins c s) (goes_on (Then (StepsAll c false run_steps) (λ _. Ends c)))
+abbrev pub runs_script : (client script : ℕ) → OnConflict ℕ → Part Machine
+runs_script c s on_conflict = Then (Begins c s on_conflict) (goes_on (Then (StepsAll c false run_steps) (λ _. Ends c)))
 
-abbrev pub runs_by : (client script : ℕ) → Bool → Part Machine
-runs_by c s true = says_word (codes "busy")
-runs_by c s false = Then (Asks (is_connected c)) (λ up. Then (SyncsIf c up) (λ _. runs_script c s))
+abbrev pub runs_by : (client script : ℕ) → OnConflict ℕ → Bool → Part Machine
+runs_by c s on_conflict true = says_word (codes "busy")
+runs_by c s on_conflict false =
+    Then (Asks (is_connected c)) (λ up. Then (SyncsIf c up) (λ _. runs_script c s on_conflict))
 
-abbrev pub Runs : (client script : ℕ) → Part Machine
-Runs c s = Then (Asks (runs c)) (runs_by c s)
+abbrev pub Runs : (client script : ℕ) → OnConflict ℕ → Part Machine
+Runs c s on_conflict = Then (Asks (runs c)) (runs_by c s on_conflict)
 
 -- ---- a client's link, and the transactions that wait
 
@@ -99,6 +106,17 @@ Loses c loss = Does (λ m. lose_line (name_of c m) loss) (λ m. set_link c (armi
 
 abbrev pub SyncsAloud : ℕ → Part Machine
 SyncsAloud c = Then (Syncs c) (λ _. Nothing)
+
+-- the first one is to be resolved by this script
+abbrev pub Repairs : (client script : ℕ) → Part Machine
+Repairs c s =
+    IfManual c (λ item.
+    Then (Asks (script_at s)) (λ script.
+    Then (Notes c (repair script)) (goes_on (Says (λ m. repair_line (item_name c item m) script.name)))))
+
+-- it is given up
+abbrev pub Discards : ℕ → Part Machine
+Discards c = IfManual c (λ item. Then (Notes c leave) (goes_on (Says (λ m. discard_line (item_name c item m)))))
 
 -- whether nothing waits or runs, and the link is up
 abbrev pub is_drained : ℕ → Machine → Bool
@@ -124,13 +142,20 @@ RestartsServer =
 
 -- ---- the events
 
+-- what becomes of a transaction that conflicts, as an event says it
+abbrev pub chosen : Choice → OnConflict ℕ
+chosen choices.Reexec = options.Reexec
+chosen (choices.Resolver script) = options.Resolver script
+chosen choices.Abort = options.Abort
+chosen choices.Manual = options.Manual
+
 abbrev pub event_part : Event → Part Machine
 event_part (events.Client name) = Does (λ _. client_line name) (declare_client name)
 event_part (events.Script name code) = Does (λ _. []) (declare_script (record { name = name; code = code }))
-event_part (events.Run client script) = Runs client script
+event_part (events.Run client script option) = Runs client script (chosen option)
 event_part (events.Hoard client path) = Hoards client path
 event_part (events.Refresh client) = Refreshes client
-event_part (events.Begin client script) = BeginsAloud client script
+event_part (events.Begin client script option) = BeginsAloud client script (chosen option)
 event_part (events.Step client count) = StepsAloud client count
 event_part (events.End client) = Ends client
 event_part (events.Connect client) = Connects client
@@ -138,6 +163,8 @@ event_part (events.Disconnect client) = Disconnects client
 event_part (events.Lose client loss) = Loses client loss
 event_part (events.Sync client) = SyncsAloud client
 event_part (events.Drain client) = Drains client
+event_part (events.Repair client script) = Repairs client script
+event_part (events.Discard client) = Discards client
 event_part events.ShowServer = At server (Shows (λ commits. tree_text (tree_after commits)))
 event_part (events.ShowClient client) = At (node_at client) (Shows (λ state. tree_text (view state)))
 event_part events.CrashServer = At server (Crashes server_name)

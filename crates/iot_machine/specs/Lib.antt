@@ -2,6 +2,7 @@ pub mod Calls
 pub mod Refining
 pub mod Nodes
 pub mod Stops
+pub mod Options
 pub mod Clients
 pub mod Machine
 pub mod Serving

@@ -10,6 +10,8 @@ use Rattle.iot_exec.specs.Serial.{Entry, serial_tree}
 use Rattle.iot_machine.specs.Calls.{Lens}
 use Rattle.iot_machine.specs.Clients.{Declared, ClientState, new_client}
 use Rattle.iot_machine.specs.Nodes.{Node, opened}
+use Rattle.iot_machine.specs.Options as options
+use Rattle.iot_machine.specs.Options.{OnConflict}
 
 -- a committed transaction, and the name of its script
 pub record Commit : Type 0 where
@@ -99,3 +101,10 @@ count_request m = record m { requests = m.requests + 1 }
 
 abbrev pub script_at : ℕ → Machine → Declared
 script_at s m = slice_index_or m.scripts s no_script
+
+-- what becomes of a transaction that conflicts, as it is kept
+abbrev pub option_at : OnConflict ℕ → Machine → OnConflict Declared
+option_at options.Reexec m = options.Reexec
+option_at (options.Resolver s) m = options.Resolver (script_at s m)
+option_at options.Abort m = options.Abort
+option_at options.Manual m = options.Manual

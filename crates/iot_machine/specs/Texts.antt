@@ -104,6 +104,19 @@ conflict_line tid read question = line (codes "conflict " ++ tid ++ codes " read
 abbrev pub abort_line : List ℕ → List ℕ
 abort_line tid = line (codes "abort " ++ tid)
 
+abbrev pub manual_line : List ℕ → List ℕ
+manual_line tid = line (codes "manual " ++ tid)
+
+-- by its own script again, or by the script of this name
+abbrev pub resolve_line : List ℕ → List ℕ → List ℕ
+resolve_line tid by = line (codes "resolve " ++ tid ++ 32 ∷ by)
+
+abbrev pub repair_line : List ℕ → List ℕ → List ℕ
+repair_line tid script = line (codes "repair " ++ tid ++ 32 ∷ script)
+
+abbrev pub discard_line : List ℕ → List ℕ
+discard_line tid = line (codes "discard " ++ tid)
+
 abbrev pub pending_line : List ℕ → List ℕ
 pending_line tid = line (codes "pending " ++ tid)
 

@@ -1,24 +1,26 @@
 -- What a client does: it brings objects, and begins, steps and ends transactions.
 use Rattle.std.specs.Prelude.{ℕ, ◌*◌, length, Bool, true, false, List, [], ◌∷◌, ◌++◌, Option, None, Some, is_some, codes}
-use Rattle.std.specs.FinMap.{empty}
 use Rattle.iot_tree.specs.Tree.{Nodes, Path}
-use Rattle.iot_tree.specs.declared.labels.Way.TheVariants.{Certified}
 use Rattle.iot_tree.specs.declared.want.Want.{Want}
 use Rattle.iot_tree.specs.declared.want.Want.TheVariants as wanted
 use Rattle.iot_acts.specs.Turns.{reads_of}
 use Rattle.iot_machine.specs.Calls.{Call, Part, Gets, Asks, Answers, Says, Nothing, Then, At, either, goes_on, Rounds}
-use Rattle.iot_machine.specs.Clients.{Declared, Item, Running, ClientState, local_run, base, so_far, next_step, Next, AtEnd, AtLimit}
-use Rattle.iot_machine.specs.Clients.{Acts, Fetches, hold, begin, fetch, act_once, end, leave}
+use Rattle.iot_machine.specs.Clients as stages
+use Rattle.iot_machine.specs.Clients.{Declared, Stage, Item, Running, ClientState, new_client, base, so_far, next_step, Next, AtEnd}
+use Rattle.iot_machine.specs.Clients.{AtLimit, Acts, Fetches, attempt_of, attempted, Plan, plan_of, resolution_of}
+use Rattle.iot_machine.specs.Clients.{hold, begin, fetch, act_once, end, leave, reach}
 use Rattle.iot_link.specs.Links.{passage}
 use Rattle.iot_link.specs.declared.passages.Passage.{Passage}
 use Rattle.iot_link.specs.declared.passages.Passage.TheVariants as passages
 use Rattle.iot_machine.specs.Machine.{link_of, break, count_request}
-use Rattle.iot_machine.specs.Machine.{Machine, Commit, server, client_in, node_at, kept_by, set_class, script_at}
+use Rattle.iot_machine.specs.Machine.{Machine, Commit, server, client_in, node_at, kept_by, set_class, script_at, option_at}
 use Rattle.iot_machine.specs.Nodes.{Node}
+use Rattle.iot_machine.specs.Options as options
+use Rattle.iot_machine.specs.Options.{OnConflict}
 use Rattle.iot_machine.specs.Serving.{Lends, Judges, Submission, Verdict, Settled, Conflict}
 use Rattle.iot_machine.specs.Stops.{Appends}
 use Rattle.iot_machine.specs.Texts.{line, transaction_name, acts_output, fetch_line, end_line, settled_line, conflict_line, abort_line}
-use Rattle.iot_machine.specs.Texts.{pending_line}
+use Rattle.iot_machine.specs.Texts.{manual_line, resolve_line, pending_line}
 
 -- ---- its record, and an exchange with the server
 
@@ -123,23 +125,26 @@ Takes c want = IfIdle c (IfNonePends c (Then (Holds c hold want) took))
 -- ---- begin
 
 -- its next transaction begins, first class or not
-abbrev pub Starts : ℕ → Declared → Bool → Call Machine Bool
-Starts c script first = Then (Notes c (begin script)) (λ on. Gets (λ _. on) (set_class c first))
+abbrev pub Starts : ℕ → Declared → OnConflict Declared → Bool → Call Machine Bool
+Starts c script option first = Then (Notes c (begin script option)) (λ on. Gets (λ _. on) (set_class c first))
 
 -- it is first class if the refresh came
-abbrev pub starts_on : ℕ → Declared → Brought → Call Machine Bool
-starts_on c script Held = Starts c script true
-starts_on c script Missed = Starts c script false
-starts_on c script Stopped = Answers false
+abbrev pub starts_on : ℕ → Declared → OnConflict Declared → Brought → Call Machine Bool
+starts_on c script option Held = Starts c script option true
+starts_on c script option Missed = Starts c script option false
+starts_on c script option Stopped = Answers false
 
 -- as long as transactions wait, nothing is asked
-abbrev pub starts_if : ℕ → Declared → Bool → Call Machine Bool
-starts_if c script true = Starts c script false
-starts_if c script false = Then (Holds c hold wanted.Nothing) (starts_on c script)
+abbrev pub starts_if : ℕ → Declared → OnConflict Declared → Bool → Call Machine Bool
+starts_if c script option true = Starts c script option false
+starts_if c script option false = Then (Holds c hold wanted.Nothing) (starts_on c script option)
 
 -- if nothing runs, a transaction of this script begins; and whether it did
-abbrev pub Begins : (client script : ℕ) → Call Machine Bool
-Begins c s = IfIdle c (Then (Asks (script_at s)) (λ script. Then (Asks (pends c)) (starts_if c script)))
+abbrev pub Begins : (client script : ℕ) → OnConflict ℕ → Call Machine Bool
+Begins c s on_conflict =
+    IfIdle c
+    (Then (Asks (script_at s)) (λ script.
+    Then (Asks (option_at on_conflict)) (λ option. Then (Asks (pends c)) (starts_if c script option))))
 
 -- ---- steps
 
@@ -196,33 +201,34 @@ StepsAll c loud most = Rounds most Went (Then (Steps c loud) (λ stepped. Answer
 
 -- ---- the first transaction that waits
 
+abbrev pub item_name : ℕ → Item → Machine → List ℕ
+item_name c item m = transaction_name (client_in m c).name item.number
+
 -- the transaction as it is submitted
 abbrev pub submission_of : ℕ → Machine → Item → Submission
 submission_of c m item = record {
-  name = transaction_name (client_in m c).name item.number;
+  name = item_name c item m;
   commit = record {
-    script = item.script.name;
+    script = (attempt_of item).script.name;
     entry = record {
       client = c;
       number = item.number;
-      script = item.script.code;
-      budget = item.budget;
-      way = Certified;
-      kept = empty;
+      script = (attempt_of item).script.code;
+      budget = (attempt_of item).budget;
+      way = (attempt_of item).way;
+      kept = (attempt_of item).kept;
     };
   };
-  reads = reads_of (local_run (kept_by c m).held item).acts;
+  reads = reads_of (attempted (kept_by c m).held item).acts;
 }
 
--- what it is told, which gives up a transaction that conflicts; either way it leaves
-abbrev pub verdict_text : List ℕ → Verdict → List ℕ
-verdict_text name (Settled number) = settled_line name number
-verdict_text name (Conflict read question) = conflict_line name read question ++ abort_line name
-
--- how it went to submit the first transaction: none waits, it left, no verdict came, or the client stopped
+-- how a sync went: none waits; the first left; it stays, and goes on; it waits for a decision by hand; nothing came from the server;
+-- or the client stopped
 pub data Synced : Type 0 where
   Empty : Synced
   Left : Synced
+  Moved : Synced
+  ByHand : Synced
   Unanswered : Synced
   Halted : Synced
 
@@ -230,41 +236,98 @@ pub data Synced : Type 0 where
 abbrev pub and_answers : Part Machine → Synced → Call Machine Synced
 and_answers part answer = Then part (λ _. Answers answer)
 
-abbrev pub left_by : Bool → Synced
-left_by true = Left
-left_by false = Halted
+abbrev pub unless_halted : Synced → Bool → Synced
+unless_halted synced true = synced
+unless_halted synced false = Halted
 
--- it leaves, and is told
-abbrev pub told : ℕ → List ℕ → Option Verdict → Call Machine Synced
-told c name None = and_answers (says_word (codes "away")) Unanswered
-told c name (Some verdict) =
-    Then (Notes c leave) (λ on. and_answers (goes_on (Says (λ _. verdict_text name verdict)) on) (left_by on))
+-- what the client keeps changes, and then that is told
+abbrev pub Tells : ℕ → (ClientState → ClientState) → List ℕ → Synced → Call Machine Synced
+Tells c change text synced =
+    Then (Notes c change) (λ on. and_answers (goes_on (Says (λ _. text)) on) (unless_halted synced on))
 
-abbrev pub submits : ℕ → Submission → Call Machine Synced
-submits c it = Then (Exchange c (Judges it)) (told c it.name)
+-- one that conflicts is given up, or waits for a decision by hand, or is to be resolved
+abbrev pub conflicted : ℕ → List ℕ → (said : List ℕ) → OnConflict Declared → Call Machine Synced
+conflicted c name said options.Abort = Tells c leave (said ++ abort_line name) Left
+conflicted c name said options.Manual = Tells c (reach stages.Manual) (said ++ manual_line name) ByHand
+conflicted c name said options.Reexec = Tells c (reach stages.Conflict) said Moved
+conflicted c name said (options.Resolver script) = Tells c (reach stages.Conflict) said Moved
+
+-- one that is in the list leaves
+abbrev pub told : ℕ → List ℕ → OnConflict Declared → Option Verdict → Call Machine Synced
+told c name option None = and_answers (says_word (codes "away")) Unanswered
+told c name option (Some (Settled number)) = Tells c leave (settled_line name number) Left
+told c name option (Some (Conflict read question)) = conflicted c name (conflict_line name read question) option
+
+abbrev pub submits : ℕ → OnConflict Declared → Submission → Call Machine Synced
+submits c option it = Then (Exchange c (Judges it)) (told c it.name option)
+
+-- nothing is known and all is wanted, so the server's whole tree comes
+abbrev pub BringsAll : ℕ → Call Machine (Option Nodes)
+BringsAll c = Exchange c (Lends new_client.held (wanted.Below []))
+
+-- the plan is carried out on the tree that came
+abbrev pub resolved_on : ℕ → List ℕ → Plan → Option Nodes → Call Machine Synced
+resolved_on c name plan None = and_answers (says_word (codes "away")) Unanswered
+resolved_on c name plan (Some t) = Tells c (reach (stages.Resolved (resolution_of plan t))) (resolve_line name plan.said) Moved
+
+-- the plan of one that is to be resolved; no other comes here
+abbrev pub resolves : ℕ → List ℕ → Option Plan → Call Machine Synced
+resolves c name None = Answers Unanswered
+resolves c name (Some plan) = Then (BringsAll c) (resolved_on c name plan)
+
+abbrev pub Submits : ℕ → Item → Call Machine Synced
+Submits c item = Then (Asks (λ m. submission_of c m item)) (submits c item.option)
+
+abbrev pub Resolves : ℕ → Item → Call Machine Synced
+Resolves c item =
+    Then (Asks (item_name c item)) (λ name. Then (Asks (λ m. plan_of (kept_by c m).held item)) (resolves c name))
+
+abbrev pub sync_at : ℕ → Item → Stage → Call Machine Synced
+sync_at c item stages.Waiting = Submits c item
+sync_at c item (stages.Resolved it) = Submits c item
+sync_at c item stages.Conflict = Resolves c item
+sync_at c item stages.Manual = and_answers (Says (λ m. manual_line (item_name c item m))) ByHand
 
 abbrev pub sync_head : ℕ → List Item → Call Machine Synced
 sync_head c [] = and_answers (says_word (codes "nothing")) Empty
-sync_head c (item ∷ items) = Then (Asks (λ m. submission_of c m item)) (submits c)
+sync_head c (item ∷ items) = sync_at c item item.stage
 
--- the first transaction that waits is submitted
+-- the first transaction that waits is submitted or resolved, by its stage
 abbrev pub Syncs : ℕ → Call Machine Synced
 Syncs c = Then (Asks (λ m. (kept_by c m).items)) (sync_head c)
 
--- again and again, as long as one waits and leaves, and at most three times for each that waits at first
-abbrev pub unless_left : Synced → Option Synced
-unless_left Left = None
-unless_left Empty = Some Empty
-unless_left Unanswered = Some Unanswered
-unless_left Halted = Some Halted
+-- again and again, as long as one waits and it goes on, and at most three times for each that waits at first
+abbrev pub unless_ends : Synced → Option Synced
+unless_ends Left = None
+unless_ends Moved = None
+unless_ends Empty = Some Empty
+unless_ends ByHand = Some ByHand
+unless_ends Unanswered = Some Unanswered
+unless_ends Halted = Some Halted
 
 abbrev pub sync_if : ℕ → Bool → Call Machine (Option Synced)
-sync_if c true = Then (Syncs c) (λ synced. Answers (unless_left synced))
+sync_if c true = Then (Syncs c) (λ synced. Answers (unless_ends synced))
 sync_if c false = Answers (Some Empty)
 
 abbrev pub SyncsAll : ℕ → Call Machine Synced
 SyncsAll c =
     Then (Asks (λ m. length (kept_by c m).items)) (λ n. Rounds (3 * n) Left (Then (Asks (pends c)) (sync_if c)))
+
+-- ---- a decision by hand
+
+abbrev pub is_manual : Stage → Bool
+is_manual stages.Waiting = false
+is_manual stages.Conflict = false
+is_manual stages.Manual = true
+is_manual (stages.Resolved it) = false
+
+abbrev pub if_manual : (Item → Part Machine) → List Item → Part Machine
+if_manual part [] = says_word (codes "nothing")
+if_manual part (item ∷ items) = either (part item) (says_word (codes "not manual")) (is_manual item.stage)
+
+-- for the first transaction, if it waits for a decision by hand
+abbrev pub IfManual : ℕ → (Item → Part Machine) → Part Machine
+IfManual c part = Then (Asks (λ m. (kept_by c m).items)) (if_manual part)
 
 -- ---- end
 
@@ -288,6 +351,8 @@ waits gone = Says (λ _. pending_line gone.name ++ gone.printed)
 abbrev pub waits_unless : Ended → Synced → Part Machine
 waits_unless gone Unanswered = waits gone
 waits_unless gone Left = Nothing
+waits_unless gone Moved = Nothing
+waits_unless gone ByHand = Nothing
 waits_unless gone Empty = Nothing
 waits_unless gone Halted = Nothing
 
