@@ -4,3 +4,4 @@ pub mod StatesLaws
 pub mod TiesLaws
 pub mod StepsLaws
 pub mod DoingLaws
+pub mod WholeLaws

@@ -9,9 +9,12 @@ use Rattle.iot_held.specs.Fitting.{UpdatesFit}
 use Rattle.iot_queue.specs.declared.items.Item.{Item}
 use Rattle.iot_client.specs.States.{Transaction, State, acts_of, after_each, after_items, view}
 use Rattle.iot_client.specs.States.{EachHold, AllHold, EachGuarded, AreGuarded}
-use Rattle.iot_client.specs.Records.{CanFollow, with_acts, ended, left, after}
+use Rattle.iot_queue.specs.Queues.{head_of, with_head, staged}
+use Rattle.iot_queue.specs.declared.items.Stage.TheVariants as stages
+use Rattle.iot_client.specs.Records.{CanFollow, with_acts, ended, left, conflicted, repaired, after}
 use Rattle.iot_client.specs.declared.record.Record.{Record}
 use Rattle.iot_client.specs.declared.record.Record.TheVariants.{Held, Begun, Fetched, Acted, Ended, Left}
+use Rattle.iot_client.specs.declared.record.Record.TheVariants.{Conflicted, Resolved, Repaired}
 
 -- ---- acts and items in turn
 
@@ -32,6 +35,12 @@ hold_fit (act ∷ acts) t hold = (hold.1, hold_fit acts (after_update t act.upda
 -- those of the head
 pub head_fits : (item : Item) (items queue : List Item) (t : Nodes) → queue ≡ item ∷ items → EachHold t queue → UpdatesFit t item.acts
 head_fits item items queue t is hold = hold_fit item.acts t (subst (EachHold t) is hold).0
+
+pub head_of_fits : (item : Item) (queue : List Item) (t : Nodes) → Some item ≡ head_of queue → EachHold t queue → UpdatesFit t item.acts
+head_of_fits item [] t is hold = absurd cc
+head_of_fits item (first ∷ items) t is hold =
+    let same : first ≡ item = cc in
+    hold_fit item.acts t (subst (λ (x : Item). ActsHold t x.acts) same hold.0)
 
 each_more : (items : List Item) (t : Nodes) (running : Option Transaction) → EachHold t items
     → ActsHold (after_each t items) (acts_of running) → EachHold t (items ++ ended running)
@@ -74,6 +83,47 @@ left_view : (items : List Item) (state : State) → items ≡ state.items → vi
 left_view [] state is = refl
 left_view (item ∷ items) state is = ap (λ (l : List Item). after_acts (after_each state.held l) (acts_of state.running)) is
 
+-- ---- the head changes, but not its acts
+
+abbrev pub Keeps : (Item → Item) → Type 0
+Keeps change = (item : Item) → (change item).acts ≡ item.acts
+
+abbrev pub changed : (Item → Item) → State → State
+changed change state = record state { items = with_head change state.items }
+
+pub head_after : (change : Item → Item) (items : List Item) (t : Nodes) → Keeps change
+    → after_each t (with_head change items) ≡ after_each t items
+head_after change [] t same = refl
+head_after change (item ∷ items) t same = ap (λ (acts : List Act). after_each (after_acts t acts) items) (same item)
+
+head_holds : (change : Item → Item) (items : List Item) (t : Nodes) → Keeps change → EachHold t items
+    → EachHold t (with_head change items)
+head_holds change [] t same hold = hold
+head_holds change (item ∷ items) t same hold = (
+  subst (ActsHold t) (sym (same item)) hold.0,
+  subst (λ (acts : List Act). EachHold (after_acts t acts) items) (sym (same item)) hold.1,
+)
+
+head_guarded : (change : Item → Item) (items : List Item) → Keeps change → EachGuarded items → EachGuarded (with_head change items)
+head_guarded change [] same guarded = guarded
+head_guarded change (item ∷ items) same guarded = (subst AllGuarded (sym (same item)) guarded.0, guarded.1)
+
+pub changed_holds : (change : Item → Item) (state : State) → Keeps change → AllHold state → AllHold (changed change state)
+changed_holds change state same hold = record {
+  items = head_holds change state.items state.held same hold.items;
+  running = subst (λ (t : Nodes). ActsHold t (acts_of state.running)) (sym (head_after change state.items state.held same)) hold.running;
+}
+
+pub changed_guarded : (change : Item → Item) (state : State) → Keeps change → AreGuarded state → AreGuarded (changed change state)
+changed_guarded change state same guarded = record {
+  items = head_guarded change state.items same guarded.items;
+  running = guarded.running;
+}
+
+pub changed_view : (change : Item → Item) (state : State) → Keeps change → view (changed change state) ≡ view state
+changed_view change state same =
+    ap (λ (t : Nodes). after_acts t (acts_of state.running)) (head_after change state.items state.held same)
+
 -- ---- every record
 
 pub keeps : (state : State) (noted : Record) → CanFollow state noted → AllHold state → AllHold (after state noted)
@@ -95,6 +145,9 @@ keeps state Ended follows hold = record {
   running = tt;
 }
 keeps state Left follows hold = left_holds state.items state refl hold
+keeps state Conflicted follows hold = changed_holds conflicted state (λ item. refl) hold
+keeps state (Resolved done) follows hold = changed_holds (staged (stages.Resolved done)) state (λ item. refl) hold
+keeps state (Repaired script) follows hold = changed_holds (repaired script) state (λ item. refl) hold
 
 -- ---- the view after each
 
@@ -158,3 +211,6 @@ keeps_guarded state Ended follows guarded = record {
   running = tt;
 }
 keeps_guarded state Left follows guarded = left_guarded state.items state refl guarded
+keeps_guarded state Conflicted follows guarded = changed_guarded conflicted state (λ item. refl) guarded
+keeps_guarded state (Resolved done) follows guarded = changed_guarded (staged (stages.Resolved done)) state (λ item. refl) guarded
+keeps_guarded state (Repaired script) follows guarded = changed_guarded (repaired script) state (λ item. refl) guarded

@@ -15,13 +15,18 @@ use Rattle.iot_exec.specs.declared.exec.Exec.{Exec}
 use Rattle.iot_exec.proofs.RunLaws.{goes_on}
 use Rattle.iot_queue.specs.declared.items.Item.{Item}
 use Rattle.iot_client.specs.States.{Transaction, State, acts_of, after_each, after_items}
-use Rattle.iot_client.specs.Records.{CanFollow, with_acts, left, after}
-use Rattle.iot_client.specs.Memory.{classed}
+use Rattle.iot_queue.specs.Queues.{with_head, staged}
+use Rattle.iot_queue.specs.declared.items.Stage.TheVariants as stages
+use Rattle.iot_client.specs.Records.{CanFollow, ChangesHead, with_acts, left, conflicted, repaired, after}
+use Rattle.iot_client.specs.Memory.{class_after, classed}
 use Rattle.iot_client.specs.Ties.{IsRun, IsRunIfAny, Ties}
 use Rattle.iot_client.specs.declared.record.Record.TheVariants.{Held, Begun, Fetched, Acted, Ended, Left}
+use Rattle.iot_client.specs.declared.record.Record.{Record}
+use Rattle.iot_client.specs.declared.record.Record.TheVariants.{Conflicted, Resolved, Repaired}
 use Rattle.iot_client.specs.declared.interpreter.Interpreter.{Interpreter}
 use Rattle.iot_client.proofs.StatesLaws.{keeps, keeps_guarded}
 use Rattle.iot_client.proofs.StatesLaws.{none_view, held_view, fetched_view, acted_view_is, ended_view, left_view_is}
+use Rattle.iot_client.proofs.StatesLaws.{Keeps, changed, head_after, changed_holds, changed_guarded, changed_view}
 
 -- the interpreter is at the script's first act, on any tree
 abbrev pub Starts : Code → Interpreter → Type 0
@@ -196,6 +201,58 @@ tied_left state class i t ties follows = record {
   guarded = keeps_guarded state Left follows ties.guarded;
   runs = left_runs state.items state class i t refl ties.runs;
 }
+
+changed_runs : (change : Item → Item) (running : Option Transaction) (a : State) (class : Option Bool) (i : Option Interpreter) (t : Nodes)
+    → Keeps change → IsRunIfAny a running class i t → IsRunIfAny (changed change a) running class i t
+changed_runs change None a class i t same runs = runs
+changed_runs change (Some running) a class i t same runs = (
+  runs.0,
+  runs.1,
+  runs.2,
+  runs.3,
+  record {
+    run = subst
+        (λ (u : Nodes). IsRunning runs.1.script.value empty u (length running.acts) running.acts runs.1.exec t)
+        (sym (head_after change a.items a.held same)) runs.4.run;
+    few = runs.4.few;
+    alone = λ first. ap (with_head change) (runs.4.alone first);
+  },
+)
+
+tied_changed : (change : Item → Item) (state : State) (class : Option Bool) (i : Option Interpreter) (t : Nodes) → Keeps change
+    → Ties state class i t → Ties (changed change state) class i t
+tied_changed change state class i t same ties = record {
+  sees = ties.sees ∙ sym (changed_view change state same);
+  hold = changed_holds change state same ties.hold;
+  guarded = changed_guarded change state same ties.guarded;
+  runs = changed_runs change state.running state class i t same ties.runs;
+}
+
+-- what becomes of the head keeps the tie, and the class
+
+pub tied_head : (noted : Record) (state : State) (class : Option Bool) (i : Option Interpreter) (t : Nodes) → Ties state class i t
+    → CanFollow state noted → ChangesHead noted → Ties (after state noted) class i t
+tied_head (Held tree) state class i t ties follows head = absurd head
+tied_head (Begun number script option) state class i t ties follows head = absurd head
+tied_head (Fetched tree) state class i t ties follows head = absurd head
+tied_head (Acted act) state class i t ties follows head = absurd head
+tied_head Ended state class i t ties follows head = absurd head
+tied_head Left state class i t ties follows head = tied_left state class i t ties follows
+tied_head Conflicted state class i t ties follows head = tied_changed conflicted state class i t (λ item. refl) ties
+tied_head (Resolved done) state class i t ties follows head =
+    tied_changed (staged (stages.Resolved done)) state class i t (λ item. refl) ties
+tied_head (Repaired script) state class i t ties follows head = tied_changed (repaired script) state class i t (λ item. refl) ties
+
+pub class_stays : (noted : Record) (class : Option Bool) → ChangesHead noted → class_after noted class ≡ class
+class_stays (Held tree) class head = absurd head
+class_stays (Begun number script option) class head = absurd head
+class_stays (Fetched tree) class head = absurd head
+class_stays (Acted act) class head = absurd head
+class_stays Ended class head = absurd head
+class_stays Left class head = refl
+class_stays Conflicted class head = refl
+class_stays (Resolved done) class head = refl
+class_stays (Repaired script) class head = refl
 
 second_runs : (running : Option Transaction) (a : State) (class : Option Bool) (i : Option Interpreter) (t : Nodes)
     → IsRunIfAny a running class i t → IsRunIfAny a running (classed false class) i t

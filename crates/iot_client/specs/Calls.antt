@@ -1,8 +1,11 @@
 -- What the calls of a client refuse, change and answer.
 use Rattle.std.specs.Prelude.{◌≡◌, ℕ, ◌+◌, ◌<◌, ◌||◌, Bool, true, false, List, [], ◌∷◌, drop, leb, if◌then◌else◌}
-use Rattle.std.specs.Prelude.{⊤, IsOk, Option, Some, None, Result, Ok, Err}
-use Rattle.iot_tree.specs.Tree.{Path, Nodes}
+use Rattle.std.specs.Prelude.{⊤, IsOk, IsSome, Option, Some, None, Result, Ok, Err}
+use Rattle.iot_acts.specs.Traces.{after_acts}
+use Rattle.iot_tree.specs.Tree.{Path, Nodes, IsWhole}
 use Rattle.iot_tree.specs.declared.acts.Act.{Act}
+use Rattle.iot_tree.specs.declared.labels.OnConflict.{OnConflict}
+use Rattle.iot_tree.specs.declared.labels.OnConflict.TheVariants as options
 use Rattle.iot_tree.specs.declared.limits.TheConstants.{ACT_LIMIT}
 use Rattle.iot_tree.specs.declared.want.Want.TheVariants as wants
 use Rattle.iot_lang.specs.Code.{Code}
@@ -12,13 +15,22 @@ use Rattle.iot_wire.specs.Rules.{IsReply}
 use Rattle.iot_wire.specs.Spelling.{reply_spelling}
 use Rattle.iot_wire.specs.declared.replies.Reply.TheVariants.{Objects}
 use Rattle.iot_queue.specs.declared.items.Item.{Item}
+use Rattle.iot_queue.specs.declared.items.Resolution.{Resolution}
+use Rattle.iot_queue.specs.declared.items.Stage.{Stage}
+use Rattle.iot_queue.specs.declared.items.Stage.TheVariants as stages
+use Rattle.iot_resolve.specs.Plans.{plan_of}
+use Rattle.iot_resolve.specs.Resolved.{resolved}
+use Rattle.iot_resolve.specs.declared.plan.Plan.{Plan}
 use Rattle.iot_client.specs.States.{Transaction, State, view}
-use Rattle.iot_client.specs.Messages.{IsRefresh, objects_in}
-use Rattle.iot_client.specs.Records.{CanFollow, after}
+use Rattle.iot_client.specs.Messages.{IsRefresh, objects_in, whole_in}
+use Rattle.iot_client.specs.Records.{IsInConflict, CanFollow, after}
 use Rattle.iot_client.specs.Ties.{state_of, place_of, Live, count, run_of}
 use Rattle.iot_client.specs.declared.client.Client.{Client}
 use Rattle.iot_client.specs.declared.fault.ClientFault.{ClientFault}
-use Rattle.iot_client.specs.declared.fault.ClientFault.TheVariants.{NoMemory, Busy, Pending, Idle, NotAtEnd, Nothing, BadReply}
+use Rattle.iot_client.specs.declared.fault.ClientFault.TheVariants.{NoMemory, Busy, Pending, Idle, NotAtEnd, Nothing}
+use Rattle.iot_client.specs.declared.fault.ClientFault.TheVariants.{NotManual, BadReply}
+use Rattle.iot_client.specs.declared.noted.Noted.{Noted}
+use Rattle.iot_client.specs.declared.noted.Noted.TheVariants as notes
 use Rattle.iot_client.specs.declared.record.Record.{Record}
 use Rattle.iot_client.specs.declared.running.Ended.{Ended}
 use Rattle.iot_client.specs.declared.record.Record.TheVariants as records
@@ -47,6 +59,17 @@ idle (Some running) = None
 abbrev pub empty_queue : List Item → Option ClientFault
 empty_queue [] = Some Nothing
 empty_queue (item ∷ items) = None
+
+-- a call that wants that the first that waits is to be decided by hand
+abbrev pub not_manual_in : Stage → Option ClientFault
+not_manual_in stages.Waiting = Some NotManual
+not_manual_in stages.Conflict = Some NotManual
+not_manual_in stages.Manual = None
+not_manual_in (stages.Resolved done) = Some NotManual
+
+abbrev pub not_manual : List Item → Option ClientFault
+not_manual [] = Some Nothing
+not_manual (item ∷ items) = not_manual_in item.stage
 
 -- whether the script of the running transaction has ended
 abbrev pub has_ended : State → Code → Bool
@@ -88,6 +111,7 @@ EndsBy read old new (Err Pending) = ⊥
 EndsBy read old new (Err Idle) = ⊥
 EndsBy read old new (Err NotAtEnd) = ⊥
 EndsBy read old new (Err Nothing) = ⊥
+EndsBy read old new (Err NotManual) = ⊥
 EndsBy read old new (Err (BadReply at)) = (read ≡ Err at) × (new ≡ old)
 
 -- before that, the state may refuse the call
@@ -113,6 +137,47 @@ pub record Brings (noted : Nodes → Record) (reply : List ℕ) (old new : Clien
   pub brought : objects_in reply ≡ Ok tree
   pub spelled : IsMessage IsReply reply_spelling reply (Objects tree)
   pub notes : Notes (noted tree) old new
+
+-- the record of what is said of a transaction with this option: it is settled, given up, or in conflict
+abbrev pub conflict_record : OnConflict → Record
+conflict_record options.Reexec = records.Conflicted
+conflict_record (options.Resolver script) = records.Conflicted
+conflict_record options.Abort = records.Left
+conflict_record options.Manual = records.Conflicted
+
+abbrev pub verdict_record : Noted → List Item → Record
+verdict_record noted [] = records.Left
+verdict_record (notes.Settled number) (item ∷ items) = records.Left
+verdict_record (notes.Conflict read) (item ∷ items) = conflict_record item.option
+
+-- what `resolve` needs of the first that waits: it is in conflict, and its option plans a run
+pub record IsPlanned (item : Item) : Type 0 where
+  pub stage : IsInConflict item
+  pub plan : IsSome (plan_of item)
+
+-- the resolution is the planned run on the server's tree, for the local tree
+abbrev pub IsPlannedRun : Option Plan → Code → Nodes → Nodes → Resolution → Type 0
+IsPlannedRun None code local server done = ⊥
+IsPlannedRun (Some plan) code local server done = done ≡ resolved plan code local server
+
+-- for the first that waits, where the local tree is the held one after the updates of its first run
+abbrev pub IsHeadsRun : Nodes → List Item → Code → Nodes → Resolution → Type 0
+IsHeadsRun held [] code server done = ⊥
+IsHeadsRun held (item ∷ items) code server done = IsPlannedRun (plan_of item) code (after_acts held item.acts) server done
+
+-- the durable state changes by the run for the first that waits, on this whole tree
+pub record Reruns (code : Code) (server : Nodes) (old new : Client) : Type 0 where
+  pub done : Resolution
+  pub run : IsHeadsRun (state_of old).held (state_of old).items code server done
+  pub notes : Notes (records.Resolved done) old new
+
+-- and the tree is the one that the reply brings
+pub record Resolves (reply : List ℕ) (code : Code) (old new : Client) : Type 0 where
+  pub tree : Nodes
+  pub brought : whole_in reply ≡ Ok tree
+  pub spelled : IsMessage IsReply reply_spelling reply (Objects tree)
+  pub whole : IsWhole tree
+  pub reruns : Reruns code tree old new
 
 -- whether the running transaction is first class, if one runs
 abbrev pub first_of : Option Live → Option Bool

@@ -1,12 +1,19 @@
 -- What a client sends to the server, and what it reads of the replies.
-use Rattle.std.specs.Prelude.{◌≡◌, ℕ, ◌≤◌, ⊤, List, [], ◌∷◌, Result, Ok, Err}
-use Rattle.iot_tree.specs.Snapshots.{known}
-use Rattle.iot_tree.specs.Tree.{Nodes}
+use Rattle.std.specs.Prelude.{◌≡◌, ℕ, ◌≤◌, ⊤, Bool, if◌then◌else◌, length, List, [], ◌∷◌, Result, Ok, Err}
+use Rattle.std.specs.FinMap.{entries}
+use Rattle.std.specs.List.{list_all}
+use Rattle.iot_tree.specs.Snapshots.{known, is_known}
+use Rattle.iot_tree.specs.Tree.{Row, Nodes}
 use Rattle.iot_tree.specs.declared.labels.Label.{Label}
-use Rattle.iot_tree.specs.declared.labels.Way.TheVariants.{Certified}
+use Rattle.iot_tree.specs.declared.labels.OnConflict.{OnConflict}
+use Rattle.iot_tree.specs.declared.labels.OnConflict.TheVariants as options
+use Rattle.iot_tree.specs.declared.labels.Way.{Way}
+use Rattle.iot_tree.specs.declared.labels.Way.TheVariants.{Certified, Reexecuted}
+use Rattle.iot_tree.specs.declared.labels.Way.TheVariants as ways
 use Rattle.iot_tree.specs.declared.limits.TheConstants.{ACT_LIMIT}
 use Rattle.iot_tree.specs.declared.want.Want.{Want}
-use Rattle.iot_codec.specs.Rules.{AreActs}
+use Rattle.iot_tree.specs.declared.want.Want.TheVariants as wants
+use Rattle.iot_codec.specs.Rules.{AreActs, AreFiles}
 use Rattle.iot_wire.specs.Decoding.{reply_at}
 use Rattle.iot_wire.specs.Messages.{IsMessage, whole}
 use Rattle.iot_wire.specs.Rules.{IsRequest, IsReply}
@@ -15,10 +22,15 @@ use Rattle.iot_wire.specs.declared.requests.Request.TheVariants.{Refresh, Commit
 use Rattle.iot_wire.specs.declared.replies.Reply.{Reply}
 use Rattle.iot_wire.specs.declared.replies.Reply.TheVariants.{Objects, Committed, Already, Conflict}
 use Rattle.iot_queue.specs.declared.items.Item.{Item}
+use Rattle.iot_queue.specs.declared.items.Resolution.{Resolution}
+use Rattle.iot_queue.specs.declared.items.Stage.{Stage}
+use Rattle.iot_queue.specs.declared.items.Stage.TheVariants.{Waiting, Manual, Resolved}
+use Rattle.iot_queue.specs.declared.items.Stage.TheVariants as stages
 use Rattle.iot_client.specs.declared.asks.Ask.{Ask}
 use Rattle.iot_client.specs.declared.asks.Ask.TheVariants as asks
 use Rattle.iot_client.specs.declared.fault.ClientFault.{ClientFault}
-use Rattle.iot_client.specs.declared.fault.ClientFault.TheVariants.{NoMemory, Busy, Pending, Idle, NotAtEnd, Nothing, BadReply}
+use Rattle.iot_client.specs.declared.fault.ClientFault.TheVariants.{NoMemory, Busy, Pending, Idle, NotAtEnd, Nothing}
+use Rattle.iot_client.specs.declared.fault.ClientFault.TheVariants.{NotManual, BadReply}
 use Rattle.iot_client.specs.declared.noted.Noted.{Noted}
 use Rattle.iot_client.specs.declared.noted.Noted.TheVariants as notes
 
@@ -45,15 +57,71 @@ pub record HasSpelling (item : Item) : Type 0 where
   pub budget : item.budget ≤ ACT_LIMIT
   pub acts : AreActs item.acts
 
+-- how a transaction is committed that was resolved
+abbrev pub way_of : OnConflict → Way
+way_of options.Reexec = Reexecuted
+way_of (options.Resolver script) = ways.Resolved
+way_of options.Abort = ways.Resolved
+way_of options.Manual = ways.Resolved
+
+-- the label of a transaction that is submitted with a run in its place
+abbrev pub resolved_label : ℕ → ℕ → OnConflict → Resolution → Label
+resolved_label client tid option done =
+    record {
+      client = client;
+      tid = tid;
+      script = done.script;
+      budget = done.budget;
+      way = way_of option;
+      kept = done.kept;
+    }
+
+-- the bytes are the spelling of the request that it be committed with the acts of that run
+abbrev pub IsResolvedCommit : ℕ → ℕ → OnConflict → Resolution → List ℕ → Type 0
+IsResolvedCommit client tid option done bytes =
+    IsMessage IsRequest request_spelling bytes (Commit (resolved_label client tid option done) done.acts)
+
+-- what such a request needs of the run
+pub record RunHasSpelling (done : Resolution) : Type 0 where
+  pub budget : done.budget ≤ ACT_LIMIT
+  pub acts : AreActs done.acts
+  pub kept : AreFiles done.kept
+
+-- the bytes are the spelling of the request for the whole tree, with nothing known
+abbrev pub IsWholeRequest : ℕ → List ℕ → Type 0
+IsWholeRequest client bytes = IsMessage IsRequest request_spelling bytes (Refresh client [] (wants.Below []))
+
+-- what the request for a transaction in this stage needs of it
+abbrev pub HasSpellingIn : Item → Stage → Type 0
+HasSpellingIn item Waiting = HasSpelling item
+HasSpellingIn item stages.Conflict = Unit {0}
+HasSpellingIn item Manual = Unit {0}
+HasSpellingIn item (Resolved done) = RunHasSpelling done
+
 -- the first that waits has it, if one does
 abbrev pub HeadHasSpelling : List Item → Type 0
 HeadHasSpelling [] = Unit {0}
-HeadHasSpelling (item ∷ items) = HasSpelling item
+HeadHasSpelling (item ∷ items) = HasSpellingIn item item.stage
 
--- what the first that waits needs of the server: that it be committed
+-- what a transaction in this stage needs of the server: that it be committed, the whole tree, or nothing
+abbrev pub IsAsked : ℕ → Item → Stage → Ask → Type 0
+IsAsked client item Waiting (asks.Commit bytes) = IsCommit client item bytes
+IsAsked client item Waiting (asks.Whole bytes) = ⊥
+IsAsked client item Waiting asks.Manual = ⊥
+IsAsked client item stages.Conflict (asks.Commit bytes) = ⊥
+IsAsked client item stages.Conflict (asks.Whole bytes) = IsWholeRequest client bytes
+IsAsked client item stages.Conflict asks.Manual = ⊥
+IsAsked client item Manual (asks.Commit bytes) = ⊥
+IsAsked client item Manual (asks.Whole bytes) = ⊥
+IsAsked client item Manual asks.Manual = Unit {0}
+IsAsked client item (Resolved done) (asks.Commit bytes) = IsResolvedCommit client item.tid item.option done bytes
+IsAsked client item (Resolved done) (asks.Whole bytes) = ⊥
+IsAsked client item (Resolved done) asks.Manual = ⊥
+
+-- what the first that waits needs
 abbrev pub IsSubmission : ℕ → List Item → Ask → Type 0
 IsSubmission client [] ask = ⊥
-IsSubmission client (item ∷ items) (asks.Commit bytes) = IsCommit client item bytes
+IsSubmission client (item ∷ items) ask = IsAsked client item item.stage ask
 
 -- ---- replies
 
@@ -71,6 +139,21 @@ objects_in bytes = objects (whole reply_at bytes)
 -- a tree is read of the bytes that are the spelling of a reply which brings it
 abbrev pub ReadsObjects : List ℕ → Type 0
 ReadsObjects bytes = (tree : Nodes) → IsMessage IsReply reply_spelling bytes (Objects tree) → objects_in bytes ≡ Ok tree
+
+-- whether the inside of every object of a tree is known
+abbrev pub is_known_row : Row → Bool
+is_known_row row = is_known row.1
+
+abbrev pub is_whole : Nodes → Bool
+is_whole tree = list_all is_known_row (entries tree)
+
+-- the whole tree of a reply that brings one; a reply with a tree that is not whole is bad at its end
+abbrev pub whole_tree : ℕ → Result Nodes ℕ → Result Nodes ℕ
+whole_tree end (Ok tree) = if is_whole tree then Ok tree else Err end
+whole_tree end (Err at) = Err at
+
+abbrev pub whole_in : List ℕ → Result Nodes ℕ
+whole_in bytes = whole_tree (length bytes) (objects_in bytes)
 
 -- what a reply says of a transaction that was submitted; one that brings a tree is bad from its beginning on
 abbrev pub noted : Result Reply ℕ → Result Noted ℕ
@@ -102,4 +185,5 @@ Reads read (Err Pending) = ⊥
 Reads read (Err Idle) = ⊥
 Reads read (Err NotAtEnd) = ⊥
 Reads read (Err Nothing) = ⊥
+Reads read (Err NotManual) = ⊥
 Reads read (Err (BadReply at)) = read ≡ Err at

@@ -6,4 +6,10 @@ use iot_text::Text;
 pub enum Ask {
     /// That it be committed: this is the request.
     Commit(Text),
+
+    /// The whole tree, on which it is to be resolved: this is the request.
+    Whole(Text),
+
+    /// Nothing: it waits for a decision by hand.
+    Manual,
 }

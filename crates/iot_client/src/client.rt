@@ -4,13 +4,15 @@ ghost use Rattle.std.specs.Option.{option_copied};
 ghost use Rattle.iot_exec.specs.Places.{is_over};
 ghost use Rattle.iot_exec.specs.Execs.{place, kept_by, act_count, next_miss};
 ghost use Rattle.iot_client.specs.States.{opening, view};
-ghost use Rattle.iot_client.specs.Records.{CanFollow};
+ghost use Rattle.iot_client.specs.Records.{CanFollow, HeadIs, HeadIsIfAny, IsSubmitted, ChangesHead};
 ghost use Rattle.iot_client.specs.Memory.{transaction_of, class_of};
 ghost use Rattle.iot_client.specs.Ties.{state_of, place_of, live_of, IsTied, IsOwnRunIfAny};
 ghost use Rattle.iot_client.specs.Calls.{busy, unready, idle, is_over_if_any, may_end, unended, not_at_end, empty_queue};
 ghost use Rattle.iot_client.specs.Calls.{RefusesFor, Refuses, RefusesReply, Notes, Brings};
+ghost use Rattle.iot_client.specs.Calls.{not_manual_in, not_manual, conflict_record, verdict_record};
+ghost use Rattle.iot_client.specs.Calls.{IsPlanned, IsHeadsRun, Reruns, Resolves};
 ghost use Rattle.iot_client.specs.Messages.{IsRefresh, HeadHasSpelling, IsSubmission};
-ghost use Rattle.iot_client.specs.Messages.{objects_in, ReadsObjects, noted_in, ReadsNoted, IsToldBy};
+ghost use Rattle.iot_client.specs.Messages.{objects_in, whole_in, ReadsObjects, noted_in, ReadsNoted, IsToldBy};
 ghost use Rattle.iot_client.specs.Calls.{missed_by};
 ghost use Rattle.iot_client.specs.Calls.{first_of, second_class, IsFirstIfAny, StepIsIfAny, CanActIfAny, EndsIfAny};
 
@@ -20,14 +22,15 @@ use crate::interpreter::{Interpreter, act_by};
 use crate::kept::Kept;
 use crate::noted::Noted;
 use crate::record::Record;
-use crate::replies::{noted, objects};
-use crate::requests::{commit, refresh};
+use crate::replies::{noted, objects, whole};
+use crate::requests::{ask_for, refresh};
 use crate::running::{Ended, Running};
 use crate::steps::Step;
 use iot_exec::Exec;
 use iot_held::Held;
 use iot_lang::Script;
-use iot_queue::Queue;
+use iot_queue::{Queue, Resolution, Stage};
+use iot_resolve::{plan_of, resolve};
 use iot_text::{Name, NoMemory, Path};
 use iot_tree::{Duplicate, OnConflict, Tree, Want};
 use std::alloc::Global;
@@ -260,7 +263,8 @@ impl Client {
         }
     }
 
-    /// What the first transaction that waits needs of the server: that it be committed with the acts of its run. Copies these once.
+    /// What the first transaction that waits needs of the server: that it be committed with the acts of its run or of its resolution,
+    /// or the whole tree on which it is to be resolved, or nothing if it is to be decided by hand. Copies the acts once.
     ///
     /// # Errors
     ///
@@ -272,23 +276,26 @@ impl Client {
         ensures refuses { RefusesFor (empty_queue (state_of self.now).items) result }
     {
         match self.kept.queue.head() {
-            Some(item) => Ok(Ask::Commit(commit(alloc, self.me, item)?)),
+            Some(item) => Ok(ask_for(alloc, self.me, item)?),
             None => Err(ClientFault::Nothing),
         }
     }
 
-    /// Lets the first transaction that waits leave after the reply to its submission, and tells what that says of it: its changes
-    /// stay in the held tree, committed or not. Costs its updates.
+    /// Takes the reply to the submission of the first transaction that waits, and tells what that says of it. It leaves if it is
+    /// settled, or given up since it conflicts: its changes stay in the held tree, committed or not, which costs its updates. Else it
+    /// conflicts, and is to be resolved or to be decided by hand.
     ///
     /// # Errors
     ///
     /// `Nothing` if none waits, `BadReply` if the bytes are no reply to a submission, `NoMemory`.
     pub fn take_verdict(&mut self, alloc: Global, reply: &[u8]) -> Result<Noted, ClientFault>
-        requires { IsTied self.old }
+        requires tied { IsTied self.old }
+        requires submitted { HeadIsIfAny IsSubmitted (state_of self.old).items }
         ensures noted { IfOk result (λ noted. noted_in reply.now ≡ Ok noted) }
         ensures told { IfOk result (IsToldBy reply.now) }
         ensures only { ReadsNoted reply.now }
-        ensures notes { OnOk result (Notes Record.Left self.old self.new) }
+        ensures notes { IfOk result (λ noted. Notes (verdict_record noted (state_of self.old).items) self.old self.new) }
+        ensures view { OnOk result (view (state_of self.new) ≡ view (state_of self.old)) }
         ensures live { OnOk result (live_of self.new ≡ live_of self.old) }
         ensures tied { OnOk result (IsTied self.new) }
         ensures refuses { RefusesReply (empty_queue (state_of self.old).items) (noted_in reply.now) self.old self.new result }
@@ -297,8 +304,77 @@ impl Client {
             Some(_) => noted(alloc, reply)?,
             None => return Err(ClientFault::Nothing),
         };
-        self.settle(alloc)?;
+        let record = verdict_record(&noted, &self.kept.queue);
+        self.settle(alloc, record)?;
         Ok(noted)
+    }
+
+    /// Runs this script, which is the one that is planned for the first transaction that waits, on the whole tree that the reply
+    /// brings: the transaction is to be submitted with that run. Copies the held tree and the server's once.
+    ///
+    /// # Errors
+    ///
+    /// `Nothing` if none waits, `BadReply` if the bytes are no reply that brings a whole tree, `NoMemory`.
+    pub fn resolve(
+        &mut self,
+        alloc: Global,
+        reply: &[u8],
+        script: Rc<Script>,
+    ) -> Result<(), ClientFault>
+        requires tied { IsTied self.old }
+        requires planned { HeadIsIfAny IsPlanned (state_of self.old).items }
+        ensures resolves { OnOk result (Resolves reply.now script.value self.old self.new) }
+        ensures only { ReadsObjects reply.now }
+        ensures view { OnOk result (view (state_of self.new) ≡ view (state_of self.old)) }
+        ensures live { OnOk result (live_of self.new ≡ live_of self.old) }
+        ensures tied { OnOk result (IsTied self.new) }
+        ensures refuses { RefusesReply (empty_queue (state_of self.old).items) (whole_in reply.now) self.old self.new result }
+    {
+        match self.empty_queue() {
+            Some(fault) => Err(fault),
+            None => {
+                let server = whole(alloc, reply)?;
+                Ok(self.run_again(alloc, script, &server)?)
+            }
+        }
+    }
+
+    /// Has the first transaction that waits resolved by the script of this name.
+    ///
+    /// # Errors
+    ///
+    /// `Nothing` if none waits, `NotManual` if the first is not to be decided by hand, `NoMemory`.
+    pub fn repair(&mut self, alloc: Global, script: &Name) -> Result<(), ClientFault>
+        requires tied { IsTied self.old }
+        ensures notes { OnOk result (Notes (Record.Repaired script.now) self.old self.new) }
+        ensures view { OnOk result (view (state_of self.new) ≡ view (state_of self.old)) }
+        ensures live { OnOk result (live_of self.new ≡ live_of self.old) }
+        ensures tied { OnOk result (IsTied self.new) }
+        ensures refuses { Refuses (not_manual (state_of self.old).items) self.old self.new result }
+    {
+        match self.not_manual() {
+            Some(fault) => Err(fault),
+            None => Ok(self.settle(alloc, Record::Repaired(*script))?),
+        }
+    }
+
+    /// Gives the first transaction that waits up: it leaves, and its changes stay in the held tree. Costs its updates.
+    ///
+    /// # Errors
+    ///
+    /// `Nothing` if none waits, `NotManual` if the first is not to be decided by hand, `NoMemory`.
+    pub fn discard(&mut self, alloc: Global) -> Result<(), ClientFault>
+        requires tied { IsTied self.old }
+        ensures notes { OnOk result (Notes Record.Left self.old self.new) }
+        ensures view { OnOk result (view (state_of self.new) ≡ view (state_of self.old)) }
+        ensures live { OnOk result (live_of self.new ≡ live_of self.old) }
+        ensures tied { OnOk result (IsTied self.new) }
+        ensures refuses { Refuses (not_manual (state_of self.old).items) self.old self.new result }
+    {
+        match self.not_manual() {
+            Some(fault) => Err(fault),
+            None => Ok(self.settle(alloc, Record::Left)?),
+        }
     }
 }
 
@@ -331,6 +407,24 @@ impl Client {
         }
     }
 
+    fn empty_queue(&self) -> Option<ClientFault>
+        ensures { result ≡ empty_queue (state_of self.now).items }
+    {
+        match self.kept.queue.head() {
+            Some(_) => None,
+            None => Some(ClientFault::Nothing),
+        }
+    }
+
+    fn not_manual(&self) -> Option<ClientFault>
+        ensures { result ≡ not_manual (state_of self.now).items }
+    {
+        match self.kept.queue.head() {
+            Some(item) => not_manual_in(&item.stage),
+            None => Some(ClientFault::Nothing),
+        }
+    }
+
     fn unended(&self) -> Option<ClientFault>
         requires { IsTied self.now }
         ensures { result ≡ unended (state_of self.now).running (may_end (state_of self.now) (live_of self.now)) }
@@ -349,6 +443,39 @@ fn pending(queue: &Queue) -> Option<ClientFault>
     match queue.head() {
         Some(_) => Some(ClientFault::Pending),
         None => None,
+    }
+}
+
+/// `NotManual` unless the transaction is to be decided by hand.
+fn not_manual_in(stage: &Stage) -> Option<ClientFault>
+    ensures { result ≡ not_manual_in stage.now }
+{
+    match stage {
+        Stage::Manual => None,
+        Stage::Waiting | Stage::Conflict | Stage::Resolved(_) => Some(ClientFault::NotManual),
+    }
+}
+
+/// What is noted of a transaction with this option that conflicts.
+fn conflict_record(option: OnConflict) -> Record
+    ensures { result ≡ conflict_record option }
+{
+    match option {
+        OnConflict::Abort => Record::Left,
+        OnConflict::Reexec | OnConflict::Resolver(_) | OnConflict::Manual => Record::Conflicted,
+    }
+}
+
+/// What is noted of the first transaction that waits, of which this is said.
+fn verdict_record(noted: &Noted, queue: &Queue) -> Record
+    ensures { result ≡ verdict_record noted.now queue.now }
+{
+    let Some(item) = queue.head() else {
+        return Record::Left;
+    };
+    match noted {
+        Noted::Settled { .. } => Record::Left,
+        Noted::Conflict { .. } => conflict_record(item.option),
     }
 }
 
@@ -527,14 +654,58 @@ impl Client {
         Ok(ended)
     }
 
-    fn settle(&mut self, alloc: Global) -> Result<(), NoMemory>
+    /// Runs the planned script for the first transaction that waits.
+    fn run_again(
+        &mut self,
+        alloc: Global,
+        script: Rc<Script>,
+        server: &Tree,
+    ) -> Result<(), NoMemory>
         requires tied { IsTied self.old }
-        requires follows { CanFollow (state_of self.old) Record.Left }
-        ensures notes { OnOk result (Notes Record.Left self.old self.new) }
+        requires planned { HeadIs IsPlanned (state_of self.old).items }
+        ensures reruns { OnOk result (Reruns script.value server.now self.old self.new) }
+        ensures view { OnOk result (view (state_of self.new) ≡ view (state_of self.old)) }
         ensures live { OnOk result (live_of self.new ≡ live_of self.old) }
         ensures tied { OnOk result (IsTied self.new) }
     {
-        self.kept.note(alloc, Record::Left)?;
+        let done = self.resolution(alloc, script, server)?;
+        self.settle(alloc, Record::Resolved(done))?;
+        Ok(())
+    }
+
+    fn resolution(
+        &self,
+        alloc: Global,
+        script: Rc<Script>,
+        server: &Tree,
+    ) -> Result<Resolution, NoMemory>
+        requires tied { IsTied self.now }
+        requires planned { HeadIs IsPlanned (state_of self.now).items }
+        ensures { IfOk result (IsHeadsRun (state_of self.now).held (state_of self.now).items script.value server.now) }
+    {
+        let Some(head) = self.kept.queue.head() else {
+            unreachable!();
+        };
+        let Some(plan) = plan_of(head) else {
+            unreachable!();
+        };
+        let mut local = Held::new(alloc)?;
+        local.merge(self.kept.held.tree().copy(alloc)?);
+        local.pass(alloc, &head.acts)?;
+        resolve(alloc, &plan, script, local.tree(), server)
+    }
+
+    /// Notes what becomes of the first transaction that waits.
+    fn settle(&mut self, alloc: Global, noted: Record) -> Result<(), NoMemory>
+        requires tied { IsTied self.old }
+        requires follows { CanFollow (state_of self.old) noted }
+        requires head { ChangesHead noted }
+        ensures notes { OnOk result (Notes noted self.old self.new) }
+        ensures view { OnOk result (view (state_of self.new) ≡ view (state_of self.old)) }
+        ensures live { OnOk result (live_of self.new ≡ live_of self.old) }
+        ensures tied { OnOk result (IsTied self.new) }
+    {
+        self.kept.note(alloc, noted)?;
         Ok(())
     }
 }

@@ -34,6 +34,10 @@ pub enum ClientFault {
     #[error("no transaction waits")]
     Nothing,
 
+    /// The first transaction that waits is not to be decided by hand.
+    #[error("the first transaction is not in manual repair")]
+    NotManual,
+
     /// The bytes are no reply of the kind that the call takes. `at` is the offset of their first fault, and 0 if they are another reply.
     #[error("no such reply, from offset {at} on")]
     BadReply { at: u64 },

@@ -1,13 +1,13 @@
 //! What is durable of a client, in memory, and the one place where it changes.
 ghost use Rattle.std.specs.Prelude.{◌≡◌, OnOk, Bool, false, None, Some};
 ghost use Rattle.iot_client.specs.States.{AllHold};
-ghost use Rattle.iot_client.specs.Records.{CanFollow, after};
+ghost use Rattle.iot_client.specs.Records.{CanFollow, stage_by, after};
 ghost use Rattle.iot_client.specs.Memory.{kept_state, class_of, class_after, classed, item_of};
 
 use crate::record::Record;
 use crate::running::Running;
 use iot_held::Held;
-use iot_queue::{Item, Queue, Stage};
+use iot_queue::{Item, Queue, Resolution, Stage};
 use iot_text::{Name, NoMemory};
 use iot_tree::{ACT_LIMIT, Act, Acts, OnConflict, Tree};
 use std::alloc::Global;
@@ -52,6 +52,18 @@ impl Kept {
             Record::Acted(act) => self.add(act),
             Record::Ended => self.end(),
             Record::Left => self.leave(alloc),
+            Record::Conflicted => {
+                self.conflict();
+                Ok(())
+            }
+            Record::Resolved(done) => {
+                self.resolve(done);
+                Ok(())
+            }
+            Record::Repaired(script) => {
+                self.repair(script);
+                Ok(())
+            }
         }
     }
 
@@ -132,6 +144,48 @@ impl Kept {
             Some(head) => self.held.pass(alloc, &head.acts),
             None => unreachable!(),
         }
+    }
+}
+
+// What becomes of the first transaction that waits.
+impl Kept {
+    fn conflict(&mut self)
+        requires waits { CanFollow (kept_state self.old) Record.Conflicted }
+        ensures state { kept_state self.new ≡ after (kept_state self.old) Record.Conflicted }
+        ensures class { class_of self.new.running ≡ class_of self.old.running }
+    {
+        let stage = match self.queue.head() {
+            Some(head) => stage_by(head.option),
+            None => unreachable!(),
+        };
+        self.queue.set_stage(stage);
+    }
+
+    fn resolve(&mut self, done: Resolution)
+        requires waits { CanFollow (kept_state self.old) (Record.Resolved done) }
+        ensures state { kept_state self.new ≡ after (kept_state self.old) (Record.Resolved done) }
+        ensures class { class_of self.new.running ≡ class_of self.old.running }
+    {
+        self.queue.set_stage(Stage::Resolved(done));
+    }
+
+    fn repair(&mut self, script: Name)
+        requires waits { CanFollow (kept_state self.old) (Record.Repaired script) }
+        ensures state { kept_state self.new ≡ after (kept_state self.old) (Record.Repaired script) }
+        ensures class { class_of self.new.running ≡ class_of self.old.running }
+    {
+        self.queue.set_option(OnConflict::Resolver(script));
+        self.queue.set_stage(Stage::Conflict);
+    }
+}
+
+/// The stage of a transaction that conflicts.
+fn stage_by(option: OnConflict) -> Stage
+    ensures { result ≡ stage_by option }
+{
+    match option {
+        OnConflict::Reexec | OnConflict::Resolver(_) | OnConflict::Abort => Stage::Conflict,
+        OnConflict::Manual => Stage::Manual,
     }
 }
 

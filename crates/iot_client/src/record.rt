@@ -1,4 +1,5 @@
 //! The changes of what is durable of a client.
+use iot_queue::Resolution;
 use iot_text::Name;
 use iot_tree::{Act, OnConflict, Tree};
 
@@ -26,4 +27,13 @@ pub enum Record {
 
     /// The first transaction that waits was settled or given up.
     Left,
+
+    /// The first transaction that waits conflicts: it is to be resolved, or to be decided by hand if that is its option.
+    Conflicted,
+
+    /// Another run was made in the place of the first transaction that waits.
+    Resolved(Resolution),
+
+    /// The script of this name is to be run in the place of the first transaction that waits.
+    Repaired(Name),
 }

@@ -1,14 +1,18 @@
 //! What a client reads of the server's replies.
-ghost use Rattle.std.specs.Prelude.{IfOk};
+ghost use Rattle.std.specs.Prelude.{◌≡◌, IfOk};
+ghost use Rattle.iot_tree.specs.Tree.{IsWhole};
+ghost use Rattle.std.specs.List.{list_all};
+ghost use Rattle.iot_client.specs.Messages.{is_known_row};
 ghost use Rattle.iot_wire.specs.Messages.{IsMessage};
 ghost use Rattle.iot_wire.specs.Rules.{IsReply};
 ghost use Rattle.iot_wire.specs.Spelling.{reply_spelling};
 ghost use Rattle.iot_wire.specs.declared.replies.Reply.TheVariants.{Objects};
-ghost use Rattle.iot_client.specs.Messages.{objects_in, noted_in, Reads, ReadsObjects, ReadsNoted, IsToldBy};
+ghost use Rattle.iot_client.specs.Messages.{objects_in, whole_in, is_whole, noted_in, Reads, ReadsObjects, ReadsNoted, IsToldBy};
 
 use crate::fault::ClientFault;
 use crate::noted::Noted;
-use iot_tree::Tree;
+use iot_text::Path;
+use iot_tree::{Node, Tree};
 use iot_wire::{Reply, read_reply};
 use std::alloc::Global;
 
@@ -26,6 +30,41 @@ pub(crate) fn objects(alloc: Global, reply: &[u8]) -> Result<Tree, ClientFault>
         Reply::Objects(tree) => Ok(tree),
         _ => Err(ClientFault::BadReply { at: 0 }),
     }
+}
+
+/// The whole tree of a reply that brings one.
+///
+/// # Errors
+///
+/// `BadReply` exactly if the bytes are no such reply: at the first fault, at 0 if they are another one, and at their end if the tree
+/// is not whole; `NoMemory`.
+pub(crate) fn whole(alloc: Global, reply: &[u8]) -> Result<Tree, ClientFault>
+    ensures reads { Reads (whole_in reply.now) result }
+    ensures found { IfOk result (λ tree. IsMessage IsReply reply_spelling reply.now (Objects tree)) }
+    ensures whole { IfOk result IsWhole }
+    ensures only { ReadsObjects reply.now }
+{
+    let tree = objects(alloc, reply)?;
+    if !is_whole(&tree) {
+        return Err(ClientFault::BadReply {
+            at: reply.len() as u64,
+        });
+    }
+    Ok(tree)
+}
+
+/// Whether the inside of every object of the tree is known.
+fn is_whole(tree: &Tree) -> bool
+    ensures { result ≡ is_whole tree.now }
+{
+    all_known(tree.rows().as_slice())
+}
+
+/// Whether the inside of the object of each row is known.
+fn all_known(rows: &[(Path, Node)]) -> bool
+    ensures { result ≡ list_all is_known_row rows.now }
+{
+    rows.iter().all(|row| row.1.is_known())
 }
 
 /// What a reply says of a transaction that was submitted.

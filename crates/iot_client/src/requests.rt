@@ -4,11 +4,14 @@ ghost use Rattle.std.specs.List.{AllByRecursion};
 ghost use Rattle.iot_text.specs.Paths.{IsPath};
 ghost use Rattle.iot_codec.specs.Rules.{IsWant, IsLabel};
 ghost use Rattle.iot_client.specs.Messages.{IsRefresh, IsCommit, label_in, HasSpelling};
+ghost use Rattle.iot_client.specs.Messages.{IsWholeRequest, IsResolvedCommit, resolved_label, way_of};
+ghost use Rattle.iot_client.specs.Messages.{RunHasSpelling, HasSpellingIn, IsAsked};
 
+use crate::asks::Ask;
 use iot_held::Held;
-use iot_queue::Item;
+use iot_queue::{Item, Resolution, Stage};
 use iot_text::{Name, NoMemory, Path, Text};
-use iot_tree::{ACT_LIMIT, Duplicate, Files, Label, Want, Way};
+use iot_tree::{ACT_LIMIT, Duplicate, Files, Label, OnConflict, Paths, Want, Way};
 use iot_wire::{Request, write_request};
 use std::alloc::Global;
 
@@ -52,8 +55,92 @@ fn wants_path(want: &Want)
     }
 }
 
+/// The request for the whole tree. Nothing is said of what is known.
+fn whole(alloc: Global, client: u64) -> Result<Text, NoMemory>
+    requires { client ≤ 7 }
+    ensures { IfOk result (IsWholeRequest client) }
+{
+    let request = Request::Refresh {
+        client,
+        known: Paths::new(alloc),
+        want: Want::Below(Path::root(alloc)),
+    };
+    Ok(Text::from(write_request(alloc, &request)?))
+}
+
+/// What a transaction that waits needs of the server, by its stage.
+pub(crate) fn ask_for(alloc: Global, client: u64, item: &Item) -> Result<Ask, NoMemory>
+    requires client { client ≤ 7 }
+    requires spelled { HasSpellingIn item.now item.now.stage }
+    ensures { IfOk result (IsAsked client item.now item.now.stage) }
+{
+    match &item.stage {
+        Stage::Waiting => Ok(Ask::Commit(commit(alloc, client, item)?)),
+        Stage::Conflict => Ok(Ask::Whole(whole(alloc, client)?)),
+        Stage::Manual => Ok(Ask::Manual),
+        Stage::Resolved(done) => {
+            let request = commit_resolved(alloc, client, item.tid, item.option, done)?;
+            Ok(Ask::Commit(request))
+        }
+    }
+}
+
+/// The request that a transaction be committed with the acts of the run that was made in its place.
+fn commit_resolved(
+    alloc: Global,
+    client: u64,
+    tid: u64,
+    option: OnConflict,
+    done: &Resolution,
+) -> Result<Text, NoMemory>
+    requires client { client ≤ 7 }
+    requires spelled { RunHasSpelling done.now }
+    ensures { IfOk result (IsResolvedCommit client tid option done.now) }
+{
+    let request = Request::Commit {
+        label: resolved_label(alloc, client, tid, option, done)?,
+        acts: done.acts.copy(alloc)?,
+    };
+    Ok(Text::from(write_request(alloc, &request)?))
+}
+
+/// The label of a transaction that is submitted with a run in its place.
+fn resolved_label(
+    alloc: Global,
+    client: u64,
+    tid: u64,
+    option: OnConflict,
+    done: &Resolution,
+) -> Result<Label, NoMemory>
+    requires client { client ≤ 7 }
+    requires spelled { RunHasSpelling done.now }
+    ensures value { IfOk result (λ label. label ≡ resolved_label client tid option done.now) }
+    ensures fits { IfOk result IsLabel }
+{
+    // A `Name` is always one, as its bytes say.
+    let _ = done.script.as_bytes();
+    Ok(Label {
+        client,
+        tid,
+        script: done.script,
+        budget: done.budget,
+        way: way_of(option),
+        kept: done.kept.copy(alloc)?,
+    })
+}
+
+/// How a transaction is committed that was resolved.
+fn way_of(option: OnConflict) -> Way
+    ensures { result ≡ way_of option }
+{
+    match option {
+        OnConflict::Reexec => Way::Reexecuted,
+        OnConflict::Resolver(_) | OnConflict::Abort | OnConflict::Manual => Way::Resolved,
+    }
+}
+
 /// The request that a transaction which waits be committed with the acts of its run.
-pub(crate) fn commit(alloc: Global, client: u64, item: &Item) -> Result<Text, NoMemory>
+fn commit(alloc: Global, client: u64, item: &Item) -> Result<Text, NoMemory>
     requires client { client ≤ 7 }
     requires spelled { HasSpelling item.now }
     ensures { IfOk result (IsCommit client item.now) }

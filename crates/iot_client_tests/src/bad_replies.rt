@@ -1,5 +1,5 @@
 //! Replies that are none of the kind that a call takes, as they were written by hand.
-use crate::fixtures::{begun, waiting};
+use crate::fixtures::{begun, is_submitted, waiting};
 use iot_client::{Client, ClientFault};
 use std::test::Fail;
 
@@ -50,7 +50,10 @@ fn no_other_bytes_bring_a_tree(rt: HostRuntime) -> Result<(), Fail> {
 fn no_other_bytes_are_a_verdict(rt: HostRuntime) -> Result<(), Fail> {
     let alloc = rt.alloc();
     for (reply, at) in NO_VERDICT {
-        let told = waiting(&rt, alloc)?.take_verdict(alloc, reply);
+        let mut client = waiting(&rt, alloc)?;
+        let submitted = is_submitted(&client);
+        assert!(rt; submitted);
+        let told = client.take_verdict(alloc, reply);
         assert!(rt; matches!(told, Err(ClientFault::BadReply { at: place }) if place == at));
     }
     Ok(())

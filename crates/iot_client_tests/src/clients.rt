@@ -1,7 +1,7 @@
 //! What a client does, call by call.
-use crate::fixtures::{begun, objects, waiting};
+use crate::fixtures::{begun, is_spelled, is_submitted, objects, waiting};
 use iot_client::{Ask, Client, Noted, Step};
-use iot_tree::{Answer, Want};
+use iot_tree::Want;
 use iot_wire::{Reply, Request, read_request, write_reply};
 use std::test::Fail;
 
@@ -29,7 +29,7 @@ fn objects_are_asked_for_and_held(rt: HostRuntime) -> Result<(), Fail> {
 }
 
 #[test]
-fn a_transaction_misses_an_object_and_conflicts(rt: HostRuntime) -> Result<(), Fail> {
+fn a_transaction_misses_an_object(rt: HostRuntime) -> Result<(), Fail> {
     let alloc = rt.alloc();
     let mut client = begun(&rt, alloc)?;
     let Step::Fetch { request, path } = client.step(alloc)? else {
@@ -63,16 +63,6 @@ fn a_transaction_misses_an_object_and_conflicts(rt: HostRuntime) -> Result<(), F
     let ended = client.end(alloc)?;
     assert!(rt; ended.tid == 1 && !ended.first);
     assert!(rt; client.running().is_none());
-    let reply = write_reply(
-        alloc,
-        &Reply::Conflict {
-            read: 1,
-            answer: Answer::IsDir,
-        },
-    )?;
-    let noted = client.take_verdict(alloc, reply.as_slice())?;
-    assert!(rt; matches!(noted, Noted::Conflict { read: 1 }));
-    assert_eq!(rt; client.held().rows().len(), 2);
     Ok(())
 }
 
@@ -80,13 +70,19 @@ fn a_transaction_misses_an_object_and_conflicts(rt: HostRuntime) -> Result<(), F
 fn a_transaction_is_submitted_and_settled(rt: HostRuntime) -> Result<(), Fail> {
     let alloc = rt.alloc();
     let mut client = waiting(&rt, alloc)?;
-    let Ask::Commit(request) = client.submission(alloc)?;
+    let spelled = is_spelled(&client);
+    assert!(rt; spelled);
+    let Ask::Commit(request) = client.submission(alloc)? else {
+        return Err(Fail::new("a submission"));
+    };
     let Ok(Request::Commit { label, acts }) = read_request(alloc, request.as_bytes()) else {
         return Err(Fail::new("a commit"));
     };
     assert!(rt; label.client == 2 && label.tid == 1 && acts.is_empty());
     assert_eq!(rt; client.queue().items().len(), 1);
     let reply = write_reply(alloc, &Reply::Committed { number: 5 })?;
+    let submitted = is_submitted(&client);
+    assert!(rt; submitted);
     let noted = client.take_verdict(alloc, reply.as_slice())?;
     assert!(rt; matches!(noted, Noted::Settled { number: 5 }));
     assert_eq!(rt; client.queue().items().len(), 0);

@@ -6,4 +6,6 @@ mod bad_replies;
 #[cfg(test)]
 mod clients;
 #[cfg(test)]
+mod conflicts;
+#[cfg(test)]
 mod fixtures;
