@@ -16,7 +16,7 @@ use Rattle.iot_machine.specs.Transcript.{InTurn, Transcript}
 use Rattle.iot_world.specs.Allowed.{IsAllowed}
 use Rattle.iot_world.specs.Faults.{FaultCounts}
 use Rattle.iot_world.specs.Records.{FirstHolds}
-use Rattle.iot_world.specs.World.{IsWorldOf, EventSteps, DeclaredOn, IsOpened, client_count, script_count, disks_of}
+use Rattle.iot_world.specs.World.{IsWorldOf, EventSteps, DeclaredOn, IsOpened, client_count, script_names, disks_of}
 use Rattle.iot_world.specs.declared.fault.WorldFault.{WorldFault}
 use Rattle.iot_world.specs.declared.fault.WorldFault.TheVariants as world
 use Rattle.iot_world.specs.declared.world.World.{World}
@@ -51,13 +51,13 @@ InTurn-append (first ∷ events) event m n o text more front last = record {
 
 -- the first of events that are declared may come
 allowed : {D : Type 0} (event : Event) (later : List Event) (world : World D) → DeclaredOn (event ∷ later) world
-    → IsAllowed event (client_count world) (script_count world)
+    → IsAllowed event (client_count world) (script_names world)
 allowed (events.Client name) later world declared = declared.0
-allowed (events.Script name code) later world declared = tt
-allowed (events.Run client script) later world declared = (declared.0, declared.1)
+allowed (events.Script name code) later world declared = declared.1
+allowed (events.Run client script option) later world declared = (declared.0, declared.1, declared.2)
 allowed (events.Hoard client path) later world declared = declared.0
 allowed (events.Refresh client) later world declared = declared.0
-allowed (events.Begin client script) later world declared = (declared.0, declared.1)
+allowed (events.Begin client script option) later world declared = (declared.0, declared.1, declared.2)
 allowed (events.Step client count) later world declared = declared.0
 allowed (events.End client) later world declared = declared.0
 allowed (events.Connect client) later world declared = declared.0
@@ -65,6 +65,8 @@ allowed (events.Disconnect client) later world declared = declared.0
 allowed (events.Lose client loss) later world declared = declared.0
 allowed (events.Sync client) later world declared = declared.0
 allowed (events.Drain client) later world declared = declared.0
+allowed (events.Repair client script) later world declared = (declared.0, declared.1)
+allowed (events.Discard client) later world declared = declared.0
 allowed events.ShowServer later world declared = tt
 allowed (events.ShowClient client) later world declared = declared.0
 allowed events.CrashServer later world declared = tt
@@ -87,7 +89,7 @@ appends_none (Some bytes) = sym (append-nil bytes)
 -- nothing is done yet
 pub plays_none : {D : Type 0} (reads : D → List ℕ) (may_leave : D → List ℕ → Type 0) (before after : Option (List ℕ)) (events : List Event)
     (world : World D)
-    → IsOpened reads may_leave world → AreDeclared events 0 0 → Appends before after []
+    → IsOpened reads may_leave world → AreDeclared events 0 [] → Appends before after []
     → PlaysOn reads may_leave before after events world 0
 plays_none reads may_leave before after events world is declared written = record {
   text = [];
@@ -96,8 +98,8 @@ plays_none reads may_leave before after events world is declared written = recor
   stands = is.stands;
   written = written;
   declared =
-      subst (λ (n : ℕ). AreDeclared events n (script_count world)) (sym is.no_clients)
-      (subst (λ (n : ℕ). AreDeclared events 0 n) (sym is.no_scripts) declared);
+      subst (λ (n : ℕ). AreDeclared events n (script_names world)) (sym is.no_clients)
+      (subst (AreDeclared events 0) (sym is.no_scripts) declared);
 }
 
 -- the event that is done next, and its text
@@ -192,7 +194,7 @@ module _ {D : Type 0} (reads : D → List ℕ) (may_leave : D → List ℕ → T
   -- the next event may come
   pub next_allowed : (done : ℕ) (event : Event) → PlaysOn reads may_leave before after events world done → done < length events
       → event ≡ slice_index_or events done event
-      → IsAllowed event (client_count world) (script_count world)
+      → IsAllowed event (client_count world) (script_names world)
   next_allowed done event plays within here =
       allowed event (drop (suc done) events) world
       (subst (λ (es : List Event). DeclaredOn es world)

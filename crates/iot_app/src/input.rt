@@ -1,5 +1,5 @@
 //! The input: the events that are left in the source.
-ghost use Rattle.std.specs.Prelude.{◌≡◌, IfOk, IfErr, OnOk};
+ghost use Rattle.std.specs.Prelude.{◌≡◌, [], IfOk, IfErr, OnOk};
 ghost use Rattle.std.specs.Io.KnownBytes.{IsAtEnd};
 ghost use Rattle.iot_io.specs.ReadAll.{Took};
 ghost use Rattle.iot_event.specs.Declarations.{AreDeclared};
@@ -65,7 +65,7 @@ pub(crate) fn read_events<S: Source>(
 ) -> Result<Vec<Event>, InputFault>
     ensures events { IfOk result (λ events.
         TookInput (Took S.left S.taken source.old source.new) (IsAtEnd (S.left source.new)) (Events events.items)) }
-    ensures declared { IfOk result (λ events. AreDeclared events.items 0 0) }
+    ensures declared { IfOk result (λ events. AreDeclared events.items 0 []) }
     ensures none { IfErr result (λ fault.
         TookFor fault (Took S.left S.taken source.old source.new) (IsAtEnd (S.left source.new))) }
     ensures steady { OnOk result (S.faults source.new ≡ S.faults source.old) }

@@ -1,5 +1,5 @@
 //! Doing the events, and writing what they say.
-ghost use Rattle.std.specs.Prelude.{◌≡◌};
+ghost use Rattle.std.specs.Prelude.{◌≡◌, []};
 ghost use Rattle.std.specs.Io.KnownBytes.{Appends};
 ghost use Rattle.iot_event.specs.Declarations.{AreDeclared};
 ghost use Rattle.iot_world.specs.Disks.{AreFresh, OnlyFirst, first_count};
@@ -23,7 +23,7 @@ pub(crate) fn play<K: Sink, D: Disk>(
     sink: &mut K,
     disks: Vec<D>,
 ) -> (Status, Vec<D>)
-    requires declared { AreDeclared events.now 0 0 }
+    requires declared { AreDeclared events.now 0 [] }
     requires fresh { AreFresh D.reads D.may_leave disks.items }
     ensures ends { Played result.0
         (Appends (K.written sink.old) (K.written sink.new))
@@ -55,7 +55,7 @@ fn play_on<K: Sink, D: Disk>(
     sink: &mut K,
     world: &mut World<D>,
 ) -> Status
-    requires declared { AreDeclared events.now 0 0 }
+    requires declared { AreDeclared events.now 0 [] }
     requires opened { IsOpened D.reads D.may_leave world.old }
     ensures ends { Played result
         (Appends (K.written sink.old) (K.written sink.new))

@@ -15,7 +15,7 @@ use Rattle.iot_machine.specs.Texts.{line}
 use Rattle.iot_machine.specs.Transactions.{Exchange, Held, Missed, Holds, took}
 use Rattle.iot_wire.specs.declared.requests.Request.TheVariants.{Refresh}
 use Rattle.iot_world.specs.Laptops.{Noted}
-use Rattle.iot_world.specs.Messages.{SpellsTree, BringsTree, IsSomeRequest}
+use Rattle.iot_world.specs.Messages.{SpellsTree, SpellsCut, BringsTree, IsSomeRequest}
 use Rattle.iot_world.specs.declared.message.Message.{Message}
 use Rattle.iot_world.specs.World.{Steps, IsReady, SameCounts, Exchanges, KeepsClients, brought_of}
 use Rattle.iot_world.specs.declared.answers.Brought.{Brought}
@@ -77,12 +77,12 @@ module _ {D : Type 0} (reads : D → List ℕ) (may_leave : D → List ℕ → T
       laptop
   there_too reply laptop is keeps at = ap (λ ls. slice_get ls c) (same_clients reply is keeps) ∙ at
 
-  module _ (laptop : Laptop) (want : Want) (exchanged : Exchanges reads may_leave c (Lends (state_of laptop.client).held want) SpellsTree o
-      old mid x y) where
+  module _ (laptop : Laptop) (want : Want) (exchanged : Exchanges reads may_leave c (Lends (state_of laptop.client).held want)
+      (SpellsCut (state_of laptop.client).held want) o old mid x y) where
     pub brings_tree : (reply : Vec ℕ Global) → o ≡ Some reply → BringsTree reply.items
     brings_tree reply is =
-        let e = came (Lends (state_of laptop.client).held want) SpellsTree exchanged reply is in
-        record { tree = e.0; is = e.1 }
+        let e = came (Lends (state_of laptop.client).held want) (SpellsCut (state_of laptop.client).held want) exchanged reply is in
+        record { tree = e.0; is = e.1.spelled }
 
     -- it is held
     pub held : (reply : Vec ℕ Global) (new : World D) (next : Laptop) (change : Nodes → ClientState → ClientState) → o ≡ Some reply
@@ -90,15 +90,15 @@ module _ {D : Type 0} (reads : D → List ℕ) (may_leave : D → List ℕ → T
         → ((t : Nodes) → SpellsTree reply.items t → Noted (change t) laptop next)
         → Steps reads may_leave (Holds c change want) old new x y Held
     held reply new next change is keeps at puts noted =
-        let e = came (Lends (state_of laptop.client).held want) SpellsTree exchanged reply is in
+        let e = came (Lends (state_of laptop.client).held want) (SpellsCut (state_of laptop.client).held want) exchanged reply is in
         brings reads may_leave c old mid new laptop next change want e.0 x y (at_before reply laptop is keeps at) at e.2 puts (noted
-        e.0 e.1)
+        e.0 e.1.spelled)
 
     pub missed : (change : Nodes → ClientState → ClientState) → o ≡ None → IsAt old c laptop
         → Steps reads may_leave (Holds c change want) old mid x y Missed
     missed change is at =
         misses reads may_leave c old mid laptop change want x y at
-        (none_came (Lends (state_of laptop.client).held want) SpellsTree exchanged is)
+        (none_came (Lends (state_of laptop.client).held want) (SpellsCut (state_of laptop.client).held want) exchanged is)
 
 module _ {D : Type 0} (reads : D → List ℕ) (may_leave : D → List ℕ → Type 0) (c : ℕ) (old mid : World D) (want : Want) (x y : List ℕ) where
   -- they are held, or the client is told that nothing came

@@ -2,20 +2,20 @@
 use Rattle.std.proofs.Common.{◌≡◌, ℕ, Bool, true, false, List, ◌++◌, length, Option, Some, None}
 use Rattle.std.proofs.Common.{◌⊎◌, inl, inr, refl, sym, ap, subst, ◌∙◌, arith, codes}
 use Rattle.std.proofs.lemmas.List.{length-set}
-use Rattle.iot_machine.specs.Calls.{Call, Asks, Nothing, Then, At}
+use Rattle.iot_machine.specs.Calls.{Call, Asks, Then, At}
 use Rattle.iot_machine.specs.Refining.{Refines}
 use Rattle.iot_machine.specs.Nodes.{Node, changed}
 use Rattle.iot_machine.specs.Clients as clients
-use Rattle.iot_machine.specs.Clients.{ClientState, Next, AtEnd, AtLimit, Acts, Fetches, local_run, end, leave, base, next_step}
+use Rattle.iot_machine.specs.Clients.{Declared, ClientState, Next, AtEnd, AtLimit, Acts, Fetches, end, base, next_step}
 use Rattle.iot_machine.specs.Machine as machine
 use Rattle.iot_machine.specs.Machine.{Machine, Commit, server, client_in, put_client, kept_by}
 use Rattle.iot_machine.specs.Texts.{line, transaction_name, end_line, pending_line}
 use Rattle.iot_machine.specs.Transactions.{Ended as MachineEnded, ended_of, waits_unless, syncs_or_waits, joins, end_by, Ends, Syncs}
-use Rattle.iot_machine.specs.Transactions.{Synced as MachineSynced, Empty, Left, Unanswered}
+use Rattle.iot_machine.specs.Transactions.{Synced as MachineSynced, Unanswered}
 use Rattle.iot_world.specs.Laptops.{LaptopStands, Noted, Ended, IsEndOf, IsOver, IsUnended}
 use Rattle.iot_world.specs.Messages.{name_of}
 use Rattle.iot_world.specs.Servers.{ServerStands, HasAnswered}
-use Rattle.iot_world.specs.World.{Each, ScriptStands, ArePlaced, Steps, IsReady, synced_of}
+use Rattle.iot_world.specs.World.{Each, ScriptStands, ArePlaced, Steps, IsReady, scripts_of, synced_of}
 use Rattle.iot_world.specs.declared.answers.Synced.{Synced}
 use Rattle.iot_world.specs.declared.answers.Synced.TheVariants as synced
 use Rattle.iot_world.specs.declared.laptop.Gone.{Gone}
@@ -23,7 +23,17 @@ use Rattle.iot_world.specs.declared.laptop.Laptop.{Laptop}
 use Rattle.iot_world.specs.declared.world.DeclaredScript.{DeclaredScript}
 use Rattle.iot_world.specs.declared.world.World.{World}
 use Rattle.iot_world.proofs.CallsLaws.{bind, asks, asks_any, says_this, nothing}
-use Rattle.iot_world.proofs.StepsLaws.{IsAt, Puts, running_in, running_is, laptop_stands, puts_stands, notes, asks_running}
+use Rattle.iot_world.proofs.StepsLaws.{IsAt, Puts, running_in, runs_here, laptop_stands, puts_stands, notes, asks_running}
+
+-- it left or moved on, waits for a decision by hand, or none waited
+abbrev pub IsSilent : Synced → Type 0
+IsSilent how = (how ≡ synced.Empty) ⊎ (how ≡ synced.Left) ⊎ (how ≡ synced.Moved) ⊎ (how ≡ synced.ByHand)
+
+is_not_silent : IsSilent synced.Unanswered → ⊥
+is_not_silent (inl is) = cc
+is_not_silent (inr (inl is)) = cc
+is_not_silent (inr (inr (inl is))) = cc
+is_not_silent (inr (inr (inr is))) = cc
 
 module _ {D : Type 0} (reads : D → List ℕ) (may_leave : D → List ℕ → Type 0) where
   -- the world is ready for what follows a change of what a client keeps
@@ -36,7 +46,7 @@ module _ {D : Type 0} (reads : D → List ℕ) (may_leave : D → List ℕ → T
         machine = put_client c client m;
         stands =
             puts_stands reads may_leave old new m c was laptop client at noted.place puts
-            (noted.stands (client_in m c) (laptop_stands reads may_leave old m c was at ready.stands)) ready.stands;
+            (noted.stands m.scripts (client_in m c) (laptop_stands reads may_leave old m c was at ready.stands)) ready.stands;
         inside = omega (arith, ready.inside, ap length puts.clients, length-set old.clients.items c laptop);
       }
 
@@ -59,8 +69,9 @@ module _ {D : Type 0} (reads : D → List ℕ) (may_leave : D → List ℕ → T
             server = s.4;
             requests = counts m.requests here.requests;
             placed = subst ArePlaced (sym same) here.placed;
-            clients = subst (λ (ls : List Laptop). Each LaptopStands ls m.clients) (sym same) here.clients;
+            clients = subst (λ (ls : List Laptop). Each (LaptopStands m.scripts) ls m.clients) (sym same) here.clients;
             scripts = subst (λ (ss : List DeclaredScript). Each ScriptStands ss m.scripts) (sym scripts) here.scripts;
+            apart = here.apart;
             few = omega (arith, here.few, ap length same);
           },
         );
@@ -70,16 +81,18 @@ module _ {D : Type 0} (reads : D → List ℕ) (may_leave : D → List ℕ → T
 
   module _ (c : ℕ) (old : World D) (was : Laptop) (x : List ℕ) (at : IsAt old c was) where
     -- none runs
-    pub ends_idle : (y : List ℕ) → running_in was ≡ None → y ≡ x ++ line (codes "idle") → Steps reads may_leave (Ends c) old old x y tt
+    pub ends_idle : (y : List ℕ) → running_in (scripts_of old) was ≡ None → y ≡ x ++ line (codes "idle")
+        → Steps reads may_leave (Ends c) old old x y tt
     ends_idle y none wrote =
         bind old old old x x y None tt
         (subst (λ (it : Option clients.Running). Steps reads may_leave (Asks (λ m. (kept_by c m).running)) old old x x it) none
         (asks_running reads may_leave c old was x at))
         (says_this (line (codes "idle")) old x y wrote)
 
-    module _ (it : clients.Running) (runs_it : running_in was ≡ Some it) where
+    module _ (it : clients.Running) (runs_it : running_in (scripts_of old) was ≡ Some it) where
       ends_then : (new : World D) (y : List ℕ) (P : Next → Type 0)
-          → ((m : machine.Client) → LaptopStands was m → m.node.durable.running ≡ Some it → P (next_step m.first (base m.node.durable) it))
+          → ((scripts : List Declared) (m : machine.Client) → LaptopStands scripts was m → m.node.durable.running ≡ Some it
+          → P (next_step m.first (base m.node.durable) it))
           → ((n : Next) → P n → Steps reads may_leave (end_by c it n) old new x y tt)
           → Steps reads may_leave (Ends c) old new x y tt
       ends_then new y P is more =
@@ -89,12 +102,12 @@ module _ {D : Type 0} (reads : D → List ℕ) (may_leave : D → List ℕ → T
           (asks_any P old new x y tt
           (λ m here.
           let there = laptop_stands reads may_leave old m c was at here in
-          is (client_in m c) there (running_is was (client_in m c) there ∙ runs_it))
+          is m.scripts (client_in m c) there (runs_here reads may_leave c old was at m here ∙ runs_it))
           more)
 
       -- its script has not ended
       pub ends_early : (y : List ℕ)
-          → ((m : machine.Client) → LaptopStands was m → m.node.durable.running ≡ Some it
+          → ((scripts : List Declared) (m : machine.Client) → LaptopStands scripts was m → m.node.durable.running ≡ Some it
           → IsUnended (next_step m.first (base m.node.durable) it))
           → y ≡ x ++ line (codes "not at end") → Steps reads may_leave (Ends c) old old x y tt
       ends_early y is wrote = ends_then old y IsUnended is early
@@ -116,7 +129,7 @@ module _ {D : Type 0} (reads : D → List ℕ) (may_leave : D → List ℕ → T
             (λ m here.
             let there = laptop_stands reads may_leave old m c was at here in
             let is : IsEndOf gone (client_in m c) it =
-            ended.ends (client_in m c) it there (running_is was (client_in m c) there ∙ runs_it) in
+            ended.ends m.scripts (client_in m c) it there (runs_here reads may_leave c old was at m here ∙ runs_it) in
             ap (λ (n : List ℕ). record { name = n; printed = gone.printed.output; first = gone.first }) is.name
             ∙ ap (λ (l : List ℕ).
             record { name = transaction_name (client_in m c).name it.number; printed = l; first = gone.first }) is.did
@@ -131,7 +144,7 @@ module _ {D : Type 0} (reads : D → List ℕ) (may_leave : D → List ℕ → T
           ends_by : (b : Bool) → gone.first ≡ b → Steps reads may_leave (syncs_or_waits c gone_as b) mid new y z tt
               → Steps reads may_leave (Ends c) old new x z tt
           ends_by b first more =
-              ends_then new z IsOver (λ m there is. (ended.ends m it there is).over) over
+              ends_then new z IsOver (λ scripts m there is. (ended.ends scripts m it there is).over) over
             where
               joined : Steps reads may_leave (Then (Asks (ended_of c it)) (joins c)) old new x z tt
               joined =
@@ -151,15 +164,20 @@ module _ {D : Type 0} (reads : D → List ℕ) (may_leave : D → List ℕ → T
               → Steps reads may_leave (waits_unless gone_as how) new new w z tt → Steps reads may_leave (Ends c) old new x z tt
           ends_synced w how first done more = ends_by true first (bind mid new new y w z how tt done more)
 
-          -- and nothing is left to be said: it left, or none waited
-          pub ends_told : (w : List ℕ) (how : Synced) → gone.first ≡ true → (how ≡ synced.Empty) ⊎ (how ≡ synced.Left)
+          -- and nothing is left to be said
+          pub ends_told : (w : List ℕ) (how : Synced) → gone.first ≡ true → IsSilent how
               → Steps reads may_leave (Syncs c) mid new y w (synced_of how) → z ≡ w → Steps reads may_leave (Ends c) old new x z tt
-          ends_told w how first (inl is) done same =
-              ends_synced w Empty first (subst (λ (s : Synced). Steps reads may_leave (Syncs c) mid new y w (synced_of s)) is done)
-              (subst (λ (v : List ℕ). Steps reads may_leave Nothing new new w v tt) (sym same) (nothing new w))
-          ends_told w how first (inr is) done same =
-              ends_synced w Left first (subst (λ (s : Synced). Steps reads may_leave (Syncs c) mid new y w (synced_of s)) is done)
-              (subst (λ (v : List ℕ). Steps reads may_leave Nothing new new w v tt) (sym same) (nothing new w))
+          ends_told w how first silent done same =
+              ends_synced w (synced_of how) first done
+              (subst (λ (v : List ℕ). Steps reads may_leave (waits_unless gone_as (synced_of how)) new new w v tt) (sym same)
+              (quiet how silent))
+            where
+              quiet : (how : Synced) → IsSilent how → Steps reads may_leave (waits_unless gone_as (synced_of how)) new new w w tt
+              quiet synced.Empty silent = nothing new w
+              quiet synced.Left silent = nothing new w
+              quiet synced.Moved silent = nothing new w
+              quiet synced.ByHand silent = nothing new w
+              quiet synced.Unanswered silent = absurd (is_not_silent silent)
 
           -- and no verdict came, so it waits
           pub ends_unanswered : (w : List ℕ) (how : Synced) → gone.first ≡ true → how ≡ synced.Unanswered

@@ -1,7 +1,7 @@
 -- The events of a world's clients are those of the machine's.
-use Rattle.std.proofs.Common.{◌≡◌, ℕ, ◌<◌, Bool, true, false, List, [], ◌∷◌, ◌++◌, length, Option, Some, None}
+use Rattle.std.proofs.Common.{◌≡◌, ℕ, ◌+◌, ◌<◌, Bool, true, false, List, [], ◌∷◌, ◌++◌, length, map, Option, Some, None}
 use Rattle.std.proofs.Common.{is_some, append_assoc, refl, sym, ap, subst, ◌∙◌, arith, codes}
-use Rattle.std.proofs.lemmas.List.{append-nil, length-append}
+use Rattle.std.proofs.lemmas.List.{append-nil, length-append, map-append}
 use Rattle.std.proofs.lemmas.Option.{same_Some}
 use Rattle.iot_tree.specs.Tree.{Nodes}
 use Rattle.iot_lang.specs.Code.{Code}
@@ -9,24 +9,27 @@ use Rattle.iot_client.specs.States.{Transaction}
 use Rattle.iot_client.specs.Ties.{place_of, state_of, live_of}
 use Rattle.iot_client.specs.Calls.{first_of, is_over_if_any}
 use Rattle.iot_event.specs.Declarations.{AreDeclared}
+use Rattle.iot_event.specs.Meanings.{is_declared}
 use Rattle.iot_event.specs.declared.event.Event.{Event}
 use Rattle.iot_event.specs.declared.event.Event.TheVariants as events
 use Rattle.iot_link.specs.Links.{LinkState}
 use Rattle.iot_machine.specs.Calls.{Call, Part, Asks, Says, Then, goes_on}
 use Rattle.iot_machine.specs.Refining.{Refines}
 use Rattle.iot_machine.specs.Clients as clients
-use Rattle.iot_machine.specs.Clients.{ClientState, view, base, next_step}
+use Rattle.iot_machine.specs.Clients.{Declared, ClientState, view, base, next_step}
 use Rattle.iot_machine.specs.Machine as machine
 use Rattle.iot_machine.specs.Machine.{Machine, Commit, client_in, node_at, kept_by, no_client}
 use Rattle.iot_machine.specs.Events.{StepsAloud, Runs, SyncsIf, is_connected, runs_script, event_part, begin_text, step_text, run_steps}
 use Rattle.iot_machine.specs.Events.{declare_client, declare_script, name_of, said_of, place_text}
+use Rattle.iot_machine.specs.Options.{OnConflict}
 use Rattle.iot_machine.specs.Texts.{line, client_line, begin_line, step_line, transaction_name, tree_text}
 use Rattle.iot_machine.specs.Transactions.{Begins, StepsAll, Stepped, Ends, SyncsAll, Synced, runs, next_of}
 use Rattle.iot_world.specs.Laptops.{LaptopStands, RunningStandsIfAny, IsView, new_laptop}
 use Rattle.iot_world.specs.Saying.{place_said}
+use Rattle.iot_world.specs.Scripts.{script_named}
 use Rattle.iot_world.specs.Servers.{ServerStands, HasAnswered}
-use Rattle.iot_world.specs.World.{Each, ScriptStands, StandsFor, Steps, AddsClient, AddsScript, SameCounts, DeclaredOn}
-use Rattle.iot_world.specs.World.{ArePlaced, client_count, script_count}
+use Rattle.iot_world.specs.World.{Each, ScriptStands, StandsFor, Steps, AddsClient, AddsScript, SameCounts, DeclaredOn, scripts_of}
+use Rattle.iot_world.specs.World.{ArePlaced, client_count, script_names}
 use Rattle.iot_world.specs.declared.laptop.Laptop.{Laptop}
 use Rattle.iot_world.specs.declared.server.ServerNode.{ServerNode}
 use Rattle.iot_world.specs.declared.world.DeclaredScript.{DeclaredScript}
@@ -36,14 +39,33 @@ use Rattle.iot_world.proofs.LaptopsLaws as laptops
 use Rattle.iot_world.proofs.LaptopsLaws.{Running, place_is}
 use Rattle.iot_world.proofs.ListLaws.{each_push, each_place_push, set_same}
 use Rattle.iot_world.proofs.ReadyLaws.{none_stands}
-use Rattle.iot_world.proofs.StepsLaws.{IsAt, running_in, running_is, laptop_stands, asks_running, asks_runs}
+use Rattle.iot_world.proofs.StepsLaws.{IsAt, running_in, runs_here, laptop_stands, asks_running, asks_runs}
+use Rattle.iot_world.proofs.ScriptsLaws.{scripts_are, laptops_more, apart_more, undeclared}
 
 -- events that were declared are so after one that declares nothing
 pub declared_after : {D : Type 0} (old new : World D) (later : List Event) → SameCounts old new
-    → AreDeclared later (client_count old) (script_count old) → DeclaredOn later new
+    → AreDeclared later (client_count old) (script_names old) → DeclaredOn later new
 declared_after old new later same declared =
-    subst (λ (n : ℕ). AreDeclared later n (script_count new)) (sym same.clients)
-    (subst (λ (n : ℕ). AreDeclared later (client_count old) n) (sym (ap length same.scripts)) declared)
+    subst (λ (n : ℕ). AreDeclared later n (script_names new)) (sym same.clients)
+    (subst (λ (names : List (List ℕ)). AreDeclared later (client_count old) names)
+    (sym (ap (map (λ script. script.name)) same.scripts)) declared)
+
+-- so are they after one that declares what it declares
+pub declared_client : {D : Type 0} (name : List ℕ) (old new : World D) (later : List Event) → AddsClient name old new
+    → DeclaredOn (events.Client name ∷ later) old → DeclaredOn later new
+declared_client name old new later adds declared =
+    subst (λ (n : ℕ). AreDeclared later n (script_names new))
+    (sym (ap length adds.clients ∙ length-append old.clients.items (adds.laptop ∷ [])))
+    (subst (λ (names : List (List ℕ)). AreDeclared later (client_count old + 1) names)
+    (sym (ap (map (λ script. script.name)) adds.scripts)) declared.1)
+
+pub declared_script : {D : Type 0} (name : List ℕ) (code : Code) (old new : World D) (later : List Event) → AddsScript name code old new
+    → DeclaredOn (events.Script name code ∷ later) old → DeclaredOn later new
+declared_script name code old new later adds declared =
+    subst (λ (n : ℕ). AreDeclared later n (script_names new)) (sym (ap length adds.clients))
+    (subst (λ (names : List (List ℕ)). AreDeclared later (client_count old) names)
+    (sym (ap (map (λ script. script.name)) adds.scripts
+    ∙ map-append (λ script. script.name) old.scripts.items (record { name = name; script = code } ∷ []))) declared.2)
 
 -- two calls and a third are one call and two
 regrouped : {W M A B C : Type 0} {stands : W → M → Type 0} {one : Call M A} {next : A → Call M B} {last : B → Call M C} (u v w : W)
@@ -72,7 +94,7 @@ regrouped u v w x y z b c two third = record {
 
 -- ---- what is said of a transaction that runs
 
-module _ (laptop : Laptop) (m : machine.Client) (r : Transaction) (here : LaptopStands laptop m)
+module _ (scripts : List Declared) (laptop : Laptop) (m : machine.Client) (r : Transaction) (here : LaptopStands scripts laptop m)
     (is : (state_of laptop.client).running ≡ Some r) where
   module _ (it : clients.Running) (runs : m.node.durable.running ≡ Some it) where
     known : Running (state_of laptop.client).running (live_of laptop.client) m.first it
@@ -142,17 +164,20 @@ module _ {D : Type 0} (reads : D → List ℕ) (may_leave : D → List ℕ → T
             subst ArePlaced (sym adds.clients)
             (each_place_push (λ n (l : Laptop). place_of l.client ≡ n) old.clients.items adds.laptop here.placed adds.place);
         clients =
-            subst (λ (ls : List Laptop). Each LaptopStands ls (m.clients ++ new_laptop name ∷ [])) (sym adds.clients)
-            (each_push LaptopStands old.clients.items m.clients adds.laptop (new_laptop name) adds.stands here.clients);
+            subst (λ (ls : List Laptop). Each (LaptopStands m.scripts) ls (m.clients ++ new_laptop name ∷ [])) (sym adds.clients)
+            (each_push (LaptopStands m.scripts) old.clients.items m.clients adds.laptop (new_laptop name) (adds.stands m.scripts)
+            here.clients);
         scripts = subst (λ (ss : List DeclaredScript). Each ScriptStands ss m.scripts) (sym adds.scripts) here.scripts;
+        apart = here.apart;
         few = omega (arith, few, ap length adds.clients, length-append old.clients.items (adds.laptop ∷ []));
       },
     );
   }
 
-  pub declares_script : (name : List ℕ) (code : Code) (old new : World D) (x : List ℕ) → AddsScript name code old new
+  pub declares_script : (name : List ℕ) (code : Code) (old new : World D) (x : List ℕ) → is_declared name (script_names old) ≡ false
+      → AddsScript name code old new
       → Steps reads may_leave (event_part (events.Script name code)) old new x x tt
-  declares_script name code old new x adds = record {
+  declares_script name code old new x none adds = record {
     step = λ m here. (
       [],
       declare_script (record { name = name; code = code }) m,
@@ -161,17 +186,23 @@ module _ {D : Type 0} (reads : D → List ℕ) (may_leave : D → List ℕ → T
       record {
         server = subst (λ (s : ServerNode D). ServerStands reads may_leave s m.server) (sym adds.server) here.server;
         requests = subst (HasAnswered m.requests) (sym adds.server) here.requests;
-        clients = subst (λ (ls : List Laptop). Each LaptopStands ls m.clients) (sym adds.clients) here.clients;
+        clients =
+            subst (λ (ls : List Laptop). Each (LaptopStands (m.scripts ++ one ∷ [])) ls m.clients) (sym adds.clients)
+            (laptops_more m.scripts one old.clients.items m.clients here.clients);
         placed = subst ArePlaced (sym adds.clients) here.placed;
         scripts =
-            subst (λ (ss : List DeclaredScript). Each ScriptStands ss (m.scripts ++ record { name = name; code = code } ∷ []))
-            (sym adds.scripts)
-            (each_push ScriptStands old.scripts.items m.scripts (record { name = name; script = code })
-            (record { name = name; code = code }) refl here.scripts);
+            subst (λ (ss : List DeclaredScript). Each ScriptStands ss (m.scripts ++ one ∷ [])) (sym adds.scripts)
+            (each_push ScriptStands old.scripts.items m.scripts (record { name = name; script = code }) one refl here.scripts);
+        apart =
+            apart_more m.scripts one here.apart
+            (ap (script_named name) (scripts_are old.scripts.items m.scripts here.scripts) ∙ undeclared old.scripts.items name none);
         few = omega (arith, here.few, ap length adds.clients);
       },
     );
   }
+    where
+      one : Declared
+      one = record { name = name; code = code }
 
   -- ---- a part that is done if the call before it went on
 
@@ -196,13 +227,13 @@ module _ {D : Type 0} (reads : D → List ℕ) (may_leave : D → List ℕ → T
         (λ m here. wrote ∙ ap (λ (n : List ℕ). x ++ text n) (laptop_stands reads may_leave world m c laptop at here).name)
 
     -- none runs, so nothing is said of it
-    module _ (none : running_in laptop ≡ None) (same : y ≡ x) where
+    module _ (none : running_in (scripts_of world) laptop ≡ None) (same : y ≡ x) where
       none_said : (m : Machine) (text : clients.Running → List ℕ) → StandsFor reads may_leave world m
           → y ≡ x ++ said_of text (kept_by c m).running
       none_said m text here =
           same ∙ sym (append-nil x)
           ∙ ap (λ (it : Option clients.Running). x ++ said_of text it)
-          (sym (running_is laptop (client_in m c) (laptop_stands reads may_leave world m c laptop at here) ∙ none))
+          (sym (runs_here reads may_leave c world laptop at m here ∙ none))
 
       pub no_begin : Steps reads may_leave (Says (begin_text c)) world world x y tt
       no_begin =
@@ -223,7 +254,7 @@ module _ {D : Type 0} (reads : D → List ℕ) (may_leave : D → List ℕ → T
           says world x y
           (λ m here.
           wrote ∙ ap (λ (t : List ℕ). x ++ t)
-          (begin_said laptop (client_in m c) r (laptop_stands reads may_leave world m c laptop at here) is first class))
+          (begin_said m.scripts laptop (client_in m c) r (laptop_stands reads may_leave world m c laptop at here) is first class))
 
       pub says_stepped : y ≡ x ++ step_line (transaction_name laptop.name r.number) (length r.acts)
           (place_said (is_over_if_any (state_of laptop.client) (live_of laptop.client)) (length r.acts))
@@ -232,18 +263,18 @@ module _ {D : Type 0} (reads : D → List ℕ) (may_leave : D → List ℕ → T
           says world x y
           (λ m here.
           wrote ∙ ap (λ (t : List ℕ). x ++ t)
-          (step_said laptop (client_in m c) r (laptop_stands reads may_leave world m c laptop at here) is))
+          (step_said m.scripts laptop (client_in m c) r (laptop_stands reads may_leave world m c laptop at here) is))
 
     -- what it sees
     pub shows_view : (t : Nodes) → IsView t laptop → y ≡ x ++ tree_text t
         → Steps reads may_leave (event_part (events.ShowClient c)) world world x y tt
     shows_view t is wrote = record {
       step = λ m here.
-          let there : LaptopStands laptop (client_in m c) = laptop_stands reads may_leave world m c laptop at here in
+          let there : LaptopStands m.scripts laptop (client_in m c) = laptop_stands reads may_leave world m c laptop at here in
           let text : List ℕ = tree_text (view (kept_by c m)) in (
             text,
             m,
-            wrote ∙ ap (λ (t : Nodes). x ++ tree_text t) (is (client_in m c) there),
+            wrote ∙ ap (λ (t : Nodes). x ++ tree_text t) (is m.scripts (client_in m c) there),
             record {
               inner = (client_in m c).node;
               step = record {
@@ -264,7 +295,7 @@ module _ {D : Type 0} (reads : D → List ℕ) (may_leave : D → List ℕ → T
   -- ---- begin, steps and run
 
   pub steps_aloud : (c most : ℕ) (old mid : World D) (was : Laptop) (x y z : List ℕ) (it : clients.Running) (answer : Stepped)
-      → IsAt old c was → running_in was ≡ Some it
+      → IsAt old c was → running_in (scripts_of old) was ≡ Some it
       → Steps reads may_leave (StepsAll c true most) old mid x y answer
       → Steps reads may_leave (Says (step_text c)) mid mid y z tt
       → Steps reads may_leave (StepsAloud c most) old mid x z tt
@@ -274,7 +305,7 @@ module _ {D : Type 0} (reads : D → List ℕ) (may_leave : D → List ℕ → T
       (asks_running reads may_leave c old was x at))
       (bind old mid mid x y z answer tt all said)
 
-  pub none_to_step : (c most : ℕ) (old : World D) (was : Laptop) (x y : List ℕ) → IsAt old c was → running_in was ≡ None
+  pub none_to_step : (c most : ℕ) (old : World D) (was : Laptop) (x y : List ℕ) → IsAt old c was → running_in (scripts_of old) was ≡ None
       → y ≡ x ++ line (codes "idle") → Steps reads may_leave (StepsAloud c most) old old x y tt
   none_to_step c most old was x y at none wrote =
       bind old old old x x y None tt
@@ -284,10 +315,10 @@ module _ {D : Type 0} (reads : D → List ℕ) (may_leave : D → List ℕ → T
 
   -- ---- run
 
-  module _ (c s : ℕ) (old : World D) (was : Laptop) (at : IsAt old c was) where
+  module _ (c s : ℕ) (option : OnConflict ℕ) (old : World D) (was : Laptop) (at : IsAt old c was) where
     -- one runs
     pub run_busy : (x y : List ℕ) → is_some (state_of was.client).running ≡ true → y ≡ x ++ line (codes "busy")
-        → Steps reads may_leave (Runs c s) old old x y tt
+        → Steps reads may_leave (Runs c s option) old old x y tt
     run_busy x y busy wrote =
         bind old old old x x y true tt
         (subst (λ (b : Bool). Steps reads may_leave (Asks (runs c)) old old x x b) busy (asks_runs reads may_leave c old was x at))
@@ -296,7 +327,7 @@ module _ {D : Type 0} (reads : D → List ℕ) (may_leave : D → List ℕ → T
     -- none does
     pub run_idle : (mid new : World D) (x y z : List ℕ) → is_some (state_of was.client).running ≡ false
         → Steps reads may_leave (Then (Asks (is_connected c)) (SyncsIf c)) old mid x y tt
-        → Steps reads may_leave (runs_script c s) mid new y z tt → Steps reads may_leave (Runs c s) old new x z tt
+        → Steps reads may_leave (runs_script c s option) mid new y z tt → Steps reads may_leave (Runs c s option) old new x z tt
     run_idle mid new x y z idle one other =
         bind old old new x x z false tt
         (subst (λ (b : Bool). Steps reads may_leave (Asks (runs c)) old old x x b) idle (asks_runs reads may_leave c old was x at))
@@ -322,10 +353,10 @@ module _ {D : Type 0} (reads : D → List ℕ) (may_leave : D → List ℕ → T
     pub syncs_down : was.link.up ≡ false → Steps reads may_leave (Then (Asks (is_connected c)) (SyncsIf c)) old old x x tt
     syncs_down is = syncs_by old x false is (nothing old x)
 
-  pub run_on : (c s : ℕ) (old mid next new : World D) (w x y z : List ℕ) (on : Bool) (answer : Stepped) → on ≡ true
-      → Steps reads may_leave (Begins c s) old mid w x on
+  pub run_on : (c s : ℕ) (option : OnConflict ℕ) (old mid next new : World D) (w x y z : List ℕ) (on : Bool) (answer : Stepped) → on ≡ true
+      → Steps reads may_leave (Begins c s option) old mid w x on
       → Steps reads may_leave (StepsAll c false run_steps) mid next x y answer → Steps reads may_leave (Ends c) next new y z tt
-      → Steps reads may_leave (runs_script c s) old new w z tt
-  run_on c s old mid next new w x y z on answer is begun all ended =
-      goes (Begins c s) (Then (StepsAll c false run_steps) (λ _. Ends c)) old mid new w x z on is begun
+      → Steps reads may_leave (runs_script c s option) old new w z tt
+  run_on c s option old mid next new w x y z on answer is begun all ended =
+      goes (Begins c s option) (Then (StepsAll c false run_steps) (λ _. Ends c)) old mid new w x z on is begun
       (bind mid next new x y z answer tt all ended)

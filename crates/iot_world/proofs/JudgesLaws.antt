@@ -10,7 +10,6 @@ use Rattle.iot_tree.specs.Tree.{Nodes, IsTree}
 use Rattle.iot_tree.specs.declared.acts.Act.{Act}
 use Rattle.iot_tree.specs.declared.acts.Read.{Read}
 use Rattle.iot_tree.specs.declared.labels.Label.{Label}
-use Rattle.iot_tree.specs.declared.labels.Way.TheVariants.{Certified}
 use Rattle.iot_tree.specs.declared.questions.Answer.{Answer}
 use Rattle.iot_acts.specs.Guards.{AllGuarded}
 use Rattle.iot_acts.specs.Traces.{ActsHold, after_update}
@@ -143,11 +142,11 @@ module _ {D : Type 0} (reads : D → List ℕ) (may_leave : D → List ℕ → T
 
   -- what is said of it
   says_it : (commits : List Commit) (number : ℕ) → number ≡ length commits → ActsHold (tree_after commits) acts
-      → commit_line (number + 1) (name_of transaction) Certified ++ acts_output acts ≡ commit_text it.name it.commit commits
+      → commit_line (number + 1) (name_of transaction) label.way ++ acts_output acts ≡ commit_text it.name it.commit commits
   says_it commits number counts hold =
       let run_there : acts ≡ (run_entry it.commit.entry (tree_after commits)).acts =
       sym (are_of (tree_after commits) (list_tree commits) hold).has_acts in
-      (λ i. commit_line (counts i + 1) (sym is.name i) (sym is.way i) ++ acts_output (run_there i))
+      (λ i. commit_line (counts i + 1) (sym is.name i) (sym is.has_label i).way ++ acts_output (run_there i))
 
   module _ (was now : Server D) (synced : servers.IsSynced reads may_leave now) where
     -- the acts hold on the tree of the list
@@ -160,7 +159,7 @@ module _ {D : Type 0} (reads : D → List ℕ) (may_leave : D → List ℕ → T
         → servers.bodies_on reads now ≡ servers.bodies_on reads was ++ record_spelling label acts ∷ []
         → servers.state_of now ≡ after_commit (servers.state_of was) label acts
         → ActsHold (servers.state_of was).tree acts
-        → y ≡ x ++ (commit_line (length (servers.state_of was).labels + 1) (name_of transaction) Certified ++ acts_output acts)
+        → y ≡ x ++ (commit_line (length (servers.state_of was).labels + 1) (name_of transaction) label.way ++ acts_output acts)
         → Refines (ServerStands reads may_leave) (Commits it.name it.commit) (Up was) (Up now) x y
         (Some (Settled (length (servers.state_of was).labels + 1)))
     commits_it x y recorded made hold wrote = record {
@@ -312,10 +311,10 @@ module _ {D : Type 0} (reads : D → List ℕ) (may_leave : D → List ℕ → T
         → Serves reads may_leave (Judges it) (SpellsVerdict it.reads) reply (Up was) (Up now) x y
     by_verdict Holds none judged told =
         let number : ℕ = length (servers.state_of was).labels in
-        let wrote : y ≡ x ++ (commit_line (number + 1) (name_of hands.transaction) Certified ++ acts_output hands.acts) =
+        let wrote : y ≡ x ++ (commit_line (number + 1) (name_of hands.transaction) hands.label.way ++ acts_output hands.acts) =
         said ∙ ap (λ (s : State). x ++ commit_said number (length s.labels) message) told.1
         ∙ ap (λ (n : ℕ). x ++ commit_said number n message) (length-append (servers.state_of was).labels (hands.label ∷ []))
-        ∙ ap (λ (text : List ℕ). x ++ text) (commit_is_said number message _ hands.printed) in
+        ∙ ap (λ (text : List ℕ). x ++ text) (commit_is_said number message _ hands.handed) in
         record {
           answer = Settled (number + 1);
           spelled = inl (subst (Spells reply) told.0 handled.answered.spelled);

@@ -4,8 +4,11 @@ use Rattle.std.proofs.Common.{option_map, option_and_then, slice_get, length-app
 use Rattle.std.proofs.lemmas.Option.{same_Some}
 use Rattle.std.specs.Prelude.{IsSome}
 use Rattle.std.specs.FinMap.{empty}
+use Rattle.std.specs.List.{AllByRecursion}
 use Rattle.iot_tree.specs.Tree.{Nodes, Path, IsTree}
 use Rattle.iot_tree.specs.declared.acts.Act.{Act}
+use Rattle.iot_tree.specs.declared.labels.OnConflict.{OnConflict as OnConflictNamed}
+use Rattle.iot_tree.specs.declared.labels.OnConflict.TheVariants as on
 use Rattle.iot_tree.specs.declared.limits.TheConstants.{ACT_LIMIT}
 use Rattle.iot_lang.specs.Code.{Code}
 use Rattle.iot_limits.specs.Spelled.{IsSpelledTree}
@@ -13,24 +16,34 @@ use Rattle.iot_acts.specs.Traces.{after_acts}
 use Rattle.iot_exec.specs.Misses.{first_away}
 use Rattle.iot_exec.specs.Runs.{run}
 use Rattle.iot_exec.specs.declared.ran.Ran.{Ran}
+use Rattle.iot_queue.specs.Queues.{with_head, staged}
 use Rattle.iot_queue.specs.declared.items.Item.{Item}
+use Rattle.iot_queue.specs.declared.items.Stage.{Stage}
+use Rattle.iot_queue.specs.declared.items.Stage.TheVariants as stages
 use Rattle.iot_queue.specs.declared.items.Stage.TheVariants.{Waiting}
 use Rattle.iot_client.specs.States.{Transaction, State, acts_of, after_each, after_items}
-use Rattle.iot_client.specs.Records.{CanFollow, with_acts, ended, left, after}
+use Rattle.iot_client.specs.Records.{CanFollow, with_acts, ended, left, stage_by, conflicted, after}
 use Rattle.iot_client.specs.Ties.{Live, state_of, live_of, count}
 use Rattle.iot_client.specs.Calls.{has_ended, next_acts, missed, StepIs, Ends, EndsIfAny}
 use Rattle.iot_client.specs.declared.client.Client.{Client}
 use Rattle.iot_client.specs.declared.record.Record.TheVariants.{Held, Fetched, Acted, Ended, Left}
+use Rattle.iot_client.specs.declared.record.Record.TheVariants.{Conflicted}
 use Rattle.iot_client.specs.declared.running.Ended as client
 use Rattle.iot_client.specs.declared.steps.Step.{Step}
 use Rattle.iot_client.specs.declared.steps.Step.TheVariants as steps
 use Rattle.iot_machine.specs.Clients as clients
 use Rattle.iot_machine.specs.Clients.{ClientState, local_run, base, plain_run, so_far, hold, anew, fetch, one_more, act_once}
 use Rattle.iot_machine.specs.Clients.{item_of, joined, end, leave, leave_by, Acts, next_away, next_by, next_step}
+use Rattle.iot_machine.specs.Clients.{Declared, with_first, change_first, at_stage, reach}
+use Rattle.iot_machine.specs.Options as options
+use Rattle.iot_machine.specs.Options.{OnConflict}
+use Rattle.iot_machine.specs.Sound.{CanResolve, IsPlanned}
 use Rattle.iot_judging.proofs.JudgingLaws.{run_tree}
 use Rattle.iot_judging.proofs.SpelledTreesLaws.{run_spelled}
 use Rattle.iot_judging.proofs.NextLaws.{is_at_end, is_at_limit, is_next}
 use Rattle.iot_world.specs.Laptops.{ItemStands, ItemsStand, RunningStands, RunningStandsIfAny, StateStands, waits_of, next_as}
+use Rattle.iot_world.specs.Laptops.{StageStands, head_option}
+use Rattle.iot_world.specs.Scripts.{ItemIsNamed, RunIsNamedIfAny, AreNamed, option_named}
 use Rattle.iot_world.proofs.LaptopsLaws.{HeadStands, Running, head_stands, running_is, run_is, counted, ended_is}
 
 -- ---- the running transaction
@@ -47,6 +60,7 @@ more_by act (Some running) (Some own) first (Some it) stands = record {
   code = stands.code;
   script = stands.script;
   acts = length-append running.acts (act ∷ []) ∙ ap (λ (n : ℕ). n + 1) stands.acts;
+  option = stands.option;
   class = stands.class;
 }
 
@@ -70,6 +84,7 @@ anew_by (Some running) (Some own) first (Some it) stands = record {
   code = stands.code;
   script = stands.script;
   acts = refl;
+  option = stands.option;
   class = stands.class;
 }
 
@@ -111,6 +126,9 @@ ended_item s running own first it gone is stands ends = record {
   tree =
       ap (λ (r : Option Transaction). after_acts (after_items s) (acts_of r)) is ∙ sym ends.whole_tree
       ∙ ap (λ (code : Code). (run code empty (after_items s) ACT_LIMIT).tree) stands.code;
+  option = stands.option;
+  stage = tt;
+  planned = tt;
 }
 
 ended_items : (s : State) (ms : List clients.Item) (r : Option Transaction) (live : Option Live) (first : Bool) (o : Option clients.Running)
@@ -127,6 +145,136 @@ pub joined_waits : (items : List Item) (r : Option Transaction) → IsSome r →
 joined_waits [] None some = absurd cc
 joined_waits [] (Some running) some = refl
 joined_waits (item ∷ items) r some = refl
+
+-- ---- the first that waits, in another stage
+
+-- the first is another one now, with the same acts of its own
+head_stays : (change : Item → Item) (other : clients.Item → clients.Item) (items : List Item) (t : Nodes) (ms : List clients.Item)
+    → ((item : Item) → (change item).acts ≡ item.acts)
+    → ((item : Item) (later : List Item) (m : clients.Item) (after : List clients.Item) → items ≡ item ∷ later → ms ≡ m ∷ after
+    → ItemStands t item m → ItemStands t (change item) (other m))
+    → ItemsStand items t ms → ItemsStand (with_head change items) t (with_first other ms)
+head_stays change other [] t [] same each stand = tt
+head_stays change other [] t (m ∷ ms) same each stand = absurd stand
+head_stays change other (item ∷ items) t [] same each stand = absurd stand
+head_stays change other (item ∷ items) t (m ∷ ms) same each stand = (
+  each item items m ms refl refl stand.0,
+  subst (λ (acts : List Act). ItemsStand items (after_acts t acts) ms) (sym (same item)) stand.1,
+)
+
+-- it is at this stage
+pub staged_item : (t : Nodes) (stage : Stage) (other : clients.Stage) (item : Item) (m : clients.Item) → StageStands stage other
+    → IsPlanned m.option other → ItemStands t item m → ItemStands t (staged stage item) (at_stage other m)
+staged_item t stage other item m same planned stands = record {
+  number = stands.number;
+  name = stands.name;
+  budget = stands.budget;
+  few = stands.few;
+  script = stands.script;
+  acts = stands.acts;
+  tree = stands.tree;
+  option = stands.option;
+  stage = same;
+  planned = planned;
+}
+
+-- if one conflicts with such an option, it can be resolved
+can_again : (o : OnConflict Declared) → on.Reexec ≡ option_named o → CanResolve o
+can_again options.Reexec is = tt
+can_again (options.Resolver script) is = tt
+can_again options.Abort is = absurd cc
+can_again options.Manual is = absurd cc
+
+can_by : (name : List ℕ) (o : OnConflict Declared) → on.Resolver name ≡ option_named o → CanResolve o
+can_by name options.Reexec is = tt
+can_by name (options.Resolver script) is = tt
+can_by name options.Abort is = absurd cc
+can_by name options.Manual is = absurd cc
+
+-- what becomes of one with this option that conflicts, if it does not leave
+abbrev pub StaysIn : OnConflictNamed → clients.Stage → Type 0
+StaysIn on.Reexec other = other ≡ clients.Conflict
+StaysIn (on.Resolver name) other = other ≡ clients.Conflict
+StaysIn on.Abort other = ⊥
+StaysIn on.Manual other = other ≡ clients.Manual
+
+stays_there : (option : OnConflictNamed) (other : clients.Stage) → StaysIn option other → StageStands (stage_by option) other
+stays_there on.Reexec other is = subst (StageStands stages.Conflict) (sym is) tt
+stays_there (on.Resolver name) other is = subst (StageStands stages.Conflict) (sym is) tt
+stays_there on.Abort other is = absurd is
+stays_there on.Manual other is = subst (StageStands stages.Manual) (sym is) tt
+
+stays_planned : (option : OnConflictNamed) (other : clients.Stage) (o : OnConflict Declared) → option ≡ option_named o
+    → StaysIn option other → IsPlanned o other
+stays_planned on.Reexec other o same is = subst (IsPlanned o) (sym is) (can_again o same)
+stays_planned (on.Resolver name) other o same is = subst (IsPlanned o) (sym is) (can_by name o same)
+stays_planned on.Abort other o same is = absurd is
+stays_planned on.Manual other o same is = subst (IsPlanned o) (sym is) tt
+
+conflicted_item : (t : Nodes) (other : clients.Stage) (item : Item) (m : clients.Item) → StaysIn item.option other → ItemStands t item m
+    → ItemStands t (conflicted item) (at_stage other m)
+conflicted_item t other item m is stands =
+    staged_item t (stage_by item.option) other item m (stays_there item.option other is)
+    (stays_planned item.option other m.option stands.option is) stands
+
+-- ---- the scripts of a client's transactions
+
+-- a change keeps that each is the one that its name names
+abbrev pub KeepsNamed : List Declared → (ClientState → ClientState) → Type 0
+KeepsNamed scripts change = (s : ClientState) → AreNamed scripts s → AreNamed scripts (change s)
+
+module _ (scripts : List Declared) where
+  all_named : (items : List clients.Item) (item : clients.Item) → AllByRecursion (ItemIsNamed scripts) items → ItemIsNamed scripts item
+      → AllByRecursion (ItemIsNamed scripts) (items ++ item ∷ [])
+  all_named [] item all one = (one, tt)
+  all_named (head ∷ items) item all one = (all.0, all_named items item all.1 one)
+
+  joined_named : (items : List clients.Item) (o : Option clients.Running) → AllByRecursion (ItemIsNamed scripts) items
+      → RunIsNamedIfAny scripts o → AllByRecursion (ItemIsNamed scripts) (joined items o)
+  joined_named items None all run = all
+  joined_named items (Some it) all run = all_named items (item_of it) all (record { script = run.script; resolver = run.resolver })
+
+  more_named : (o : Option clients.Running) → RunIsNamedIfAny scripts o → RunIsNamedIfAny scripts (option_map one_more o)
+  more_named None run = tt
+  more_named (Some it) run = record { script = run.script; resolver = run.resolver }
+
+  anew_named : (o : Option clients.Running) → RunIsNamedIfAny scripts o → RunIsNamedIfAny scripts (option_map anew o)
+  anew_named None run = tt
+  anew_named (Some it) run = record { script = run.script; resolver = run.resolver }
+
+  first_named : (change : clients.Item → clients.Item) (items : List clients.Item)
+      → ((item : clients.Item) → ItemIsNamed scripts item → ItemIsNamed scripts (change item))
+      → AllByRecursion (ItemIsNamed scripts) items → AllByRecursion (ItemIsNamed scripts) (with_first change items)
+  first_named change [] each all = tt
+  first_named change (item ∷ items) each all = (each item all.0, all.1)
+
+  left_named : (items : List clients.Item) (s : ClientState) → items ≡ s.items → AreNamed scripts s → AreNamed scripts (leave_by items s)
+  left_named [] s is named = named
+  left_named (item ∷ items) s is named =
+      let all : AllByRecursion (ItemIsNamed scripts) (item ∷ items) =
+      subst (λ (items : List clients.Item). AllByRecursion (ItemIsNamed scripts) items) (sym is) named.items in
+      record { items = all.1; running = named.running }
+
+  pub hold_named : (t : Nodes) → KeepsNamed scripts (hold t)
+  hold_named t s named = record { items = named.items; running = named.running }
+
+  pub fetch_named : (t : Nodes) → KeepsNamed scripts (fetch t)
+  fetch_named t s named = record { items = named.items; running = anew_named s.running named.running }
+
+  pub act_named : KeepsNamed scripts act_once
+  act_named s named = record { items = named.items; running = more_named s.running named.running }
+
+  pub end_named : KeepsNamed scripts end
+  end_named s named = record { items = joined_named s.items s.running named.items named.running; running = tt }
+
+  pub leave_named : KeepsNamed scripts leave
+  leave_named s named = left_named s.items s refl named
+
+  pub reach_named : (stage : clients.Stage) → KeepsNamed scripts (reach stage)
+  reach_named stage s named = record {
+    items = first_named (at_stage stage) s.items (λ item is. record { script = is.script; resolver = is.resolver }) named.items;
+    running = named.running;
+  }
 
 -- ---- a record each
 
@@ -171,6 +319,28 @@ module _ (s : State) (live : Option Live) (first : Bool) (m : ClientState) (here
     tree = here.tree;
     spelled = here.spelled;
   }
+
+  -- the first is another one now
+  pub changed_stands : (change : Item → Item) (other : clients.Item → clients.Item) → ((item : Item) → (change item).acts ≡ item.acts)
+      → ((item : Item) (later : List Item) (first : clients.Item) (after : List clients.Item) → s.items ≡ item ∷ later
+      → m.items ≡ first ∷ after → ItemStands s.held item first → ItemStands s.held (change item) (other first))
+      → StateStands (record s { items = with_head change s.items }) live first (change_first other m)
+  changed_stands change other same each = record {
+    held = here.held;
+    items = head_stays change other s.items s.held m.items same each here.items;
+    running = here.running;
+    last = here.last;
+    tree = here.tree;
+    spelled = here.spelled;
+  }
+
+  pub conflicted_stands : (option : OnConflictNamed) (other : clients.Stage) → head_option s.items ≡ Some option → StaysIn option other
+      → StateStands (after s Conflicted) live first (reach other m)
+  conflicted_stands option other is stays =
+      changed_stands conflicted (at_stage other) (λ item. refl)
+      (λ item later first after some others stands.
+      conflicted_item s.held other item first
+      (subst (λ (option : OnConflictNamed). StaysIn option other) (sym (same_Some _ _ (sym (ap head_option some) ∙ is))) stays) stands)
 
   left_head : (item : Item) (items : List Item) → HeadStands s.held item items m.items
       → StateStands (record s { held = after_acts s.held item.acts; items = items }) live first (leave m)

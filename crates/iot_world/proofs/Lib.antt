@@ -4,8 +4,10 @@ pub mod RecordsLaws
 pub mod ServersLaws
 pub mod LendingLaws
 pub mod JudgesLaws
+pub mod ScriptsLaws
 pub mod LaptopsLaws
 pub mod LaptopStepsLaws
+pub mod ResolutionLaws
 pub mod BroughtLaws
 pub mod VerdictLaws
 pub mod LaptopCallsLaws
@@ -14,6 +16,9 @@ pub mod StepsLaws
 pub mod ReadyLaws
 pub mod BringingLaws
 pub mod QueuesLaws
+pub mod SubmittingLaws
+pub mod ResolvingLaws
+pub mod DecidingLaws
 pub mod TransactionsLaws
 pub mod EndsLaws
 pub mod EventsLaws

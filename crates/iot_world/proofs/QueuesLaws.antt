@@ -1,58 +1,80 @@
 -- Transactions that wait are submitted as those of the machine.
 use Rattle.std.proofs.Common.{◌≡◌, ℕ, suc, ◌+◌, ◌-◌, ◌*◌, ◌<◌, ◌≤◌, ◌&&◌, not, is_some, Bool, true, false, List, [], ◌∷◌, ◌++◌}
-use Rattle.std.proofs.Common.{length, Vec, Global, Option, Some, None}
-use Rattle.std.proofs.Common.{refl, sym, ap, subst, ◌∙◌, arith, codes}
+use Rattle.std.proofs.Common.{length, Option, Some, None, refl, sym, ap, subst, ◌∙◌, arith, codes}
+use Rattle.std.proofs.lemmas.List.{append-nil}
 use Rattle.std.proofs.lemmas.Option.{same_Some}
-use Rattle.std.specs.FinMap.{empty, entries, len-entries, len-empty}
-use Rattle.iot_text.specs.Paths.{path_cmp}
+use Rattle.std.specs.List.{AllByRecursion}
 use Rattle.iot_tree.specs.Tree.{Nodes}
-use Rattle.iot_tree.specs.declared.acts.Read.{Read}
-use Rattle.iot_tree.specs.declared.labels.Label.{Label}
-use Rattle.iot_tree.specs.declared.labels.Way.TheVariants.{Certified}
 use Rattle.iot_acts.specs.Traces.{after_acts}
-use Rattle.iot_acts.specs.Turns.{reads_of}
-use Rattle.iot_limits.proofs.SpelledLaws.{no_files_are_spelled}
 use Rattle.iot_queue.specs.declared.items.Item.{Item}
-use Rattle.iot_client.specs.Messages.{label_in}
-use Rattle.iot_client.specs.Ties.{state_of, place_of}
+use Rattle.iot_queue.specs.declared.items.Stage.{Stage}
+use Rattle.iot_queue.specs.declared.items.Stage.TheVariants as kept
+use Rattle.iot_client.specs.Records.{HeadIs}
+use Rattle.iot_client.specs.Ties.{state_of}
 use Rattle.iot_link.specs.Links.{LinkState}
 use Rattle.iot_machine.specs.Calls.{Call, Part, Asks, Does, Nothing, Then, Rounds, either}
 use Rattle.iot_machine.specs.Refining.{Leads}
 use Rattle.iot_machine.specs.Clients as clients
-use Rattle.iot_machine.specs.Clients.{local_run, leave}
+use Rattle.iot_machine.specs.Clients.{ClientState, Declared}
 use Rattle.iot_machine.specs.Machine as machine
 use Rattle.iot_machine.specs.Events.{is_drained, Refreshes, Drains, name_of as client_name}
-use Rattle.iot_machine.specs.Machine.{Machine, client_in, put_client, kept_by}
-use Rattle.iot_machine.specs.Serving.{Submission, Judges, Verdict}
-use Rattle.iot_machine.specs.Texts.{line, transaction_name}
-use Rattle.iot_machine.specs.Transactions.{Syncs, sync_head, submits, submission_of, verdict_text, Synced, Empty, Left, Unanswered}
-use Rattle.iot_machine.specs.Transactions.{runs, pends, sync_if, unless_left, SyncsAll}
-use Rattle.iot_world.specs.Laptops.{LaptopStands, ItemStands, ItemsStand, Noted, Relinked, waits_of, HandsIn, HandsInFirst}
-use Rattle.iot_world.specs.Laptops.{head_name, head_reads}
-use Rattle.iot_world.specs.Messages.{SpellsVerdict, IsVerdict, name_of}
-use Rattle.iot_world.specs.Servers.{IsHanded}
-use Rattle.iot_world.specs.World.{StandsFor, Steps, IsReady, SameCounts, Exchanges}
+use Rattle.iot_machine.specs.Machine.{Machine, client_in, put_client, kept_by, node_at}
+use Rattle.iot_machine.specs.Nodes.{Node, changed}
+use Rattle.iot_machine.specs.Texts.{line, transaction_name, manual_line}
+use Rattle.iot_machine.specs.Transactions.{Notes, Syncs, sync_at, item_name, Synced, Empty, Left, Moved, ByHand, Unanswered, Halted}
+use Rattle.iot_machine.specs.Transactions.{runs, pends, sync_if, unless_ends, SyncsAll}
+use Rattle.iot_world.specs.Laptops.{LaptopStands, SamePlace, StageStands, ItemStands, ItemsStand, Relinked, waits_of, head_name}
+use Rattle.iot_world.specs.Messages.{name_of}
+use Rattle.iot_world.specs.Scripts.{ItemIsNamed}
+use Rattle.iot_world.specs.World.{StandsFor, Steps, IsReady, SameCounts, ClientIs}
 use Rattle.iot_world.specs.declared.laptop.Laptop.{Laptop}
-use Rattle.iot_world.specs.declared.message.Message.{Message}
 use Rattle.iot_world.specs.declared.texts.Transaction.{Transaction}
 use Rattle.iot_world.specs.declared.world.World.{World}
-use Rattle.iot_world.proofs.BringingLaws.{came, none_came, ready_came}
-use Rattle.iot_world.proofs.CallsLaws.{bind, asks, answers, asks_any, does, nothing, says_this, said_nothing, said_something}
+use Rattle.iot_world.proofs.CallsLaws.{bind, asks, answers, asks_any, does, says, nothing, says_this, said_nothing, said_something}
 use Rattle.iot_world.proofs.CallsLaws.{leads_on, leads_out}
 use Rattle.iot_world.proofs.LaptopsLaws.{HeadStands, head_stands, runs_is, waits_is}
-use Rattle.iot_world.proofs.ReadyLaws.{no_machine_items, ready_after, same_counts, counts_then}
-use Rattle.iot_world.proofs.StepsLaws.{IsAt, Puts, laptop_stands, puts_stands, notes, asks_pends}
+use Rattle.iot_world.proofs.ReadyLaws.{no_machine_items, no_some, one_at, ready_after, same_counts, counts_then}
+use Rattle.iot_world.proofs.StepsLaws.{IsAt, Puts, laptop_stands, puts_stands, asks_pends}
 
--- no files are listed if none are kept
-abbrev none_listed : List (List (List ℕ) × List ℕ)
-none_listed = entries (empty {K = List (List ℕ)} {X = List ℕ} {R = path_cmp})
+-- ---- stages
 
-no_files : none_listed ≡ []
-no_files = none none_listed (sym (len-entries empty) ∙ len-empty path_cmp (List ℕ))
+pub conflict_stage : (s : Stage) (m : clients.Stage) → s ≡ kept.Conflict → StageStands s m → m ≡ clients.Conflict
+conflict_stage s m is stands = by m (subst (λ (s : Stage). StageStands s m) is stands)
   where
-    none : {A : Type 0} (xs : List A) → length xs ≡ 0 → xs ≡ []
-    none [] is = refl
-    none (x ∷ xs) is = absurd (omega (arith, is))
+    by : (m : clients.Stage) → StageStands kept.Conflict m → m ≡ clients.Conflict
+    by clients.Waiting stands = absurd stands
+    by clients.Conflict stands = refl
+    by clients.Manual stands = absurd stands
+    by (clients.Resolved it) stands = absurd stands
+
+pub manual_stage : (s : Stage) (m : clients.Stage) → s ≡ kept.Manual → StageStands s m → m ≡ clients.Manual
+manual_stage s m is stands = by m (subst (λ (s : Stage). StageStands s m) is stands)
+  where
+    by : (m : clients.Stage) → StageStands kept.Manual m → m ≡ clients.Manual
+    by clients.Waiting stands = absurd stands
+    by clients.Conflict stands = absurd stands
+    by clients.Manual stands = refl
+    by (clients.Resolved it) stands = absurd stands
+
+-- ---- a change
+
+module _ {D : Type 0} (reads : D → List ℕ) (may_leave : D → List ℕ → Type 0) (c : ℕ) where
+  -- a change of what a client keeps, which may go by the machine's scripts
+  pub notes_by : (old new : World D) (was laptop : Laptop) (change : ClientState → ClientState) (x : List ℕ) → IsAt old c was
+      → Puts c laptop old new → SamePlace was laptop
+      → ((m : Machine) → StandsFor reads may_leave old m
+      → LaptopStands m.scripts laptop (record (client_in m c) { node = changed change (client_in m c).node }))
+      → Steps reads may_leave (Notes c change) old new x x true
+  notes_by old new was laptop change x at puts place stands = record {
+    step = λ m here.
+        let node : Node ClientState = changed change (client_in m c).node in (
+          [],
+          (node_at c).set node m,
+          sym (append-nil x),
+          record { inner = node; step = (refl, refl, refl); is = refl },
+          puts_stands reads may_leave old new m c was laptop (record (client_in m c) { node = node }) at place puts (stands m here) here,
+        );
+  }
 
 -- ---- the first that waits
 
@@ -82,6 +104,17 @@ pub none_waits : (laptop : Laptop) (o : Option Transaction) → o ≡ head_name 
     → (state_of laptop.client).items ≡ []
 none_waits laptop o head is = none_by laptop (state_of laptop.client).items (sym head ∙ is)
 
+pub first_waits : (laptop : Laptop) (t : Transaction) → First laptop t → waits_of (state_of laptop.client).items ≡ true
+first_waits laptop t first = ap waits_of first.items
+
+pub by_hand_first : (laptop : Laptop) (t : Transaction) (first : First laptop t)
+    → HeadIs (λ item. item.stage ≡ kept.Manual) (state_of laptop.client).items → first.item.stage ≡ kept.Manual
+by_hand_first laptop t first head = subst (HeadIs (λ item. item.stage ≡ kept.Manual)) first.items head
+
+-- what is so of the client in hand is so of the one at its place
+pub there_is : {D : Type 0} (P : Laptop → Type 0) (world : World D) (c : ℕ) (was : Laptop) → IsAt world c was → P was → ClientIs P c world
+there_is P world c was at so = λ laptop here. subst P (one_at world c was laptop at here) so
+
 module _ {D : Type 0} (reads : D → List ℕ) (may_leave : D → List ℕ → Type 0) (c : ℕ) (old : World D) (was : Laptop) (x : List ℕ)
     (at : IsAt old c was) where
   -- none waits
@@ -95,123 +128,71 @@ module _ {D : Type 0} (reads : D → List ℕ) (may_leave : D → List ℕ → T
       (laptop_stands reads may_leave old m c was at here).state.items)))
       (bind old old old x y y tt Empty (says_this (line (codes "nothing")) old x y wrote) (answers old y Empty))
 
-  module _ (t : Transaction) (first : First was t) (message : Message) (hands : HandsInFirst was (state_of was.client).items message) where
-    hands_in : HandsIn was first.item message
-    hands_in = subst (λ items. HandsInFirst was items message) first.items hands
-
-    read_here : head_reads (state_of was.client).items ≡ reads_of first.item.acts
-    read_here = ap head_reads first.items
-
-    -- this is what the machine submits
-    record IsMine (it : Submission) : Type 0 where
-      pub handed : IsHanded message it
-      pub name : it.name ≡ name_of t
-      pub read : it.reads ≡ reads_of first.item.acts
-
-    mine : (m : Machine) (mi : clients.Item) → StandsFor reads may_leave old m → ItemStands (state_of was.client).held first.item mi
-        → IsMine (submission_of c m mi)
-    mine m mi here stands =
-        let item : Item = first.item in
-        let there : LaptopStands was (client_in m c) = laptop_stands reads may_leave old m c was at here in
-        let named : transaction_name (client_in m c).name mi.number ≡ transaction_name was.name item.tid =
-        ap (λ (n : List ℕ). transaction_name n mi.number) (sym there.name)
-        ∙ ap (λ (n : ℕ). transaction_name was.name n) (sym stands.number) in
-        let read : reads_of (local_run (kept_by c m).held mi).acts ≡ reads_of item.acts =
-        ap (λ (t : Nodes). reads_of (local_run t mi).acts) (sym there.state.held) ∙ ap reads_of (sym stands.acts) in
-        record {
-          handed = record {
-            label = label_in (place_of was.client) item.tid item.script item.budget;
-            acts = item.acts;
-            asked = hands_in.asked;
-            transaction = record { client = was.name; number = item.tid };
-            printed = hands_in.printed;
-            submission = record {
-              name = named;
-              has_label =
-                  ap (λ (p : ℕ). label_with p mi.number mi.script.name mi.budget none_listed) (sym (here.placed c was at))
-                  ∙ ap (λ (n : ℕ). label_with (place_of was.client) n mi.script.name mi.budget none_listed) (sym stands.number)
-                  ∙ ap (λ (n : List ℕ). label_with (place_of was.client) item.tid n mi.budget none_listed) (sym stands.name)
-                  ∙ ap (λ (n : ℕ). label_with (place_of was.client) item.tid item.script n none_listed) (sym stands.budget)
-                  ∙ ap (λ files. label_with (place_of was.client) item.tid item.script item.budget files) no_files;
-              way = refl;
-              base = (state_of was.client).held;
-              tree = there.state.tree;
-              has_acts = stands.acts;
-              reads = read;
-              spelled = record { script = stands.script; kept = no_files_are_spelled };
-            };
-          };
-          name = named ∙ ap name_of (sym first.named);
-          read = read;
-        }
-      where
-        label_with : ℕ → ℕ → List ℕ → ℕ → List (List (List ℕ) × List ℕ) → Label
-        label_with client n script budget kept =
-            record { client = client; tid = n; script = script; budget = budget; way = Certified; kept = kept }
-
+  module _ (t : Transaction) (first : First was t) where
     -- it is one of the machine's for which the world stands
-    head_in : (m : Machine) → StandsFor reads may_leave old m
+    pub head_in : (m : Machine) → StandsFor reads may_leave old m
         → HeadStands (state_of was.client).held first.item first.rest (kept_by c m).items
     head_in m here = head_stands _ _ _ _ (laptop_stands reads may_leave old m c was at here).state first.item first.rest first.items
 
-    module _ (mid : World D) (y : List ℕ) (o : Option (Vec ℕ Global))
-        (exchanged : (it : Submission) → IsHanded message it → Exchanges reads may_leave c (Judges it) (SpellsVerdict it.reads) o old
-        mid x y) where
-      submits_any : {new : World D} (z : List ℕ) (answer : Synced)
-          → ((it : Submission) → IsMine it → Steps reads may_leave (submits c it) old new x z answer)
-          → Steps reads may_leave (Syncs c) old new x z answer
-      submits_any {new} z answer each =
-          asks_any (λ ms. HeadStands (state_of was.client).held first.item first.rest ms) old new x z answer head_in
-          (λ ms head.
-          subst (λ (ms : List clients.Item). Steps reads may_leave (sync_head c ms) old new x z answer) (sym head.split)
-          (asks_any IsMine old new x z answer (λ m here. mine m head.first here head.stands) each))
+    -- its name there
+    pub name_there : (m : Machine) (mi : clients.Item) → StandsFor reads may_leave old m
+        → ItemStands (state_of was.client).held first.item mi → item_name c mi m ≡ name_of t
+    name_there m mi here stands =
+        let there : LaptopStands m.scripts was (client_in m c) = laptop_stands reads may_leave old m c was at here in
+        ap (λ (n : List ℕ). transaction_name n mi.number) (sym there.name)
+        ∙ ap (λ (n : ℕ). transaction_name was.name n) (sym stands.number)
+        ∙ ap name_of (sym first.named)
 
-      -- a verdict came
-      pub told : (reply : Vec ℕ Global) → o ≡ Some reply → IsReady reads may_leave c old
-          → IsVerdict (head_reads (state_of was.client).items) reply.items
-      told reply is ready =
-          let head = head_in ready.machine ready.stands in
-          let it : Submission = submission_of c ready.machine head.first in
-          let own : IsMine it = mine ready.machine head.first ready.stands head.stands in
-          let e = came reads may_leave c old mid x y o (Judges it) (SpellsVerdict it.reads) (exchanged it own.handed) reply is in
-          record { told = e.0; is = subst (λ (r : List Read). SpellsVerdict r reply.items e.0) (own.read ∙ sym read_here) e.1 }
+    -- its scripts are those of their names
+    pub named_there : (m : Machine) → (here : StandsFor reads may_leave old m) → ItemIsNamed m.scripts (head_in m here).first
+    named_there m here =
+        (subst (AllByRecursion (ItemIsNamed m.scripts)) (head_in m here).split
+        (laptop_stands reads may_leave old m c was at here).named.items).0
 
-      pub ready_told : (reply : Vec ℕ Global) → o ≡ Some reply → IsReady reads may_leave c old → SameCounts old mid
-          → IsReady reads may_leave c mid
-      ready_told reply is ready counts =
-          let head = head_in ready.machine ready.stands in
-          let it : Submission = submission_of c ready.machine head.first in
-          let own : IsMine it = mine ready.machine head.first ready.stands head.stands in
-          ready_came reads may_leave c old mid x y o (Judges it) (SpellsVerdict it.reads) (exchanged it own.handed) reply is ready counts
+    -- it is the first that waits, and so is it
+    record Headed (P : clients.Item → Type 0) (ms : List clients.Item) : Type 0 where
+      head : HeadStands (state_of was.client).held first.item first.rest ms
+      so : P head.first
 
-      -- it leaves, and its client is told
-      pub syncs_left : (reply : Vec ℕ Global) (new : World D) (laptop : Laptop) (z : List ℕ) (verdict : Verdict) → o ≡ Some reply
-          → ((told : Verdict) → SpellsVerdict (head_reads (state_of was.client).items) reply.items told → verdict ≡ told)
-          → IsAt mid c was → Puts c laptop mid new → Noted leave was laptop → z ≡ y ++ verdict_text (name_of t) verdict
-          → Steps reads may_leave (Syncs c) old new x z Left
-      syncs_left reply new laptop z verdict is says there puts noted wrote =
-          submits_any {new = new} z Left
-          (λ it own.
-          let e = came reads may_leave c old mid x y o (Judges it) (SpellsVerdict it.reads) (exchanged it own.handed) reply is in
-          let same : verdict ≡ e.0 = says e.0 (subst (λ (r : List Read). SpellsVerdict r reply.items e.0) (own.read ∙ sym read_here) e.1) in
-          bind old mid new x y z (Some e.0) Left e.2
-          (bind mid new new y y z true Left (notes reads may_leave c mid new was laptop leave y there puts noted)
-          (bind new new new y z z tt Left
-          (says_this (verdict_text it.name e.0) new y z
-          (wrote ∙ ap (λ (n : List ℕ). y ++ verdict_text n verdict) (sym own.name) ∙ ap (λ (v : Verdict). y ++ verdict_text it.name v)
-          same))
-          (answers new z Left))))
+    -- whatever it is in the machine, if it is so, the rest is a step
+    pub asks_first : {A : Type 0} {next : List clients.Item → Call Machine A} (P : clients.Item → Type 0) (new : World D) (z : List ℕ)
+        (answer : A)
+        → ((m : Machine) (mi : clients.Item) → StandsFor reads may_leave old m → ItemStands (state_of was.client).held first.item mi
+        → ItemIsNamed m.scripts mi → P mi)
+        → ((mi : clients.Item) (ms : List clients.Item) → ItemStands (state_of was.client).held first.item mi → P mi
+        → Steps reads may_leave (next (mi ∷ ms)) old new x z answer)
+        → Steps reads may_leave (Then (Asks (λ m. (kept_by c m).items)) next) old new x z answer
+    asks_first {next = next} P new z answer known each =
+        asks_any (Headed P) old new x z answer
+        (λ m here.
+        let head = head_in m here in
+        record { head = head; so = known m head.first here head.stands (named_there m here) })
+        (λ ms it.
+        subst (λ (ms : List clients.Item). Steps reads may_leave (next ms) old new x z answer) (sym it.head.split)
+        (each it.head.first it.head.later it.head.stands it.so))
 
-      -- no reply came
-      pub syncs_away : (z : List ℕ) → o ≡ None → z ≡ y ++ line (codes "away") → Steps reads may_leave (Syncs c) old mid x z Unanswered
-      syncs_away z is wrote =
-          submits_any {new = mid} z Unanswered
-          (λ it own.
-          bind old mid mid x y z None Unanswered
-          (none_came reads may_leave c old mid x y o (Judges it) (SpellsVerdict it.reads) (exchanged it own.handed) is)
-          (bind mid mid mid y z z tt Unanswered (says_this (line (codes "away")) mid y z wrote) (answers mid z Unanswered)))
+    -- it waits for a decision by hand
+    pub syncs_by_hand : (y : List ℕ) → first.item.stage ≡ kept.Manual → y ≡ x ++ manual_line (name_of t)
+        → Steps reads may_leave (Syncs c) old old x y ByHand
+    syncs_by_hand y manual wrote =
+        asks_first (λ mi. mi ≡ mi) old y ByHand (λ m mi here stands named. refl)
+        (λ mi ms stands so.
+        subst (λ (s : clients.Stage). Steps reads may_leave (sync_at c mi s) old old x y ByHand)
+        (sym (manual_stage first.item.stage mi.stage manual stands.stage))
+        (bind old old old x y y tt ByHand
+        (says old x y (λ m here. wrote ∙ ap (λ (n : List ℕ). x ++ manual_line n) (sym (name_there m mi here stands))))
+        (answers old y ByHand)))
 
 -- ---- all of them
+
+-- a sync after which none is made is the last
+last_sync : (synced : Synced) → is_some (unless_ends synced) ≡ true → unless_ends synced ≡ Some synced
+last_sync Empty ends = refl
+last_sync Left ends = absurd cc
+last_sync Moved ends = absurd cc
+last_sync ByHand ends = refl
+last_sync Unanswered ends = refl
+last_sync Halted ends = refl
 
 pub waiting : (a b : Bool) → a ≡ b → a ≡ true → b ≡ true
 waiting a b same is = sym same ∙ is
@@ -275,24 +256,28 @@ module _ {D : Type 0} (reads : D → List ℕ) (may_leave : D → List ℕ → T
 
         module _ (is : waits_of (state_of laptop.client).items ≡ true) (next : World D) (z : List ℕ) where
           round : (synced : Synced) → Steps reads may_leave (Syncs c) now next y z synced
-              → Steps reads may_leave one_round now next y z (unless_left synced)
+              → Steps reads may_leave one_round now next y z (unless_ends synced)
           round synced one =
-              bind now now next y y z true (unless_left synced) (asks_waits true is)
-              (bind now next next y z z synced (unless_left synced) one (answers next z (unless_left synced)))
+              bind now now next y y z true (unless_ends synced) (asks_waits true is)
+              (bind now next next y z z synced (unless_ends synced) one (answers next z (unless_ends synced)))
 
-          -- it left
-          pub syncs_on : Steps reads may_leave (Syncs c) now next y z Left → SameCounts now next → AfterSyncs most old x (done + 1) next z
-          syncs_on one counts = record {
-            leads = leads_on (most - (done + 1)) Left one_round old now next x y z None refl leads_here (round Left one);
-            ready = ready_after reads may_leave c now next y z Left so_far.ready one counts;
+          -- it goes on
+          pub syncs_on : (synced : Synced) → is_some (unless_ends synced) ≡ false → Steps reads may_leave (Syncs c) now next y z synced
+              → SameCounts now next → AfterSyncs most old x (done + 1) next z
+          syncs_on synced ends one counts = record {
+            leads =
+                leads_on (most - (done + 1)) Left one_round old now next x y z (unless_ends synced) (no_some (unless_ends synced) ends)
+                leads_here (round synced one);
+            ready = ready_after reads may_leave c now next y z synced so_far.ready one counts;
             counts = counts_then old now next so_far.counts counts;
           }
 
           -- it did not
-          pub syncs_out : (synced : Synced) → unless_left synced ≡ Some synced → Steps reads may_leave (Syncs c) now next y z synced
+          pub syncs_out : (synced : Synced) → is_some (unless_ends synced) ≡ true → Steps reads may_leave (Syncs c) now next y z synced
               → Steps reads may_leave (SyncsAll c) old next x z synced
           syncs_out synced ends one =
-              leads_out (most - (done + 1)) Left one_round old now next x y z (unless_left synced) synced ends leads_here (round synced one)
+              leads_out (most - (done + 1)) Left one_round old now next x y z (unless_ends synced) synced (last_sync synced ends)
+              leads_here (round synced one)
 
     -- no more are to be done
     pub syncs_end : (done : ℕ) (now : World D) (y : List ℕ) → most ≤ done → AfterSyncs most old x done now y
@@ -348,14 +333,16 @@ module _ {D : Type 0} (reads : D → List ℕ) (may_leave : D → List ℕ → T
   pub relinks : (old new : World D) (was laptop : Laptop) (change want : machine.Client → machine.Client) (text : List ℕ → List ℕ)
       (x y : List ℕ)
       → IsAt old c was → Puts c laptop old new → Relinked change was laptop
-      → ((m : machine.Client) → LaptopStands was m → (change m ≡ want m) × ((want m).name ≡ m.name)) → y ≡ x ++ text laptop.name
+      → ((scripts : List Declared) (m : machine.Client) → LaptopStands scripts was m → (change m ≡ want m) × ((want m).name ≡ m.name))
+      → y ≡ x ++ text laptop.name
       → Steps reads may_leave (Does (λ m. text (client_name c m)) (λ m. put_client c (want (client_in m c)) m)) old new x y tt
   relinks old new was laptop change want text x y at puts relinked agree wrote =
       does old new x y
       (λ m here.
-      let there : LaptopStands was (client_in m c) = laptop_stands reads may_leave old m c was at here in
-      let same = agree (client_in m c) there in
-      let now : LaptopStands laptop (want (client_in m c)) = subst (LaptopStands laptop) same.0 (relinked.stands (client_in m c) there) in (
+      let there : LaptopStands m.scripts was (client_in m c) = laptop_stands reads may_leave old m c was at here in
+      let same = agree m.scripts (client_in m c) there in
+      let now : LaptopStands m.scripts laptop (want (client_in m c)) =
+      subst (LaptopStands m.scripts laptop) same.0 (relinked.stands m.scripts (client_in m c) there) in (
         wrote ∙ ap (λ (n : List ℕ). x ++ text n) (now.name ∙ same.1),
         puts_stands reads may_leave old new m c was laptop (want (client_in m c)) at relinked.place puts now here,
       ))

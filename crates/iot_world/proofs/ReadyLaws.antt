@@ -8,7 +8,7 @@ use Rattle.iot_client.specs.States.{Transaction, State}
 use Rattle.iot_client.specs.Ties.{Live, state_of, live_of, place_of}
 use Rattle.iot_machine.specs.Calls.{Call}
 use Rattle.iot_machine.specs.Clients as clients
-use Rattle.iot_machine.specs.Clients.{ClientState, hold}
+use Rattle.iot_machine.specs.Clients.{Declared, ClientState, hold}
 use Rattle.iot_machine.specs.Machine as machine
 use Rattle.iot_machine.specs.Machine.{Machine, client_in}
 use Rattle.iot_world.specs.Laptops.{LaptopStands, Stands, RunningStandsIfAny, ItemsStand, Noted, waits_of}
@@ -29,11 +29,11 @@ module _ {D : Type 0} (reads : D → List ℕ) (may_leave : D → List ℕ → T
     pub found : IsAt world c laptop
     found = slice_get_read world.clients.items (length world.clients.items) c laptop refl ready.inside value
 
-    pub found_stands : LaptopStands laptop (client_in ready.machine c)
+    pub found_stands : LaptopStands ready.machine.scripts laptop (client_in ready.machine c)
     found_stands = laptop_stands reads may_leave world ready.machine c laptop found ready.stands
 
     pub found_some : Stands laptop
-    found_some = record { machine = client_in ready.machine c; stands = found_stands }
+    found_some = record { scripts = ready.machine.scripts; machine = client_in ready.machine c; stands = found_stands }
 
   -- its place is one of eight
   pub found_low : (c : ℕ) (world : World D) (laptop : Laptop) (ready : IsReady reads may_leave c world)
@@ -121,10 +121,10 @@ no_machine_items [] t (m ∷ ms) none stands = absurd stands
 no_machine_items (item ∷ items) t ms none stands = absurd cc
 
 -- so if a client holds another tree, still nothing runs or waits
-pub holds_still : (t : Nodes) (was laptop : Laptop) (m : machine.Client) → LaptopStands was m → Noted (hold t) was laptop → IsIdle was
-    → (state_of was.client).items ≡ [] → IsIdle laptop × ((state_of laptop.client).items ≡ [])
-holds_still t was laptop m here noted idle none =
-    let now = (noted.stands m here).state in (
+pub holds_still : (t : Nodes) (was laptop : Laptop) (scripts : List Declared) (m : machine.Client) → LaptopStands scripts was m
+    → Noted (hold t) was laptop → IsIdle was → (state_of was.client).items ≡ [] → IsIdle laptop × ((state_of laptop.client).items ≡ [])
+holds_still t was laptop scripts m here noted idle none =
+    let now = (noted.stands scripts m here).state in (
       no_running (state_of laptop.client).running (live_of laptop.client) m.first m.node.durable.running
           (no_machine_running (state_of was.client).running (live_of was.client) m.first m.node.durable.running idle here.state.running)
           now.running,

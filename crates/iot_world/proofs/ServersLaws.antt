@@ -15,7 +15,6 @@ use Rattle.iot_tree.specs.Tree.{Nodes}
 use Rattle.iot_tree.specs.declared.acts.Act.{Act}
 use Rattle.iot_tree.specs.declared.labels.Label.{Label}
 use Rattle.iot_store.specs.Records.{record_spelling}
-use Rattle.iot_tree.specs.declared.labels.Way.TheVariants.{Certified}
 use Rattle.iot_wire.specs.Messages.{IsOneMessage}
 use Rattle.iot_wire.specs.Rules.{IsRequest}
 use Rattle.iot_wire.specs.Spelling.{request_spelling}
@@ -35,7 +34,7 @@ use Rattle.iot_count.specs.Counts.{Counted, IsSteady}
 use Rattle.iot_world.specs.Servers.{is_up, disk_of, tree_of, Keeps, IsStore, ServerStands, ServerIsSound, Falls, AreOf}
 use Rattle.iot_world.specs.Servers.{SameDisk, HasDisk, IsLive}
 use Rattle.iot_world.specs.declared.message.Message.{Message}
-use Rattle.iot_world.specs.declared.message.Printed.{Printed}
+use Rattle.iot_world.specs.declared.message.Handed.{Handed}
 use Rattle.iot_world.specs.declared.server.ServerNode.{ServerNode}
 use Rattle.iot_world.specs.declared.server.ServerNode.TheVariants.{Up, Down, Between}
 use Rattle.iot_world.proofs.CallsLaws.{bind, asks, does, says, says_this}
@@ -71,9 +70,9 @@ pub nothing_said : (n : ℕ) (message : Message) → commit_said n n message ≡
 nothing_said n message = rw (le-leb n n (omega arith)) refl
 
 -- one that has one more says so
-pub commit_is_said : (n : ℕ) (message : Message) (printed : Printed) → message.handed ≡ Some printed
-    → commit_said n (n + 1) message ≡ commit_line (n + 1) (name_of printed.transaction) Certified ++ printed.output
-commit_is_said n message printed is = rw (lt-leb (n + 1) n (omega arith), is) refl
+pub commit_is_said : (n : ℕ) (message : Message) (handed : Handed) → message.handed ≡ Some handed
+    → commit_said n (n + 1) message ≡ commit_line (n + 1) (name_of handed.printed.transaction) handed.way ++ handed.printed.output
+commit_is_said n message handed is = rw (lt-leb (n + 1) n (omega arith), is) refl
 
 -- a step, and then a world that stands for the same
 pub moved : {W M A : Type 0} {stands : W → M → Type 0} {call : Call M A} (u v w : W) (x y : List ℕ) (a : A)

@@ -3,6 +3,7 @@ use Rattle.std.proofs.Common.{◌≡◌, ℕ, ◌+◌, ◌<◌, ◌≤◌, Bool,
 use Rattle.std.proofs.Common.{slice_get, slice_set, refl, sym, ap, subst, ◌∙◌, arith, codes}
 use Rattle.std.proofs.lemmas.List.{append-nil, length-set}
 use Rattle.iot_tree.specs.Tree.{Nodes}
+use Rattle.iot_tree.specs.declared.labels.OnConflict as labels
 use Rattle.iot_tree.specs.declared.want.Want.{Want}
 use Rattle.iot_client.specs.States.{Transaction}
 use Rattle.iot_client.specs.Ties.{Live, state_of, live_of, place_of}
@@ -17,13 +18,15 @@ use Rattle.iot_machine.specs.Clients.{Declared, ClientState, begin}
 use Rattle.iot_machine.specs.Machine as machine
 use Rattle.iot_machine.specs.Machine.{Machine, Commit, server, client_in, put_client, node_at, kept_by, set_class, no_client}
 use Rattle.iot_machine.specs.Machine.{link_of, count_request}
+use Rattle.iot_machine.specs.Options.{OnConflict}
 use Rattle.iot_machine.specs.Serving.{Lends}
 use Rattle.iot_machine.specs.Texts.{line}
 use Rattle.iot_machine.specs.Transactions.{Notes, Handles, Exchange, Refuses, runs, pends, IfIdle, IfNonePends, Held, Missed, Holds, Starts}
 use Rattle.iot_world.specs.Laptops.{LaptopStands, RunningStands, RunningStandsIfAny, SamePlace, Noted, Begun, Relinked}
 use Rattle.iot_world.specs.Laptops.{after_passage, waits_of}
+use Rattle.iot_world.specs.Scripts.{IsNamed, HasNamed, RunIsNamedIfAny, option_named, meant}
 use Rattle.iot_world.specs.Servers.{is_up, ServerStands, HasAnswered}
-use Rattle.iot_world.specs.World.{Each, StandsFor, Steps, ScriptStands, ArePlaced}
+use Rattle.iot_world.specs.World.{Each, StandsFor, Steps, ScriptStands, ArePlaced, scripts_of}
 use Rattle.iot_world.specs.declared.laptop.Laptop.{Laptop}
 use Rattle.iot_world.specs.declared.server.ServerNode.{ServerNode}
 use Rattle.iot_world.specs.declared.world.DeclaredScript.{DeclaredScript}
@@ -31,6 +34,7 @@ use Rattle.iot_world.specs.declared.world.World.{World}
 use Rattle.iot_world.proofs.CallsLaws.{bind, asks, answers, says_this}
 use Rattle.iot_world.proofs.ListLaws.{each_get, each_set, get_inside, set_at, set_twice, set_same, each_place_set}
 use Rattle.iot_world.proofs.LaptopsLaws.{runs_is, waits_is}
+use Rattle.iot_world.proofs.ScriptsLaws.{scripts_are, meant_named}
 
 -- the client at this place of a world
 abbrev pub IsAt : {D : Type 0} → World D → ℕ → Laptop → Type 0
@@ -44,96 +48,110 @@ pub record Puts {D : Type 0} (c : ℕ) (laptop : Laptop) (old new : World D) : T
 
 -- ---- the running transaction
 
--- the machine's running transaction
-abbrev pub running_of : Option Transaction → Option Live → Option clients.Running
-running_of (Some running) (Some live) = Some (record {
+-- the machine's running transaction, if these are its scripts
+abbrev running_as : List Declared → Transaction → Live → clients.Running
+running_as scripts running live = record {
   number = running.number;
   script = record { name = running.script; code = live.code };
+  option = meant scripts running.option;
   acts = length running.acts;
-})
-running_of (Some running) None = None
-running_of None live = None
+}
 
-running_with : (number : ℕ) (name : List ℕ) (running : Transaction) (live : Live) (first : Bool) (it : clients.Running)
-    → RunningStands running live first it
-    → Some it ≡ running_of (Some running) (Some live)
-running_with number name running live first it stands =
-    ap (λ (n : ℕ). Some (record { number = n; script = it.script; acts = it.acts })) (sym stands.number)
-    ∙ ap (λ (n : List ℕ). Some (record { number = running.number; script = record { name = n; code = it.script.code }; acts = it.acts }))
-    (sym stands.name)
-    ∙ ap (λ (a : ℕ). Some (record { number = running.number; script = record { name = running.script; code = it.script.code }; acts = a }))
-    (sym stands.acts)
-    ∙ ap (λ c. running_of (Some running) (Some (record live { code = c }))) (sym stands.code)
+abbrev pub running_of : List Declared → Option Transaction → Option Live → Option clients.Running
+running_of scripts (Some running) (Some live) = Some (running_as scripts running live)
+running_of scripts (Some running) None = None
+running_of scripts None live = None
 
-running_by : (running : Option Transaction) (live : Option Live) (first : Bool) (it : Option clients.Running)
-    → RunningStandsIfAny running live first it → it ≡ running_of running live
-running_by None live first None stands = refl
-running_by None live first (Some it) stands = absurd stands
-running_by (Some running) None first None stands = absurd stands
-running_by (Some running) (Some live) first None stands = absurd stands
-running_by (Some running) None first (Some it) stands = absurd stands
-running_by (Some running) (Some live) first (Some it) stands = running_with 0 [] running live first it stands
+running_with : (scripts : List Declared) (running : Transaction) (live : Live) (first : Bool) (it : clients.Running)
+    → RunningStands running live first it → HasNamed scripts it.option → Some it ≡ running_of scripts (Some running) (Some live)
+running_with scripts running live first it stands named =
+    let option : it.option ≡ meant scripts running.option =
+    sym (meant_named scripts it.option named) ∙ ap (meant scripts) (sym stands.option) in
+    (λ i. Some (record {
+      number = sym stands.number i;
+      script = record { name = sym stands.name i; code = sym stands.code i };
+      option = option i;
+      acts = sym stands.acts i;
+    }))
 
-abbrev pub running_in : Laptop → Option clients.Running
-running_in laptop = running_of (state_of laptop.client).running (live_of laptop.client)
+running_by : (scripts : List Declared) (running : Option Transaction) (live : Option Live) (first : Bool) (it : Option clients.Running)
+    → RunningStandsIfAny running live first it → RunIsNamedIfAny scripts it → it ≡ running_of scripts running live
+running_by scripts None live first None stands named = refl
+running_by scripts None live first (Some it) stands named = absurd stands
+running_by scripts (Some running) None first None stands named = absurd stands
+running_by scripts (Some running) (Some live) first None stands named = absurd stands
+running_by scripts (Some running) None first (Some it) stands named = absurd stands
+running_by scripts (Some running) (Some live) first (Some it) stands named =
+    running_with scripts running live first it stands named.resolver
 
-pub running_is : (laptop : Laptop) (m : machine.Client) → LaptopStands laptop m → m.node.durable.running ≡ running_in laptop
-running_is laptop m here =
-    running_by (state_of laptop.client).running (live_of laptop.client) m.first m.node.durable.running here.state.running
+abbrev pub running_in : List Declared → Laptop → Option clients.Running
+running_in scripts laptop = running_of scripts (state_of laptop.client).running (live_of laptop.client)
 
-pub record Runs (laptop : Laptop) : Type 0 where
+pub running_is : (scripts : List Declared) (laptop : Laptop) (m : machine.Client) → LaptopStands scripts laptop m
+    → m.node.durable.running ≡ running_in scripts laptop
+running_is scripts laptop m here =
+    running_by scripts (state_of laptop.client).running (live_of laptop.client) m.first m.node.durable.running here.state.running
+    here.named.running
+
+pub record Runs (scripts : List Declared) (laptop : Laptop) : Type 0 where
   pub it : clients.Running
-  pub is : running_in laptop ≡ Some it
+  pub is : running_in scripts laptop ≡ Some it
 
-runs_by : (running : Option Transaction) (live : Option Live) (first : Bool) (it : Option clients.Running) → is_some running ≡ true
-    → RunningStandsIfAny running live first it
-    → (one : clients.Running) × (running_of running live ≡ Some one)
-runs_by None live first it is stands = absurd cc
-runs_by (Some running) (Some live) first it is stands = (
-  record {
-    number = running.number;
-    script = record { name = running.script; code = live.code };
-    acts = length running.acts;
-  },
-  refl,
-)
-runs_by (Some running) None first None is stands = absurd stands
-runs_by (Some running) None first (Some it) is stands = absurd stands
+runs_by : (scripts : List Declared) (running : Option Transaction) (live : Option Live) (first : Bool) (it : Option clients.Running)
+    → is_some running ≡ true → RunningStandsIfAny running live first it
+    → (one : clients.Running) × (running_of scripts running live ≡ Some one)
+runs_by scripts None live first it is stands = absurd cc
+runs_by scripts (Some running) (Some live) first it is stands = (running_as scripts running live, refl)
+runs_by scripts (Some running) None first None is stands = absurd stands
+runs_by scripts (Some running) None first (Some it) is stands = absurd stands
 
 -- if a transaction runs, it is one of the machine's
-pub it_runs : (laptop : Laptop) (m : machine.Client) → LaptopStands laptop m → is_some (state_of laptop.client).running ≡ true → Runs laptop
-it_runs laptop m here is =
-    let one = runs_by (state_of laptop.client).running (live_of laptop.client) m.first m.node.durable.running is here.state.running in
+pub it_runs : (scripts others : List Declared) (laptop : Laptop) (m : machine.Client) → LaptopStands others laptop m
+    → is_some (state_of laptop.client).running ≡ true → Runs scripts laptop
+it_runs scripts others laptop m here is =
+    let one = runs_by scripts (state_of laptop.client).running (live_of laptop.client) m.first m.node.durable.running is
+    here.state.running in
     record { it = one.0; is = one.1 }
 
-none_by : (running : Option Transaction) (live : Option Live) → is_some running ≡ false → running_of running live ≡ None
-none_by None live is = refl
-none_by (Some running) live is = absurd cc
+none_by : (scripts : List Declared) (running : Option Transaction) (live : Option Live) → is_some running ≡ false
+    → running_of scripts running live ≡ None
+none_by scripts None live is = refl
+none_by scripts (Some running) live is = absurd cc
 
-pub none_runs : (laptop : Laptop) → is_some (state_of laptop.client).running ≡ false → running_in laptop ≡ None
-none_runs laptop is = none_by (state_of laptop.client).running (live_of laptop.client) is
+pub none_runs : (scripts : List Declared) (laptop : Laptop) → is_some (state_of laptop.client).running ≡ false
+    → running_in scripts laptop ≡ None
+none_runs scripts laptop is = none_by scripts (state_of laptop.client).running (live_of laptop.client) is
 
 module _ {D : Type 0} (reads : D → List ℕ) (may_leave : D → List ℕ → Type 0) where
   -- ---- one client
 
   pub laptop_stands : (world : World D) (m : Machine) (c : ℕ) (laptop : Laptop) → IsAt world c laptop → StandsFor reads may_leave world m
-      → LaptopStands laptop (client_in m c)
-  laptop_stands world m c laptop at here = each_get LaptopStands world.clients.items m.clients c laptop no_client at here.clients
+      → LaptopStands m.scripts laptop (client_in m c)
+  laptop_stands world m c laptop at here =
+      each_get (LaptopStands m.scripts) world.clients.items m.clients c laptop no_client at here.clients
 
   pub inside : (world : World D) (m : Machine) (c : ℕ) (laptop : Laptop) → IsAt world c laptop → StandsFor reads may_leave world m
       → c < length m.clients
-  inside world m c laptop at here = get_inside LaptopStands world.clients.items m.clients c laptop at here.clients
+  inside world m c laptop at here = get_inside (LaptopStands m.scripts) world.clients.items m.clients c laptop at here.clients
+
+  -- what runs in the machine is what runs here
+  pub runs_here : (c : ℕ) (world : World D) (laptop : Laptop) → IsAt world c laptop → (m : Machine) → StandsFor reads may_leave world m
+      → (kept_by c m).running ≡ running_in (scripts_of world) laptop
+  runs_here c world laptop at m here =
+      running_is m.scripts laptop (client_in m c) (laptop_stands world m c laptop at here)
+      ∙ ap (λ (scripts : List Declared). running_in scripts laptop) (scripts_are world.scripts.items m.scripts here.scripts)
 
   pub puts_stands : (old new : World D) (m : Machine) (c : ℕ) (was laptop : Laptop) (client : machine.Client) → IsAt old c was
-      → SamePlace was laptop → Puts c laptop old new → LaptopStands laptop client → StandsFor reads may_leave old m
+      → SamePlace was laptop → Puts c laptop old new → LaptopStands m.scripts laptop client → StandsFor reads may_leave old m
       → StandsFor reads may_leave new (put_client c client m)
   puts_stands old new m c was laptop client at place puts stands here = record {
     server = subst (λ (s : ServerNode D). ServerStands reads may_leave s m.server) (sym puts.server) here.server;
     requests = subst (HasAnswered m.requests) (sym puts.server) here.requests;
     clients =
-        subst (λ (ls : List Laptop). Each LaptopStands ls (slice_set m.clients c client)) (sym puts.clients)
-        (each_set LaptopStands old.clients.items m.clients c laptop client stands here.clients);
+        subst (λ (ls : List Laptop). Each (LaptopStands m.scripts) ls (slice_set m.clients c client)) (sym puts.clients)
+        (each_set (LaptopStands m.scripts) old.clients.items m.clients c laptop client stands here.clients);
     scripts = subst (λ (ss : List DeclaredScript). Each ScriptStands ss m.scripts) (sym puts.scripts) here.scripts;
+    apart = here.apart;
     placed =
         subst ArePlaced (sym puts.clients)
         (each_place_set (λ n (l : Laptop). place_of l.client ≡ n) old.clients.items c laptop here.placed (place ∙ here.placed c was at));
@@ -144,7 +162,7 @@ module _ {D : Type 0} (reads : D → List ℕ) (may_leave : D → List ℕ → T
   pub changes : {A : Type 0} (c : ℕ) (old new : World D) (was laptop : Laptop) (change : machine.Client → machine.Client) (a : A) (x :
       List ℕ)
       → IsAt old c was → Puts c laptop old new → SamePlace was laptop
-      → ((m : machine.Client) → LaptopStands was m → LaptopStands laptop (change m))
+      → ((scripts : List Declared) (m : machine.Client) → LaptopStands scripts was m → LaptopStands scripts laptop (change m))
       → Steps reads may_leave (Gets (λ _. a) (λ m. put_client c (change (client_in m c)) m)) old new x x a
   changes c old new was laptop change a x at puts place stands = record {
     step = λ m here. (
@@ -153,7 +171,7 @@ module _ {D : Type 0} (reads : D → List ℕ) (may_leave : D → List ℕ → T
       sym (append-nil x),
       (refl, refl, refl),
       puts_stands old new m c was laptop (change (client_in m c)) at place puts
-          (stands (client_in m c) (laptop_stands old m c was at here)) here,
+          (stands m.scripts (client_in m c) (laptop_stands old m c was at here)) here,
     );
   }
 
@@ -168,7 +186,7 @@ module _ {D : Type 0} (reads : D → List ℕ) (may_leave : D → List ℕ → T
           sym (append-nil x),
           record { inner = node; step = (refl, refl, refl); is = refl },
           puts_stands old new m c was laptop (record (client_in m c) { node = node }) at noted.place puts
-              (noted.stands (client_in m c) (laptop_stands old m c was at here)) here,
+              (noted.stands m.scripts (client_in m c) (laptop_stands old m c was at here)) here,
         );
   }
 
@@ -179,7 +197,7 @@ module _ {D : Type 0} (reads : D → List ℕ) (may_leave : D → List ℕ → T
       subst (StandsFor reads may_leave mid)
       (ap (λ (cs : List machine.Client). record m { clients = cs }) (set_same m.clients c no_client))
       (puts_stands old mid m c was laptop (client_in m c) at (ap (λ (l : Laptop). place_of l.client) same) puts
-      (subst (λ (l : Laptop). LaptopStands l (client_in m c)) (sym same) (laptop_stands old m c was at here)) here)
+      (subst (λ (l : Laptop). LaptopStands m.scripts l (client_in m c)) (sym same) (laptop_stands old m c was at here)) here)
 
   -- ---- what is asked of a client
 
@@ -197,10 +215,9 @@ module _ {D : Type 0} (reads : D → List ℕ) (may_leave : D → List ℕ → T
     pub asks_held : Steps reads may_leave (Asks (λ m. (kept_by c m).held)) world world x x (state_of laptop.client).held
     asks_held = asks world x (state_of laptop.client).held (λ m here. (laptop_stands world m c laptop at here).state.held)
 
-    pub asks_running : Steps reads may_leave (Asks (λ m. (kept_by c m).running)) world world x x (running_in laptop)
+    pub asks_running : Steps reads may_leave (Asks (λ m. (kept_by c m).running)) world world x x (running_in (scripts_of world) laptop)
     asks_running =
-        asks world x (running_in laptop)
-        (λ m here. sym (running_is laptop (client_in m c) (laptop_stands world m c laptop at here)))
+        asks world x (running_in (scripts_of world) laptop) (λ m here. sym (runs_here c world laptop at m here))
 
     -- ---- refusals
 
@@ -262,8 +279,9 @@ module _ {D : Type 0} (reads : D → List ℕ) (may_leave : D → List ℕ → T
           record {
             server = s.4;
             requests = counts m.requests here.requests;
-            clients = subst (λ ls. Each LaptopStands ls.items m.clients) (sym same) here.clients;
+            clients = subst (λ ls. Each (LaptopStands m.scripts) ls.items m.clients) (sym same) here.clients;
             scripts = subst (λ ss. Each ScriptStands ss.items m.scripts) (sym scripts) here.scripts;
+            apart = here.apart;
             placed = subst (λ ls. ArePlaced ls.items) (sym same) here.placed;
             few = subst (λ ls. length ls.items ≤ 8) (sym same) here.few;
           },
@@ -287,14 +305,16 @@ module _ {D : Type 0} (reads : D → List ℕ) (may_leave : D → List ℕ → T
       no_request away puts relinked =
           bind old old new x x x passages.Away None (asks_passage passages.Away (sym away ∙ is))
           (changes c old new was laptop (after_passage passages.Away) None x at puts relinked.place
-          (λ m here. subst (λ (p : Passage). LaptopStands laptop (after_passage p m)) away (relinked.stands m here)))
+          (λ scripts m here.
+          subst (λ (p : Passage). LaptopStands scripts laptop (after_passage p m)) away (relinked.stands scripts m here)))
 
       pub lost_request : how ≡ passages.RequestLost → Puts c laptop old new → Relinked (after_passage how) was laptop
           → Steps reads may_leave (Exchange c call) old new x x None
       lost_request lost puts relinked =
           bind old old new x x x passages.RequestLost None (asks_passage passages.RequestLost (sym lost ∙ is))
           (changes c old new was laptop (after_passage passages.RequestLost) None x at puts relinked.place
-          (λ m here. subst (λ (p : Passage). LaptopStands laptop (after_passage p m)) lost (relinked.stands m here)))
+          (λ scripts m here.
+          subst (λ (p : Passage). LaptopStands scripts laptop (after_passage p m)) lost (relinked.stands scripts m here)))
 
       -- the reply is lost
       pub lost_reply : (y : List ℕ) (answer : A) → how ≡ passages.ReplyLost
@@ -309,7 +329,8 @@ module _ {D : Type 0} (reads : D → List ℕ) (may_leave : D → List ℕ → T
           (bind old mid new x y y (Some answer) None (handles old mid x y answer refl refl one counts)
           (changes c mid new was laptop (after_passage passages.ReplyLost) None y at
           (record { server = refl; scripts = scripts; clients = same }) relinked.place
-          (λ m here. subst (λ (p : Passage). LaptopStands laptop (after_passage p m)) lost (relinked.stands m here))))
+          (λ scripts m here.
+          subst (λ (p : Passage). LaptopStands scripts laptop (after_passage p m)) lost (relinked.stands scripts m here))))
 
       -- it comes
       pub both : (y : List ℕ) (answer : A) → how ≡ passages.Both → new.clients.items ≡ slice_set old.clients.items c laptop
@@ -357,13 +378,17 @@ module _ {D : Type 0} (reads : D → List ℕ) (may_leave : D → List ℕ → T
   -- ---- begin
 
   -- its next transaction has begun
-  pub starts : (c : ℕ) (old new : World D) (was laptop : Laptop) (script : Declared) (first : Bool) (x : List ℕ) → IsAt old c was
-      → Puts c laptop old new → Begun script first was laptop → Steps reads may_leave (Starts c script first) old new x x true
-  starts c old new was laptop script first x at puts begun = record {
+  pub starts : (c : ℕ) (old new : World D) (was laptop : Laptop) (script : Declared) (option : OnConflict Declared)
+      (kept : labels.OnConflict) (first : Bool) (x : List ℕ)
+      → IsAt old c was → Puts c laptop old new → Begun script kept first was laptop → kept ≡ option_named option
+      → IsNamed (scripts_of old) script → HasNamed (scripts_of old) option
+      → Steps reads may_leave (Starts c script option first) old new x x true
+  starts c old new was laptop script option kept first x at puts begun same_option named has_named = record {
     step = λ m here.
-        let node : Node ClientState = changed (begin script) (client_in m c).node in
+        let node : Node ClientState = changed (begin script option) (client_in m c).node in
         let mid : Machine = (node_at c).set node m in
         let client : machine.Client = record (client_in m c) { node = node } in
+        let are : m.scripts ≡ scripts_of old = scripts_are old.scripts.items m.scripts here.scripts in
         let same : set_class c first mid ≡ put_client c (record client { first = first }) m =
         ap (λ (k : machine.Client). put_client c (record k { first = first }) mid)
         (set_at m.clients c client no_client (inside old m c was at here))
@@ -383,14 +408,8 @@ module _ {D : Type 0} (reads : D → List ℕ) (may_leave : D → List ℕ → T
           },
           subst (StandsFor reads may_leave new) (sym same)
               (puts_stands old new m c was laptop (record client { first = first }) at begun.place puts
-              (begun.stands (client_in m c) (laptop_stands old m c was at here)) here),
+              (begun.stands m.scripts (client_in m c) option (laptop_stands old m c was at here)
+              (subst (λ (ss : List Declared). IsNamed ss script) (sym are) named)
+              (subst (λ (ss : List Declared). HasNamed ss option) (sym are) has_named) same_option) here),
         );
   }
-
-  -- of a script that is the same
-  pub starts_as : (c : ℕ) (old new : World D) (was laptop : Laptop) (script other : Declared) (first : Bool) (x : List ℕ) → script ≡ other
-      → IsAt old c was → Puts c laptop old new → Begun script first was laptop
-      → Steps reads may_leave (Starts c other first) old new x x true
-  starts_as c old new was laptop script other first x is at puts begun =
-      subst (λ (s : Declared). Steps reads may_leave (Starts c s first) old new x x true) is
-      (starts c old new was laptop script first x at puts begun)

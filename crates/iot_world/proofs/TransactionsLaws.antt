@@ -1,8 +1,9 @@
 -- Transactions of a world's clients are those of the machine's: they begin and are stepped.
-use Rattle.std.proofs.Common.{◌≡◌, ℕ, suc, ◌+◌, ◌-◌, ◌<◌, ◌≤◌, Bool, true, false, List, [], length, Option, Some, None, is_some}
-use Rattle.std.proofs.Common.{slice_get, slice_set, slice_index_or, get_or, refl, sym, ap, subst, ◌∙◌, arith}
-use Rattle.std.proofs.lemmas.List.{length-set}
+use Rattle.std.proofs.Common.{◌≡◌, ℕ, zero, suc, ◌+◌, ◌-◌, ◌<◌, ◌≤◌, Bool, true, false, List, [], length, Option, Some, None, is_some}
+use Rattle.std.proofs.Common.{map, ◌∷◌, slice_get, slice_set, slice_index_or, get_or, refl, sym, ap, subst, ◌∙◌, arith}
+use Rattle.std.proofs.lemmas.List.{length-set, length-map}
 use Rattle.iot_tree.specs.Tree.{Path}
+use Rattle.iot_tree.specs.declared.labels.OnConflict as labels
 use Rattle.iot_tree.specs.declared.want.Want.{Want}
 use Rattle.iot_tree.specs.declared.want.Want.TheVariants as wanted
 use Rattle.iot_count.specs.Counts.{Counted}
@@ -12,20 +13,28 @@ use Rattle.iot_client.specs.Messages.{IsRefresh}
 use Rattle.iot_client.specs.Ties.{state_of, place_of}
 use Rattle.iot_client.specs.declared.steps.Step.{Step}
 use Rattle.iot_client.specs.declared.steps.Step.TheVariants as steps
+use Rattle.iot_event.specs.Declarations.{ResolverIsDeclared}
+use Rattle.iot_event.specs.declared.event.Choice.{Choice}
+use Rattle.iot_event.specs.declared.event.Choice.TheVariants as choices
 use Rattle.iot_machine.specs.Calls.{Call, Asks, Answers, Then}
+use Rattle.iot_machine.specs.Events.{chosen}
 use Rattle.iot_machine.specs.Refining.{Leads}
 use Rattle.iot_machine.specs.Clients as clients
 use Rattle.iot_machine.specs.Clients.{Declared, Next, AtEnd, AtLimit, Acts, Fetches, hold, act_once, fetch, base, next_step}
-use Rattle.iot_machine.specs.Machine.{Machine, client_in, kept_by, script_at}
+use Rattle.iot_machine.specs.Machine.{Machine, client_in, kept_by, script_at, option_at}
 use Rattle.iot_machine.specs.Machine.{no_script as no_machine_script}
+use Rattle.iot_machine.specs.Options as options
+use Rattle.iot_machine.specs.Options.{OnConflict}
 use Rattle.iot_machine.specs.Texts.{fetch_line}
 use Rattle.iot_machine.specs.Transactions.{pends, Brought, Held, Missed, Holds, Starts, starts_on, starts_if, Begins, SaysIf}
 use Rattle.iot_machine.specs.Transactions.{Steps as SingleStep, Stepped as MachineStepped, Went, Over, Away, Stops, next_of, step_by}
 use Rattle.iot_machine.specs.Transactions.{fetched, StepsAll, unless_went}
-use Rattle.iot_world.specs.Laptops.{Stepped, next_as, waits_of}
+use Rattle.iot_world.specs.Laptops.{Begun, Stepped, next_as, waits_of}
 use Rattle.iot_world.specs.Saying.{SaidIf}
+use Rattle.iot_world.specs.Scripts.{IsNamed, HasNamed, AreApart, option_named}
 use Rattle.iot_world.specs.Servers.{SameDisk}
 use Rattle.iot_world.specs.World.{StandsFor, Steps, ScriptStands, IsReady, SameCounts, SameDisks, IsApart, IsIdle, ClientIs, CanHold}
+use Rattle.iot_world.specs.World.{scripts_of, option_in}
 use Rattle.iot_world.specs.World.{declared_in, script_of, no_script, brought_of}
 use Rattle.iot_world.specs.declared.answers.Brought.{Brought as Brings}
 use Rattle.iot_world.specs.declared.answers.Brought.TheVariants as brings
@@ -35,9 +44,10 @@ use Rattle.iot_world.specs.declared.server.ServerNode.{ServerNode}
 use Rattle.iot_world.specs.declared.world.World.{World}
 use Rattle.iot_world.proofs.CallsLaws.{bind, asks, answers, says_this, nothing, leads_all, leads_on, leads_out}
 use Rattle.iot_world.proofs.ListLaws.{each_at, any_default, get_set}
+use Rattle.iot_world.proofs.ScriptsLaws.{scripts_are, named_at}
 use Rattle.iot_world.proofs.ReadyLaws.{ready_after, same_counts, counts_then, one_at, no_some, no_items_wait}
-use Rattle.iot_world.proofs.StepsLaws.{IsAt, Puts, running_in, running_is, laptop_stands, put_back, notes}
-use Rattle.iot_world.proofs.StepsLaws.{asks_pends, asks_running, is_idle}
+use Rattle.iot_world.proofs.StepsLaws.{IsAt, Puts, running_in, runs_here, laptop_stands, put_back, notes}
+use Rattle.iot_world.proofs.StepsLaws.{asks_pends, asks_running, is_idle, starts}
 
 -- a script in hand is that of the place
 pub declared_is : {D : Type 0} (world : World D) (s : ℕ) (script : DeclaredScript) (code : Code) → s < length world.scripts.items
@@ -48,6 +58,32 @@ declared_is world s script code within is same =
   where
     declared_as : List ℕ → Code → Declared
     declared_as name code = record { name = name; code = code }
+
+-- the script at a place is the one of its name, if no two have the same
+mapped_at : (ws : List DeclaredScript) (s : ℕ) → s < length ws
+    → slice_index_or (map script_of ws) s (script_of no_script) ≡ script_of (slice_index_or ws s no_script)
+mapped_at [] s within = absurd (omega arith)
+mapped_at (w ∷ ws) zero within = refl
+mapped_at (w ∷ ws) (suc s) within = mapped_at ws s (omega arith)
+
+named_in : (ws : List DeclaredScript) (s : ℕ) → s < length ws → AreApart (map script_of ws)
+    → IsNamed (map script_of ws) (script_of (slice_index_or ws s no_script))
+named_in ws s within apart =
+    subst (IsNamed (map script_of ws)) (mapped_at ws s within)
+    (named_at (map script_of ws) s (script_of no_script)
+    (let e : length (map script_of ws) ≡ length ws = length-map ws script_of in omega (arith, within, e)) apart)
+
+-- worlds with the same scripts mean the same by their places
+pub declared_same : {D : Type 0} (one other : World D) (s : ℕ) → one.scripts.items ≡ other.scripts.items
+    → declared_in one s ≡ declared_in other s
+declared_same one other s same = ap (λ (ss : List DeclaredScript). script_of (slice_index_or ss s no_script)) same
+
+pub option_same : {D : Type 0} (one other : World D) (option : Choice) → one.scripts.items ≡ other.scripts.items
+    → option_in one option ≡ option_in other option
+option_same one other choices.Reexec same = refl
+option_same one other (choices.Resolver s) same = ap (λ (d : Declared). options.Resolver d) (declared_same one other s same)
+option_same one other choices.Abort same = refl
+option_same one other choices.Manual same = refl
 
 -- the same step
 pub stepped_as : (step other : Step) (was laptop : Laptop) → step ≡ other → Stepped step was laptop → Stepped other was laptop
@@ -120,94 +156,141 @@ module _ {D : Type 0} (reads : D → List ℕ) (may_leave : D → List ℕ → T
 
   -- ---- begin
 
-  module _ (c s : ℕ) (world : World D) (laptop : Laptop) (x : List ℕ) (at : IsAt world c laptop) where
+  -- the scripts of a world that is ready have names of their own
+  module _ (c : ℕ) (world : World D) (ready : IsReady reads may_leave c world) where
+    are_apart : AreApart (scripts_of world)
+    are_apart = subst AreApart (scripts_are world.scripts.items ready.machine.scripts ready.stands.scripts) ready.stands.apart
+
+    -- so the script at a place is the one of its name
+    pub declared_named : (s : ℕ) → s < length world.scripts.items → IsNamed (scripts_of world) (declared_in world s)
+    declared_named s within = named_in world.scripts.items s within are_apart
+
+    -- and so is a resolver
+    pub option_has_named : (option : Choice) → ResolverIsDeclared option (length world.scripts.items)
+        → HasNamed (scripts_of world) (option_in world option)
+    option_has_named choices.Reexec within = tt
+    option_has_named (choices.Resolver s) within = declared_named s within
+    option_has_named choices.Abort within = tt
+    option_has_named choices.Manual within = tt
+
+  -- its next transaction has begun, of the script in hand
+  pub starts_here : (c s : ℕ) (option : Choice) (old new : World D) (was laptop : Laptop) (script : Declared) (kept : labels.OnConflict)
+      (first : Bool) (x : List ℕ) → IsReady reads may_leave c old → s < length old.scripts.items
+      → ResolverIsDeclared option (length old.scripts.items) → IsAt old c was → Puts c laptop old new → script ≡ declared_in old s
+      → kept ≡ option_named (option_in old option) → Begun script kept first was laptop
+      → Steps reads may_leave (Starts c (declared_in old s) (option_in old option) first) old new x x true
+  starts_here c s option old new was laptop script kept first x ready within resolves at puts is same begun =
+      starts reads may_leave c old new was laptop (declared_in old s) (option_in old option) kept first x at puts
+      (subst (λ (d : Declared). Begun d kept first was laptop) is begun) same (declared_named c old ready s within)
+      (option_has_named c old ready option resolves)
+
+  module _ (c s : ℕ) (option : Choice) (world : World D) (laptop : Laptop) (x : List ℕ) (at : IsAt world c laptop) where
+    script_is : (n : ℕ) → n < length world.scripts.items → (m : Machine) → StandsFor reads may_leave world m
+        → declared_in world n ≡ script_at n m
+    script_is n within m here =
+        sym (each_at ScriptStands world.scripts.items m.scripts n no_script no_machine_script within here.scripts)
+
     asks_script : s < length world.scripts.items → Steps reads may_leave (Asks (script_at s)) world world x x (declared_in world s)
-    asks_script within =
-        asks world x (declared_in world s)
-        (λ m here. sym (each_at ScriptStands world.scripts.items m.scripts s no_script no_machine_script within here.scripts))
+    asks_script within = asks world x (declared_in world s) (script_is s within)
 
-    begins_by : (new : World D) (y : List ℕ) (waiting : Bool) → s < length world.scripts.items
-        → is_some (state_of laptop.client).running ≡ false → waits_of (state_of laptop.client).items ≡ waiting
-        → Steps reads may_leave (starts_if c (declared_in world s) waiting) world new x y true
-        → Steps reads may_leave (Begins c s) world new x y true
-    begins_by new y waiting within idle is one =
-        is_idle reads may_leave c world laptop x at new y true idle
-        (bind world world new x x y (declared_in world s) true (asks_script within)
-        (bind world world new x x y waiting true
-        (subst (λ (b : Bool). Steps reads may_leave (Asks (pends c)) world world x x b) is (asks_pends reads may_leave c world laptop x at))
-        one))
+    asks_option : ResolverIsDeclared option (length world.scripts.items)
+        → Steps reads may_leave (Asks (option_at (chosen option))) world world x x (option_in world option)
+    asks_option within = asks world x (option_in world option) (λ m here. by option within m here)
+      where
+        by : (o : Choice) → ResolverIsDeclared o (length world.scripts.items) → (m : Machine) → StandsFor reads may_leave world m
+            → option_in world o ≡ option_at (chosen o) m
+        by choices.Reexec within m here = refl
+        by (choices.Resolver n) within m here = ap (λ (d : Declared). options.Resolver d) (script_is n within m here)
+        by choices.Abort within m here = refl
+        by choices.Manual within m here = refl
 
-    -- behind those that wait
-    pub begins_second : (new : World D) → s < length world.scripts.items → is_some (state_of laptop.client).running ≡ false
-        → waits_of (state_of laptop.client).items ≡ true
-        → Steps reads may_leave (Starts c (declared_in world s) false) world new x x true
-        → Steps reads may_leave (Begins c s) world new x x true
-    begins_second new within idle waits one = begins_by new x true within idle waits one
+    module _ (within : s < length world.scripts.items) (resolves : ResolverIsDeclared option (length world.scripts.items)) where
+      begins_by : (new : World D) (y : List ℕ) (waiting : Bool)
+          → is_some (state_of laptop.client).running ≡ false → waits_of (state_of laptop.client).items ≡ waiting
+          → Steps reads may_leave (starts_if c (declared_in world s) (option_in world option) waiting) world new x y true
+          → Steps reads may_leave (Begins c s (chosen option)) world new x y true
+      begins_by new y waiting idle is one =
+          is_idle reads may_leave c world laptop x at new y true idle
+          (bind world world new x x y (declared_in world s) true (asks_script within)
+          (bind world world new x x y (option_in world option) true (asks_option resolves)
+          (bind world world new x x y waiting true
+          (subst (λ (b : Bool). Steps reads may_leave (Asks (pends c)) world world x x b) is
+          (asks_pends reads may_leave c world laptop x at))
+          one)))
 
-    begins_brought : (mid new : World D) (y : List ℕ) (how : Brought) → s < length world.scripts.items
-        → is_some (state_of laptop.client).running ≡ false → waits_of (state_of laptop.client).items ≡ false
-        → mid.scripts.items ≡ world.scripts.items
-        → Steps reads may_leave (Holds c hold wanted.Nothing) world mid x y how
-        → Steps reads may_leave (starts_on c (declared_in mid s) how) mid new y y true
-        → Steps reads may_leave (Begins c s) world new x y true
-    begins_brought mid new y how within idle waits same brought one =
-        begins_by new y false within idle waits
-        (bind world mid new x y y how true brought
-        (subst (λ (d : Declared). Steps reads may_leave (starts_on c d how) mid new y y true)
-        (ap (λ (ss : List DeclaredScript). script_of (slice_index_or ss s no_script)) same) one))
+      -- behind those that wait
+      pub begins_second : (new : World D) → is_some (state_of laptop.client).running ≡ false
+          → waits_of (state_of laptop.client).items ≡ true
+          → Steps reads may_leave (Starts c (declared_in world s) (option_in world option) false) world new x x true
+          → Steps reads may_leave (Begins c s (chosen option)) world new x x true
+      begins_second new idle waits one = begins_by new x true idle waits one
 
-    -- on what the refresh brought
-    pub begins_first : (mid new : World D) (y : List ℕ) (brought : Brings) → brought ≡ brings.Held → s < length world.scripts.items
-        → is_some (state_of laptop.client).running ≡ false → waits_of (state_of laptop.client).items ≡ false
-        → mid.scripts.items ≡ world.scripts.items
-        → Steps reads may_leave (Holds c hold wanted.Nothing) world mid x y (brought_of brought)
-        → Steps reads may_leave (Starts c (declared_in mid s) true) mid new y y true
-        → Steps reads may_leave (Begins c s) world new x y true
-    begins_first mid new y brought is within idle waits same came one =
-        begins_brought mid new y Held within idle waits same
-        (subst (λ (b : Brings). Steps reads may_leave (Holds c hold wanted.Nothing) world mid x y (brought_of b)) is came) one
+      begins_brought : (mid new : World D) (y : List ℕ) (how : Brought)
+          → is_some (state_of laptop.client).running ≡ false → waits_of (state_of laptop.client).items ≡ false
+          → mid.scripts.items ≡ world.scripts.items
+          → Steps reads may_leave (Holds c hold wanted.Nothing) world mid x y how
+          → Steps reads may_leave (starts_on c (declared_in mid s) (option_in mid option) how) mid new y y true
+          → Steps reads may_leave (Begins c s (chosen option)) world new x y true
+      begins_brought mid new y how idle waits same brought one =
+          begins_by new y false idle waits
+          (bind world mid new x y y how true brought
+          (subst (λ (d : Declared). Steps reads may_leave (starts_on c d (option_in world option) how) mid new y y true)
+          (declared_same mid world s same)
+          (subst (λ (o : OnConflict Declared). Steps reads may_leave (starts_on c (declared_in mid s) o how) mid new y y true)
+          (option_same mid world option same) one)))
 
-    -- though the refresh was missed
-    pub begins_missed : (mid new : World D) (y : List ℕ) (brought : Brings) → brought ≡ brings.Missed → s < length world.scripts.items
-        → is_some (state_of laptop.client).running ≡ false → waits_of (state_of laptop.client).items ≡ false
-        → mid.scripts.items ≡ world.scripts.items
-        → Steps reads may_leave (Holds c hold wanted.Nothing) world mid x y (brought_of brought)
-        → Steps reads may_leave (Starts c (declared_in mid s) false) mid new y y true
-        → Steps reads may_leave (Begins c s) world new x y true
-    begins_missed mid new y brought is within idle waits same came one =
-        begins_brought mid new y Missed within idle waits same
-        (subst (λ (b : Brings). Steps reads may_leave (Holds c hold wanted.Nothing) world mid x y (brought_of b)) is came) one
+      -- on what the refresh brought
+      pub begins_first : (mid new : World D) (y : List ℕ) (brought : Brings) → brought ≡ brings.Held
+          → is_some (state_of laptop.client).running ≡ false → waits_of (state_of laptop.client).items ≡ false
+          → mid.scripts.items ≡ world.scripts.items
+          → Steps reads may_leave (Holds c hold wanted.Nothing) world mid x y (brought_of brought)
+          → Steps reads may_leave (Starts c (declared_in mid s) (option_in mid option) true) mid new y y true
+          → Steps reads may_leave (Begins c s (chosen option)) world new x y true
+      begins_first mid new y brought is idle waits same came one =
+          begins_brought mid new y Held idle waits same
+          (subst (λ (b : Brings). Steps reads may_leave (Holds c hold wanted.Nothing) world mid x y (brought_of b)) is came) one
+
+      -- though the refresh was missed
+      pub begins_missed : (mid new : World D) (y : List ℕ) (brought : Brings) → brought ≡ brings.Missed
+          → is_some (state_of laptop.client).running ≡ false → waits_of (state_of laptop.client).items ≡ false
+          → mid.scripts.items ≡ world.scripts.items
+          → Steps reads may_leave (Holds c hold wanted.Nothing) world mid x y (brought_of brought)
+          → Steps reads may_leave (Starts c (declared_in mid s) (option_in mid option) false) mid new y y true
+          → Steps reads may_leave (Begins c s (chosen option)) world new x y true
+      begins_missed mid new y brought is idle waits same came one =
+          begins_brought mid new y Missed idle waits same
+          (subst (λ (b : Brings). Steps reads may_leave (Holds c hold wanted.Nothing) world mid x y (brought_of b)) is came) one
 
   -- ---- single steps
 
   module _ (c : ℕ) (loud : Bool) (old : World D) (was : Laptop) (x : List ℕ) (at : IsAt old c was) where
     -- none runs
-    pub no_step : running_in was ≡ None → Steps reads may_leave (SingleStep c loud) old old x x Over
+    pub no_step : running_in (scripts_of old) was ≡ None → Steps reads may_leave (SingleStep c loud) old old x x Over
     no_step none =
         bind old old old x x x None Over
         (subst (λ it. Steps reads may_leave (Asks (λ m. (kept_by c m).running)) old old x x it) none
         (asks_running reads may_leave c old was x at))
         (answers old x Over)
 
-    module _ (it : clients.Running) (step : Step) (laptop : Laptop) (runs_it : running_in was ≡ Some it) (stepped : Stepped step was laptop)
-      where
-        asks_next : Steps reads may_leave (Asks (next_of c it)) old old x x (next_as step)
-        asks_next =
-            asks old x (next_as step)
-            (λ m here.
-            let there = laptop_stands reads may_leave old m c was at here in
-            sym (stepped.next (client_in m c) it there (running_is was (client_in m c) there ∙ runs_it)))
+    module _ (it : clients.Running) (step : Step) (laptop : Laptop) (runs_it : running_in (scripts_of old) was ≡ Some it)
+        (stepped : Stepped step was laptop) where
+      asks_next : Steps reads may_leave (Asks (next_of c it)) old old x x (next_as step)
+      asks_next =
+          asks old x (next_as step)
+          (λ m here.
+          let there = laptop_stands reads may_leave old m c was at here in
+          sym (stepped.next m.scripts (client_in m c) it there (runs_here reads may_leave c old was at m here ∙ runs_it)))
 
-        step_then : (new : World D) (y : List ℕ) (went : MachineStepped)
-            → Steps reads may_leave (step_by c loud (next_as step)) old new x y went
-            → Steps reads may_leave (SingleStep c loud) old new x y went
-        step_then new y went one =
-            bind old old new x x y (Some it) went
-            (subst (λ (it : Option clients.Running). Steps reads may_leave (Asks (λ m. (kept_by c m).running)) old old x x it) runs_it
-            (asks_running reads may_leave c old was x at))
-            (bind old old new x x y (next_as step) went asks_next one)
+      step_then : (new : World D) (y : List ℕ) (went : MachineStepped)
+          → Steps reads may_leave (step_by c loud (next_as step)) old new x y went
+          → Steps reads may_leave (SingleStep c loud) old new x y went
+      step_then new y went one =
+          bind old old new x x y (Some it) went
+          (subst (λ (it : Option clients.Running). Steps reads may_leave (Asks (λ m. (kept_by c m).running)) old old x x it) runs_it
+          (asks_running reads may_leave c old was x at))
+          (bind old old new x x y (next_as step) went asks_next one)
 
-    module _ (it : clients.Running) (laptop : Laptop) (runs_it : running_in was ≡ Some it) where
+    module _ (it : clients.Running) (laptop : Laptop) (runs_it : running_in (scripts_of old) was ≡ Some it) where
       -- an act was done
       pub step_acted : (new : World D) (acts : ℕ) (ended : Bool) → Stepped (steps.Acted acts ended) was laptop → Puts c laptop old new
           → Steps reads may_leave (SingleStep c loud) old new x x Went

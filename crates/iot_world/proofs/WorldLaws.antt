@@ -43,7 +43,8 @@ module _ {D : Type 0} (reads : D → List ℕ) (may_leave : D → List ℕ → T
     served m node n here stands counts = record {
       server = stands;
       requests = counts;
-      clients = subst (λ (ls : List Laptop). Each LaptopStands ls m.clients) (sym same) here.clients;
+      clients = subst (λ (ls : List Laptop). Each (LaptopStands m.scripts) ls m.clients) (sym same) here.clients;
+      apart = here.apart;
       scripts = subst (λ (ss : List DeclaredScript). Each ScriptStands ss m.scripts) (sym scripts) here.scripts;
       placed = subst ArePlaced (sym same) here.placed;
       few = omega (arith, here.few, ap length same);
@@ -129,7 +130,7 @@ module _ {D : Type 0} (reads : D → List ℕ) (may_leave : D → List ℕ → T
   lends_client world lent place laptop is within value m here =
       let at = subst (λ (ls : List Laptop). slice_get ls place ≡ Some laptop) is
       (slice_get_read lent (length lent) place laptop refl within value) in
-      let there : LaptopStands laptop (client_in m place) = laptop_stands reads may_leave world m place laptop at here in (
+      let there : LaptopStands m.scripts laptop (client_in m place) = laptop_stands reads may_leave world m place laptop at here in (
         inside reads may_leave world m place laptop at here,
         record {
           held = there.state.held;
@@ -144,7 +145,7 @@ module _ {D : Type 0} (reads : D → List ℕ) (may_leave : D → List ℕ → T
   pub lends_none : (world : World D) (lent : List Laptop) (place : ℕ) → lent ≡ world.clients.items → length lent ≤ place → (m : Machine)
       → StandsFor reads may_leave world m → length m.clients ≤ place
   lends_none world lent place is without m here =
-      omega (arith, without, ap length is, each_length LaptopStands world.clients.items m.clients here.clients)
+      omega (arith, without, ap length is, each_length (LaptopStands m.scripts) world.clients.items m.clients here.clients)
 
   -- ---- events
 

@@ -1,17 +1,22 @@
--- Which event may come, if so many clients and scripts are declared.
-use Rattle.std.specs.Prelude.{ℕ, ◌<◌}
+-- Which event may come, if so many clients, and scripts of these names, are declared.
+use Rattle.std.specs.Prelude.{◌≡◌, ℕ, ◌<◌, false, List, length}
+use Rattle.iot_event.specs.Declarations.{ResolverIsDeclared}
+use Rattle.iot_event.specs.Meanings.{is_declared}
 use Rattle.iot_event.specs.declared.declared.TheConstants.{CLIENT_LIMIT}
 use Rattle.iot_event.specs.declared.event.Event.{Event}
 use Rattle.iot_event.specs.declared.event.Event.TheVariants as events
 
--- there are not too many clients, and each event is on a client and of a script that are declared
-abbrev pub IsAllowed : Event → (clients scripts : ℕ) → Type 0
+-- there are not too many clients, no script is declared again, and each event is on a client, of a script and with a resolver that are
+-- declared
+abbrev pub IsAllowed : Event → (clients : ℕ) (scripts : List (List ℕ)) → Type 0
 IsAllowed (events.Client name) clients scripts = clients < CLIENT_LIMIT
-IsAllowed (events.Script name code) clients scripts = Unit {0}
-IsAllowed (events.Run client script) clients scripts = (client < clients) × (script < scripts)
+IsAllowed (events.Script name code) clients scripts = is_declared name scripts ≡ false
+IsAllowed (events.Run client script option) clients scripts =
+    (client < clients) × (script < length scripts) × ResolverIsDeclared option (length scripts)
 IsAllowed (events.Hoard client path) clients scripts = client < clients
 IsAllowed (events.Refresh client) clients scripts = client < clients
-IsAllowed (events.Begin client script) clients scripts = (client < clients) × (script < scripts)
+IsAllowed (events.Begin client script option) clients scripts =
+    (client < clients) × (script < length scripts) × ResolverIsDeclared option (length scripts)
 IsAllowed (events.Step client count) clients scripts = client < clients
 IsAllowed (events.End client) clients scripts = client < clients
 IsAllowed (events.Connect client) clients scripts = client < clients
@@ -19,6 +24,8 @@ IsAllowed (events.Disconnect client) clients scripts = client < clients
 IsAllowed (events.Lose client loss) clients scripts = client < clients
 IsAllowed (events.Sync client) clients scripts = client < clients
 IsAllowed (events.Drain client) clients scripts = client < clients
+IsAllowed (events.Repair client script) clients scripts = (client < clients) × (script < length scripts)
+IsAllowed (events.Discard client) clients scripts = client < clients
 IsAllowed events.ShowServer clients scripts = Unit {0}
 IsAllowed (events.ShowClient client) clients scripts = client < clients
 IsAllowed events.CrashServer clients scripts = Unit {0}

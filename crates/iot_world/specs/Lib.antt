@@ -3,6 +3,7 @@ pub mod Disks
 pub mod Records
 pub mod Faults
 pub mod Messages
+pub mod Scripts
 pub mod Servers
 pub mod Laptops
 pub mod Saying

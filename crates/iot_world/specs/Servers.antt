@@ -4,7 +4,6 @@ use Rattle.std.specs.List.{AllByRecursion}
 use Rattle.iot_tree.specs.Tree.{Nodes, IsTree}
 use Rattle.iot_tree.specs.declared.acts.Act.{Act}
 use Rattle.iot_tree.specs.declared.labels.Label.{Label}
-use Rattle.iot_tree.specs.declared.labels.Way.TheVariants.{Certified}
 use Rattle.iot_count.specs.Counts.{Counted}
 use Rattle.iot_disk.specs.Disk.{Arms}
 use Rattle.iot_store.specs.States.{State}
@@ -102,7 +101,6 @@ pub record AreOf (commit : Commit) (tree : Nodes) (label : Label) (acts : List A
 pub record IsSubmission (label : Label) (acts : List Act) (transaction : Transaction) (it : Submission) : Type 0 where
   pub name : it.name ≡ transaction_name transaction.client transaction.number
   pub has_label : label_of it.commit ≡ label
-  pub way : it.commit.entry.way ≡ Certified
   pub base : Nodes
   pub tree : IsTree base
   pub has_acts : acts ≡ (run_entry it.commit.entry base).acts
@@ -155,13 +153,14 @@ pub record Serves {D A : Type 0} (reads : D → List ℕ) (may_leave : D → Lis
   pub spelled : Spelled reply answer
   pub step : Refines (ServerStands reads may_leave) call old new before after (Some answer)
 
--- the message hands in this transaction, and has with it what it printed
+-- the message hands in this transaction, and has with it its way and what it printed
 pub record IsHanded (message : Message) (it : Submission) : Type 0 where
   pub label : Label
   pub acts : List Act
   pub asked : IsMessage IsRequest request_spelling message.request.items (requests.Commit label acts)
   pub transaction : Transaction
-  pub printed : message.handed ≡ Some (record { transaction = transaction; output = acts_output acts })
+  pub handed : message.handed
+      ≡ Some (record { printed = record { transaction = transaction; output = acts_output acts }; way = label.way })
   pub submission : IsSubmission label acts transaction it
 
 -- the live server itself

@@ -6,29 +6,35 @@ use Rattle.std.specs.declared.alloc.Global.{Global}
 use Rattle.iot_count.specs.Counts.{Counted}
 use Rattle.iot_disk.specs.Disk.{Arms}
 use Rattle.iot_lang.specs.Code.{Code, End}
+use Rattle.iot_tree.specs.Tree.{Nodes}
 use Rattle.iot_tree.specs.declared.want.Want.{Want}
 use Rattle.iot_client.specs.Messages.{IsRefresh}
 use Rattle.iot_client.specs.States as states
 use Rattle.iot_client.specs.Ties.{state_of, live_of, place_of}
 use Rattle.iot_client.specs.declared.client.Client.{Client}
 use Rattle.iot_event.specs.Declarations.{AreDeclared}
+use Rattle.iot_event.specs.declared.event.Choice.{Choice}
+use Rattle.iot_event.specs.declared.event.Choice.TheVariants as choices
 use Rattle.iot_event.specs.declared.event.Event.{Event}
 use Rattle.iot_machine.specs.Calls.{Call}
 use Rattle.iot_machine.specs.Refining.{Refines}
 use Rattle.iot_machine.specs.Nodes.{Node}
 use Rattle.iot_machine.specs.Clients as clients
-use Rattle.iot_machine.specs.Clients.{Declared}
+use Rattle.iot_machine.specs.Clients.{Declared, Plan, reach, resolution_of}
 use Rattle.iot_machine.specs.Machine as machines
 use Rattle.iot_machine.specs.Machine.{Machine, Commit, opening, tree_after, client_in}
 use Rattle.iot_machine.specs.Events.{event_part}
+use Rattle.iot_machine.specs.Options as options
+use Rattle.iot_machine.specs.Options.{OnConflict}
 use Rattle.iot_machine.specs.Sound.{IsSound}
 use Rattle.iot_machine.specs.Transactions as machine
 use Rattle.iot_server.specs.Servers as servers
 use Rattle.iot_server.specs.declared.server.Server.{Server}
 use Rattle.iot_world.specs.Disks.{OnlyFirst, first_count}
 use Rattle.iot_world.specs.Faults.{FaultCounts}
-use Rattle.iot_world.specs.Laptops.{LaptopStands, ItemsStand, RunningStandsIfAny, new_laptop}
+use Rattle.iot_world.specs.Laptops.{LaptopStands, ItemsStand, RunningStandsIfAny, new_laptop, planned_in}
 use Rattle.iot_world.specs.Records.{label_of}
+use Rattle.iot_world.specs.Scripts.{AreApart}
 use Rattle.iot_world.specs.Servers.{disk_of, ServerStands, HasAnswered, SameDisk, Starts, HasDisk}
 use Rattle.iot_world.specs.declared.answers.Brought.{Brought}
 use Rattle.iot_world.specs.declared.answers.Brought.TheVariants as brings
@@ -61,12 +67,13 @@ ScriptStands script m = m ≡ script_of script
 abbrev pub ArePlaced : List Laptop → Type 0
 ArePlaced laptops = (place : ℕ) (laptop : Laptop) → slice_get laptops place ≡ Some laptop → place_of laptop.client ≡ place
 
--- its nodes, with their links, are those of the machine
+-- its nodes, with their links, are those of the machine, and no two of its scripts have the same name
 pub record StandsFor {D : Type 0} (reads : D → List ℕ) (may_leave : D → List ℕ → Type 0) (world : World D) (m : Machine) : Type 0 where
   pub server : ServerStands reads may_leave world.server m.server
   pub requests : HasAnswered m.requests world.server
-  pub clients : Each LaptopStands world.clients.items m.clients
+  pub clients : Each (LaptopStands m.scripts) world.clients.items m.clients
   pub scripts : Each ScriptStands world.scripts.items m.scripts
+  pub apart : AreApart m.scripts
   pub placed : ArePlaced world.clients.items
   pub few : length world.clients.items ≤ 8
 
@@ -95,12 +102,17 @@ EventSteps reads may_leave event old new before after =
 abbrev pub client_count : {D : Type 0} → World D → ℕ
 client_count world = length world.clients.items
 
-abbrev pub script_count : {D : Type 0} → World D → ℕ
-script_count world = length world.scripts.items
+-- the names of its scripts, in order of declaration
+abbrev pub script_names : {D : Type 0} → World D → List (List ℕ)
+script_names world = map (λ script. script.name) world.scripts.items
+
+-- its scripts as they were declared
+abbrev pub scripts_of : {D : Type 0} → World D → List Declared
+scripts_of world = map script_of world.scripts.items
 
 -- these events name only what the world has, or what they declare before
 abbrev pub DeclaredOn : {D : Type 0} → List Event → World D → Type 0
-DeclaredOn events world = AreDeclared events (client_count world) (script_count world)
+DeclaredOn events world = AreDeclared events (client_count world) (script_names world)
 
 -- the client at this place is so
 abbrev pub ClientIs : {D : Type 0} → (Laptop → Type 0) → ℕ → World D → Type 0
@@ -118,6 +130,13 @@ no_script = record { name = []; script = End }
 
 abbrev pub declared_in : {D : Type 0} → World D → ℕ → Declared
 declared_in world place = script_of (slice_index_or world.scripts.items place no_script)
+
+-- what becomes of a transaction that conflicts, as an event says it
+abbrev pub option_in : {D : Type 0} → World D → Choice → OnConflict Declared
+option_in world choices.Reexec = options.Reexec
+option_in world (choices.Resolver script) = options.Resolver (declared_in world script)
+option_in world choices.Abort = options.Abort
+option_in world choices.Manual = options.Manual
 
 -- it stands for some machine, and there is a client at this place
 pub record IsReady {D : Type 0} (reads : D → List ℕ) (may_leave : D → List ℕ → Type 0) (place : ℕ) (world : World D) : Type 0 where
@@ -139,6 +158,8 @@ stepped_of steps.Away = machine.Away
 abbrev pub synced_of : Synced → machine.Synced
 synced_of syncs.Empty = machine.Empty
 synced_of syncs.Left = machine.Left
+synced_of syncs.Moved = machine.Moved
+synced_of syncs.ByHand = machine.ByHand
 synced_of syncs.Unanswered = machine.Unanswered
 
 -- ---- exchanges
@@ -167,6 +188,19 @@ abbrev pub KeepsClients : {D : Type 0} → ℕ → Option (Vec ℕ Global) → (
 KeepsClients place None old new = KeepsState place old new
 KeepsClients place (Some reply) old new = new.clients.items ≡ old.clients.items
 
+-- ---- resolutions
+
+-- this is planned for the first that waits at the client at this place
+abbrev pub IsPlannedAt : {D : Type 0} → Plan → ℕ → World D → Type 0
+IsPlannedAt plan place world =
+    ClientIs (λ laptop. planned_in (scripts_of world) (state_of laptop.client).held (state_of laptop.client).items ≡ Some plan) place world
+
+-- what is planned there was carried out on this tree
+abbrev pub CarriesOut : {D : Type 0} → (D → List ℕ) → (D → List ℕ → Type 0) → (client : ℕ) → Nodes → (old new : World D) → Type 0
+CarriesOut reads may_leave client t old new =
+    (plan : Plan) (text : List ℕ) → IsPlannedAt plan client old
+    → Steps reads may_leave (machine.Notes client (reach (clients.Resolved (resolution_of plan t)))) old new text text true
+
 -- ---- its disks
 
 abbrev pub with_first : {D : Type 0} → Option D → List D → List D
@@ -193,7 +227,7 @@ pub record SameDisks {D : Type 0} (arms_of : D → Arms) (faults_of : D → ℕ)
 pub record IsOpened {D : Type 0} (reads : D → List ℕ) (may_leave : D → List ℕ → Type 0) (world : World D) : Type 0 where
   pub stands : IsWorldOf reads may_leave world opening
   pub no_clients : client_count world ≡ 0
-  pub no_scripts : script_count world ≡ 0
+  pub no_scripts : script_names world ≡ []
 
 -- with the disks that were handed in, of which none was armed and none has failed
 pub record Opens {D : Type 0} (reads : D → List ℕ) (may_leave : D → List ℕ → Type 0) (arms_of : D → Arms) (faults_of : D → ℕ)
@@ -216,7 +250,7 @@ pub record HandsAllBack {D : Type 0} (arms_of : D → Arms) (faults_of : D → �
 pub record AddsClient {D : Type 0} (name : List ℕ) (old new : World D) : Type 0 where
   pub server : new.server ≡ old.server
   pub laptop : Laptop
-  pub stands : LaptopStands laptop (new_laptop name)
+  pub stands : (scripts : List Declared) → LaptopStands scripts laptop (new_laptop name)
   pub place : place_of laptop.client ≡ client_count old
   pub clients : new.clients.items ≡ old.clients.items ++ laptop ∷ []
   pub scripts : new.scripts.items ≡ old.scripts.items

@@ -40,7 +40,7 @@ impl Stepped {
     }
 }
 
-/// How it went to submit the first transaction that waits.
+/// How it went to sync the first transaction that waits.
 #[derive(Clone, Copy)]
 pub(crate) enum Synced {
     /// None waits.
@@ -49,6 +49,53 @@ pub(crate) enum Synced {
     /// It left.
     Left,
 
-    /// No verdict came.
+    /// It conflicts and is to be resolved, or it was resolved.
+    Moved,
+
+    /// It waits for a decision by hand.
+    ByHand,
+
+    /// No reply came.
     Unanswered,
+}
+
+impl Synced {
+    ghost use Rattle.std.specs.Prelude.{◌≡◌, is_some};
+    ghost use Rattle.iot_machine.specs.Transactions.{unless_ends};
+    ghost use Rattle.iot_world.specs.World.{synced_of};
+
+    /// Whether no sync is made after it.
+    pub(crate) fn ends(self) -> bool
+        ensures { result ≡ is_some (unless_ends (synced_of self)) }
+    {
+        match self {
+            Synced::Left | Synced::Moved => false,
+            Synced::Empty | Synced::ByHand | Synced::Unanswered => true,
+        }
+    }
+}
+
+/// Why nothing is decided of the first transaction that waits.
+#[derive(Clone, Copy)]
+pub(crate) enum Undecided {
+    /// None waits.
+    Nothing,
+
+    /// It does not wait for a decision by hand.
+    NotManual,
+}
+
+impl Undecided {
+    ghost use Rattle.std.specs.Prelude.{◌≡◌};
+    ghost use Rattle.iot_world.specs.Saying.{undecided_word};
+
+    /// What is said then.
+    pub(crate) fn word(self) -> &'static [u8]
+        ensures { result.now ≡ undecided_word self }
+    {
+        match self {
+            Undecided::Nothing => b"nothing",
+            Undecided::NotManual => b"not manual",
+        }
+    }
 }

@@ -4,6 +4,7 @@ ghost use Rattle.iot_world.specs.Messages.{commit_said};
 
 use crate::texts::{Transaction, say_commit};
 use iot_text::{NoMemory, Text};
+use iot_tree::Way;
 
 /// What a client sends to the server.
 #[derive(Drop)]
@@ -12,7 +13,14 @@ pub(crate) struct Message {
     pub(crate) request: Vec<u8>,
 
     /// The transaction that it hands in, if it does.
-    pub(crate) handed: Option<Printed>,
+    pub(crate) handed: Option<Handed>,
+}
+
+/// A transaction that is handed in: what it printed, and the way on which it comes.
+#[derive(Drop)]
+pub(crate) struct Handed {
+    pub(crate) printed: Printed,
+    pub(crate) way: Way,
 }
 
 /// A transaction, and what it printed.
@@ -42,8 +50,21 @@ impl Message {
             return Ok(());
         }
         match &self.handed {
-            Some(printed) => say_commit(now, printed, out),
+            Some(handed) => say_commit(now, handed, out),
             None => Ok(()),
         }
     }
+}
+
+/// What the first transaction that waits needs of the server, by its stage.
+#[derive(Drop)]
+pub(crate) enum Need {
+    /// A verdict: this hands it in.
+    Verdict(Message),
+
+    /// The whole tree, on which it is to be resolved: this asks for it.
+    Tree(Message),
+
+    /// Nothing: it waits for a decision by hand.
+    Decision,
 }

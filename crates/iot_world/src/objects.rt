@@ -10,7 +10,7 @@ ghost use Rattle.iot_machine.specs.Serving.{Submission, Lends, Judges};
 ghost use Rattle.iot_machine.specs.Transactions.{Holds, Takes};
 ghost use Rattle.iot_world.specs.Faults.{CallCounts};
 ghost use Rattle.iot_world.specs.Laptops.{IsFirst};
-ghost use Rattle.iot_world.specs.Messages.{IsSomeRequest, SpellsTree, SpellsVerdict};
+ghost use Rattle.iot_world.specs.Messages.{IsSomeRequest, SpellsCut, SpellsVerdict};
 ghost use Rattle.iot_world.specs.Servers.{IsHanded};
 
 use crate::answers::Brought;
@@ -160,7 +160,7 @@ impl<D: Disk> World<D> {
         requires ready { IsReady D.reads D.may_leave client self.old }
         requires request { IsSomeRequest message.now.request.items }
         ensures lends { IfOk result (λ reply. (place : ℕ) (held : Nodes) (want : Want) → IsRefresh place held want message.now.request.items
-            → Exchanges D.reads D.may_leave client (Lends held want) SpellsTree reply self.old self.new out.old out.new) }
+            → Exchanges D.reads D.may_leave client (Lends held want) (SpellsCut held want) reply self.old self.new out.old out.new) }
         ensures judges { IfOk result (λ reply. (it : Submission) → IsHanded message.now it
             → Exchanges D.reads D.may_leave client (Judges it) (SpellsVerdict it.reads) reply self.old self.new out.old out.new) }
         ensures clients { IfOk result (λ reply. KeepsClients client reply self.old self.new) }

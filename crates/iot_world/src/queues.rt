@@ -1,21 +1,36 @@
 //! A client's link, and the transactions that wait there for the server.
-ghost use Rattle.std.specs.Prelude.{◌≡◌, OnOk, IfOk};
+ghost use Rattle.std.specs.Prelude.{◌≡◌, ◌<◌, ℕ, List, Some, length, OnOk, IfOk, IsSome};
+ghost use Rattle.iot_client.specs.Records.{HeadIs};
+ghost use Rattle.iot_client.specs.Ties.{state_of};
+ghost use Rattle.iot_lang.specs.Scripts.{IsScript};
 ghost use Rattle.iot_machine.specs.Calls.{Nothing, Asks, Then, either};
-ghost use Rattle.iot_machine.specs.Events.{Refreshes, Connects, Disconnects, Loses, SyncsAloud, Drains, is_drained};
+ghost use Rattle.iot_machine.specs.Events.{Refreshes, Connects, Disconnects, Loses, SyncsAloud, Drains, is_drained, Repairs, Discards};
 ghost use Rattle.iot_machine.specs.Transactions.{Syncs, SyncsAll};
+ghost use Rattle.iot_tree.specs.Tree.{Nodes, IsWhole};
 ghost use Rattle.iot_world.specs.Faults.{CallCounts};
+ghost use Rattle.iot_world.specs.Laptops.{head_name, HandsIn, AsksAll, IsHeadPlan};
+ghost use Rattle.iot_world.specs.Messages.{BringsTree, SpellsTree};
+ghost use Rattle.iot_world.specs.Scripts.{script_named, code_named};
 
 use crate::answers::Synced;
 use crate::fault::WorldFault;
-use crate::texts::{say, say_connect, say_disconnect, say_lose, say_verdict};
+use crate::message::{Message, Need};
+use crate::texts::{
+    Transaction, say, say_connect, say_discard, say_disconnect, say_lose, say_manual, say_repair,
+    say_resolve, say_told,
+};
 use crate::world::World;
 use iot_disk::Disk;
+use iot_lang::Script;
 use iot_link::Loss;
-use iot_text::{NoMemory, Text};
+use iot_resolve::Plan;
+use iot_text::{Name, NoMemory, Text};
 use std::alloc::Global;
+use std::rc::Rc;
 
 impl<D: Disk> World<D> {
-    ghost use Rattle.iot_world.specs.World.{Steps, IsReady, SameCounts, SameDisks, IsApart, synced_of};
+    ghost use Rattle.iot_world.specs.World.{Steps, IsReady, SameCounts, SameDisks, IsApart, ClientIs, synced_of};
+    ghost use Rattle.iot_world.specs.World.{scripts_of, CarriesOut};
 
     // ---- the link
 
@@ -69,7 +84,7 @@ impl<D: Disk> World<D> {
         Ok(())
     }
 
-    /// Submits the first transaction that waits, which leaves if a verdict comes.
+    /// Submits or resolves the first transaction that waits, by its stage.
     pub(crate) fn sync(
         &mut self,
         alloc: Global,
@@ -87,12 +102,39 @@ impl<D: Disk> World<D> {
             say(b"nothing", out)?;
             return Ok(Synced::Empty);
         };
-        let message = laptop.hand_in(alloc)?;
-        match self.exchange(alloc, client, &message, out)? {
+        match laptop.need(alloc)? {
+            Need::Verdict(message) => self.submit(alloc, client, &transaction, &message, out),
+            Need::Tree(message) => self.resolve(alloc, client, &transaction, &message, out),
+            Need::Decision => {
+                say_manual(&transaction, out)?;
+                Ok(Synced::ByHand)
+            }
+        }
+    }
+
+    /// Hands the first transaction that waits in, and takes the verdict, if one comes.
+    fn submit(
+        &mut self,
+        alloc: Global,
+        client: u64,
+        transaction: &Transaction,
+        message: &Message,
+        out: &mut Text,
+    ) -> Result<Synced, WorldFault>
+        requires ready { IsReady D.reads D.may_leave client self.old }
+        requires head { ClientIs (λ laptop. head_name laptop (state_of laptop.client).items ≡ Some transaction.now) client self.old }
+        requires hands { ClientIs (λ laptop. HeadIs (λ item. HandsIn laptop item message.now) (state_of laptop.client).items)
+            client self.old }
+        ensures step { IfOk result (λ synced.
+            Steps D.reads D.may_leave (Syncs client) self.old self.new out.old out.new (synced_of synced)) }
+        ensures counts { OnOk result (SameCounts self.old self.new) }
+        ensures disks { SameDisks D.arms D.faults (CallCounts result) self.old self.new }
+    {
+        match self.exchange(alloc, client, message, out)? {
             Some(reply) => {
-                let verdict = self.clients[client as usize].settle(alloc, &reply)?;
-                say_verdict(&transaction, &verdict, out)?;
-                Ok(Synced::Left)
+                let told = self.clients[client as usize].settle(alloc, &reply)?;
+                say_told(transaction, &told, out)?;
+                Ok(told.synced())
             }
             None => {
                 say(b"away", out)?;
@@ -101,7 +143,71 @@ impl<D: Disk> World<D> {
         }
     }
 
-    /// Submits the transactions that wait, one after the other, as long as they leave.
+    /// Brings the server's whole tree, and resolves the first transaction that waits on it, if it comes.
+    fn resolve(
+        &mut self,
+        alloc: Global,
+        client: u64,
+        transaction: &Transaction,
+        message: &Message,
+        out: &mut Text,
+    ) -> Result<Synced, WorldFault>
+        requires ready { IsReady D.reads D.may_leave client self.old }
+        requires head { ClientIs (λ laptop. head_name laptop (state_of laptop.client).items ≡ Some transaction.now) client self.old }
+        requires asks { ClientIs (λ laptop. HeadIs (λ item. AsksAll laptop item message.now) (state_of laptop.client).items)
+            client self.old }
+        ensures step { IfOk result (λ synced.
+            Steps D.reads D.may_leave (Syncs client) self.old self.new out.old out.new (synced_of synced)) }
+        ensures counts { OnOk result (SameCounts self.old self.new) }
+        ensures disks { SameDisks D.arms D.faults (CallCounts result) self.old self.new }
+    {
+        match self.exchange(alloc, client, message, out)? {
+            Some(reply) => {
+                let plan = self.clients[client as usize].plan();
+                self.carry_out(alloc, client, &plan, &reply)?;
+                say_resolve(transaction, &plan, out)?;
+                Ok(Synced::Moved)
+            }
+            None => {
+                say(b"away", out)?;
+                Ok(Synced::Unanswered)
+            }
+        }
+    }
+
+    /// Runs what is planned for the first transaction that waits, on the whole tree that the reply brings.
+    fn carry_out(
+        &mut self,
+        alloc: Global,
+        client: u64,
+        plan: &Plan,
+        reply: &[u8],
+    ) -> Result<(), NoMemory>
+        requires ready { IsReady D.reads D.may_leave client self.old }
+        requires planned { ClientIs (λ laptop. IsHeadPlan (state_of laptop.client).items plan.now) client self.old }
+        requires brings { BringsTree reply.now }
+        requires whole { (t : Nodes) → SpellsTree reply.now t → IsWhole t }
+        ensures step { OnOk result ((t : Nodes) → SpellsTree reply.now t → CarriesOut D.reads D.may_leave client t self.old self.new) }
+        ensures apart { IsApart self.old self.new }
+    {
+        let code = self.script_named(&plan.script)?;
+        self.clients[client as usize].resolve(alloc, reply, code)?;
+        Ok(())
+    }
+
+    /// The script of this name, which is declared.
+    fn script_named(&self, name: &Name) -> Result<Rc<Script>, NoMemory>
+        requires declared { IsSome (script_named name.now (scripts_of self.now)) }
+        ensures code { IfOk result (λ script. code_named name.now (scripts_of self.now) ≡ Some script.value) }
+        ensures script { IfOk result (λ script. IsScript script.value) }
+    {
+        match self.scripts.iter().find(|declared| declared.name == *name) {
+            Some(declared) => declared.script.shared(),
+            None => unreachable!(),
+        }
+    }
+
+    /// Syncs the first transaction that waits again and again, as long as one waits and it goes on.
     pub(crate) fn sync_all(
         &mut self,
         alloc: Global,
@@ -119,16 +225,15 @@ impl<D: Disk> World<D> {
             if !self.clients[client as usize].waits() {
                 return Ok(Synced::Empty);
             }
-            match self.sync(alloc, client, out)? {
-                Synced::Left => (),
-                Synced::Empty => return Ok(Synced::Empty),
-                Synced::Unanswered => return Ok(Synced::Unanswered),
+            let synced = self.sync(alloc, client, out)?;
+            if synced.ends() {
+                return Ok(synced);
             }
         }
         Ok(Synced::Left)
     }
 
-    /// Submits all that wait, and then brings anew what the client knows.
+    /// Syncs all that wait, and then brings anew what the client knows.
     pub(crate) fn drain(
         &mut self,
         alloc: Global,
@@ -167,6 +272,57 @@ impl<D: Disk> World<D> {
             return Ok(());
         }
         self.refresh(alloc, client, out)?;
+        Ok(())
+    }
+
+    // ---- a decision by hand
+
+    /// Has the first transaction that waits resolved by this script.
+    pub(crate) fn repair(
+        &mut self,
+        alloc: Global,
+        client: u64,
+        script: u64,
+        out: &mut Text,
+    ) -> Result<(), NoMemory>
+        requires ready { IsReady D.reads D.may_leave client self.old }
+        requires script { script < length self.old.scripts.items }
+        ensures step { OnOk result (Steps D.reads D.may_leave (Repairs client script) self.old self.new out.old out.new tt) }
+        ensures apart { IsApart self.old self.new }
+    {
+        let transaction = match self.clients[client as usize].decision() {
+            Ok(transaction) => transaction,
+            Err(undecided) => {
+                say(undecided.word(), out)?;
+                return Ok(());
+            }
+        };
+        let name = self.scripts[script as usize].name;
+        self.clients[client as usize].repair(alloc, &name)?;
+        say_repair(&transaction, &name, out)?;
+        Ok(())
+    }
+
+    /// Gives the first transaction that waits up.
+    pub(crate) fn discard(
+        &mut self,
+        alloc: Global,
+        client: u64,
+        out: &mut Text,
+    ) -> Result<(), NoMemory>
+        requires ready { IsReady D.reads D.may_leave client self.old }
+        ensures step { OnOk result (Steps D.reads D.may_leave (Discards client) self.old self.new out.old out.new tt) }
+        ensures apart { IsApart self.old self.new }
+    {
+        let transaction = match self.clients[client as usize].decision() {
+            Ok(transaction) => transaction,
+            Err(undecided) => {
+                say(undecided.word(), out)?;
+                return Ok(());
+            }
+        };
+        self.clients[client as usize].discard(alloc)?;
+        say_discard(&transaction, out)?;
         Ok(())
     }
 }

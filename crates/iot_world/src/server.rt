@@ -39,7 +39,7 @@ impl<D: Disk> ServerNode<D> {
     ghost use Rattle.iot_world.specs.Servers.{is_up, disk_of, count_of, tree_of, lent_of, ServerStands, ServerIsSound, Falls};
     ghost use Rattle.iot_world.specs.Servers.{IsHanded, Serves, IsLive, Handled, HasAnswered, answered_since};
     ghost use Rattle.iot_world.specs.Servers.{SameDisk, HasDisk, Starts, HandsBack};
-    ghost use Rattle.iot_world.specs.Messages.{IsSomeRequest, SpellsTree, SpellsVerdict};
+    ghost use Rattle.iot_world.specs.Messages.{IsSomeRequest, SpellsCut, SpellsVerdict};
     ghost use Rattle.iot_world.specs.Faults.{CallCounts};
     ghost use Rattle.iot_count.specs.Counts.{IsSteady};
     ghost use Rattle.iot_world.specs.declared.server.ServerNode.TheVariants.{Down, Between};
@@ -72,7 +72,7 @@ impl<D: Disk> ServerNode<D> {
         ensures up { OnOk result (is_up self.new ≡ true) }
         ensures lends { IfOk result (λ reply. (client : ℕ) (held : Nodes) (want : Want)
             → IsRefresh client held want message.now.request.items
-            → Serves D.reads D.may_leave (Lends held want) SpellsTree reply.items self.old self.new out.old out.new) }
+            → Serves D.reads D.may_leave (Lends held want) (SpellsCut held want) reply.items self.old self.new out.old out.new) }
         ensures judges { IfOk result (λ reply. (it : Submission) → IsHanded message.now it
             → Serves D.reads D.may_leave (Judges it) (SpellsVerdict it.reads) reply.items self.old self.new out.old out.new) }
         ensures requests { OnOk result ((n : ℕ) → HasAnswered n self.old → HasAnswered (n + 1) self.new) }

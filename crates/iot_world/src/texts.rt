@@ -1,20 +1,20 @@
 //! The lines that events print.
 ghost use Rattle.std.specs.Prelude.{◌≡◌, ◌++◌, ◌∷◌, [], IfOk, OnOk};
 ghost use Rattle.std.specs.FinMap.{entries};
-ghost use Rattle.iot_tree.specs.declared.labels.Way.TheVariants.{Certified};
 ghost use Rattle.iot_machine.specs.Texts.{line, client_line, end_line, commit_line, settled_line, transaction_name, output, acts_output};
 ghost use Rattle.iot_machine.specs.Texts.{output_line, row_line, row_text, tree_text};
 ghost use Rattle.iot_machine.specs.Texts.{hoard_line, refresh_line, begin_line, fetch_line, step_line, conflict_line, question_text};
-ghost use Rattle.iot_machine.specs.Texts.{abort_line, pending_line, connect_line, disconnect_line, lose_line};
-ghost use Rattle.iot_machine.specs.Transactions.{verdict_text};
-ghost use Rattle.iot_world.specs.Messages.{verdict_of, name_of};
-ghost use Rattle.iot_world.specs.Saying.{place_said};
+ghost use Rattle.iot_machine.specs.Texts.{abort_line, pending_line, connect_line, disconnect_line, lose_line, way_text};
+ghost use Rattle.iot_machine.specs.Texts.{manual_line, resolve_line, repair_line, discard_line};
+ghost use Rattle.iot_world.specs.Messages.{verdict_of, name_of, told_text};
+ghost use Rattle.iot_world.specs.Saying.{place_said, resolver_said};
 
-use crate::message::Printed;
-use crate::verdict::Verdict;
+use crate::message::{Handed, Printed};
+use crate::verdict::{Told, Verdict};
 use iot_link::Loss;
+use iot_resolve::Plan;
 use iot_text::{Name, NoMemory, Path, Text, quote};
-use iot_tree::{ACT_LIMIT, Act, Node, Question, Tree};
+use iot_tree::{ACT_LIMIT, Act, Node, OnConflict, Question, Tree, Way};
 use std::alloc::Global;
 
 /// The name of a transaction: its client's name and its number there.
@@ -167,16 +167,33 @@ pub(crate) fn say_end(transaction: &Transaction, out: &mut Text) -> Result<(), N
     out.push(b'\n')
 }
 
-/// `commit N TID certified`
-fn say_commit_line(number: u64, transaction: &Transaction, out: &mut Text) -> Result<(), NoMemory>
+/// `commit N TID WAY`
+fn say_commit_line(
+    number: u64,
+    transaction: &Transaction,
+    way: Way,
+    out: &mut Text,
+) -> Result<(), NoMemory>
     ensures { OnOk result
-        (out.new ≡ out.old ++ commit_line number (transaction_name transaction.now.client transaction.now.number) Certified) }
+        (out.new ≡ out.old ++ commit_line number (transaction_name transaction.now.client transaction.now.number) way) }
 {
     out.append(b"commit ")?;
     out.append_number(number)?;
     out.push(b' ')?;
     transaction.write_to(out)?;
-    out.append(b" certified\n")
+    out.push(b' ')?;
+    say_way(way, out)?;
+    out.push(b'\n')
+}
+
+fn say_way(way: Way, out: &mut Text) -> Result<(), NoMemory>
+    ensures { OnOk result (out.new ≡ out.old ++ way_text way) }
+{
+    out.append(match way {
+        Way::Certified => b"certified",
+        Way::Reexecuted => b"reexecuted",
+        Way::Resolved => b"resolved",
+    })
 }
 
 /// `settled TID N`
@@ -190,20 +207,24 @@ fn say_settled(transaction: &Transaction, number: u64, out: &mut Text) -> Result
     out.push(b'\n')
 }
 
-/// What a client is told of its transaction, which it gives up if it conflicts.
-pub(crate) fn say_verdict(
+/// What a client is told of its transaction, and what becomes of it.
+pub(crate) fn say_told(
     transaction: &Transaction,
-    verdict: &Verdict,
+    told: &Told,
     out: &mut Text,
 ) -> Result<(), NoMemory>
     ensures { OnOk result (out.new ≡ out.old
-        ++ verdict_text (transaction_name transaction.now.client transaction.now.number) (verdict_of verdict.now)) }
+        ++ told_text (transaction_name transaction.now.client transaction.now.number) (verdict_of told.now.verdict) told.now.option) }
 {
-    match verdict {
+    match &told.verdict {
         Verdict::Settled { number } => say_settled(transaction, *number, out),
         Verdict::Conflict { read, question } => {
             say_conflict(transaction, *read, question, out)?;
-            say_abort(transaction, out)
+            match told.option {
+                OnConflict::Reexec | OnConflict::Resolver(_) => Ok(()),
+                OnConflict::Abort => say_abort(transaction, out),
+                OnConflict::Manual => say_manual(transaction, out),
+            }
         }
     }
 }
@@ -251,6 +272,67 @@ fn say_abort(transaction: &Transaction, out: &mut Text) -> Result<(), NoMemory>
     ensures { OnOk result (out.new ≡ out.old ++ abort_line (transaction_name transaction.now.client transaction.now.number)) }
 {
     out.append(b"abort ")?;
+    transaction.write_to(out)?;
+    out.push(b'\n')
+}
+
+/// `manual TID`
+pub(crate) fn say_manual(transaction: &Transaction, out: &mut Text) -> Result<(), NoMemory>
+    ensures { OnOk result (out.new ≡ out.old ++ manual_line (transaction_name transaction.now.client transaction.now.number)) }
+{
+    out.append(b"manual ")?;
+    transaction.write_to(out)?;
+    out.push(b'\n')
+}
+
+/// `resolve TID S`, or `resolve TID reexec`
+pub(crate) fn say_resolve(
+    transaction: &Transaction,
+    plan: &Plan,
+    out: &mut Text,
+) -> Result<(), NoMemory>
+    ensures { OnOk result (out.new ≡ out.old
+        ++ resolve_line (transaction_name transaction.now.client transaction.now.number) (resolver_said plan.now)) }
+{
+    out.append(b"resolve ")?;
+    transaction.write_to(out)?;
+    out.push(b' ')?;
+    say_resolver(plan, out)?;
+    out.push(b'\n')
+}
+
+/// The name of the resolver, or that the own script is run again.
+fn say_resolver(plan: &Plan, out: &mut Text) -> Result<(), NoMemory>
+    ensures { OnOk result (out.new ≡ out.old ++ resolver_said plan.now) }
+{
+    if plan.keeps {
+        out.append(plan.script.as_bytes())
+    } else {
+        out.append(b"reexec")
+    }
+}
+
+/// `repair TID S`
+pub(crate) fn say_repair(
+    transaction: &Transaction,
+    script: &Name,
+    out: &mut Text,
+) -> Result<(), NoMemory>
+    ensures { OnOk result (out.new ≡ out.old
+        ++ repair_line (transaction_name transaction.now.client transaction.now.number) script.now) }
+{
+    out.append(b"repair ")?;
+    transaction.write_to(out)?;
+    out.push(b' ')?;
+    out.append(script.as_bytes())?;
+    out.push(b'\n')
+}
+
+/// `discard TID`
+pub(crate) fn say_discard(transaction: &Transaction, out: &mut Text) -> Result<(), NoMemory>
+    ensures { OnOk result (out.new ≡ out.old ++ discard_line (transaction_name transaction.now.client transaction.now.number)) }
+{
+    out.append(b"discard ")?;
     transaction.write_to(out)?;
     out.push(b'\n')
 }
@@ -304,12 +386,12 @@ pub(crate) fn output_of(alloc: Global, acts: &[Act]) -> Result<Text, NoMemory>
 }
 
 /// What a commit says under this number: its line, and what its script printed.
-pub(crate) fn say_commit(number: u64, printed: &Printed, out: &mut Text) -> Result<(), NoMemory>
-    ensures { OnOk result
-        (out.new ≡ out.old ++ (commit_line number (name_of printed.now.transaction) Certified ++ printed.now.output)) }
+pub(crate) fn say_commit(number: u64, handed: &Handed, out: &mut Text) -> Result<(), NoMemory>
+    ensures { OnOk result (out.new ≡ out.old
+        ++ (commit_line number (name_of handed.now.printed.transaction) handed.now.way ++ handed.now.printed.output)) }
 {
-    say_commit_line(number, &printed.transaction, out)?;
-    out.append_text(&printed.output)
+    say_commit_line(number, &handed.printed.transaction, handed.way, out)?;
+    out.append_text(&handed.printed.output)
 }
 
 /// One row of a tree.

@@ -1,11 +1,14 @@
 //! What a client does with its transactions: they begin, are stepped and end.
 ghost use Rattle.std.specs.Prelude.{◌≡◌, ◌<◌, ℕ, List, OnOk, IfOk, true, length};
 ghost use Rattle.iot_machine.specs.Calls.{Asks, Says, Then};
+ghost use Rattle.iot_event.specs.Declarations.{ResolverIsDeclared};
+ghost use Rattle.iot_machine.specs.Events.{chosen};
 ghost use Rattle.iot_machine.specs.Events.{BeginsAloud, StepsAloud, Runs, SyncsIf, is_connected, runs_script, begin_text, step_text};
 ghost use Rattle.iot_machine.specs.Texts.{fetch_line};
 ghost use Rattle.iot_machine.specs.Transactions.{Starts, Begins, Steps as SingleStep, StepsAll, Ends};
 ghost use Rattle.iot_world.specs.Faults.{CallCounts};
 ghost use Rattle.iot_world.specs.Saying.{SaidIf};
+ghost use Rattle.iot_world.specs.Scripts.{option_named};
 
 use crate::answers::{Brought, Stepped, Synced};
 use crate::fault::WorldFault;
@@ -13,8 +16,9 @@ use crate::texts::{say, say_begin, say_end, say_fetch, say_pending, say_step};
 use crate::world::World;
 use iot_client::Step;
 use iot_disk::Disk;
+use iot_event::Choice;
 use iot_text::{NoMemory, Path, Text};
-use iot_tree::Want;
+use iot_tree::{OnConflict, Want};
 use std::alloc::Global;
 
 /// The most single steps that one run makes.
@@ -22,7 +26,7 @@ const RUN_STEPS: u64 = 100_000;
 
 impl<D: Disk> World<D> {
     ghost use Rattle.iot_world.specs.World.{Steps, IsReady, SameCounts, SameDisks, IsApart, CanHold, ClientIs, IsIdle};
-    ghost use Rattle.iot_world.specs.World.{declared_in, stepped_of};
+    ghost use Rattle.iot_world.specs.World.{declared_in, option_in, stepped_of};
 
     // ---- begin
 
@@ -31,15 +35,18 @@ impl<D: Disk> World<D> {
         alloc: Global,
         client: u64,
         script: u64,
+        option: Choice,
         out: &mut Text,
     ) -> Result<(), WorldFault>
         requires ready { IsReady D.reads D.may_leave client self.old }
         requires script { script < length self.old.scripts.items }
-        ensures step { OnOk result (Steps D.reads D.may_leave (BeginsAloud client script) self.old self.new out.old out.new tt) }
+        requires option { ResolverIsDeclared option (length self.old.scripts.items) }
+        ensures step { OnOk result
+            (Steps D.reads D.may_leave (BeginsAloud client script (chosen option)) self.old self.new out.old out.new tt) }
         ensures counts { OnOk result (SameCounts self.old self.new) }
         ensures disks { SameDisks D.arms D.faults (CallCounts result) self.old self.new }
     {
-        if !self.begin(alloc, client, script, out)? {
+        if !self.begin(alloc, client, script, option, out)? {
             return Ok(());
         }
         self.say_begun(client, out)?;
@@ -52,11 +59,13 @@ impl<D: Disk> World<D> {
         alloc: Global,
         client: u64,
         script: u64,
+        option: Choice,
         out: &mut Text,
     ) -> Result<bool, WorldFault>
         requires ready { IsReady D.reads D.may_leave client self.old }
         requires script { script < length self.old.scripts.items }
-        ensures step { IfOk result (Steps D.reads D.may_leave (Begins client script) self.old self.new out.old out.new) }
+        requires option { ResolverIsDeclared option (length self.old.scripts.items) }
+        ensures step { IfOk result (Steps D.reads D.may_leave (Begins client script (chosen option)) self.old self.new out.old out.new) }
         ensures counts { OnOk result (SameCounts self.old self.new) }
         ensures disks { SameDisks D.arms D.faults (CallCounts result) self.old self.new }
     {
@@ -66,12 +75,12 @@ impl<D: Disk> World<D> {
             return Ok(false);
         }
         if laptop.waits() {
-            self.start(alloc, client, script, false)?;
+            self.start(alloc, client, script, option, false)?;
             return Ok(true);
         }
         match self.bring(alloc, client, &Want::Nothing, out)? {
-            Brought::Held => self.start(alloc, client, script, true)?,
-            Brought::Missed => self.start(alloc, client, script, false)?,
+            Brought::Held => self.start(alloc, client, script, option, true)?,
+            Brought::Missed => self.start(alloc, client, script, option, false)?,
         }
         Ok(true)
     }
@@ -81,20 +90,37 @@ impl<D: Disk> World<D> {
         alloc: Global,
         client: u64,
         script: u64,
+        option: Choice,
         first: bool,
     ) -> Result<(), NoMemory>
         requires ready { IsReady D.reads D.may_leave client self.old }
         requires script { script < length self.old.scripts.items }
+        requires option { ResolverIsDeclared option (length self.old.scripts.items) }
         requires idle { ClientIs IsIdle client self.old }
         requires alone { first ≡ true → CanHold client self.old }
         ensures step { OnOk result ((text : List ℕ)
-            → Steps D.reads D.may_leave (Starts client (declared_in self.old script) first) self.old self.new text text true) }
+            → Steps D.reads D.may_leave (Starts client (declared_in self.old script) (option_in self.old option) first)
+            self.old self.new text text true) }
         ensures apart { IsApart self.old self.new }
     {
+        let option = self.option_named(option);
         let declared = &self.scripts[script as usize];
         let code = declared.script.shared()?;
-        self.clients[client as usize].begin(alloc, &declared.name, code, first)?;
+        self.clients[client as usize].begin(alloc, &declared.name, code, option, first)?;
         Ok(())
+    }
+
+    /// What becomes of a transaction that conflicts, by the name of its resolver.
+    fn option_named(&self, option: Choice) -> OnConflict
+        requires { ResolverIsDeclared option (length self.now.scripts.items) }
+        ensures { result ≡ option_named (option_in self.now option) }
+    {
+        match option {
+            Choice::Reexec => OnConflict::Reexec,
+            Choice::Resolver(script) => OnConflict::Resolver(self.scripts[script as usize].name),
+            Choice::Abort => OnConflict::Abort,
+            Choice::Manual => OnConflict::Manual,
+        }
     }
 
     fn say_begun(&self, client: u64, out: &mut Text) -> Result<(), NoMemory>
@@ -244,24 +270,26 @@ impl<D: Disk> World<D> {
         }
         match self.sync(alloc, client, out)? {
             Synced::Unanswered => say_pending(&gone.printed, out)?,
-            Synced::Empty | Synced::Left => (),
+            Synced::Empty | Synced::Left | Synced::Moved | Synced::ByHand => (),
         }
         Ok(())
     }
 
     // ---- run
 
-    /// Over a link that is up, submits what waits; then begins a transaction of the script, does its single steps, and ends it.
+    /// Over a link that is up, syncs what waits; then begins a transaction of the script, does its single steps, and ends it.
     pub(crate) fn run(
         &mut self,
         alloc: Global,
         client: u64,
         script: u64,
+        option: Choice,
         out: &mut Text,
     ) -> Result<(), WorldFault>
         requires ready { IsReady D.reads D.may_leave client self.old }
         requires script { script < length self.old.scripts.items }
-        ensures step { OnOk result (Steps D.reads D.may_leave (Runs client script) self.old self.new out.old out.new tt) }
+        requires option { ResolverIsDeclared option (length self.old.scripts.items) }
+        ensures step { OnOk result (Steps D.reads D.may_leave (Runs client script (chosen option)) self.old self.new out.old out.new tt) }
         ensures counts { OnOk result (SameCounts self.old self.new) }
         ensures disks { SameDisks D.arms D.faults (CallCounts result) self.old self.new }
     {
@@ -270,11 +298,11 @@ impl<D: Disk> World<D> {
             return Ok(());
         }
         self.sync_if_up(alloc, client, out)?;
-        self.run_script(alloc, client, script, out)?;
+        self.run_script(alloc, client, script, option, out)?;
         Ok(())
     }
 
-    /// Submits the transactions that wait, if the link is up.
+    /// Syncs the transactions that wait, if the link is up.
     fn sync_if_up(&mut self, alloc: Global, client: u64, out: &mut Text) -> Result<(), WorldFault>
         requires ready { IsReady D.reads D.may_leave client self.old }
         ensures step { OnOk result (Steps D.reads D.may_leave (Then (Asks (is_connected client)) (SyncsIf client))
@@ -295,15 +323,18 @@ impl<D: Disk> World<D> {
         alloc: Global,
         client: u64,
         script: u64,
+        option: Choice,
         out: &mut Text,
     ) -> Result<(), WorldFault>
         requires ready { IsReady D.reads D.may_leave client self.old }
         requires script { script < length self.old.scripts.items }
-        ensures step { OnOk result (Steps D.reads D.may_leave (runs_script client script) self.old self.new out.old out.new tt) }
+        requires option { ResolverIsDeclared option (length self.old.scripts.items) }
+        ensures step { OnOk result
+            (Steps D.reads D.may_leave (runs_script client script (chosen option)) self.old self.new out.old out.new tt) }
         ensures counts { OnOk result (SameCounts self.old self.new) }
         ensures disks { SameDisks D.arms D.faults (CallCounts result) self.old self.new }
     {
-        if !self.begin(alloc, client, script, out)? {
+        if !self.begin(alloc, client, script, option, out)? {
             return Ok(());
         }
         let _stepped = self.steps(alloc, client, RUN_STEPS, false, out)?;

@@ -3,11 +3,13 @@ ghost use Rattle.std.specs.Prelude.{◌≡◌, ◌-◌, ◌<◌, ◌≤◌, Some
 ghost use Rattle.iot_acts.specs.Turns.{reads_of};
 ghost use Rattle.iot_machine.specs.Serving as serving;
 ghost use Rattle.iot_tree.specs.declared.acts.Read.{Read};
-ghost use Rattle.iot_world.specs.Messages.{SpellsVerdict, IsVerdict, verdict_of};
+ghost use Rattle.iot_world.specs.Messages.{SpellsVerdict, IsVerdict, verdict_of, told_synced};
+ghost use Rattle.iot_world.specs.World.{synced_of};
 
+use crate::answers::Synced;
 use iot_codec::CodecFault;
 use iot_text::NoMemory;
-use iot_tree::{Act, Duplicate, Question};
+use iot_tree::{Act, Duplicate, OnConflict, Question};
 use iot_wire::{Reply, read_reply};
 use std::alloc::Global;
 
@@ -19,6 +21,29 @@ pub(crate) enum Verdict {
 
     /// This read of it, counted from 1, which asked this, has another answer now.
     Conflict { read: u64, question: Question },
+}
+
+/// What a client is told, and what becomes of its transaction if that conflicts.
+#[derive(Drop)]
+pub(crate) struct Told {
+    pub(crate) verdict: Verdict,
+    pub(crate) option: OnConflict,
+}
+
+impl Told {
+    /// How the sync went.
+    pub(crate) fn synced(&self) -> Synced
+        ensures { synced_of result ≡ told_synced (verdict_of self.now.verdict) self.now.option }
+    {
+        match self.verdict {
+            Verdict::Settled { .. } => Synced::Left,
+            Verdict::Conflict { .. } => match self.option {
+                OnConflict::Reexec | OnConflict::Resolver(_) => Synced::Moved,
+                OnConflict::Abort => Synced::Left,
+                OnConflict::Manual => Synced::ByHand,
+            },
+        }
+    }
 }
 
 /// What the reply says of a transaction that did these acts.

@@ -50,7 +50,7 @@ impl<D: Disk> World<D> {
     ghost use Rattle.iot_world.specs.Allowed.{IsAllowed};
     ghost use Rattle.iot_world.specs.World.{StandsFor, StandsForSome, Steps, EventSteps, DeclaredOn, Opens, HandsAllBack};
     ghost use Rattle.iot_world.specs.World.{HasDisks, SameDisks, disks_of, AddsClient, AddsScript, SetsServer};
-    ghost use Rattle.iot_world.specs.World.{client_count, script_count, IsReady, LendsServer, LendsClient};
+    ghost use Rattle.iot_world.specs.World.{client_count, script_names, IsReady, LendsServer, LendsClient};
     ghost use Rattle.iot_event.specs.declared.event.Event.{Event};
 
     /// The world before any event, with a server on the first of the disks. The others are not used yet.
@@ -90,7 +90,7 @@ impl<D: Disk> World<D> {
     ///
     /// If memory runs out, or if a disk fails in it.
     pub fn apply(&mut self, alloc: Global, event: &Event, out: &mut Text) -> Result<(), WorldFault>
-        requires allowed { IsAllowed event.now (client_count self.old) (script_count self.old) }
+        requires allowed { IsAllowed event.now (client_count self.old) (script_names self.old) }
         requires stands { StandsForSome D.reads D.may_leave self.old }
 
         // Each machine of which this was the world does this event, with the text that was added, and this is its world then: the
@@ -131,7 +131,7 @@ impl<D: Disk> World<D> {
 
     /// Does one event: what its part of the machine does with the nodes.
     fn perform(&mut self, alloc: Global, event: &Event, out: &mut Text) -> Result<(), WorldFault>
-        requires allowed { IsAllowed event.now (client_count self.old) (script_count self.old) }
+        requires allowed { IsAllowed event.now (client_count self.old) (script_names self.old) }
         requires stands { StandsForSome D.reads D.may_leave self.old }
         ensures step { OnOk result (Steps D.reads D.may_leave (event_part event.now) self.old self.new out.old out.new tt) }
         ensures disks { SameDisks D.arms D.faults (CallCounts result) self.old self.new }
@@ -140,10 +140,18 @@ impl<D: Disk> World<D> {
         match event {
             Event::Client(name) => self.declare_client(alloc, name, out)?,
             Event::Script(name, script) => self.declare_script(name, script)?,
-            Event::Run { client, script } => self.run(alloc, *client, *script, out)?,
+            Event::Run {
+                client,
+                script,
+                option,
+            } => self.run(alloc, *client, *script, *option, out)?,
             Event::Hoard { client, path } => self.hoard(alloc, *client, path, out)?,
             Event::Refresh { client } => self.refresh(alloc, *client, out)?,
-            Event::Begin { client, script } => self.begin_aloud(alloc, *client, *script, out)?,
+            Event::Begin {
+                client,
+                script,
+                option,
+            } => self.begin_aloud(alloc, *client, *script, *option, out)?,
             Event::Step { client, count } => self.step_aloud(alloc, *client, *count, out)?,
             Event::End { client } => self.end(alloc, *client, out)?,
             Event::Connect { client } => self.connect(*client, out)?,
@@ -151,6 +159,8 @@ impl<D: Disk> World<D> {
             Event::Lose { client, loss } => self.lose(*client, *loss, out)?,
             Event::Sync { client } => self.sync_aloud(alloc, *client, out)?,
             Event::Drain { client } => self.drain(alloc, *client, out)?,
+            Event::Repair { client, script } => self.repair(alloc, *client, *script, out)?,
+            Event::Discard { client } => self.discard(alloc, *client, out)?,
             Event::ShowServer => self.server.show(out)?,
             Event::ShowClient { client } => self.show_client(*client, out)?,
             Event::CrashServer => self.crash(out)?,

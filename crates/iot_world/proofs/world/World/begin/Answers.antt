@@ -43,9 +43,9 @@ returns-in_err-start-clause-disks g c =
 
 pub returns-then-waits-clause-step : goal.returns-then-waits-clause-step
 returns-then-waits-clause-step g c =
-    begins_second _ _ c.args.client c.args.script c.args.self.now c.index-laptop.result.now c.args.out.now
+    begins_second _ _ c.args.client c.args.script c.args.option c.args.self.now c.index-laptop.result.now c.args.out.now
     (found _ _ c.args.client c.args.self.now c.index-laptop.result.now c.requires.ready c.index-laptop.ensures)
-    c.start.new.self c.requires.script (sym c.runs.ensures ∙ c.if-runs.false) (sym c.waits.ensures ∙ c.if-waits.true)
+    c.requires.script c.requires.option c.start.new.self (sym c.runs.ensures ∙ c.if-runs.false) (sym c.waits.ensures ∙ c.if-waits.true)
     (c.in_ok-start.ensures.step c.args.out.now)
 
 pub returns-then-waits-clause-disks : goal.returns-then-waits-clause-disks
@@ -61,17 +61,17 @@ bring-requires-clause-can g c =
 
 pub returns-in_ok-start-in-Held-clause-step : goal.returns-in_ok-start-in-Held-clause-step
 returns-in_ok-start-in-Held-clause-step g c =
-    begins_first _ _ c.args.client c.args.script c.args.self.now c.index-laptop.result.now c.args.out.now
+    begins_first _ _ c.args.client c.args.script c.args.option c.args.self.now c.index-laptop.result.now c.args.out.now
     (found _ _ c.args.client c.args.self.now c.index-laptop.result.now c.requires.ready c.index-laptop.ensures)
-    c.bring.new.self c.start-in-Held.new.self c.bring.new.out c.in_ok-bring.field-0 c.in-Held.is c.requires.script
+    c.requires.script c.requires.option c.bring.new.self c.start-in-Held.new.self c.bring.new.out c.in_ok-bring.field-0 c.in-Held.is
     (sym c.runs.ensures ∙ c.if-runs.false) (sym c.waits.ensures ∙ c.if-waits.false) c.in_ok-bring.ensures.counts.scripts
     c.in_ok-bring.ensures.step (c.in_ok-start-in-Held.ensures.step c.bring.new.out)
 
 pub returns-in_ok-start-in-Missed-clause-step : goal.returns-in_ok-start-in-Missed-clause-step
 returns-in_ok-start-in-Missed-clause-step g c =
-    begins_missed _ _ c.args.client c.args.script c.args.self.now c.index-laptop.result.now c.args.out.now
+    begins_missed _ _ c.args.client c.args.script c.args.option c.args.self.now c.index-laptop.result.now c.args.out.now
     (found _ _ c.args.client c.args.self.now c.index-laptop.result.now c.requires.ready c.index-laptop.ensures)
-    c.bring.new.self c.start-in-Missed.new.self c.bring.new.out c.in_ok-bring.field-0 c.in-Missed.is c.requires.script
+    c.requires.script c.requires.option c.bring.new.self c.start-in-Missed.new.self c.bring.new.out c.in_ok-bring.field-0 c.in-Missed.is
     (sym c.runs.ensures ∙ c.if-runs.false) (sym c.waits.ensures ∙ c.if-waits.false) c.in_ok-bring.ensures.counts.scripts
     c.in_ok-bring.ensures.step (c.in_ok-start-in-Missed.ensures.step c.bring.new.out)
 

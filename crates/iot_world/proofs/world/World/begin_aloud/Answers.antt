@@ -1,4 +1,4 @@
-use Rattle.iot_machine.specs.Events.{begin_text}
+use Rattle.iot_machine.specs.Events.{begin_text, chosen}
 use Rattle.iot_machine.specs.Calls.{Says}
 use Rattle.iot_machine.specs.Transactions.{Begins}
 use Rattle.iot_world.proofs.EventsLaws.{goes, stays}
@@ -6,11 +6,12 @@ use Rattle.iot_world.proofs.world.World.begin_aloud.Goals as goal
 
 pub returns-then-not-branch-clause-step : goal.returns-then-not-branch-clause-step
 returns-then-not-branch-clause-step g c =
-    stays g.D.Disk.reads g.D.Disk.may_leave (Begins c.args.client c.args.script) (Says (begin_text c.args.client)) c.args.self.now
-    c.begin.new.self c.args.out.now c.begin.new.out c.in_ok-begin.field-0 c.if-not-branch.true c.in_ok-begin.ensures.step
+    stays g.D.Disk.reads g.D.Disk.may_leave (Begins c.args.client c.args.script (chosen c.args.option))
+    (Says (begin_text c.args.client)) c.args.self.now c.begin.new.self c.args.out.now c.begin.new.out c.in_ok-begin.field-0
+    c.if-not-branch.true c.in_ok-begin.ensures.step
 
 pub returns-clause-step : goal.returns-clause-step
 returns-clause-step g c =
-    goes g.D.Disk.reads g.D.Disk.may_leave (Begins c.args.client c.args.script) (Says (begin_text c.args.client)) c.args.self.now
-    c.begin.new.self c.begin.new.self c.args.out.now c.begin.new.out c.say_begun.new.out c.in_ok-begin.field-0 c.if-not-branch.false
-    c.in_ok-begin.ensures.step c.in_ok-say_begun.ensures
+    goes g.D.Disk.reads g.D.Disk.may_leave (Begins c.args.client c.args.script (chosen c.args.option))
+    (Says (begin_text c.args.client)) c.args.self.now c.begin.new.self c.begin.new.self c.args.out.now c.begin.new.out
+    c.say_begun.new.out c.in_ok-begin.field-0 c.if-not-branch.false c.in_ok-begin.ensures.step c.in_ok-say_begun.ensures

@@ -4,7 +4,7 @@ use Rattle.iot_client.specs.Messages.{IsRefresh}
 use Rattle.iot_client.specs.Ties.{state_of, place_of}
 use Rattle.iot_machine.specs.Clients.{hold}
 use Rattle.iot_machine.specs.Serving.{Lends}
-use Rattle.iot_world.specs.Messages.{SpellsTree, BringsTree}
+use Rattle.iot_world.specs.Messages.{SpellsTree, SpellsCut, BringsTree}
 use Rattle.iot_world.specs.World.{IsIdle}
 use Rattle.iot_world.specs.declared.laptop.Laptop.{Laptop}
 use Rattle.iot_world.proofs.BringingLaws.{ready_came, at_before, brings_tree, held, missed}
@@ -43,7 +43,8 @@ take-requires-clause-stands g c =
     let exchanged = c.in_ok-reply.ensures.lends (place_of was.client) (state_of was.client).held c.args.want.now c.in_ok-message.ensures in
     let ready = ready_came g.D.Disk.reads g.D.Disk.may_leave c.args.client c.args.self.now c.exchange.new.self c.args.out.now
     c.exchange.new.out
-    c.in_ok-reply.field-0 (Lends (state_of was.client).held c.args.want.now) SpellsTree exchanged c.in-Some.reply c.in-Some.is
+    c.in_ok-reply.field-0 (Lends (state_of was.client).held c.args.want.now) (SpellsCut (state_of was.client).held c.args.want.now)
+    exchanged c.in-Some.reply c.in-Some.is
     c.requires.ready
     c.in_ok-reply.ensures.counts in
     let there = found _ _ c.args.client c.exchange.new.self now ready c.index_mut.ensures.value in
@@ -62,7 +63,8 @@ take-requires-clause-idle g c =
     let exchanged = c.in_ok-reply.ensures.lends (place_of was.client) (state_of was.client).held c.args.want.now c.in_ok-message.ensures in
     let ready = ready_came g.D.Disk.reads g.D.Disk.may_leave c.args.client c.args.self.now c.exchange.new.self c.args.out.now
     c.exchange.new.out
-    c.in_ok-reply.field-0 (Lends (state_of was.client).held c.args.want.now) SpellsTree exchanged c.in-Some.reply c.in-Some.is
+    c.in_ok-reply.field-0 (Lends (state_of was.client).held c.args.want.now) (SpellsCut (state_of was.client).held c.args.want.now)
+    exchanged c.in-Some.reply c.in-Some.is
     c.requires.ready
     c.in_ok-reply.ensures.counts in
     let there = found _ _ c.args.client c.exchange.new.self now ready c.index_mut.ensures.value in
@@ -81,7 +83,8 @@ take-requires-clause-none g c =
     let exchanged = c.in_ok-reply.ensures.lends (place_of was.client) (state_of was.client).held c.args.want.now c.in_ok-message.ensures in
     let ready = ready_came g.D.Disk.reads g.D.Disk.may_leave c.args.client c.args.self.now c.exchange.new.self c.args.out.now
     c.exchange.new.out
-    c.in_ok-reply.field-0 (Lends (state_of was.client).held c.args.want.now) SpellsTree exchanged c.in-Some.reply c.in-Some.is
+    c.in_ok-reply.field-0 (Lends (state_of was.client).held c.args.want.now) (SpellsCut (state_of was.client).held c.args.want.now)
+    exchanged c.in-Some.reply c.in-Some.is
     c.requires.ready
     c.in_ok-reply.ensures.counts in
     let there = found _ _ c.args.client c.exchange.new.self now ready c.index_mut.ensures.value in
@@ -100,7 +103,8 @@ take-requires-clause-brings g c =
     let exchanged = c.in_ok-reply.ensures.lends (place_of was.client) (state_of was.client).held c.args.want.now c.in_ok-message.ensures in
     let ready = ready_came g.D.Disk.reads g.D.Disk.may_leave c.args.client c.args.self.now c.exchange.new.self c.args.out.now
     c.exchange.new.out
-    c.in_ok-reply.field-0 (Lends (state_of was.client).held c.args.want.now) SpellsTree exchanged c.in-Some.reply c.in-Some.is
+    c.in_ok-reply.field-0 (Lends (state_of was.client).held c.args.want.now) (SpellsCut (state_of was.client).held c.args.want.now)
+    exchanged c.in-Some.reply c.in-Some.is
     c.requires.ready
     c.in_ok-reply.ensures.counts in
     let there = found _ _ c.args.client c.exchange.new.self now ready c.index_mut.ensures.value in
@@ -121,7 +125,8 @@ returns-in-Some-clause-step g c =
     let exchanged = c.in_ok-reply.ensures.lends (place_of was.client) (state_of was.client).held c.args.want.now c.in_ok-message.ensures in
     let ready = ready_came g.D.Disk.reads g.D.Disk.may_leave c.args.client c.args.self.now c.exchange.new.self c.args.out.now
     c.exchange.new.out
-    c.in_ok-reply.field-0 (Lends (state_of was.client).held c.args.want.now) SpellsTree exchanged c.in-Some.reply c.in-Some.is
+    c.in_ok-reply.field-0 (Lends (state_of was.client).held c.args.want.now) (SpellsCut (state_of was.client).held c.args.want.now)
+    exchanged c.in-Some.reply c.in-Some.is
     c.requires.ready
     c.in_ok-reply.ensures.counts in
     let there = found _ _ c.args.client c.exchange.new.self now ready c.index_mut.ensures.value in
@@ -146,7 +151,8 @@ returns-in-Some-clause-can g c =
     let exchanged = c.in_ok-reply.ensures.lends (place_of was.client) (state_of was.client).held c.args.want.now c.in_ok-message.ensures in
     let ready = ready_came g.D.Disk.reads g.D.Disk.may_leave c.args.client c.args.self.now c.exchange.new.self c.args.out.now
     c.exchange.new.out
-    c.in_ok-reply.field-0 (Lends (state_of was.client).held c.args.want.now) SpellsTree exchanged c.in-Some.reply c.in-Some.is
+    c.in_ok-reply.field-0 (Lends (state_of was.client).held c.args.want.now) (SpellsCut (state_of was.client).held c.args.want.now)
+    exchanged c.in-Some.reply c.in-Some.is
     c.requires.ready
     c.in_ok-reply.ensures.counts in
     let there = found _ _ c.args.client c.exchange.new.self now ready c.index_mut.ensures.value in
@@ -159,7 +165,7 @@ returns-in-Some-clause-can g c =
     c.in_ok-reply.field-0 was c.args.want.now exchanged c.in-Some.reply c.in-Some.is in
     λ laptop is. subst (λ (l : Laptop). IsIdle l × ((state_of l.client).items ≡ []))
     (get_set c.exchange.new.self.clients.items c.args.client c.take.new.self laptop is)
-    (holds_still brought.tree now c.take.new.self _
+    (holds_still brought.tree now c.take.new.self _ _
     (found_stands _ _ c.args.client c.exchange.new.self now ready c.index_mut.ensures.value)
     (c.in_ok-take-in-Some.ensures brought.tree (subst (λ bytes. SpellsTree bytes brought.tree) (sym c.deref.ensures.value) brought.is))
     (c.requires.can now before).0 (c.requires.can now before).1)

@@ -16,7 +16,7 @@ returns-clause-step g c =
     c.index_mut-laptop.result.now.link))
     (λ m. record m { link = connected true m.link }) connect_line c.args.out.now c.say_connect.new.out
     (found _ _ c.args.client c.args.self.now c.index_mut-laptop.result.now c.requires.ready c.index_mut-laptop.ensures.value)
-    (record { server = refl; scripts = refl; clients = refl }) c.connect.ensures (λ m here. (
+    (record { server = refl; scripts = refl; clients = refl }) c.connect.ensures (λ scripts m here. (
       ap (λ (l : LinkState). linked (connected
           true l) m) here.link,
       refl,

@@ -14,4 +14,5 @@ returns-clause-step g c =
     relinks _ _ c.args.client c.args.self.now _ c.index_mut-laptop.result.now c.disconnect.new.self cut_off
     cut_off disconnect_line c.args.out.now c.say_disconnect.new.out
     (found _ _ c.args.client c.args.self.now c.index_mut-laptop.result.now c.requires.ready c.index_mut-laptop.ensures.value)
-    (record { server = refl; scripts = refl; clients = refl }) c.disconnect.ensures (λ m here. (refl, refl)) c.in_ok-say_disconnect.ensures
+    (record { server = refl; scripts = refl; clients = refl }) c.disconnect.ensures (λ scripts m here. (refl, refl))
+    c.in_ok-say_disconnect.ensures

@@ -1,6 +1,7 @@
 use Rattle.std.proofs.Common.{refl, sym, ◌∙◌}
 use Rattle.std.proofs.lemmas.Result.{err_from_is_err_and}
 use Rattle.iot_machine.specs.Clients as clients
+use Rattle.iot_world.specs.World.{scripts_of}
 use Rattle.iot_world.proofs.DisksLaws.{untouched_disks}
 use Rattle.iot_world.proofs.EndsLaws.{ends_idle, ends_early, ends_told, ends_unanswered, ends_waiting, ready_noted}
 use Rattle.iot_world.proofs.LaptopEndsLaws.{unended}
@@ -30,7 +31,7 @@ returns-then-not-runs-clause-step g c =
     (λ m here. put_back g.D.Disk.reads g.D.Disk.may_leave old _ c.args.client was was m at refl
     (record { server = refl; scripts = refl; clients = refl }) here)
     (ends_idle _ _ c.args.client old was c.args.out.now at c.say.new.out
-    (none_runs was (sym c.runs.ensures ∙ c.if-not-runs.true)) c.in_ok-say.ensures)
+    (none_runs (scripts_of c.args.self.now) was (sym c.runs.ensures ∙ c.if-not-runs.true)) c.in_ok-say.ensures)
 
 pub returns-then-not-runs-clause-disks : goal.returns-then-not-runs-clause-disks
 returns-then-not-runs-clause-disks g c =
@@ -54,7 +55,7 @@ returns-then-not-may_end-clause-step g c =
     let was = c.index_mut-laptop.result.now in
     let at = found _ _ c.args.client old was c.requires.ready c.index_mut-laptop.ensures.value in
     let here = found_stands _ _ c.args.client old was c.requires.ready c.index_mut-laptop.ensures.value in
-    let runs = it_runs was _ here (sym c.runs.ensures ∙ c.if-not-runs.false) in
+    let runs = it_runs (scripts_of c.args.self.now) _ was _ here (sym c.runs.ensures ∙ c.if-not-runs.false) in
     to_same g.D.Disk.reads g.D.Disk.may_leave old old _ c.args.out.now c.say-then-not-may_end.new.out tt
     (λ m here. put_back g.D.Disk.reads g.D.Disk.may_leave old _ c.args.client was was m at refl
     (record { server = refl; scripts = refl; clients = refl }) here)
@@ -97,7 +98,7 @@ returns-then-not-gone-clause-step g c =
     let was = c.index_mut-laptop.result.now in
     let at = found _ _ c.args.client old was c.requires.ready c.index_mut-laptop.ensures.value in
     let here = found_stands _ _ c.args.client old was c.requires.ready c.index_mut-laptop.ensures.value in
-    let runs = it_runs was _ here (sym c.runs.ensures ∙ c.if-not-runs.false) in
+    let runs = it_runs (scripts_of c.args.self.now) _ was _ here (sym c.runs.ensures ∙ c.if-not-runs.false) in
     ends_waiting g.D.Disk.reads g.D.Disk.may_leave c.args.client old was c.args.out.now at runs.it runs.is c.in_ok-gone.gone
     c.end.new.self _ c.in_ok-gone.ensures (record { server = refl; scripts = refl; clients = refl }) c.say_end.new.out
     c.say_pending.new.out c.if-not-gone.true c.in_ok-say_end.ensures c.in_ok-say_pending.ensures
@@ -123,7 +124,7 @@ returns-clause-step g c =
     let was = c.index_mut-laptop.result.now in
     let at = found _ _ c.args.client old was c.requires.ready c.index_mut-laptop.ensures.value in
     let here = found_stands _ _ c.args.client old was c.requires.ready c.index_mut-laptop.ensures.value in
-    let runs = it_runs was _ here (sym c.runs.ensures ∙ c.if-not-runs.false) in
+    let runs = it_runs (scripts_of c.args.self.now) _ was _ here (sym c.runs.ensures ∙ c.if-not-runs.false) in
     elim c.match-branch-7.branch [
       | in-Unanswered+in_ok-say_pending-in-Unanswered w ↦
           ends_unanswered g.D.Disk.reads g.D.Disk.may_leave c.args.client old was c.args.out.now at runs.it runs.is c.in_ok-gone.gone

@@ -16,7 +16,7 @@ returns-clause-step g c =
     c.index_mut-laptop.result.now.link))
     (λ m. record m { link = arming c.args.loss m.link }) (λ n. lose_line n c.args.loss) c.args.out.now c.say_lose.new.out
     (found _ _ c.args.client c.args.self.now c.index_mut-laptop.result.now c.requires.ready c.index_mut-laptop.ensures.value)
-    (record { server = refl; scripts = refl; clients = refl }) c.lose.ensures (λ m here. (
+    (record { server = refl; scripts = refl; clients = refl }) c.lose.ensures (λ scripts m here. (
       ap (λ (l : LinkState). linked (arming
           c.args.loss l) m) here.link,
       refl,

@@ -1,7 +1,7 @@
 use Rattle.std.proofs.Common.{refl}
 use Rattle.std.proofs.lemmas.Result.{err_from_is_err_and}
 use Rattle.iot_world.proofs.DisksLaws.{untouched_disks}
-use Rattle.iot_world.proofs.EventsLaws.{declares_client, declares_script, declared_after}
+use Rattle.iot_world.proofs.EventsLaws.{declares_client, declares_script, declared_after, declared_client, declared_script}
 use Rattle.iot_world.proofs.ReadyLaws.{apart_counts}
 use Rattle.iot_world.proofs.WorldLaws.{at_server}
 use Rattle.iot_world.proofs.world.World.perform.Goals as goal
@@ -17,7 +17,19 @@ pub returns-in_ok-declare_script-in-Script-clause-step : goal.returns-in_ok-decl
 returns-in_ok-declare_script-in-Script-clause-step g c =
     rw c.in-Script.is
     (declares_script _ _ c.in-Script.name c.in-Script.script c.args.self.now c.declare_script.new.self c.args.out.now
-    c.in_ok-declare_script-in-Script.ensures.world)
+    (rw c.in-Script.is at c.requires.allowed) c.in_ok-declare_script-in-Script.ensures.world)
+
+pub returns-in_ok-declare_client-in-Client-clause-declared : goal.returns-in_ok-declare_client-in-Client-clause-declared
+returns-in_ok-declare_client-in-Client-clause-declared g c =
+    rw c.in-Client.is
+    (λ later declared. declared_client c.in-Client.name c.args.self.now c.declare_client.new.self later
+    c.in_ok-declare_client-in-Client.ensures.world declared)
+
+pub returns-in_ok-declare_script-in-Script-clause-declared : goal.returns-in_ok-declare_script-in-Script-clause-declared
+returns-in_ok-declare_script-in-Script-clause-declared g c =
+    rw c.in-Script.is
+    (λ later declared. declared_script c.in-Script.name c.in-Script.script c.args.self.now c.declare_script.new.self later
+    c.in_ok-declare_script-in-Script.ensures.world declared)
 
 pub returns-in_ok-show-in-ShowServer-clause-step : goal.returns-in_ok-show-in-ShowServer-clause-step
 returns-in_ok-show-in-ShowServer-clause-step g c =
@@ -31,7 +43,7 @@ returns-in_ok-run-in-Run-clause-step g c = rw c.in-Run.is c.in_ok-run-in-Run.ens
 pub returns-in_ok-run-in-Run-clause-declared : goal.returns-in_ok-run-in-Run-clause-declared
 returns-in_ok-run-in-Run-clause-declared g c =
     rw c.in-Run.is
-    (λ later declared. declared_after c.args.self.now c.run.new.self later c.in_ok-run-in-Run.ensures.counts declared.2)
+    (λ later declared. declared_after c.args.self.now c.run.new.self later c.in_ok-run-in-Run.ensures.counts declared.3)
 
 pub returns-in_ok-hoard-in-Hoard-clause-step : goal.returns-in_ok-hoard-in-Hoard-clause-step
 returns-in_ok-hoard-in-Hoard-clause-step g c = rw c.in-Hoard.is c.in_ok-hoard-in-Hoard.ensures.step
@@ -55,7 +67,7 @@ returns-in_ok-begin_aloud-in-Begin-clause-step g c = rw c.in-Begin.is c.in_ok-be
 pub returns-in_ok-begin_aloud-in-Begin-clause-declared : goal.returns-in_ok-begin_aloud-in-Begin-clause-declared
 returns-in_ok-begin_aloud-in-Begin-clause-declared g c =
     rw c.in-Begin.is
-    (λ later declared. declared_after c.args.self.now c.begin_aloud.new.self later c.in_ok-begin_aloud-in-Begin.ensures.counts declared.2)
+    (λ later declared. declared_after c.args.self.now c.begin_aloud.new.self later c.in_ok-begin_aloud-in-Begin.ensures.counts declared.3)
 
 pub returns-in_ok-step_aloud-in-Step-clause-step : goal.returns-in_ok-step_aloud-in-Step-clause-step
 returns-in_ok-step_aloud-in-Step-clause-step g c = rw c.in-Step.is c.in_ok-step_aloud-in-Step.ensures.step
@@ -210,3 +222,49 @@ returns-in_ok-lose-in-Lose-clause-declared g c =
     rw c.in-Lose.is
     (λ later declared. declared_after c.args.self.now c.lose.new.self later
     (apart_counts c.args.self.now c.lose.new.self c.lose.ensures.apart) declared.1)
+
+pub returns-in_ok-repair-in-Repair-clause-step : goal.returns-in_ok-repair-in-Repair-clause-step
+returns-in_ok-repair-in-Repair-clause-step g c = rw c.in-Repair.is c.in_ok-repair-in-Repair.ensures.step
+
+pub returns-in_ok-repair-in-Repair-clause-declared : goal.returns-in_ok-repair-in-Repair-clause-declared
+returns-in_ok-repair-in-Repair-clause-declared g c =
+    rw c.in-Repair.is
+    (λ later declared. declared_after c.args.self.now c.repair.new.self later
+    (apart_counts c.args.self.now c.repair.new.self c.repair.ensures.apart) declared.2)
+
+pub returns-in_ok-repair-in-Repair-clause-disks : goal.returns-in_ok-repair-in-Repair-clause-disks
+returns-in_ok-repair-in-Repair-clause-disks g c =
+    untouched_disks _ _ g.D.Disk.reads g.D.Disk.may_leave c.args.self.now c.repair.new.self
+    c.requires.stands.machine.server _ (λ n. refl) c.requires.stands.stands.server c.repair.ensures.apart.server
+    c.repair.ensures.apart.spare
+
+pub returns-in_err-repair-in-Repair-clause-disks : goal.returns-in_err-repair-in-Repair-clause-disks
+returns-in_err-repair-in-Repair-clause-disks g c =
+    let p = err_from_is_err_and c.from_residual-in_err-repair-in-Repair.result c.from_residual-in_err-repair-in-Repair.ensures.1 in
+    rw (p.1, p.2)
+    (untouched_disks _ _ g.D.Disk.reads g.D.Disk.may_leave c.args.self.now c.repair.new.self
+    c.requires.stands.machine.server _ (λ n. refl) c.requires.stands.stands.server c.repair.ensures.apart.server
+    c.repair.ensures.apart.spare)
+
+pub returns-in_ok-discard-in-Discard-clause-step : goal.returns-in_ok-discard-in-Discard-clause-step
+returns-in_ok-discard-in-Discard-clause-step g c = rw c.in-Discard.is c.in_ok-discard-in-Discard.ensures.step
+
+pub returns-in_ok-discard-in-Discard-clause-declared : goal.returns-in_ok-discard-in-Discard-clause-declared
+returns-in_ok-discard-in-Discard-clause-declared g c =
+    rw c.in-Discard.is
+    (λ later declared. declared_after c.args.self.now c.discard.new.self later
+    (apart_counts c.args.self.now c.discard.new.self c.discard.ensures.apart) declared.1)
+
+pub returns-in_ok-discard-in-Discard-clause-disks : goal.returns-in_ok-discard-in-Discard-clause-disks
+returns-in_ok-discard-in-Discard-clause-disks g c =
+    untouched_disks _ _ g.D.Disk.reads g.D.Disk.may_leave c.args.self.now c.discard.new.self
+    c.requires.stands.machine.server _ (λ n. refl) c.requires.stands.stands.server c.discard.ensures.apart.server
+    c.discard.ensures.apart.spare
+
+pub returns-in_err-discard-in-Discard-clause-disks : goal.returns-in_err-discard-in-Discard-clause-disks
+returns-in_err-discard-in-Discard-clause-disks g c =
+    let p = err_from_is_err_and c.from_residual-in_err-discard-in-Discard.result c.from_residual-in_err-discard-in-Discard.ensures.1 in
+    rw (p.1, p.2)
+    (untouched_disks _ _ g.D.Disk.reads g.D.Disk.may_leave c.args.self.now c.discard.new.self
+    c.requires.stands.machine.server _ (λ n. refl) c.requires.stands.stands.server c.discard.ensures.apart.server
+    c.discard.ensures.apart.spare)

@@ -1,6 +1,7 @@
 use Rattle.std.proofs.Common.{refl, sym, ◌∙◌}
 use Rattle.std.proofs.lemmas.Result.{err_from_is_err_and}
 use Rattle.iot_count.specs.Counts.{IsSteady}
+use Rattle.iot_machine.specs.Events.{chosen}
 use Rattle.iot_world.proofs.DisksLaws.{untouched_disks, then_done_disks}
 use Rattle.iot_world.proofs.EventsLaws.{run_busy, run_idle}
 use Rattle.iot_world.proofs.ReadyLaws.{found, found_some}
@@ -18,7 +19,7 @@ returns-in_err-say-clause-disks g c =
 
 pub returns-then-runs-clause-step : goal.returns-then-runs-clause-step
 returns-then-runs-clause-step g c =
-    run_busy _ _ c.args.client c.args.script c.args.self.now c.index.result.now
+    run_busy _ _ c.args.client c.args.script (chosen c.args.option) c.args.self.now c.index.result.now
     (found _ _ c.args.client c.args.self.now c.index.result.now c.requires.ready c.index.ensures) c.args.out.now c.say.new.out
     (sym c.runs.ensures ∙ c.if-runs.true) c.in_ok-say.ensures
 
@@ -29,7 +30,7 @@ returns-then-runs-clause-disks g c =
 
 pub returns-clause-step : goal.returns-clause-step
 returns-clause-step g c =
-    run_idle _ _ c.args.client c.args.script c.args.self.now c.index.result.now
+    run_idle _ _ c.args.client c.args.script (chosen c.args.option) c.args.self.now c.index.result.now
     (found _ _ c.args.client c.args.self.now c.index.result.now c.requires.ready c.index.ensures) c.sync_if_up.new.self
     c.run_script.new.self c.args.out.now c.sync_if_up.new.out c.run_script.new.out (sym c.runs.ensures ∙ c.if-runs.false)
     c.in_ok-sync_if_up.ensures.step c.in_ok-run_script.ensures.step

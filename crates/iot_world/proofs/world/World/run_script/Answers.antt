@@ -2,7 +2,7 @@ use Rattle.std.proofs.Common.{false}
 use Rattle.std.proofs.lemmas.Result.{err_from_is_err_and}
 use Rattle.iot_count.specs.Counts.{IsSteady}
 use Rattle.iot_machine.specs.Calls.{Then}
-use Rattle.iot_machine.specs.Events.{run_steps}
+use Rattle.iot_machine.specs.Events.{run_steps, chosen}
 use Rattle.iot_machine.specs.Transactions.{Begins, Ends, StepsAll}
 use Rattle.iot_world.specs.World.{stepped_of}
 use Rattle.iot_world.proofs.DisksLaws.{then_done_disks}
@@ -12,14 +12,15 @@ use Rattle.iot_world.proofs.world.World.run_script.Goals as goal
 
 pub returns-then-not-branch-clause-step : goal.returns-then-not-branch-clause-step
 returns-then-not-branch-clause-step g c =
-    stays g.D.Disk.reads g.D.Disk.may_leave (Begins c.args.client c.args.script)
+    stays g.D.Disk.reads g.D.Disk.may_leave (Begins c.args.client c.args.script (chosen c.args.option))
     (Then (StepsAll c.args.client false run_steps) (λ _. Ends c.args.client)) c.args.self.now c.begin.new.self c.args.out.now
     c.begin.new.out c.in_ok-begin.field-0 c.if-not-branch.true c.in_ok-begin.ensures.step
 
 pub returns-clause-step : goal.returns-clause-step
 returns-clause-step g c =
-    run_on g.D.Disk.reads g.D.Disk.may_leave c.args.client c.args.script c.args.self.now c.begin.new.self c.steps.new.self c.end.new.self
-    c.args.out.now c.begin.new.out c.steps.new.out c.end.new.out c.in_ok-begin.field-0 (stepped_of c.in_ok-_stepped._stepped)
+    run_on g.D.Disk.reads g.D.Disk.may_leave c.args.client c.args.script (chosen c.args.option) c.args.self.now c.begin.new.self
+    c.steps.new.self c.end.new.self c.args.out.now c.begin.new.out c.steps.new.out c.end.new.out c.in_ok-begin.field-0
+    (stepped_of c.in_ok-_stepped._stepped)
     c.if-not-branch.false c.in_ok-begin.ensures.step c.in_ok-_stepped.ensures.step c.in_ok-end.ensures.step
 
 pub end-requires : goal.end-requires

@@ -3,6 +3,7 @@ use Rattle.std.specs.Option.{option_copied}
 use Rattle.iot_client.specs.Memory.{transaction_of, class_of}
 use Rattle.iot_machine.specs.Texts.{begin_line, transaction_name}
 use Rattle.iot_world.specs.declared.texts.Transaction.{Transaction}
+use Rattle.iot_world.specs.World.{scripts_of}
 use Rattle.iot_world.proofs.EventsLaws.{says_begun, no_begin}
 use Rattle.iot_world.proofs.ReadyLaws.{found, found_stands}
 use Rattle.iot_world.proofs.StepsLaws.{none_runs}
@@ -32,5 +33,5 @@ returns-in-None g c =
     (found g.D.Disk.reads g.D.Disk.may_leave c.args.client c.args.self.now c.index-laptop.result.now c.requires.ready
     c.index-laptop.ensures)
     c.args.out.now c.args.out.now
-    (none_runs c.index-laptop.result.now
+    (none_runs (scripts_of c.args.self.now) c.index-laptop.result.now
     (ap is_some (sym c.running.ensures.running ∙ ap (λ o. transaction_of (option_copied o)) c.in-None.is))) refl

@@ -1,7 +1,6 @@
 use Rattle.std.proofs.Common.{refl}
 use Rattle.iot_world.proofs.ReadyLaws.{found, found_some}
-use Rattle.iot_world.proofs.StepsLaws.{starts_as}
-use Rattle.iot_world.proofs.TransactionsLaws.{declared_is}
+use Rattle.iot_world.proofs.TransactionsLaws.{declared_is, starts_here}
 use Rattle.iot_world.proofs.world.World.start.Goals as goal
 
 pub begin-requires-clause-stands : goal.begin-requires-clause-stands
@@ -23,10 +22,12 @@ begin-requires-clause-alone g c =
 
 pub returns-clause-step : goal.returns-clause-step
 returns-clause-step g c =
-    λ text. starts_as g.D.Disk.reads g.D.Disk.may_leave c.args.client c.args.self.now _ c.index_mut.result.now c.begin.new.self _ _
-    c.args.first text
-    (declared_is c.args.self.now c.args.script c.index-declared.result.now c.in_ok-code.code.value c.requires.script
-    c.index-declared.ensures c.in_ok-code.ensures.value)
+    λ text. starts_here g.D.Disk.reads g.D.Disk.may_leave c.args.client c.args.script c.args.option c.args.self.now _
+    c.index_mut.result.now c.begin.new.self _ c.option_named-option.result c.args.first text c.requires.ready c.requires.script
+    c.requires.option
     (found g.D.Disk.reads g.D.Disk.may_leave c.args.client c.args.self.now c.index_mut.result.now c.requires.ready
     c.index_mut.ensures.value)
-    (record { server = refl; scripts = refl; clients = refl }) c.in_ok-begin.ensures
+    (record { server = refl; scripts = refl; clients = refl })
+    (declared_is c.args.self.now c.args.script c.index-declared.result.now c.in_ok-code.code.value c.requires.script
+    c.index-declared.ensures c.in_ok-code.ensures.value)
+    c.option_named-option.ensures c.in_ok-begin.ensures

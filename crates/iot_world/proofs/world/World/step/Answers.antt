@@ -5,6 +5,7 @@ use Rattle.iot_tree.specs.declared.want.Want.TheVariants as wanted
 use Rattle.iot_machine.specs.Machine.{client_in}
 use Rattle.iot_world.specs.Laptops.{IsFirst}
 use Rattle.iot_world.specs.declared.laptop.Laptop.{Laptop}
+use Rattle.iot_world.specs.World.{scripts_of}
 use Rattle.iot_world.proofs.DisksLaws.{untouched_disks}
 use Rattle.iot_world.proofs.ListLaws.{get_set}
 use Rattle.iot_world.proofs.ReadyLaws.{found, found_stands, found_some, found_low}
@@ -25,7 +26,8 @@ returns-then-not-runs-clause-step g c =
     to_same g.D.Disk.reads g.D.Disk.may_leave old old _ c.args.out.now c.args.out.now _
     (λ m here. put_back g.D.Disk.reads g.D.Disk.may_leave old _ c.args.client was was m at refl
     (record { server = refl; scripts = refl; clients = refl }) here)
-    (no_step _ _ c.args.client c.args.loud old was c.args.out.now at (none_runs was (sym c.runs.ensures ∙ c.if-not-runs.true)))
+    (no_step _ _ c.args.client c.args.loud old was c.args.out.now at
+    (none_runs (scripts_of old) was (sym c.runs.ensures ∙ c.if-not-runs.true)))
 
 pub returns-then-not-runs-clause-disks : goal.returns-then-not-runs-clause-disks
 returns-then-not-runs-clause-disks g c =
@@ -51,7 +53,7 @@ pub returns-in-Acted-clause-step : goal.returns-in-Acted-clause-step
 returns-in-Acted-clause-step g c =
     let was = c.index_mut-laptop.result.now in
     let at = found _ _ c.args.client c.args.self.now was c.requires.ready c.index_mut-laptop.ensures.value in
-    let one = it_runs was (client_in c.requires.ready.machine c.args.client)
+    let one = it_runs (scripts_of c.args.self.now) _ was (client_in c.requires.ready.machine c.args.client)
     (found_stands _ _ c.args.client c.args.self.now was c.requires.ready c.index_mut-laptop.ensures.value)
     (sym c.runs.ensures ∙ c.if-not-runs.false) in
     step_acted g.D.Disk.reads g.D.Disk.may_leave c.args.client c.args.loud c.args.self.now was c.args.out.now at one.it c.step.new.self
@@ -97,7 +99,7 @@ pub returns-in-Held-clause-step : goal.returns-in-Held-clause-step
 returns-in-Held-clause-step g c =
     let was = c.index_mut-laptop.result.now in
     let at = found _ _ c.args.client c.args.self.now was c.requires.ready c.index_mut-laptop.ensures.value in
-    let one = it_runs was (client_in c.requires.ready.machine c.args.client)
+    let one = it_runs (scripts_of c.args.self.now) _ was (client_in c.requires.ready.machine c.args.client)
     (found_stands _ _ c.args.client c.args.self.now was c.requires.ready c.index_mut-laptop.ensures.value)
     (sym c.runs.ensures ∙ c.if-not-runs.false) in
     let step = stepped_as c.in_ok-step.field-0 (Fetch c.in-Fetch.request c.in-Fetch.path) was c.step.new.self c.in-Fetch.is
@@ -114,7 +116,7 @@ pub returns-in-Fetch-clause-step : goal.returns-in-Fetch-clause-step
 returns-in-Fetch-clause-step g c =
     let was = c.index_mut-laptop.result.now in
     let at = found _ _ c.args.client c.args.self.now was c.requires.ready c.index_mut-laptop.ensures.value in
-    let one = it_runs was (client_in c.requires.ready.machine c.args.client)
+    let one = it_runs (scripts_of c.args.self.now) _ was (client_in c.requires.ready.machine c.args.client)
     (found_stands _ _ c.args.client c.args.self.now was c.requires.ready c.index_mut-laptop.ensures.value)
     (sym c.runs.ensures ∙ c.if-not-runs.false) in
     let step = stepped_as c.in_ok-step.field-0 (Fetch c.in-Fetch.request c.in-Fetch.path) was c.step.new.self c.in-Fetch.is
@@ -131,7 +133,7 @@ pub returns-in-AtEnd-clause-step : goal.returns-in-AtEnd-clause-step
 returns-in-AtEnd-clause-step g c =
     let was = c.index_mut-laptop.result.now in
     let at = found _ _ c.args.client c.args.self.now was c.requires.ready c.index_mut-laptop.ensures.value in
-    let one = it_runs was (client_in c.requires.ready.machine c.args.client)
+    let one = it_runs (scripts_of c.args.self.now) _ was (client_in c.requires.ready.machine c.args.client)
     (found_stands _ _ c.args.client c.args.self.now was c.requires.ready c.index_mut-laptop.ensures.value)
     (sym c.runs.ensures ∙ c.if-not-runs.false) in
     step_at_end g.D.Disk.reads g.D.Disk.may_leave c.args.client c.args.loud c.args.self.now was c.args.out.now at one.it c.step.new.self
@@ -148,7 +150,7 @@ pub returns-clause-step : goal.returns-clause-step
 returns-clause-step g c =
     let was = c.index_mut-laptop.result.now in
     let at = found _ _ c.args.client c.args.self.now was c.requires.ready c.index_mut-laptop.ensures.value in
-    let one = it_runs was (client_in c.requires.ready.machine c.args.client)
+    let one = it_runs (scripts_of c.args.self.now) _ was (client_in c.requires.ready.machine c.args.client)
     (found_stands _ _ c.args.client c.args.self.now was c.requires.ready c.index_mut-laptop.ensures.value)
     (sym c.runs.ensures ∙ c.if-not-runs.false) in
     step_at_limit g.D.Disk.reads g.D.Disk.may_leave c.args.client c.args.loud c.args.self.now was c.args.out.now at one.it c.step.new.self

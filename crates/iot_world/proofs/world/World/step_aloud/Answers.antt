@@ -1,6 +1,7 @@
 use Rattle.std.proofs.Common.{refl, sym, ◌∙◌}
 use Rattle.std.proofs.lemmas.Result.{err_from_is_err_and}
 use Rattle.iot_machine.specs.Machine.{client_in}
+use Rattle.iot_world.specs.World.{scripts_of}
 use Rattle.iot_world.proofs.DisksLaws.{untouched_disks}
 use Rattle.iot_world.proofs.EventsLaws.{steps_aloud, none_to_step}
 use Rattle.iot_world.proofs.ReadyLaws.{found, found_stands, found_some}
@@ -15,11 +16,11 @@ pub returns-then-not-runs-clause-step : goal.returns-then-not-runs-clause-step
 returns-then-not-runs-clause-step g c =
     none_to_step g.D.Disk.reads g.D.Disk.may_leave c.args.client c.args.most c.args.self.now c.index.result.now c.args.out.now c.say.new.out
     (found g.D.Disk.reads g.D.Disk.may_leave c.args.client c.args.self.now c.index.result.now c.requires.ready c.index.ensures)
-    (none_runs c.index.result.now (sym c.runs.ensures ∙ c.if-not-runs.true)) c.in_ok-say.ensures
+    (none_runs (scripts_of c.args.self.now) c.index.result.now (sym c.runs.ensures ∙ c.if-not-runs.true)) c.in_ok-say.ensures
 
 pub returns-clause-step : goal.returns-clause-step
 returns-clause-step g c =
-    let one = it_runs c.index.result.now (client_in c.requires.ready.machine c.args.client)
+    let one = it_runs (scripts_of c.args.self.now) _ c.index.result.now (client_in c.requires.ready.machine c.args.client)
     (found_stands g.D.Disk.reads g.D.Disk.may_leave c.args.client c.args.self.now c.index.result.now c.requires.ready c.index.ensures)
     (sym c.runs.ensures ∙ c.if-not-runs.false) in
     steps_aloud g.D.Disk.reads g.D.Disk.may_leave c.args.client c.args.most c.args.self.now c.steps.new.self c.index.result.now

@@ -1,11 +1,9 @@
-use Rattle.std.proofs.Common.{refl, subst}
+use Rattle.std.proofs.Common.{refl, sym, ◌∙◌}
 use Rattle.std.proofs.lemmas.Result.{err_from_is_err_and}
 use Rattle.iot_count.specs.Counts.{IsSteady}
 use Rattle.iot_client.specs.Ties.{state_of}
-use Rattle.iot_machine.specs.Transactions.{Syncs, Empty, Unanswered}
 use Rattle.iot_world.specs.Laptops.{waits_of}
-use Rattle.iot_world.specs.World.{Steps, synced_of}
-use Rattle.iot_world.specs.declared.answers.Synced.{Synced}
+use Rattle.iot_world.specs.World.{synced_of}
 use Rattle.iot_world.proofs.DisksLaws.{untouched_disks, then_done_disks}
 use Rattle.iot_world.proofs.QueuesLaws.{syncs_start, syncs_over, syncs_on, syncs_out, syncs_end, waiting, not_waiting}
 use Rattle.iot_world.proofs.ReadyLaws.{found}
@@ -34,27 +32,14 @@ returns-then-not-waits-clause-step g c =
     c.index-in-syncs.ensures)
     (not_waiting c.waits.result (waits_of (state_of c.index-in-syncs.result.now.client).items) c.waits.ensures c.if-not-waits.true)
 
-pub returns-in-Empty-clause-step : goal.returns-in-Empty-clause-step
-returns-in-Empty-clause-step g c =
+pub returns-then-ends-clause-step : goal.returns-then-ends-clause-step
+returns-then-ends-clause-step g c =
     syncs_out _ _ c.args.client c.in_ok-most.most c.args.self.now c.args.out.now c.syncs.counter c.syncs.self c.syncs.out
     c.syncs-test.true c.syncs.invariant.0
     c.index-in-syncs.result.now (found _ _ c.args.client c.syncs.self c.index-in-syncs.result.now c.syncs.invariant.0.ready
     c.index-in-syncs.ensures)
     (waiting c.waits.result (waits_of (state_of c.index-in-syncs.result.now.client).items) c.waits.ensures c.if-not-waits.false)
-    c.sync.new.self c.sync.new.out Empty refl
-    (subst (λ (s : Synced). Steps g.D.Disk.reads g.D.Disk.may_leave (Syncs c.args.client) c.syncs.self c.sync.new.self c.syncs.out
-    c.sync.new.out (synced_of s)) c.in-Empty.is c.in_ok-sync.ensures.step)
-
-pub returns-in-Unanswered-clause-step : goal.returns-in-Unanswered-clause-step
-returns-in-Unanswered-clause-step g c =
-    syncs_out _ _ c.args.client c.in_ok-most.most c.args.self.now c.args.out.now c.syncs.counter c.syncs.self c.syncs.out
-    c.syncs-test.true c.syncs.invariant.0
-    c.index-in-syncs.result.now (found _ _ c.args.client c.syncs.self c.index-in-syncs.result.now c.syncs.invariant.0.ready
-    c.index-in-syncs.ensures)
-    (waiting c.waits.result (waits_of (state_of c.index-in-syncs.result.now.client).items) c.waits.ensures c.if-not-waits.false)
-    c.sync.new.self c.sync.new.out Unanswered refl
-    (subst (λ (s : Synced). Steps g.D.Disk.reads g.D.Disk.may_leave (Syncs c.args.client) c.syncs.self c.sync.new.self c.syncs.out
-    c.sync.new.out (synced_of s)) c.in-Unanswered.is c.in_ok-sync.ensures.step)
+    c.sync.new.self c.sync.new.out (synced_of c.in_ok-synced.synced) (sym c.ends.ensures ∙ c.if-ends.true) c.in_ok-synced.ensures.step
 
 pub syncs-preserved : goal.syncs-preserved
 syncs-preserved g c = (
@@ -64,9 +49,8 @@ syncs-preserved g c = (
       c.index-in-syncs.ensures)
       (waiting c.waits.result (waits_of (state_of c.index-in-syncs.result.now.client).items) c.waits.ensures c.if-not-waits.false)
       c.sync.new.self c.sync.new.out
-      (subst (λ (s : Synced). Steps g.D.Disk.reads g.D.Disk.may_leave (Syncs c.args.client) c.syncs.self c.sync.new.self c.syncs.out
-      c.sync.new.out (synced_of s)) c.in-Left.is c.in_ok-sync.ensures.step) c.in_ok-sync.ensures.counts,
-  then_done_disks _ _ c.args.self.now c.syncs.self c.sync.new.self IsSteady c.syncs.invariant.1 c.in_ok-sync.ensures.disks,
+      (synced_of c.in_ok-synced.synced) (sym c.ends.ensures ∙ c.if-ends.false) c.in_ok-synced.ensures.step c.in_ok-synced.ensures.counts,
+  then_done_disks _ _ c.args.self.now c.syncs.self c.sync.new.self IsSteady c.syncs.invariant.1 c.in_ok-synced.ensures.disks,
 )
 
 pub returns-clause-step : goal.returns-clause-step

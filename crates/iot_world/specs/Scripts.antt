@@ -1,0 +1,72 @@
+-- Scripts by their names.
+use Rattle.std.specs.Prelude.{◌≡◌, ℕ, List, Option, Some, None, option_map, bytes_eq, slice_get}
+use Rattle.std.specs.List.{find, AllByRecursion}
+use Rattle.iot_lang.specs.Code.{Code}
+use Rattle.iot_machine.specs.Clients.{Declared, Item, Running, ClientState}
+use Rattle.iot_machine.specs.Machine.{no_script}
+use Rattle.iot_machine.specs.Options as options
+use Rattle.iot_machine.specs.Options.{OnConflict}
+use Rattle.iot_tree.specs.declared.labels.OnConflict as named
+use Rattle.iot_tree.specs.declared.labels.OnConflict.TheVariants as names
+
+-- the first script of this name
+abbrev pub script_named : List ℕ → List Declared → Option Declared
+script_named name scripts = find (λ script. bytes_eq name script.name) scripts
+
+-- its code
+abbrev pub code_named : List ℕ → List Declared → Option Code
+code_named name scripts = option_map (λ script. script.code) (script_named name scripts)
+
+-- the script is the one that its name names
+abbrev pub IsNamed : List Declared → Declared → Type 0
+IsNamed scripts script = script_named script.name scripts ≡ Some script
+
+-- so is the resolver of an option, if it has one
+abbrev pub HasNamed : List Declared → OnConflict Declared → Type 0
+HasNamed scripts options.Reexec = Unit {0}
+HasNamed scripts (options.Resolver script) = IsNamed scripts script
+HasNamed scripts options.Abort = Unit {0}
+HasNamed scripts options.Manual = Unit {0}
+
+-- no two of these scripts have the same name
+abbrev pub AreApart : List Declared → Type 0
+AreApart scripts = (place : ℕ) (script : Declared) → slice_get scripts place ≡ Some script → IsNamed scripts script
+
+-- ---- the scripts of a client's transactions
+
+pub record ItemIsNamed (scripts : List Declared) (item : Item) : Type 0 where
+  pub script : IsNamed scripts item.script
+  pub resolver : HasNamed scripts item.option
+
+pub record RunIsNamed (scripts : List Declared) (it : Running) : Type 0 where
+  pub script : IsNamed scripts it.script
+  pub resolver : HasNamed scripts it.option
+
+abbrev pub RunIsNamedIfAny : List Declared → Option Running → Type 0
+RunIsNamedIfAny scripts None = Unit {0}
+RunIsNamedIfAny scripts (Some it) = RunIsNamed scripts it
+
+-- each is the one that its name names
+pub record AreNamed (scripts : List Declared) (state : ClientState) : Type 0 where
+  pub items : AllByRecursion (ItemIsNamed scripts) state.items
+  pub running : RunIsNamedIfAny scripts state.running
+
+-- ---- options
+
+-- an option with its resolver's name alone, as a client keeps it
+abbrev pub option_named : OnConflict Declared → named.OnConflict
+option_named options.Reexec = names.Reexec
+option_named (options.Resolver script) = names.Resolver script.name
+option_named options.Abort = names.Abort
+option_named options.Manual = names.Manual
+
+-- what such an option means among these scripts
+abbrev pub or_none : Option Declared → Declared
+or_none None = no_script
+or_none (Some script) = script
+
+abbrev pub meant : List Declared → named.OnConflict → OnConflict Declared
+meant scripts names.Reexec = options.Reexec
+meant scripts (names.Resolver name) = options.Resolver (or_none (script_named name scripts))
+meant scripts names.Abort = options.Abort
+meant scripts names.Manual = options.Manual
