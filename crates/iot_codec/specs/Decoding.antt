@@ -18,6 +18,8 @@ use Rattle.iot_tree.specs.declared.acts.Read.{Read}
 use Rattle.iot_tree.specs.declared.access.Access.{Access}
 use Rattle.iot_tree.specs.declared.acts.Act.{Act}
 use Rattle.iot_tree.specs.declared.labels.Label.{Label}
+use Rattle.iot_tree.specs.declared.labels.OnConflict.{OnConflict}
+use Rattle.iot_tree.specs.declared.labels.OnConflict.TheVariants.{Reexec, Resolver, Abort, Manual}
 use Rattle.iot_tree.specs.declared.labels.Way.{Way}
 use Rattle.iot_tree.specs.declared.labels.Way.TheVariants.{Certified, Reexecuted, Resolved}
 use Rattle.iot_tree.specs.declared.limits.TheConstants.{ACT_LIMIT, CONTENTS_LIMIT}
@@ -152,6 +154,22 @@ label_at = do
   way ← way_at
   kept ← files_at
   done (record { client = client; tid = tid; script = script; budget = budget; way = way; kept = kept })
+
+-- what a tag of an option is followed by
+abbrev pub option_table : List (ℕ × Decoder OnConflict)
+option_table =
+    (1, done Reexec)
+    ∷ (2, (do script ← name_at; done (Resolver script)))
+    ∷ (3, done Abort)
+    ∷ (4, done Manual)
+    ∷ []
+
+unfoldable pub option_at : Decoder OnConflict
+option_at = tagged option_table
+
+-- a number of acts, not too many
+abbrev pub budget_at : Decoder ℕ
+budget_at = at_most ACT_LIMIT
 
 -- a base read: the read, and then its place
 unfoldable pub base_at : Decoder (Read × ℕ)

@@ -3,6 +3,7 @@ pub mod Bases
 pub mod Fields
 pub mod Labels
 pub mod Lists
+pub mod Options
 pub mod Parts
 pub mod Places
 pub mod Questions

@@ -15,6 +15,8 @@ use Rattle.iot_tree.specs.declared.acts.Read.{Read}
 use Rattle.iot_tree.specs.declared.access.Access.{Access}
 use Rattle.iot_tree.specs.declared.acts.Act.{Act}
 use Rattle.iot_tree.specs.declared.labels.Label.{Label}
+use Rattle.iot_tree.specs.declared.labels.OnConflict.{OnConflict}
+use Rattle.iot_tree.specs.declared.labels.OnConflict.TheVariants.{Reexec, Resolver, Abort, Manual}
 use Rattle.iot_tree.specs.declared.labels.Way.{Way}
 use Rattle.iot_tree.specs.declared.labels.Way.TheVariants.{Certified, Reexecuted, Resolved}
 use Rattle.iot_tree.specs.declared.nodes.Node.{Node}
@@ -134,6 +136,13 @@ run_spelling label = number_spelling label.budget ++ (way_spelling label.way ++ 
 
 unfoldable pub label_spelling : Label → List ℕ
 label_spelling label = transaction_spelling label ++ run_spelling label
+
+-- what is done with a transaction that conflicts: its tag, and then the name of a resolver
+unfoldable pub option_spelling : OnConflict → List ℕ
+option_spelling Reexec = 1 ∷ []
+option_spelling (Resolver script) = 2 ∷ name_spelling script
+option_spelling Abort = 3 ∷ []
+option_spelling Manual = 4 ∷ []
 
 -- a base read: the read, and then its place
 abbrev pub base_spelling : Read × ℕ → List ℕ

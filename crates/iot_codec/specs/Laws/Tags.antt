@@ -155,6 +155,57 @@ double_again HasX x_spelling x_decoder x_laws HasY y_spelling y_decoder y_laws m
     (record { value = has_y; place = lies_second bytes (at + 1) end (x_spelling x) (y_spelling y) both }) in
     rw (one, other) refl
 
+-- ---- three values after a tag
+
+module _ {X Y W : Type 0} (HasX : X → Type 0) (x_spelling : X → List ℕ) (x_decoder : Decoder X)
+    (x_laws : IsSpelling HasX x_spelling x_decoder)
+    (HasY : Y → Type 0) (y_spelling : Y → List ℕ) (y_decoder : Decoder Y) (y_laws : IsSpelling HasY y_spelling y_decoder)
+    (HasW : W → Type 0) (w_spelling : W → List ℕ) (w_decoder : Decoder W) (w_laws : IsSpelling HasW w_spelling w_decoder) where
+  pub triple_arm : {Z : Type 0} (HasSpelling : Z → Type 0) (spelling : Z → List ℕ) (tag : ℕ) (make : X → Y → W → Z)
+      → ((x : X) (y : Y) (w : W) → HasX x → HasY y → HasW w → HasSpelling (make x y w))
+      → ((x : X) (y : Y) (w : W) → spelling (make x y w) ≡ tag ∷ (x_spelling x ++ (y_spelling y ++ w_spelling w)))
+      → IsArm HasSpelling spelling tag (x_decoder >>= λ x. y_decoder >>= λ y. w_decoder >>= λ w. done (make x y w))
+  triple_arm HasSpelling spelling tag make has spelled bytes at read fit within e =
+      let s =
+      step (x_decoder bytes at)
+      (λ x after. go_on (y_decoder bytes after) (λ y mid. go_on (w_decoder bytes mid) (λ w end. Ok (make x y w, end)))) read e in
+      let p = x_laws.found bytes at s.0 fit s.1 in
+      let t = step (y_decoder bytes s.0.1) (λ y mid. go_on (w_decoder bytes mid) (λ w end. Ok (make s.0.0 y w, end))) read s.2 in
+      let q = y_laws.found bytes s.0.1 t.0 fit t.1 in
+      let u = step (w_decoder bytes t.0.1) (λ w end. Ok (make s.0.0 t.0.0 w, end)) read t.2 in
+      let r = w_laws.found bytes t.0.1 u.0 fit u.1 in
+      let rest = lies_then bytes s.0.1 t.0.1 u.0.1 (y_spelling t.0.0) (w_spelling u.0.0) q.place r.place in
+      carried (IsAfter HasSpelling spelling tag bytes at) (make s.0.0 t.0.0 u.0.0, u.0.1) read u.2
+      (record {
+        value = has s.0.0 t.0.0 u.0.0 p.value q.value r.value;
+        text = x_spelling s.0.0 ++ (y_spelling t.0.0 ++ w_spelling u.0.0);
+        spelled = spelled s.0.0 t.0.0 u.0.0;
+        place = lies_then bytes at s.0.1 u.0.1 (x_spelling s.0.0) (y_spelling t.0.0 ++ w_spelling u.0.0) p.place rest;
+      })
+
+  pub triple_again : {Z : Type 0} (make : X → Y → W → Z) (x : X) (y : Y) (w : W) (bytes : List ℕ) (at end tag : ℕ) → length bytes < 2 ^ 64
+      → HasX x → HasY y → HasW w → LiesAt bytes at (tag ∷ (x_spelling x ++ (y_spelling y ++ w_spelling w))) end
+      → (x_decoder >>= λ a. y_decoder >>= λ b. w_decoder >>= λ c. done (make a b c)) bytes (at + 1) ≡ Ok (make x y w, end)
+  triple_again make x y w bytes at end tag short has_x has_y has_w p =
+      let others : List ℕ = y_spelling y ++ w_spelling w in
+      let all = lies_after_tag bytes at end tag (x_spelling x ++ others) p in
+      let first : ℕ = (at + 1) + length (x_spelling x) in
+      let rest = lies_second bytes (at + 1) end (x_spelling x) others all in
+      let second : ℕ = first + length (y_spelling y) in
+      let one : x_decoder bytes (at + 1)
+      ≡ Ok (x, first) =
+      x_laws.only bytes (at + 1) (x, first) short
+      (record { value = has_x; place = lies_first bytes (at + 1) end (x_spelling x) others all }) in
+      let two : y_decoder bytes first
+      ≡ Ok (y, second) =
+      y_laws.only bytes first (y, second) short
+      (record { value = has_y; place = lies_first bytes first end (y_spelling y) (w_spelling w) rest }) in
+      let three : w_decoder bytes second
+      ≡ Ok (w, end) =
+      w_laws.only bytes second (w, end) short
+      (record { value = has_w; place = lies_second bytes first end (y_spelling y) (w_spelling w) rest }) in
+      rw (one, two, three) refl
+
 -- ---- a zero, or a value
 
 module _ {X : Type 0} (HasX : X → Type 0) (spelling : X → List ℕ) (decoder : Decoder X) (laws : IsSpelling HasX spelling decoder)

@@ -1,0 +1,2 @@
+pub mod ChangesLaws
+pub mod ResolutionsLaws

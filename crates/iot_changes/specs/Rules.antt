@@ -1,0 +1,26 @@
+-- Which changes have a spelling.
+use Rattle.iot_queue.specs.declared.items.Resolution.{Resolution}
+use Rattle.iot_text.specs.Names.{IsName}
+use Rattle.iot_codec.specs.Rules.{IsNumber, IsOption, IsBudget, AreFiles, AreActs, IsAct, IsTreeOfRows}
+use Rattle.iot_changes.specs.declared.changes.Change.{Change}
+use Rattle.iot_changes.specs.declared.changes.Change.TheVariants.{Held, Begun, Fetched, Acted, Ended, Cut, Conflicted, Resolved}
+use Rattle.iot_changes.specs.declared.changes.Change.TheVariants.{Repaired, Left}
+
+-- a resolution: a budget of not too many acts, files whose paths rise, and not too many acts
+pub record IsResolution (resolution : Resolution) : Type 0 where
+  pub script : IsName resolution.script
+  pub budget : IsBudget resolution.budget
+  pub kept : AreFiles resolution.kept
+  pub acts : AreActs resolution.acts
+
+abbrev pub IsChange : Change → Type 0
+IsChange (Held tree) = IsTreeOfRows tree
+IsChange (Begun number script option) = IsNumber number × (IsName script × IsOption option)
+IsChange (Fetched tree) = IsTreeOfRows tree
+IsChange (Acted act) = IsAct act
+IsChange Ended = Unit {0}
+IsChange Cut = Unit {0}
+IsChange Conflicted = Unit {0}
+IsChange (Resolved resolution) = IsResolution resolution
+IsChange (Repaired script) = IsName script
+IsChange Left = Unit {0}

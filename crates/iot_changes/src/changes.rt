@@ -1,0 +1,36 @@
+//! What changes of what is durable of a client.
+use iot_queue::Resolution;
+use iot_text::Name;
+use iot_tree::{Act, OnConflict, Tree};
+
+/// One change of what is durable of a client.
+#[derive(Drop)]
+pub enum Change {
+    /// Objects were brought: this tree is held.
+    Held(Tree),
+    /// A transaction began.
+    Begun {
+        /// The number of the transaction at its client, from 1.
+        number: u64,
+        /// The script that is run.
+        script: Name,
+        /// What is done if it conflicts.
+        option: OnConflict,
+    },
+    /// Objects were brought for the running transaction: this tree is held, and it starts again.
+    Fetched(Tree),
+    /// The running transaction did this act.
+    Acted(Act),
+    /// The running transaction ended, and waits now.
+    Ended,
+    /// The running transaction was cut off: it waits now, with as many acts as it has done.
+    Cut,
+    /// The first transaction that waits conflicts: it is to be resolved, or to be decided by hand if that is its option.
+    Conflicted,
+    /// Another run was made in the place of the first transaction that waits.
+    Resolved(Resolution),
+    /// The script of this name is to be run in the place of the first transaction that waits.
+    Repaired(Name),
+    /// The first transaction that waits was settled or given up.
+    Left,
+}
