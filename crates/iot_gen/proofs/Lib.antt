@@ -1,0 +1,7 @@
+mod TextsLaws
+mod LinesLaws
+mod LeadsLaws
+mod CasesLaws
+mod TurnsLaws
+mod DeclaredLaws
+mod ScriptLaws
