@@ -1,0 +1,3 @@
+mod PlainLaws
+mod ReadsLaws
+mod PiecesLaws

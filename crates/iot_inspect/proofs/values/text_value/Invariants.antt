@@ -1,0 +1,7 @@
+use Rattle.std.proofs.Common.{◌≡◌, take, string_bytes}
+use Rattle.std.specs.Prelude.{encode_utf8_all}
+use Rattle.iot_inspect.proofs.values.text_value.Given as goal
+
+-- the characters so far
+abbrev pub invariant-loop-byte : goal.invariant-loop-byte
+invariant-loop-byte l = string_bytes l.text ≡ encode_utf8_all (take l.byte-index l.bytes)
