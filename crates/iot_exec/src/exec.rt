@@ -141,6 +141,25 @@ impl Exec {
         }
     }
 
+    /// Does the next act on the tree, but for its update.
+    pub fn decide(&mut self, alloc: Global, t: &Tree) -> Result<Act, NoMemory>
+        requires statement { is_over (place self.old) ≡ false }
+        requires limit { act_count self.old < ACT_LIMIT }
+        ensures next { IfOk result
+            (λ act. IsNextAt (kept_by self.old) (place self.old) t.now act (place self.new) (after_update t.now act.update)) }
+        ensures runs { IfOk result (λ act. RunsOn self.old t.now act self.new (after_update t.now act.update)) }
+        ensures holds { IfOk result (λ act. ActsHold t.now (act ∷ [])) }
+        ensures guarded { IfOk result IsGuarded }
+
+        // Its reads alone show that its update fits: it fits every tree that answers them.
+        ensures fits { IfOk result FitsByReads }
+    {
+        match self.advance(alloc, t)? {
+            Some(act) => Ok(act),
+            None => unreachable!(),
+        }
+    }
+
     /// Does the next act on the tree.
     pub fn act(&mut self, alloc: Global, t: &mut Tree) -> Result<Act, NoMemory>
         requires statement { is_over (place self.old) ≡ false }
@@ -173,13 +192,32 @@ impl Exec {
         ensures over { IfOk result (λ done. IfNone done (is_over (place self.old) ≡ true)) }
         ensures stays { IfOk result (λ done. IfNone done ((self.new ≡ self.old) × (t.new ≡ t.old))) }
     {
+        let Some(act) = self.advance(alloc, t)? else {
+            return Ok(None);
+        };
+        apply(alloc, t, &act.update)?;
+        Ok(Some(act))
+    }
+
+    /// Does the next act but for its update, also past the limit of a transaction, unless the script has ended.
+    fn advance(&mut self, alloc: Global, t: &Tree) -> Result<Option<Act>, NoMemory>
+        requires { act_count self.old + 1 < 2 ^ 64 }
+        ensures next { IfOk result
+            (λ done. IfSome done
+            (λ act. IsNextAt (kept_by self.old) (place self.old) t.now act (place self.new) (after_update t.now act.update))) }
+        ensures runs { IfOk result (λ done. IfSome done (λ act. RunsOn self.old t.now act self.new (after_update t.now act.update))) }
+        ensures holds { IfOk result (λ done. IfSome done (λ act. ActsHold t.now (act ∷ []))) }
+        ensures guarded { IfOk result (λ done. IfSome done IsGuarded) }
+        ensures fits { IfOk result (λ done. IfSome done FitsByReads) }
+        ensures over { IfOk result (λ done. IfNone done (is_over (place self.old) ≡ true)) }
+        ensures stays { IfOk result (λ done. IfNone done (self.new ≡ self.old)) }
+    {
         let block = self.script.block();
         let statements = self.position.statements(block);
         let Some(statement) = self.position.next_of(statements) else {
             return Ok(None);
         };
         let done = perform(alloc, t, &self.env, &self.kept, statement)?;
-        apply(alloc, t, &done.act.update)?;
         go_on(
             alloc,
             block,
