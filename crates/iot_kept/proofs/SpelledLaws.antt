@@ -1,0 +1,263 @@
+-- Changes that have spellings keep that all parts of a state have them; so what the records of a disk make has spellings.
+use Rattle.std.proofs.Common.{◌≡◌, ℕ, ◌<◌, List, [], ◌∷◌, ◌++◌, length, drop, Option, Some, None, bytes_eq}
+use Rattle.std.proofs.Common.{refl, sym, ◌∙◌, subst, arith, lit<, length-append}
+use Rattle.std.proofs.lemmas.Bool.{cond_both}
+use Rattle.std.proofs.lemmas.Option.{none-some}
+use Rattle.std.specs.List.{starts_with, AllByRecursion}
+use Rattle.std.specs.FinMap.{empty, entries, get-empty, get-entries}
+use Rattle.iot_text.specs.Names.{IsName}
+use Rattle.iot_text.specs.Paths.{IsPath, path_cmp}
+use Rattle.iot_text.proofs.PathsLaws.{IsPath-drop, IsPath-append}
+use Rattle.iot_tree.specs.Tree.{Path, Nodes, IsTree, root_alone}
+use Rattle.iot_tree.specs.Updates.{renamed, updated}
+use Rattle.iot_tree.specs.declared.acts.Act.{Act}
+use Rattle.iot_tree.specs.declared.labels.OnConflict.{OnConflict}
+use Rattle.iot_tree.specs.declared.labels.OnConflict.TheVariants as options
+use Rattle.iot_tree.specs.declared.limits.TheConstants.{ACT_LIMIT}
+use Rattle.iot_tree.specs.declared.nodes.Node.{Node}
+use Rattle.iot_tree.specs.declared.nodes.Node.TheVariants.{Dir, File, FarDir}
+use Rattle.iot_tree.specs.declared.updates.Update.{Update}
+use Rattle.iot_tree.specs.declared.updates.Update.TheVariants.{Put, MakeDir, Remove, Move}
+use Rattle.iot_tree.proofs.EachLaws.{EachNode, found_row, each_entry, each_inserted, each_removed, each_moved}
+use Rattle.iot_tree.proofs.RowLaws.{root_rows, root_map}
+use Rattle.iot_acts.specs.Traces.{ActsHold, FitsIfAny, after_update, after_acts}
+use Rattle.iot_acts.proofs.TraceLaws.{tree_after}
+use Rattle.iot_codec.specs.Rules.{IsRow, IsUpdate, IsOptionalUpdate, IsAct, AreActs, IsTreeOfRows, IsBudget}
+use Rattle.iot_queue.specs.Queues.{with_head, staged}
+use Rattle.iot_queue.specs.declared.items.Item.{Item}
+use Rattle.iot_queue.specs.declared.items.Stage.{Stage}
+use Rattle.iot_queue.specs.declared.items.Stage.TheVariants as stages
+use Rattle.iot_changes.specs.Rules.{IsChange}
+use Rattle.iot_changes.specs.declared.changes.Change.{Change}
+use Rattle.iot_changes.specs.declared.changes.Change.TheVariants.{Held, Begun, Fetched, Acted, Ended, Cut, Conflicted, Resolved}
+use Rattle.iot_changes.specs.declared.changes.Change.TheVariants.{Repaired, Left}
+use Rattle.iot_kept.specs.States.{Transaction, State, opening, acts_of, EachHold, AllHold}
+use Rattle.iot_kept.specs.Changes.{CanFollow, with_acts, waiting, ended, cut, left, stage_by, stays_in, conflicted, repaired, after}
+use Rattle.iot_kept.specs.Standing.{Leads}
+use Rattle.iot_kept.specs.Spelled.{IsSpelledStage, IsSpelledItem, AreSpelledItems, IsSpelledRunning, IsSpelledIfAny, IsSpelledState}
+use Rattle.iot_kept.proofs.StatesLaws.{changed, keeps, opening_holds}
+
+-- ---- trees whose rows have spellings
+
+abbrev IsRowAt : Path → Node → Type 0
+IsRowAt path node = IsRow (path, node)
+
+renamed_is_path : (from to path : Path) → IsPath to → IsPath path → IsPath (renamed from to path)
+renamed_is_path from to path to_valid valid =
+    cond_both (starts_with bytes_eq path from) (to ++ drop (length from) path) path IsPath
+    (λ inside. IsPath-append to (drop (length from) path) to_valid (IsPath-drop (length from) path valid))
+    (λ outside. valid)
+
+each_updated : (t : Nodes) (update : Update) → IsUpdate update → EachNode IsRowAt t → EachNode IsRowAt (updated t update)
+each_updated t (Put path bytes) is each = each_inserted IsRowAt t path (File bytes) each (is.0, is.1)
+each_updated t (MakeDir path) is each = each_inserted IsRowAt t path Dir each (is, tt)
+each_updated t (Remove path) is each = each_removed IsRowAt t path each
+each_updated t (Move from to) is each =
+    each_moved IsRowAt from to (λ path node row. (renamed_is_path from to path is.1 row.0, row.1)) t each
+
+each_after : (t : Nodes) (update : Option Update) → IsOptionalUpdate update → EachNode IsRowAt t → EachNode IsRowAt (after_update t update)
+each_after t None is each = each
+each_after t (Some update) is each = each_updated t update is each
+
+-- after an update that has a spelling and fits
+pub rows_after : (t : Nodes) (update : Option Update) → IsOptionalUpdate update → FitsIfAny t update → IsTreeOfRows t
+    → IsTreeOfRows (after_update t update)
+rows_after t update is fits rows =
+    let each : EachNode IsRowAt t = λ path node has. found_row IsRowAt (entries t) rows.each path node (sym (get-entries t path) ∙ has) in
+    record {
+      tree = tree_after t update rows.tree fits;
+      each = each_entry IsRowAt (after_update t update) (each_after t update is each);
+    }
+
+-- after acts that have spellings and hold
+pub rows_after_acts : (t : Nodes) (acts : List Act) → AllByRecursion IsAct acts → ActsHold t acts → IsTreeOfRows t
+    → IsTreeOfRows (after_acts t acts)
+rows_after_acts t [] are hold rows = rows
+rows_after_acts t (act ∷ acts) are hold rows =
+    let is : IsAct act = are.0 in
+    rows_after_acts (after_update t act.update) acts are.1 hold.2 (rows_after t act.update is.update hold.1 rows)
+
+-- the tree of which nothing is known
+pub far_root_rows : IsTreeOfRows (root_alone FarDir)
+far_root_rows =
+    let none : EachNode IsRowAt empty = λ path node has. absurd (none-some node (sym (get-empty path_cmp path) ∙ has)) in
+    record {
+      tree = subst IsTree (root_map FarDir) (root_rows FarDir refl).tree;
+      each = each_entry IsRowAt (root_alone FarDir) (each_inserted IsRowAt empty [] FarDir none (refl, tt));
+    }
+
+-- ---- lists
+
+module _ {X : Type 0} (P : X → Type 0) where
+  all_joined : (xs more : List X) → AllByRecursion P xs → AllByRecursion P more → AllByRecursion P (xs ++ more)
+  all_joined [] more all rest = rest
+  all_joined (x ∷ xs) more all rest = (all.0, all_joined xs more all.1 rest)
+
+-- ---- the running transaction
+
+no_acts : AreActs []
+no_acts = record { few = omega arith; each = tt }
+
+more_acts : (acts : List Act) (act : Act) → length acts < ACT_LIMIT → AreActs acts → IsAct act → AreActs (acts ++ act ∷ [])
+more_acts acts act less are is = record {
+  few = omega (arith, length-append acts (act ∷ []));
+  each = all_joined IsAct acts (act ∷ []) are.each (is, tt);
+}
+
+again_spelled : (running : Option Transaction) → IsSpelledIfAny running → IsSpelledIfAny (with_acts (λ acts. []) running)
+again_spelled None is = tt
+again_spelled (Some running) is = record { number = is.number; script = is.script; option = is.option; acts = no_acts }
+
+acted_spelled : (running : Option Transaction) (act : Act) → length (acts_of running) < ACT_LIMIT → IsAct act → IsSpelledIfAny running
+    → IsSpelledIfAny (with_acts (λ acts. acts ++ act ∷ []) running)
+acted_spelled None act less is spelled = tt
+acted_spelled (Some running) act less is spelled = record {
+  number = spelled.number;
+  script = spelled.script;
+  option = spelled.option;
+  acts = more_acts running.acts act less spelled.acts is;
+}
+
+waits_spelled : (budget : ℕ) (running : Transaction) → IsBudget budget → IsSpelledRunning running → IsSpelledItem (waiting budget running)
+waits_spelled budget running few is = record {
+  number = is.number;
+  script = is.script;
+  budget = few;
+  acts = is.acts;
+  option = is.option;
+  stage = tt;
+}
+
+ended_spelled : (running : Option Transaction) → IsSpelledIfAny running → AreSpelledItems (ended running)
+ended_spelled None is = tt
+ended_spelled (Some running) is = (waits_spelled ACT_LIMIT running (omega arith) is, tt)
+
+cut_spelled : (running : Option Transaction) → IsSpelledIfAny running → AreSpelledItems (cut running)
+cut_spelled None is = tt
+cut_spelled (Some running) is = (waits_spelled (length running.acts) running is.acts.few is, tt)
+
+-- ---- the head
+
+staged_spelled : (stage : Stage) (item : Item) → IsSpelledStage stage → IsSpelledItem item → IsSpelledItem (staged stage item)
+staged_spelled stage item has is = record {
+  number = is.number;
+  script = is.script;
+  budget = is.budget;
+  acts = is.acts;
+  option = is.option;
+  stage = has;
+}
+
+repaired_spelled : (script : List ℕ) (item : Item) → IsName script → IsSpelledItem item → IsSpelledItem (repaired script item)
+repaired_spelled script item named is = record {
+  number = is.number;
+  script = is.script;
+  budget = is.budget;
+  acts = is.acts;
+  option = named;
+  stage = tt;
+}
+
+head_spelled : (change : Item → Item) (items : List Item) → ((item : Item) → IsSpelledItem item → IsSpelledItem (change item))
+    → AreSpelledItems items → AreSpelledItems (with_head change items)
+head_spelled change [] each are = tt
+head_spelled change (item ∷ items) each are = (each item are.0, are.1)
+
+changed_spelled : (change : Item → Item) (state : State) → ((item : Item) → IsSpelledItem item → IsSpelledItem (change item))
+    → IsSpelledState state → IsSpelledState (changed change state)
+changed_spelled change state each is = record {
+  held = is.held;
+  items = head_spelled change state.items each is.items;
+  running = is.running;
+  last = is.last;
+}
+
+left_spelled : (items : List Item) (state : State) → items ≡ state.items → AllHold state → IsSpelledState state
+    → IsSpelledState (left state items)
+left_spelled [] state same hold is = is
+left_spelled (item ∷ items) state same hold is =
+    let head = subst AreSpelledItems (sym same) is.items in
+    let first : IsSpelledItem item = head.0 in
+    record {
+      held = rows_after_acts state.held item.acts first.acts.each (subst (EachHold state.held) (sym same) hold.items).0 is.held;
+      items = head.1;
+      running = is.running;
+      last = is.last;
+    }
+
+stays_spelled : (option : OnConflict) (state : State) → AllHold state → IsSpelledState state
+    → IsSpelledState (stays_in (stage_by option) state)
+stays_spelled options.Reexec state hold is =
+    changed_spelled (staged stages.Conflict) state (λ item. staged_spelled stages.Conflict item tt) is
+stays_spelled (options.Resolver script) state hold is =
+    changed_spelled (staged stages.Conflict) state (λ item. staged_spelled stages.Conflict item tt) is
+stays_spelled options.Abort state hold is = left_spelled state.items state refl hold is
+stays_spelled options.Manual state hold is = changed_spelled (staged stages.Manual) state (λ item. staged_spelled stages.Manual item tt) is
+
+conflicted_spelled : (items : List Item) (state : State) → AllHold state → IsSpelledState state → IsSpelledState (conflicted state items)
+conflicted_spelled [] state hold is = is
+conflicted_spelled (item ∷ items) state hold is = stays_spelled item.option state hold is
+
+-- ---- every change
+
+-- a change that has a spelling and can follow
+pub keeps_spelled : (state : State) (change : Change) → IsChange change → CanFollow state change → AllHold state → IsSpelledState state
+    → IsSpelledState (after state change)
+keeps_spelled state (Held tree) is follows hold spelled = record {
+  held = is;
+  items = spelled.items;
+  running = spelled.running;
+  last = spelled.last;
+}
+keeps_spelled state (Begun number script option) is follows hold spelled = record {
+  held = spelled.held;
+  items = spelled.items;
+  running = record { number = is.0; script = is.1.0; option = is.1.1; acts = no_acts };
+  last = is.0;
+}
+keeps_spelled state (Fetched tree) is follows hold spelled = record {
+  held = is;
+  items = spelled.items;
+  running = again_spelled state.running spelled.running;
+  last = spelled.last;
+}
+keeps_spelled state (Acted act) is follows hold spelled = record {
+  held = spelled.held;
+  items = spelled.items;
+  running = acted_spelled state.running act follows.1 is spelled.running;
+  last = spelled.last;
+}
+keeps_spelled state Ended is follows hold spelled = record {
+  held = spelled.held;
+  items = all_joined IsSpelledItem state.items (ended state.running) spelled.items (ended_spelled state.running spelled.running);
+  running = tt;
+  last = spelled.last;
+}
+keeps_spelled state Cut is follows hold spelled = record {
+  held = spelled.held;
+  items = all_joined IsSpelledItem state.items (cut state.running) spelled.items (cut_spelled state.running spelled.running);
+  running = tt;
+  last = spelled.last;
+}
+keeps_spelled state Conflicted is follows hold spelled = conflicted_spelled state.items state hold spelled
+keeps_spelled state (Resolved done) is follows hold spelled =
+    changed_spelled (staged (stages.Resolved done)) state (λ item. staged_spelled (stages.Resolved done) item is) spelled
+keeps_spelled state (Repaired script) is follows hold spelled =
+    changed_spelled (repaired script) state (λ item. repaired_spelled script item is) spelled
+keeps_spelled state Left is follows hold spelled = left_spelled state.items state refl hold spelled
+
+-- before the first change
+pub opening_spelled : IsSpelledState opening
+opening_spelled = record { held = far_root_rows; items = tt; running = tt; last = lit< tt }
+
+leads_spell : (bodies : List (List ℕ)) (before now : State) → Leads bodies before now → AllHold before → IsSpelledState before
+    → IsSpelledState now
+leads_spell [] before now leads hold spelled = subst IsSpelledState (sym leads) spelled
+leads_spell (body ∷ bodies) before now leads hold spelled =
+    let change : Change = leads.0 in
+    leads_spell bodies (after before change) now leads.3 (keeps before change leads.2 hold)
+    (keeps_spelled before change leads.1.value leads.2 hold spelled)
+
+-- whatever the records of a disk make
+pub leads_spelled : (bodies : List (List ℕ)) (state : State) → Leads bodies opening state → IsSpelledState state
+leads_spelled bodies state leads = leads_spell bodies opening state leads opening_holds opening_spelled

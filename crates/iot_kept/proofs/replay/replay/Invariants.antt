@@ -1,0 +1,5 @@
+use Rattle.iot_kept.proofs.StandingLaws.{BodiesOnWay}
+use Rattle.iot_kept.proofs.replay.replay.Given as goal
+
+abbrev pub invariant-bodies : goal.invariant-bodies
+invariant-bodies l = BodiesOnWay l.bodies l.body-index l.memory l.gate

@@ -1,0 +1,33 @@
+-- What is kept of a client, over its disk.
+use Rattle.std.specs.Prelude.{ℕ, Bool, List, Option}
+use Rattle.iot_journal.specs.Journal as journal
+use Rattle.iot_kept.specs.States.{State, opening}
+use Rattle.iot_kept.specs.Memory.{memory_state, class_of, Sees}
+use Rattle.iot_kept.specs.Standing.{Leads}
+use Rattle.iot_kept.specs.declared.kept.Kept.{Kept}
+
+-- the durable state
+abbrev pub state_of : {D : Type 0} → Kept D → State
+state_of kept = memory_state kept.memory
+
+-- whether the running transaction is first class, if one runs
+abbrev pub class_in : {D : Type 0} → Kept D → Option Bool
+class_in kept = class_of kept.memory.durable.running
+
+-- the disk
+abbrev pub disk_of : {D : Type 0} → Kept D → D
+disk_of kept = journal.disk_of kept.journal
+
+-- the bodies of the records on its disk
+abbrev pub bodies_on : {D : Type 0} → (D → List ℕ) → Kept D → List (List ℕ)
+bodies_on reads kept = journal.bodies_on reads kept.journal
+
+-- the number of records that were read and appended
+abbrev pub records_of : {D : Type 0} → Kept D → ℕ
+records_of kept = journal.count_of kept.journal
+
+-- nothing is under way: the disk has one image, its records lead to the state, and the tree beside the state is its view
+pub record IsSynced {D : Type 0} (reads : D → List ℕ) (may_leave : D → List ℕ → Type 0) (kept : Kept D) : Type 0 where
+  pub journal : journal.IsSynced reads may_leave kept.journal
+  pub leads : Leads (bodies_on reads kept) opening (state_of kept)
+  pub sees : Sees kept.memory

@@ -1,0 +1,10 @@
+pub mod States
+pub mod Changes
+pub mod Memory
+pub mod Guarding
+pub mod Standing
+pub mod Spelled
+pub mod Continuing
+pub mod Replaying
+pub mod Causes
+pub mod Kept

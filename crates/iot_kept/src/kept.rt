@@ -1,0 +1,216 @@
+//! What is kept of a client.
+ghost use Rattle.std.specs.Prelude.{◌≡◌, ◌+◌, ◌++◌, [], ◌∷◌, IfOk, IfErr, OnOk, IsErrOf, MatchResult};
+ghost use Rattle.std.specs.Option.{option_copied};
+ghost use Rattle.iot_disk.specs.Disk.{armed_with, Only, SameImages};
+ghost use Rattle.iot_disk.specs.Faults.{CountsJournalFault};
+ghost use Rattle.iot_journal.specs.Decoding.{Encodes, decoded};
+ghost use Rattle.iot_journal.specs.Images.{EachDecodes, EachDecodesEither};
+ghost use Rattle.iot_journal.specs.Start.{ChangesNothing};
+ghost use Rattle.iot_changes.specs.Rules.{IsChange};
+ghost use Rattle.iot_changes.specs.Spelling.{change_spelling};
+ghost use Rattle.iot_kept.specs.States.{State, view, AllHold, AreGuarded};
+ghost use Rattle.iot_kept.specs.Changes.{CanFollow, after};
+ghost use Rattle.iot_kept.specs.Memory.{transaction_of, class_of, class_after, classed, IsSecond};
+ghost use Rattle.iot_kept.specs.Standing.{StandFor, EachStands, EachStandsEither};
+ghost use Rattle.iot_kept.specs.Causes.{HasCause, TakesBytes};
+ghost use Rattle.iot_kept.specs.Spelled.{IsSpelledState};
+
+use crate::memory::Memory;
+use crate::replay::replay;
+use crate::running::Running;
+use iot_changes::{Change, write_change};
+use iot_disk::{Disk, JournalFault, Pick, StartFault};
+use iot_journal::Journal;
+use iot_queue::Queue;
+use iot_tree::Tree;
+use std::alloc::Global;
+
+/// What is durable of a client, on a disk to which each change is appended as one record; and in memory besides, with the class of
+/// the running transaction, which no disk keeps.
+///
+/// After an `Err` of `note` only `into_disk` says anything more: start again from the disk.
+#[derive(Drop)]
+pub struct Kept<D: Disk> {
+    pub(crate) journal: Journal<D>,
+    pub(crate) memory: Memory,
+}
+
+impl<D: Disk> Kept<D> {
+    ghost use Rattle.iot_kept.specs.Kept.{state_of, class_in, disk_of, bodies_on, records_of, IsSynced};
+
+    /// Starts from a disk, which no one else writes, with the state that its records make; it runs no script. A disk on which
+    /// nothing was started becomes that of a client that knows nothing yet. The disk comes back if this gives no client.
+    ///
+    /// # Errors
+    ///
+    /// `Foreign` if something else wrote the disk, and `Damaged` with the place of its gate if a record is the spelling of no change
+    /// or cannot follow the ones before it. `Stopped` if the disk failed in this call, and `NoMemory`.
+    pub fn start(alloc: Global, disk: D) -> Result<Kept<D>, (D, StartFault)>
+        requires { Only (D.reads disk) (D.may_leave disk) }
+        ensures stands { IfOk result (λ kept. StandFor (D.reads disk) (state_of kept)) }
+        ensures records { IfOk result (λ kept. decoded (D.reads disk) ≡ Encodes (bodies_on D.reads kept)) }
+
+        // The disk stands for no other state.
+        ensures only { (state : State) → StandFor (D.reads disk) state
+            → IfOk result (λ kept. state_of kept ≡ state) }
+        ensures synced { IfOk result (λ kept. IsSynced D.reads D.may_leave kept) }
+
+        // A transaction that runs is second class. All acts hold in turn, are guarded by their reads, and have spellings.
+        ensures class { IfOk result (λ kept. IsSecond (class_in kept)) }
+        ensures hold { IfOk result (λ kept. AllHold (state_of kept)) }
+        ensures guarded { IfOk result (λ kept. AreGuarded (state_of kept)) }
+        ensures spelled { IfOk result (λ kept. IsSpelledState (state_of kept)) }
+
+        // However this returns, every image encodes what the disk encoded before. So each stands for the state for which
+        // the disk stood; and if it stood for one, its bytes are not refused.
+        ensures bodies { MatchResult result
+            (λ kept. EachDecodes (D.may_leave (disk_of kept)) (decoded (D.reads disk)))
+            (λ refused. EachDecodes (D.may_leave refused.0) (decoded (D.reads disk))) }
+        ensures images { (state : State) → StandFor (D.reads disk) state → MatchResult result
+            (λ kept. EachStands (D.may_leave (disk_of kept)) state)
+            (λ refused. EachStands (D.may_leave refused.0) state) }
+        ensures never { (state : State) → StandFor (D.reads disk) state
+            → IfErr result (λ refused. TakesBytes refused.1) }
+
+        ensures steady { IfOk result (λ kept. D.faults (disk_of kept) ≡ D.faults disk) }
+        ensures cause { IfErr result (λ refused.
+            HasCause refused.1 (D.reads disk) (D.faults disk) (D.faults refused.0)) }
+
+        // A refusal of the bytes changes nothing.
+        ensures refused_reads { IfErr result (λ refused.
+            ChangesNothing refused.1 (D.reads refused.0 ≡ D.reads disk)) }
+        ensures refused_images { IfErr result (λ refused.
+            ChangesNothing refused.1 (SameImages (D.may_leave disk) (D.may_leave refused.0))) }
+
+        ensures arms { MatchResult result
+            (λ kept. D.arms (disk_of kept) ≡ D.arms disk)
+            (λ refused. D.arms refused.0 ≡ D.arms disk) }
+    {
+        let (journal, bodies) = match Journal::start(alloc, disk) {
+            Ok(started) => started,
+            Err(refused) => return Err(refused),
+        };
+        match replay(alloc, bodies.as_slice()) {
+            Ok(memory) => Ok(Kept { journal, memory }),
+            Err(fault) => Err((journal.into_disk(), fault)),
+        }
+    }
+
+    /// Makes a change that can follow: its record is appended first, and is on the disk when this answers Ok. A transaction that
+    /// begins is second class. Costs as much as the record is long, and what the change costs in memory.
+    ///
+    /// # Errors
+    ///
+    /// `Stopped` if the disk failed in this call, and `NoMemory`: each image of the disk then stands for the state before the change
+    /// or for the one after it.
+    pub fn note(&mut self, alloc: Global, change: Change) -> Result<(), JournalFault>
+        requires synced { IsSynced D.reads D.may_leave self.old }
+        requires change { IsChange change }
+        requires follows { CanFollow (state_of self.old) change }
+
+        // However this returns, every image stands for the state before or for the one after: its records are those before,
+        // or those and the record of this change.
+        ensures images { EachStandsEither (D.may_leave (disk_of self.new))
+            (state_of self.old) (after (state_of self.old) change) }
+        ensures one_record { EachDecodesEither (D.may_leave (disk_of self.new))
+            (Encodes (bodies_on D.reads self.old))
+            (Encodes (bodies_on D.reads self.old ++ change_spelling change ∷ [])) }
+
+        // If the disk failed, nothing has changed in memory.
+        ensures stopped { IsErrOf result JournalFault.Stopped → state_of self.new ≡ state_of self.old }
+        ensures stopped_class { IsErrOf result JournalFault.Stopped → class_in self.new ≡ class_in self.old }
+
+        ensures noted { OnOk result (EachStands (D.may_leave (disk_of self.new)) (after (state_of self.old) change)) }
+        ensures state { OnOk result (state_of self.new ≡ after (state_of self.old) change) }
+        ensures class { OnOk result (class_in self.new ≡ class_after change (class_in self.old)) }
+        ensures bodies { OnOk result (bodies_on D.reads self.new ≡ bodies_on D.reads self.old ++ change_spelling change ∷ []) }
+        ensures records { OnOk result (records_of self.new ≡ records_of self.old + 1) }
+        ensures synced { OnOk result (IsSynced D.reads D.may_leave self.new) }
+
+        ensures faults { CountsJournalFault result
+            (D.faults (disk_of self.old)) (D.faults (disk_of self.new)) }
+        ensures arms { D.arms (disk_of self.new) ≡ D.arms (disk_of self.old) }
+    {
+        let body = write_change(alloc, &change)?;
+        self.journal.append(&body)?;
+        self.memory.note(alloc, change)?;
+        Ok(())
+    }
+
+    /// Puts the running transaction, if there is one, into this class. Writes nothing.
+    pub fn set_class(&mut self, first: bool)
+        ensures class { class_in self.new ≡ classed first (class_in self.old) }
+        ensures state { state_of self.new ≡ state_of self.old }
+        ensures disk { disk_of self.new ≡ disk_of self.old }
+        ensures records { records_of self.new ≡ records_of self.old }
+        ensures synced { IsSynced D.reads D.may_leave self.old → IsSynced D.reads D.may_leave self.new }
+    {
+        self.memory.durable.set_class(first);
+    }
+
+    /// The held tree.
+    pub fn held(&self) -> &Tree
+        ensures { result.now ≡ (state_of self.now).held }
+    {
+        self.memory.durable.held.tree()
+    }
+
+    /// The tree that scripts read: the held one after all that waits and runs.
+    pub fn view(&self) -> &Tree
+        requires { IsSynced D.reads D.may_leave self.now }
+        ensures { result.now ≡ view (state_of self.now) }
+    {
+        &self.memory.view
+    }
+
+    /// The transactions that wait.
+    pub fn queue(&self) -> &Queue
+        ensures { result.now ≡ (state_of self.now).items }
+    {
+        &self.memory.durable.queue
+    }
+
+    /// The transaction that runs, if one does.
+    pub fn running(&self) -> Option<&Running>
+        ensures running { transaction_of (option_copied result) ≡ (state_of self.now).running }
+        ensures class { class_of (option_copied result) ≡ class_in self.now }
+    {
+        self.memory.durable.running.as_ref()
+    }
+
+    /// The number of the last transaction, 0 before the first.
+    pub fn last(&self) -> u64
+        ensures { result ≡ (state_of self.now).last }
+    {
+        self.memory.durable.last
+    }
+
+    /// The number of records that were read and appended.
+    pub fn records(&self) -> u64
+        ensures { result ≡ records_of self.now }
+    {
+        self.journal.count()
+    }
+
+    /// Makes a later device call of the disk fail, and does nothing else.
+    pub fn arm(&mut self, calls: u64, pick: Pick)
+        ensures arms { D.arms (disk_of self.new) ≡ armed_with (D.arms (disk_of self.old)) calls pick }
+        ensures reads { D.reads (disk_of self.new) ≡ D.reads (disk_of self.old) }
+        ensures images { SameImages (D.may_leave (disk_of self.old)) (D.may_leave (disk_of self.new)) }
+        ensures faults { D.faults (disk_of self.new) ≡ D.faults (disk_of self.old) }
+        ensures state { state_of self.new ≡ state_of self.old }
+        ensures class { class_in self.new ≡ class_in self.old }
+        ensures records { records_of self.new ≡ records_of self.old }
+        ensures synced { IsSynced D.reads D.may_leave self.old → IsSynced D.reads D.may_leave self.new }
+    {
+        self.journal.arm(calls, pick);
+    }
+
+    /// Gives the disk back. Unless `note` failed, each image of it stands for the state.
+    pub fn into_disk(self) -> D
+        ensures disk { result ≡ disk_of self }
+        ensures stands { IsSynced D.reads D.may_leave self → EachStands (D.may_leave result) (state_of self) }
+    {
+        self.journal.into_disk()
+    }
+}

@@ -1,0 +1,18 @@
+//! What is durable of a client, kept on a disk as a journal of its changes: after each crash it is what it was before a change, or
+//! what it was after it.
+#![tactic(auto)]
+
+mod durable;
+mod following;
+mod guards;
+mod kept;
+mod laws;
+mod memory;
+mod replay;
+mod running;
+
+pub use iot_changes::Change;
+pub use iot_disk::{JournalFault, StartFault};
+pub use kept::Kept;
+pub use laws::{a_cut_is_its_prefix, a_disk_stands_for_one, pending_reads_stay};
+pub use running::Running;
