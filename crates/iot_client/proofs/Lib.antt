@@ -1,7 +1,7 @@
 pub mod MessagesLaws
 pub mod RepliesLaws
-pub mod StatesLaws
+pub mod WholeLaws
 pub mod TiesLaws
 pub mod StepsLaws
 pub mod DoingLaws
-pub mod WholeLaws
+pub mod SpelledLaws

@@ -1,7 +1,7 @@
--- Each record keeps the tie between a client's state, its view and its interpreter.
+-- Each change keeps the tie between a client's state and its interpreter.
 use Rattle.std.proofs.Common.{◌≡◌, ℕ, ◌<◌, Bool, true, false, List, [], ◌∷◌, ◌++◌, Option, Some, None, length, arith}
 use Rattle.std.proofs.Common.{refl, sym, ap, subst, ◌∙◌, length-append}
-use Rattle.std.specs.Prelude.{IsSome, IfOk, Result}
+use Rattle.std.specs.Prelude.{IsSome, IfOk, Result, Ok, Err}
 use Rattle.std.specs.FinMap.{empty}
 use Rattle.iot_tree.specs.Tree.{Nodes}
 use Rattle.iot_tree.specs.declared.acts.Act.{Act}
@@ -9,271 +9,294 @@ use Rattle.iot_tree.specs.declared.labels.OnConflict.{OnConflict}
 use Rattle.iot_tree.specs.declared.limits.TheConstants.{ACT_LIMIT}
 use Rattle.iot_acts.specs.Traces.{after_update, after_acts}
 use Rattle.iot_lang.specs.Code.{Code}
+use Rattle.iot_lang.specs.Scripts.{IsScript}
 use Rattle.iot_exec.specs.Commands.{kept_files}
-use Rattle.iot_exec.specs.Execs.{IsRunning, RunsOn}
+use Rattle.iot_exec.specs.Execs.{IsRunning}
 use Rattle.iot_exec.specs.declared.exec.Exec.{Exec}
 use Rattle.iot_exec.proofs.RunLaws.{goes_on}
-use Rattle.iot_queue.specs.declared.items.Item.{Item}
-use Rattle.iot_client.specs.States.{Transaction, State, acts_of, after_each, after_items}
 use Rattle.iot_queue.specs.Queues.{with_head, staged}
+use Rattle.iot_queue.specs.declared.items.Item.{Item}
+use Rattle.iot_queue.specs.declared.items.Stage.{Stage}
 use Rattle.iot_queue.specs.declared.items.Stage.TheVariants as stages
-use Rattle.iot_client.specs.Records.{CanFollow, ChangesHead, with_acts, left, conflicted, repaired, after}
-use Rattle.iot_client.specs.Memory.{class_after, classed}
-use Rattle.iot_client.specs.Ties.{IsRun, IsRunIfAny, Ties}
-use Rattle.iot_client.specs.declared.record.Record.TheVariants.{Held, Begun, Fetched, Acted, Ended, Left}
-use Rattle.iot_client.specs.declared.record.Record.{Record}
-use Rattle.iot_client.specs.declared.record.Record.TheVariants.{Conflicted, Resolved, Repaired}
+use Rattle.iot_changes.specs.declared.changes.Change.{Change}
+use Rattle.iot_changes.specs.declared.changes.Change.TheVariants.{Held, Begun, Fetched, Acted, Ended, Cut, Conflicted, Resolved}
+use Rattle.iot_changes.specs.declared.changes.Change.TheVariants.{Repaired, Left}
+use Rattle.iot_kept.specs.States.{Transaction, State, acts_of, after_each, after_items, view}
+use Rattle.iot_kept.specs.Changes.{CanFollow, with_acts, left, stage_by, stays_in, conflicted, repaired, after}
+use Rattle.iot_kept.specs.Memory.{transaction_of, class_of, class_after, classed, IsSecond}
+use Rattle.iot_kept.specs.declared.running.Running.{Running}
+use Rattle.iot_kept.proofs.StatesLaws.{head_after, view_after}
+use Rattle.iot_client.specs.Calls.{ChangesHead}
+use Rattle.iot_client.specs.Doing.{Starts, IsAgain, IsAgainIfAny, Did, DidIfAny}
+use Rattle.iot_client.specs.Ties.{IsRun, IsRunIfAny, live, class_by}
+use Rattle.iot_client.specs.declared.interpreter.Done.{Done}
 use Rattle.iot_client.specs.declared.interpreter.Interpreter.{Interpreter}
-use Rattle.iot_client.proofs.StatesLaws.{keeps, keeps_guarded}
-use Rattle.iot_client.proofs.StatesLaws.{none_view, held_view, fetched_view, acted_view_is, ended_view, left_view_is}
-use Rattle.iot_client.proofs.StatesLaws.{Keeps, changed, head_after, changed_holds, changed_guarded, changed_view}
 
--- the interpreter is at the script's first act, on any tree
-abbrev pub Starts : Code → Interpreter → Type 0
-Starts code i = (u : Nodes) → IsRunning code empty u 0 [] i.exec u
+-- the interpreter runs what runs in this state
+abbrev pub RunsIn : State → Option Bool → Option Interpreter → Type 0
+RunsIn state class i = IsRunIfAny state state.running class i
 
--- on a tree that is the same
+-- the same by other names
+pub carried : (a b : State) (x y : Option Bool) (i j : Option Interpreter) → b ≡ a → y ≡ x → j ≡ i → RunsIn a x i → RunsIn b y j
+carried a b x y i j same class interpreter runs =
+    subst (λ (s : State). RunsIn s y j) (sym same)
+    (subst (λ (z : Option Bool). RunsIn a z j) (sym class) (subst (λ (k : Option Interpreter). RunsIn a x k) (sym interpreter) runs))
+
+-- ---- the first act
+
+-- at a script's first act, on a tree that is the same
 started : (code : Code) (i : Interpreter) (base t : Nodes) → i.script.value ≡ code → Starts code i → t ≡ base
     → IsRunning i.script.value empty base 0 [] i.exec t
 started code i base t is starts same =
     subst (λ (code : Code). IsRunning code empty base 0 [] i.exec t) (sym is)
     (subst (λ (u : Nodes). IsRunning code empty base 0 [] i.exec u) (sym same) (starts base))
 
--- so it is when nothing is kept
+-- so it is if nothing is kept
 pub at_start : (code same : Code) (files : List (List (List ℕ) × List ℕ)) (exec : Exec) → files ≡ [] → same ≡ code
     → ((t : Nodes) → IsRunning same (kept_files files) t 0 [] exec t) → (t : Nodes) → IsRunning code empty t 0 [] exec t
 at_start code same files exec none is starts t =
     subst (λ (code : Code). IsRunning code empty t 0 [] exec t) is
     (subst (λ (files : List (List (List ℕ) × List ℕ)). IsRunning same (kept_files files) t 0 [] exec t) none (starts t))
 
-pub again_starts : {E : Type 0} (code same : Code) (result : Result Interpreter E) → same ≡ code → IfOk result (Starts same)
-    → IfOk result (Starts code)
-again_starts code same result is starts = subst (λ (code : Code). IfOk result (Starts code)) is starts
+pub again_is : {E : Type 0} (i : Interpreter) (same : Code) (result : Result Interpreter E) → same ≡ i.script.value
+    → IfOk result (λ j. j.script.value ≡ same) → IfOk result (Starts same) → IfOk result (IsAgain i)
+again_is i same (Ok j) is own starts = record { same = own ∙ is; starts = subst (λ (code : Code). Starts code j) is starts }
+again_is i same (Err fault) is own starts = tt
 
--- the same state and class by other names
-pub carried : (a b : State) (x y : Option Bool) (i : Option Interpreter) (t : Nodes) → b ≡ a → y ≡ x → Ties a x i t → Ties b y i t
-carried a b x y i t same class ties =
-    subst (λ (s : State). Ties s y i t) (sym same) (subst (λ (z : Option Bool). Ties a z i t) (sym class) ties)
+-- ---- a tree that is held, and a transaction that begins
 
-none_runs : (running : Option Transaction) (a b : State) (class : Option Bool) (i : Option Interpreter) (t u : Nodes) → running ≡ None
-    → IsRunIfAny a running class i t → IsRunIfAny b running class i u
-none_runs None a b class i t u is runs = runs
-none_runs (Some running) a b class i t u is runs = absurd cc
+none_runs : (running : Option Transaction) (a b : State) (class : Option Bool) (i : Option Interpreter) → running ≡ None
+    → IsRunIfAny a running class i → IsRunIfAny b running class i
+none_runs None a b class i is runs = runs
+none_runs (Some running) a b class i is runs = absurd cc
 
-pub tied_held : (state : State) (class : Option Bool) (i : Option Interpreter) (t u tree : Nodes) → Ties state class i t
-    → CanFollow state (Held tree) → u ≡ tree → Ties (after state (Held tree)) class i u
-tied_held state class i t u tree ties follows same = record {
-  sees = same ∙ sym (held_view state tree follows.0 follows.1);
-  hold = keeps state (Held tree) follows ties.hold;
-  guarded = keeps_guarded state (Held tree) follows ties.guarded;
-  runs = none_runs state.running state (after state (Held tree)) class i t u follows.0 ties.runs;
-}
+pub runs_held : (state : State) (class : Option Bool) (i : Option Interpreter) (tree : Nodes) → CanFollow state (Held tree)
+    → RunsIn state class i → RunsIn (after state (Held tree)) class i
+runs_held state class i tree follows runs = none_runs state.running state (after state (Held tree)) class i follows.0 runs
 
-pub tied_begun : (state : State) (class : Option Bool) (i : Option Interpreter) (t : Nodes) (number : ℕ) (script : List ℕ)
-    (option : OnConflict) (first : Bool) (code : Code) (new : Interpreter) → Ties state class i t
-    → CanFollow state (Begun number script option) → new.script.value ≡ code → Starts code new → (first ≡ true → state.items ≡ [])
-    → Ties (after state (Begun number script option)) (Some first) (Some new) t
-tied_begun state class i t number script option first code new ties follows is starts alone = record {
-  sees = ties.sees ∙ none_view state follows.0;
-  hold = keeps state (Begun number script option) follows ties.hold;
-  guarded = keeps_guarded state (Begun number script option) follows ties.guarded;
-  runs = (
-    first,
-    new,
-    refl,
-    refl,
-    record {
-      run = started code new (after_items state) t is starts (ties.sees ∙ none_view state follows.0);
-      few = omega arith;
-      alone = alone;
-    },
-  );
-}
+pub none_lives : (running : Option Transaction) (state : State) (class : Option Bool) (i : Option Interpreter) → running ≡ None
+    → IsRunIfAny state running class i → live class i ≡ None
+none_lives None state class i is runs = ap (λ (class : Option Bool). live class i) runs.0
+none_lives (Some running) state class i is runs = absurd cc
 
-again_runs : (running : Option Transaction) (a b : State) (class : Option Bool) (i : Option Interpreter) (t u : Nodes) (code : Code)
-    (new : Interpreter) → IsSome running → IsRunIfAny a running class i t → new.script.value ≡ code → Starts code new
-    → u ≡ after_items b → b.items ≡ [] → IsRunIfAny b (with_acts (λ acts. []) running) class (Some new) u
-again_runs None a b class i t u code new some runs is starts same none = absurd cc
-again_runs (Some running) a b class i t u code new some runs is starts same none = (
-  runs.0,
-  new,
-  runs.2,
+pub runs_begun : (state : State) (number : ℕ) (script : List ℕ) (option : OnConflict) (first : Bool) (code : Code) (new : Interpreter)
+    → new.script.value ≡ code → Starts code new → IsScript code → (first ≡ true → state.items ≡ [])
+    → RunsIn (after state (Begun number script option)) (Some first) (Some new)
+runs_begun state number script option first code new is starts good alone = (
+  first,
   refl,
   record {
-    run = started code new (after_items b) u is starts same;
+    run = started code new (after_items state) (after_items state) is starts refl;
     few = omega arith;
-    alone = λ first. none;
+    alone = alone;
+    script = subst IsScript (sym is) good;
   },
 )
 
-pub tied_fetched : (state : State) (class : Option Bool) (i : Option Interpreter) (t u tree : Nodes) (code : Code) (new : Interpreter)
-    → Ties state class i t → CanFollow state (Fetched tree) → u ≡ tree → new.script.value ≡ code → Starts code new
-    → Ties (after state (Fetched tree)) class (Some new) u
-tied_fetched state class i t u tree code new ties follows same is starts = record {
-  sees = same ∙ sym (fetched_view state tree follows.1);
-  hold = keeps state (Fetched tree) follows ties.hold;
-  guarded = keeps_guarded state (Fetched tree) follows ties.guarded;
-  runs = again_runs state.running state (after state (Fetched tree)) class i t u code new follows.0 ties.runs is starts
-      (same ∙ sym (ap (after_each tree) follows.1)) follows.1;
-}
+-- ---- a transaction that begins again
+
+none_done : (running : Option Transaction) → acts_of (with_acts (λ acts. []) running) ≡ []
+none_done None = refl
+none_done (Some running) = refl
+
+again_runs : (running : Option Transaction) (a b : State) (class : Option Bool) (i j : Option Interpreter) → IsSome running
+    → IsRunIfAny a running class i → IsAgainIfAny i j → view b ≡ after_items b → b.items ≡ []
+    → IsRunIfAny b (with_acts (λ acts. []) running) class j
+again_runs None a b class i j some runs again sees none = absurd cc
+again_runs (Some running) a b class None None some runs again sees none = runs
+again_runs (Some running) a b class None (Some j) some runs again sees none = absurd again
+again_runs (Some running) a b class (Some i) None some runs again sees none = absurd again
+again_runs (Some running) a b class (Some i) (Some j) some runs again sees none = (
+  runs.0,
+  runs.1,
+  record {
+    run = started i.script.value j (after_items b) (view b) again.same again.starts sees;
+    few = omega arith;
+    alone = λ first. none;
+    script = subst IsScript (sym again.same) runs.2.script;
+  },
+)
+
+pub runs_fetched : (state : State) (class : Option Bool) (i j : Option Interpreter) (tree : Nodes) → CanFollow state (Fetched tree)
+    → RunsIn state class i → IsAgainIfAny i j → RunsIn (after state (Fetched tree)) class j
+runs_fetched state class i j tree follows runs again =
+    again_runs state.running state (after state (Fetched tree)) class i j follows.0 runs again
+    (ap (after_acts (after_each tree state.items)) (none_done state.running)) follows.1
+
+pub lives_again : (class : Option Bool) (i j : Option Interpreter) → IsAgainIfAny i j → live class j ≡ live class i
+lives_again None i j again = refl
+lives_again (Some first) None None again = refl
+lives_again (Some first) None (Some j) again = absurd again
+lives_again (Some first) (Some i) None again = absurd again
+lives_again (Some first) (Some i) (Some j) again = ap (λ (code : Code). Some (record { first = first; code = code })) again.same
 
 -- ---- an act
 
-one_more : (running : Transaction) (a : State) (first : Bool) (i new : Interpreter) (t u : Nodes) (act : Act) → IsRun a running first i t
-    → length running.acts < ACT_LIMIT → RunsOn i.exec t act new.exec u → new.script.value ≡ i.script.value
-    → IsRun (after a (Acted act)) (record running { acts = running.acts ++ act ∷ [] }) first new u
-one_more running a first i new t u act run within on same = record {
-  run = subst
-      (λ (code : Code). IsRunning code empty (after_items a) (length (running.acts ++ act ∷ [])) (running.acts ++ act ∷ []) new.exec u)
-      (sym same)
-      (goes_on i.script.value empty (after_items a) u running.acts (running.acts ++ act ∷ []) act new.exec refl
-      (on i.script.value empty (after_items a) (length running.acts) running.acts run.run));
-  few = omega (arith, length-append running.acts (act ∷ []), within);
-  alone = run.alone;
-}
+one_more : (running : Transaction) (a : State) (first : Bool) (i j : Interpreter) (done : Done) → IsRun a running first i
+    → length running.acts < ACT_LIMIT → Did i (view a) done j → view (after a (Acted done.act)) ≡ after_update (view a) done.act.update
+    → IsRun (after a (Acted done.act)) (record running { acts = running.acts ++ done.act ∷ [] }) first j
+one_more running a first i j done run within did sees =
+    let b = after a (Acted done.act) in
+    let acts : List Act = running.acts ++ done.act ∷ [] in
+    record {
+      run =
+          subst (λ (t : Nodes). IsRunning j.script.value empty (after_items a) (length acts) acts j.exec t) (sym sees)
+          (subst
+          (λ (code : Code). IsRunning code empty (after_items a) (length acts) acts j.exec (after_update (view a) done.act.update))
+          (sym did.same)
+          (goes_on i.script.value empty (after_items a) (after_update (view a) done.act.update) running.acts acts done.act j.exec refl
+          (did.goes_on i.script.value empty (after_items a) (length running.acts) running.acts run.run)));
+      few = omega (arith, length-append running.acts (done.act ∷ []), within);
+      alone = run.alone;
+      script = subst IsScript (sym did.same) run.script;
+    }
 
-acted_runs : (running : Option Transaction) (a : State) (class : Option Bool) (i new : Interpreter) (t u : Nodes) (act : Act)
-    → IsSome running → length (acts_of running) < ACT_LIMIT → IsRunIfAny a running class (Some i) t → RunsOn i.exec t act new.exec u
-    → new.script.value ≡ i.script.value
-    → IsRunIfAny (after a (Acted act)) (with_acts (λ acts. acts ++ act ∷ []) running) class (Some new) u
-acted_runs None a class i new t u act some within runs on same = absurd cc
-acted_runs (Some running) a class i new t u act some within runs on same =
-    let own : runs.1 ≡ i = cc in (
-      runs.0,
-      new,
-      runs.2,
-      refl,
-      one_more running a runs.0 i new t u act (subst (λ (i : Interpreter). IsRun a running runs.0 i t) own runs.4) within on same,
-    )
+acted_runs : (running : Option Transaction) (a : State) (class : Option Bool) (i j : Option Interpreter) (done : Done) → IsSome running
+    → length (acts_of running) < ACT_LIMIT → IsRunIfAny a running class i → DidIfAny i (view a) done j
+    → view (after a (Acted done.act)) ≡ after_update (view a) done.act.update
+    → IsRunIfAny (after a (Acted done.act)) (with_acts (λ acts. acts ++ done.act ∷ []) running) class j
+acted_runs None a class i j done some within runs did sees = absurd cc
+acted_runs (Some running) a class None j done some within runs did sees = absurd did
+acted_runs (Some running) a class (Some i) None done some within runs did sees = absurd did
+acted_runs (Some running) a class (Some i) (Some j) done some within runs did sees =
+    (runs.0, runs.1, one_more running a runs.0 i j done runs.2 within did sees)
 
-pub tied_acted : (state : State) (class : Option Bool) (i new : Interpreter) (t u : Nodes) (act : Act) → Ties state class (Some i) t
-    → CanFollow state (Acted act) → RunsOn i.exec t act new.exec u → new.script.value ≡ i.script.value → u ≡ after_update t act.update
-    → Ties (after state (Acted act)) class (Some new) u
-tied_acted state class i new t u act ties follows on same made = record {
-  sees = made ∙ ap (λ (t : Nodes). after_update t act.update) ties.sees ∙ sym (acted_view_is state act follows.0);
-  hold = keeps state (Acted act) follows ties.hold;
-  guarded = keeps_guarded state (Acted act) follows ties.guarded;
-  runs = acted_runs state.running state class i new t u act follows.0 follows.1 ties.runs on same;
-}
+pub runs_acted : (state : State) (class : Option Bool) (i j : Option Interpreter) (done : Done) → CanFollow state (Acted done.act)
+    → RunsIn state class i → DidIfAny i (view state) done j → RunsIn (after state (Acted done.act)) class j
+runs_acted state class i j done follows runs did =
+    acted_runs state.running state class i j done follows.0 follows.1 runs did (view_after state (Acted done.act) follows)
 
--- ---- the end, and after it
+-- ---- the end, and a cut
 
-pub tied_ended : (state : State) (class : Option Bool) (i : Option Interpreter) (t : Nodes) → Ties state class i t → CanFollow state Ended
-    → Ties (after state Ended) None None t
-tied_ended state class i t ties follows = record {
-  sees = ties.sees ∙ sym (ended_view state);
-  hold = keeps state Ended follows ties.hold;
-  guarded = keeps_guarded state Ended follows ties.guarded;
-  runs = (refl, refl);
-}
+pub runs_ended : (state : State) → RunsIn (after state Ended) None None
+runs_ended state = (refl, refl)
 
-not_alone : (item : Item) (items queue : List Item) → item ∷ items ≡ queue → queue ≡ [] → items ≡ []
-not_alone item items queue is none = absurd cc
+pub runs_cut : (state : State) → RunsIn (after state Cut) None None
+runs_cut state = (refl, refl)
 
-left_run : (running : Option Transaction) (item : Item) (items : List Item) (a : State) (class : Option Bool) (i : Option Interpreter)
-    (t : Nodes) → item ∷ items ≡ a.items → IsRunIfAny a running class i t
-    → IsRunIfAny (record a { held = after_acts a.held item.acts; items = items }) running class i t
-left_run None item items a class i t is runs = runs
-left_run (Some running) item items a class i t is runs = (
+-- ---- the first that waits
+
+-- a change of the first that waits alone
+record SameBut (a b : State) : Type 0 where
+  items : after_items b ≡ after_items a
+  running : b.running ≡ a.running
+  alone : a.items ≡ [] → b.items ≡ []
+
+moved : (running : Option Transaction) (a b : State) (class : Option Bool) (i : Option Interpreter) → SameBut a b → view b ≡ view a
+    → IsRunIfAny a running class i → IsRunIfAny b running class i
+moved None a b class i same sees runs = runs
+moved (Some running) a b class None same sees runs = runs
+moved (Some running) a b class (Some i) same sees runs = (
   runs.0,
   runs.1,
-  runs.2,
-  runs.3,
   record {
-    run = subst
-        (λ (l : List Item). IsRunning runs.1.script.value empty (after_each a.held l) (length running.acts) running.acts runs.1.exec t)
-        (sym is) runs.4.run;
-    few = runs.4.few;
-    alone = λ first. not_alone item items a.items is (runs.4.alone first);
+    run =
+        subst (λ (t : Nodes). IsRunning i.script.value empty t (length running.acts) running.acts i.exec (view b)) (sym same.items)
+        (subst (λ (t : Nodes). IsRunning i.script.value empty (after_items a) (length running.acts) running.acts i.exec t) (sym sees)
+        runs.2.run);
+    few = runs.2.few;
+    alone = λ first. same.alone (runs.2.alone first);
+    script = runs.2.script;
   },
 )
 
-left_runs : (items : List Item) (a : State) (class : Option Bool) (i : Option Interpreter) (t : Nodes) → items ≡ a.items
-    → IsRunIfAny a a.running class i t → IsRunIfAny (left a items) (left a items).running class i t
-left_runs [] a class i t is runs = runs
-left_runs (item ∷ items) a class i t is runs = left_run a.running item items a class i t is runs
+same_view : (a b : State) → SameBut a b → view b ≡ view a
+same_view a b same =
+    ap (λ (t : Nodes). after_acts t (acts_of b.running)) same.items
+    ∙ ap (λ (running : Option Transaction). after_acts (after_items a) (acts_of running)) same.running
 
-pub tied_left : (state : State) (class : Option Bool) (i : Option Interpreter) (t : Nodes) → Ties state class i t → CanFollow state Left
-    → Ties (after state Left) class i t
-tied_left state class i t ties follows = record {
-  sees = ties.sees ∙ sym (left_view_is state);
-  hold = keeps state Left follows ties.hold;
-  guarded = keeps_guarded state Left follows ties.guarded;
-  runs = left_runs state.items state class i t refl ties.runs;
+same_runs : (a b : State) (class : Option Bool) (i : Option Interpreter) → SameBut a b → RunsIn a class i → RunsIn b class i
+same_runs a b class i same runs =
+    subst (λ (running : Option Transaction). IsRunIfAny b running class i) (sym same.running)
+    (moved a.running a b class i same (same_view a b same) runs)
+
+with_head_same : (change : Item → Item) (state : State) → ((item : Item) → (change item).acts ≡ item.acts)
+    → SameBut state (record state { items = with_head change state.items })
+with_head_same change state keeps = record {
+  items = head_after change state.items state.held keeps;
+  running = refl;
+  alone = λ none. ap (with_head change) none;
 }
 
-changed_runs : (change : Item → Item) (running : Option Transaction) (a : State) (class : Option Bool) (i : Option Interpreter) (t : Nodes)
-    → Keeps change → IsRunIfAny a running class i t → IsRunIfAny (changed change a) running class i t
-changed_runs change None a class i t same runs = runs
-changed_runs change (Some running) a class i t same runs = (
-  runs.0,
-  runs.1,
-  runs.2,
-  runs.3,
-  record {
-    run = subst
-        (λ (u : Nodes). IsRunning runs.1.script.value empty u (length running.acts) running.acts runs.1.exec t)
-        (sym (head_after change a.items a.held same)) runs.4.run;
-    few = runs.4.few;
-    alone = λ first. ap (with_head change) (runs.4.alone first);
-  },
-)
-
-tied_changed : (change : Item → Item) (state : State) (class : Option Bool) (i : Option Interpreter) (t : Nodes) → Keeps change
-    → Ties state class i t → Ties (changed change state) class i t
-tied_changed change state class i t same ties = record {
-  sees = ties.sees ∙ sym (changed_view change state same);
-  hold = changed_holds change state same ties.hold;
-  guarded = changed_guarded change state same ties.guarded;
-  runs = changed_runs change state.running state class i t same ties.runs;
+left_same : (items : List Item) (state : State) → items ≡ state.items → SameBut state (left state items)
+left_same [] state is = record { items = refl; running = refl; alone = λ none. none }
+left_same (item ∷ items) state is = record {
+  items = ap (after_each state.held) is;
+  running = refl;
+  alone = λ none. let both : item ∷ items ≡ [] = is ∙ none in absurd cc;
 }
 
--- what becomes of the head keeps the tie, and the class
+stays_same : (stage : Option Stage) (state : State) → SameBut state (stays_in stage state)
+stays_same (Some stage) state = with_head_same (staged stage) state (λ item. refl)
+stays_same None state = left_same state.items state refl
 
-pub tied_head : (noted : Record) (state : State) (class : Option Bool) (i : Option Interpreter) (t : Nodes) → Ties state class i t
-    → CanFollow state noted → ChangesHead noted → Ties (after state noted) class i t
-tied_head (Held tree) state class i t ties follows head = absurd head
-tied_head (Begun number script option) state class i t ties follows head = absurd head
-tied_head (Fetched tree) state class i t ties follows head = absurd head
-tied_head (Acted act) state class i t ties follows head = absurd head
-tied_head Ended state class i t ties follows head = absurd head
-tied_head Left state class i t ties follows head = tied_left state class i t ties follows
-tied_head Conflicted state class i t ties follows head = tied_changed conflicted state class i t (λ item. refl) ties
-tied_head (Resolved done) state class i t ties follows head =
-    tied_changed (staged (stages.Resolved done)) state class i t (λ item. refl) ties
-tied_head (Repaired script) state class i t ties follows head = tied_changed (repaired script) state class i t (λ item. refl) ties
+conflicted_same : (items : List Item) (state : State) → SameBut state (conflicted state items)
+conflicted_same [] state = record { items = refl; running = refl; alone = λ none. none }
+conflicted_same (item ∷ items) state = stays_same (stage_by item.option) state
 
-pub class_stays : (noted : Record) (class : Option Bool) → ChangesHead noted → class_after noted class ≡ class
+head_same : (change : Change) (state : State) → ChangesHead change → SameBut state (after state change)
+head_same (Held tree) state head = absurd head
+head_same (Begun number script option) state head = absurd head
+head_same (Fetched tree) state head = absurd head
+head_same (Acted act) state head = absurd head
+head_same Ended state head = absurd head
+head_same Cut state head = absurd head
+head_same Conflicted state head = conflicted_same state.items state
+head_same (Resolved done) state head = with_head_same (staged (stages.Resolved done)) state (λ item. refl)
+head_same (Repaired script) state head = with_head_same (repaired script) state (λ item. refl)
+head_same Left state head = left_same state.items state refl
+
+pub runs_on : (change : Change) (state : State) (class : Option Bool) (i : Option Interpreter) → ChangesHead change → RunsIn state class i
+    → RunsIn (after state change) class i
+runs_on change state class i head runs = same_runs state (after state change) class i (head_same change state head) runs
+
+pub view_stays : (change : Change) (state : State) → ChangesHead change → view (after state change) ≡ view state
+view_stays change state head = same_view state (after state change) (head_same change state head)
+
+pub class_stays : (change : Change) (class : Option Bool) → ChangesHead change → class_after change class ≡ class
 class_stays (Held tree) class head = absurd head
 class_stays (Begun number script option) class head = absurd head
 class_stays (Fetched tree) class head = absurd head
 class_stays (Acted act) class head = absurd head
 class_stays Ended class head = absurd head
-class_stays Left class head = refl
+class_stays Cut class head = absurd head
 class_stays Conflicted class head = refl
 class_stays (Resolved done) class head = refl
 class_stays (Repaired script) class head = refl
+class_stays Left class head = refl
 
-second_runs : (running : Option Transaction) (a : State) (class : Option Bool) (i : Option Interpreter) (t : Nodes)
-    → IsRunIfAny a running class i t → IsRunIfAny a running (classed false class) i t
-second_runs None a class i t runs = (ap (classed false) runs.0, runs.1)
-second_runs (Some running) a class i t runs = (
+-- ---- the class
+
+second_runs : (running : Option Transaction) (a : State) (class : Option Bool) (i : Option Interpreter) → IsRunIfAny a running class i
+    → IsRunIfAny a running (classed false class) i
+second_runs None a class i runs = (ap (classed false) runs.0, runs.1)
+second_runs (Some running) a class None runs = ap (classed false) runs
+second_runs (Some running) a class (Some i) runs = (
   false,
-  runs.1,
-  ap (classed false) runs.2,
-  runs.3,
+  ap (classed false) runs.1,
   record {
-    run = runs.4.run;
-    few = runs.4.few;
+    run = runs.2.run;
+    few = runs.2.few;
     alone = λ first. absurd cc;
+    script = runs.2.script;
   },
 )
 
-pub tied_second : (state : State) (class : Option Bool) (i : Option Interpreter) (t : Nodes) → Ties state class i t
-    → Ties state (classed false class) i t
-tied_second state class i t ties = record {
-  sees = ties.sees;
-  hold = ties.hold;
-  guarded = ties.guarded;
-  runs = second_runs state.running state class i t ties.runs;
-}
+pub runs_second : (state : State) (class : Option Bool) (i : Option Interpreter) → RunsIn state class i
+    → RunsIn state (classed false class) i
+runs_second state class i runs = second_runs state.running state class i runs
+
+-- one without an interpreter is second class
+pub class_is : (running : Option Transaction) (state : State) (class : Option Bool) (i : Option Interpreter)
+    → IsRunIfAny state running class i → class ≡ class_by running (live class i)
+class_is None state class i runs = runs.0
+class_is (Some running) state None None runs = absurd cc
+class_is (Some running) state (Some first) None runs = runs
+class_is (Some running) state None (Some i) runs = absurd cc
+class_is (Some running) state (Some first) (Some i) runs = refl
+
+-- what a start finds runs without one
+pub found_runs : (running : Option Running) (state : State) → IsSecond (class_of running)
+    → IsRunIfAny state (transaction_of running) (class_of running) None
+found_runs None state second = (refl, refl)
+found_runs (Some running) state second = ap Some second

@@ -1,11 +1,9 @@
 -- What the calls of a client refuse, change and answer.
-use Rattle.std.specs.Prelude.{◌≡◌, ℕ, ◌+◌, ◌<◌, ◌||◌, Bool, true, false, List, [], ◌∷◌, drop, leb, if◌then◌else◌}
+use Rattle.std.specs.Prelude.{◌≡◌, ℕ, ◌+◌, ◌<◌, ◌||◌, Bool, true, false, List, [], ◌∷◌, drop, leb, length, if◌then◌else◌}
 use Rattle.std.specs.Prelude.{⊤, IsOk, IsSome, Option, Some, None, Result, Ok, Err}
 use Rattle.iot_acts.specs.Traces.{after_acts}
 use Rattle.iot_tree.specs.Tree.{Path, Nodes, IsWhole}
 use Rattle.iot_tree.specs.declared.acts.Act.{Act}
-use Rattle.iot_tree.specs.declared.labels.OnConflict.{OnConflict}
-use Rattle.iot_tree.specs.declared.labels.OnConflict.TheVariants as options
 use Rattle.iot_tree.specs.declared.limits.TheConstants.{ACT_LIMIT}
 use Rattle.iot_tree.specs.declared.want.Want.TheVariants as wants
 use Rattle.iot_lang.specs.Code.{Code}
@@ -21,19 +19,21 @@ use Rattle.iot_queue.specs.declared.items.Stage.TheVariants as stages
 use Rattle.iot_resolve.specs.Plans.{plan_of}
 use Rattle.iot_resolve.specs.Resolved.{resolved}
 use Rattle.iot_resolve.specs.declared.plan.Plan.{Plan}
-use Rattle.iot_client.specs.States.{Transaction, State, view}
+use Rattle.iot_kept.specs.States.{Transaction, State, view}
+use Rattle.iot_kept.specs.Changes.{IsInConflict, CanFollow, after}
+use Rattle.iot_kept.specs.Standing.{EachStandsEither}
+use Rattle.iot_changes.specs.declared.changes.Change.{Change}
+use Rattle.iot_changes.specs.declared.changes.Change.TheVariants as changes
+use Rattle.iot_client.specs.Faults.{MayFail}
 use Rattle.iot_client.specs.Messages.{IsRefresh, objects_in, whole_in}
-use Rattle.iot_client.specs.Records.{IsInConflict, CanFollow, after}
 use Rattle.iot_client.specs.Ties.{state_of, place_of, Live, count, run_of}
 use Rattle.iot_client.specs.declared.client.Client.{Client}
 use Rattle.iot_client.specs.declared.fault.ClientFault.{ClientFault}
-use Rattle.iot_client.specs.declared.fault.ClientFault.TheVariants.{NoMemory, Busy, Pending, Idle, NotAtEnd, Nothing}
+use Rattle.iot_client.specs.declared.fault.ClientFault.TheVariants.{NoMemory, Stopped, Busy, Pending, Idle, NotAtEnd, Nothing}
 use Rattle.iot_client.specs.declared.fault.ClientFault.TheVariants.{NotManual, BadReply}
 use Rattle.iot_client.specs.declared.noted.Noted.{Noted}
 use Rattle.iot_client.specs.declared.noted.Noted.TheVariants as notes
-use Rattle.iot_client.specs.declared.record.Record.{Record}
-use Rattle.iot_client.specs.declared.running.Ended.{Ended}
-use Rattle.iot_client.specs.declared.record.Record.TheVariants as records
+use Rattle.iot_client.specs.declared.ended.Ended.{Ended}
 use Rattle.iot_client.specs.declared.steps.Step.{Step}
 use Rattle.iot_client.specs.declared.steps.Step.TheVariants.{Acted, Fetch, AtEnd, AtLimit}
 
@@ -90,22 +90,25 @@ abbrev pub unended : Option Transaction → Bool → Option ClientFault
 unended None over = Some Idle
 unended (Some running) over = if over then None else Some NotAtEnd
 
--- for this cause, exactly if there is one, a call is refused; else it is done, or memory ran out
+-- a call that writes nothing is refused for this cause, exactly if there is one; else it is done, or memory ran out
 abbrev pub RefusesFor : {T : Type 0} → Option ClientFault → Result T ClientFault → Type 0
 RefusesFor (Some fault) result = result ≡ Err fault
 RefusesFor None (Ok value) = Unit {0}
 RefusesFor None (Err fault) = fault ≡ NoMemory
 
--- and a refusal but for want of memory changes nothing
-abbrev pub Refuses : {T : Type 0} → Option ClientFault → Client → Client → Result T ClientFault → Type 0
-Refuses None old new result = RefusesFor None result
-Refuses (Some fault) old new result = RefusesFor (Some fault) result × (new ≡ old)
+-- a call that appends a record is refused for this cause, exactly if there is one, and that changes nothing; else it is done, or memory
+-- ran out, or the disk failed
+abbrev pub Refuses : {D T : Type 0} → Option ClientFault → Client D → Client D → Result T ClientFault → Type 0
+Refuses None old new (Ok value) = Unit {0}
+Refuses None old new (Err fault) = MayFail fault
+Refuses (Some fault) old new result = (result ≡ Err fault) × (new ≡ old)
 
 -- how a call ends that reads a reply: it is done if that is one that it takes, and refused at the place where it is bad, which
--- changes nothing; or memory ran out
-abbrev pub EndsBy : {X T : Type 0} → Result X ℕ → Client → Client → Result T ClientFault → Type 0
+-- changes nothing; or memory ran out, or the disk failed
+abbrev pub EndsBy : {D X T : Type 0} → Result X ℕ → Client D → Client D → Result T ClientFault → Type 0
 EndsBy read old new (Ok value) = IsOk read
 EndsBy read old new (Err NoMemory) = ⊤
+EndsBy read old new (Err Stopped) = IsOk read
 EndsBy read old new (Err Busy) = ⊥
 EndsBy read old new (Err Pending) = ⊥
 EndsBy read old new (Err Idle) = ⊥
@@ -115,9 +118,9 @@ EndsBy read old new (Err NotManual) = ⊥
 EndsBy read old new (Err (BadReply at)) = (read ≡ Err at) × (new ≡ old)
 
 -- before that, the state may refuse the call
-abbrev pub RefusesReply : {X T : Type 0} → Option ClientFault → Result X ℕ → Client → Client → Result T ClientFault → Type 0
+abbrev pub RefusesReply : {D X T : Type 0} → Option ClientFault → Result X ℕ → Client D → Client D → Result T ClientFault → Type 0
 RefusesReply None read old new result = EndsBy read old new result
-RefusesReply (Some fault) read old new result = RefusesFor (Some fault) result × (new ≡ old)
+RefusesReply (Some fault) read old new result = (result ≡ Err fault) × (new ≡ old)
 
 -- why an interpreter's transaction may not be ended
 abbrev pub not_at_end : Bool → ℕ → Option ClientFault
@@ -125,30 +128,48 @@ not_at_end over acts = if over || leb ACT_LIMIT acts then None else Some NotAtEn
 
 -- ---- changes
 
--- the durable state changes by this record, which could follow
-pub record Notes (noted : Record) (old new : Client) : Type 0 where
-  pub follows : CanFollow (state_of old) noted
-  pub state : state_of new ≡ after (state_of old) noted
+-- the durable state changes by this change, which could follow
+pub record Notes {D : Type 0} (change : Change) (old new : Client D) : Type 0 where
+  pub follows : CanFollow (state_of old) change
+  pub state : state_of new ≡ after (state_of old) change
   pub place : place_of new ≡ place_of old
 
--- and the record is one of the tree that the reply brings
-pub record Brings (noted : Nodes → Record) (reply : List ℕ) (old new : Client) : Type 0 where
+-- a call was stopped while it appended the record of a change that could follow: each image stands for the state before or for the
+-- one after it
+pub record StandsEither (images : List ℕ → Type 0) (before : State) : Type 0 where
+  pub change : Change
+  pub follows : CanFollow before change
+  pub either : EachStandsEither images before (after before change)
+
+-- the change is one by the tree that the reply brings
+pub record Brings {D : Type 0} (brought_by : Nodes → Change) (reply : List ℕ) (old new : Client D) : Type 0 where
   pub tree : Nodes
   pub brought : objects_in reply ≡ Ok tree
   pub spelled : IsMessage IsReply reply_spelling reply (Objects tree)
-  pub notes : Notes (noted tree) old new
+  pub notes : Notes (brought_by tree) old new
 
--- the record of what is said of a transaction with this option: it is settled, given up, or in conflict
-abbrev pub conflict_record : OnConflict → Record
-conflict_record options.Reexec = records.Conflicted
-conflict_record (options.Resolver script) = records.Conflicted
-conflict_record options.Abort = records.Left
-conflict_record options.Manual = records.Conflicted
+-- what is so of the first that waits, if there is one
+abbrev pub HeadIsIfAny : (Item → Type 0) → List Item → Type 0
+HeadIsIfAny Is [] = Unit {0}
+HeadIsIfAny Is (item ∷ items) = Is item
 
-abbrev pub verdict_record : Noted → List Item → Record
-verdict_record noted [] = records.Left
-verdict_record (notes.Settled number) (item ∷ items) = records.Left
-verdict_record (notes.Conflict read) (item ∷ items) = conflict_record item.option
+-- changes of nothing but the first that waits
+abbrev pub ChangesHead : Change → Type 0
+ChangesHead (changes.Held tree) = ⊥
+ChangesHead (changes.Begun number script option) = ⊥
+ChangesHead (changes.Fetched tree) = ⊥
+ChangesHead (changes.Acted act) = ⊥
+ChangesHead changes.Ended = ⊥
+ChangesHead changes.Cut = ⊥
+ChangesHead changes.Conflicted = Unit {0}
+ChangesHead (changes.Resolved done) = Unit {0}
+ChangesHead (changes.Repaired script) = Unit {0}
+ChangesHead changes.Left = Unit {0}
+
+-- the change by what is said of the first that waits: it is settled, or in conflict
+abbrev pub verdict_change : Noted → Change
+verdict_change (notes.Settled number) = changes.Left
+verdict_change (notes.Conflict read) = changes.Conflicted
 
 -- what `resolve` needs of the first that waits: it is in conflict, and its option plans a run
 pub record IsPlanned (item : Item) : Type 0 where
@@ -166,25 +187,20 @@ IsHeadsRun held [] code server done = ⊥
 IsHeadsRun held (item ∷ items) code server done = IsPlannedRun (plan_of item) code (after_acts held item.acts) server done
 
 -- the durable state changes by the run for the first that waits, on this whole tree
-pub record Reruns (code : Code) (server : Nodes) (old new : Client) : Type 0 where
+pub record Reruns {D : Type 0} (code : Code) (server : Nodes) (old new : Client D) : Type 0 where
   pub done : Resolution
   pub run : IsHeadsRun (state_of old).held (state_of old).items code server done
-  pub notes : Notes (records.Resolved done) old new
+  pub notes : Notes (changes.Resolved done) old new
 
 -- and the tree is the one that the reply brings
-pub record Resolves (reply : List ℕ) (code : Code) (old new : Client) : Type 0 where
+pub record Resolves {D : Type 0} (reply : List ℕ) (code : Code) (old new : Client D) : Type 0 where
   pub tree : Nodes
   pub brought : whole_in reply ≡ Ok tree
   pub spelled : IsMessage IsReply reply_spelling reply (Objects tree)
   pub whole : IsWhole tree
   pub reruns : Reruns code tree old new
 
--- whether the running transaction is first class, if one runs
-abbrev pub first_of : Option Live → Option Bool
-first_of None = None
-first_of (Some live) = Some live.first
-
--- if a transaction runs, it is first class
+-- if a transaction runs that was begun since the start, it is first class
 abbrev pub IsFirstIfAny : Option Live → Type 0
 IsFirstIfAny None = Unit {0}
 IsFirstIfAny (Some live) = live.first ≡ true
@@ -222,16 +238,16 @@ CanActIfAny state None = ⊥
 CanActIfAny state (Some live) = CanAct state live
 
 -- the next act was done
-pub record DoesNext (old : Client) (live : Live) (acts : ℕ) (ended : Bool) (new : Client) : Type 0 where
+pub record DoesNext {D : Type 0} (old : Client D) (live : Live) (acts : ℕ) (ended : Bool) (new : Client D) : Type 0 where
   pub can : CanAct (state_of old) live
   pub act : Act
   pub next : next_acts (state_of old) live.code ≡ act ∷ []
-  pub notes : Notes (records.Acted act) old new
+  pub notes : Notes (changes.Acted act) old new
   pub counted : acts ≡ count (state_of old) + 1
   pub ends : ended ≡ has_ended (state_of new) live.code
 
 -- the next act of a first-class transaction asks first about this path of those that are away
-pub record Misses (old : Client) (live : Live) (path : Path) (new : Client) : Type 0 where
+pub record Misses {D : Type 0} (old : Client D) (live : Live) (path : Path) (new : Client D) : Type 0 where
   pub goes_on : has_ended (state_of old) live.code ≡ false
   pub within : count (state_of old) < ACT_LIMIT
   pub first : live.first ≡ true
@@ -239,7 +255,7 @@ pub record Misses (old : Client) (live : Live) (path : Path) (new : Client) : Ty
   pub stays : new ≡ old
 
 -- what a single step answers
-abbrev pub StepIs : Client → Live → Step → Client → Type 0
+abbrev pub StepIs : {D : Type 0} → Client D → Live → Step → Client D → Type 0
 StepIs old live (Acted acts ended) new = DoesNext old live acts ended new
 StepIs old live (Fetch request path) new =
     IsRefresh (place_of old) (state_of old).held (wants.Path path) request × Misses old live path new
@@ -247,7 +263,7 @@ StepIs old live (AtEnd acts) new = (has_ended (state_of old) live.code ≡ true)
 StepIs old live (AtLimit acts) new =
     (has_ended (state_of old) live.code ≡ false) × (acts ≡ ACT_LIMIT) × (count (state_of old) ≡ ACT_LIMIT) × (new ≡ old)
 
-abbrev pub StepIsIfAny : Client → Option Live → Step → Client → Type 0
+abbrev pub StepIsIfAny : {D : Type 0} → Client D → Option Live → Step → Client D → Type 0
 StepIsIfAny old None step new = ⊥
 StepIsIfAny old (Some live) step new = StepIs old live step new
 
@@ -265,3 +281,10 @@ abbrev pub EndsIfAny : State → Option Transaction → Option Live → Ended �
 EndsIfAny state (Some running) (Some live) gone = Ends state running live gone
 EndsIfAny state (Some running) None gone = ⊥
 EndsIfAny state None live gone = ⊥
+
+-- ---- a cut
+
+-- what is told is the number of acts of the transaction that ran, which waits from then on with these acts; if none ran, nothing changes
+abbrev pub CutsIfAny : {D : Type 0} → Option Transaction → Option ℕ → Client D → Client D → Type 0
+CutsIfAny None told old new = (told ≡ None) × (new ≡ old)
+CutsIfAny (Some running) told old new = (told ≡ Some (length running.acts)) × Notes changes.Cut old new

@@ -1,7 +1,4 @@
 pub mod Faults
-pub mod States
-pub mod Records
-pub mod Memory
 pub mod Ties
 pub mod Doing
 pub mod Messages

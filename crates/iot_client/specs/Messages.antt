@@ -1,5 +1,5 @@
 -- What a client sends to the server, and what it reads of the replies.
-use Rattle.std.specs.Prelude.{◌≡◌, ℕ, ◌≤◌, ⊤, Bool, if◌then◌else◌, length, List, [], ◌∷◌, Result, Ok, Err}
+use Rattle.std.specs.Prelude.{◌≡◌, ℕ, ⊤, Bool, if◌then◌else◌, length, List, [], ◌∷◌, Result, Ok, Err}
 use Rattle.std.specs.FinMap.{entries}
 use Rattle.std.specs.List.{list_all}
 use Rattle.iot_tree.specs.Snapshots.{known, is_known}
@@ -10,10 +10,8 @@ use Rattle.iot_tree.specs.declared.labels.OnConflict.TheVariants as options
 use Rattle.iot_tree.specs.declared.labels.Way.{Way}
 use Rattle.iot_tree.specs.declared.labels.Way.TheVariants.{Certified, Reexecuted}
 use Rattle.iot_tree.specs.declared.labels.Way.TheVariants as ways
-use Rattle.iot_tree.specs.declared.limits.TheConstants.{ACT_LIMIT}
 use Rattle.iot_tree.specs.declared.want.Want.{Want}
 use Rattle.iot_tree.specs.declared.want.Want.TheVariants as wants
-use Rattle.iot_codec.specs.Rules.{AreActs, AreFiles}
 use Rattle.iot_wire.specs.Decoding.{reply_at}
 use Rattle.iot_wire.specs.Messages.{IsMessage, whole}
 use Rattle.iot_wire.specs.Rules.{IsRequest, IsReply}
@@ -29,7 +27,7 @@ use Rattle.iot_queue.specs.declared.items.Stage.TheVariants as stages
 use Rattle.iot_client.specs.declared.asks.Ask.{Ask}
 use Rattle.iot_client.specs.declared.asks.Ask.TheVariants as asks
 use Rattle.iot_client.specs.declared.fault.ClientFault.{ClientFault}
-use Rattle.iot_client.specs.declared.fault.ClientFault.TheVariants.{NoMemory, Busy, Pending, Idle, NotAtEnd, Nothing}
+use Rattle.iot_client.specs.declared.fault.ClientFault.TheVariants.{NoMemory, Stopped, Busy, Pending, Idle, NotAtEnd, Nothing}
 use Rattle.iot_client.specs.declared.fault.ClientFault.TheVariants.{NotManual, BadReply}
 use Rattle.iot_client.specs.declared.noted.Noted.{Noted}
 use Rattle.iot_client.specs.declared.noted.Noted.TheVariants as notes
@@ -51,11 +49,6 @@ label_of client item = label_in client item.tid item.script item.budget
 -- the bytes are the spelling of the request that it be committed with the acts of its run
 abbrev pub IsCommit : ℕ → Item → List ℕ → Type 0
 IsCommit client item bytes = IsMessage IsRequest request_spelling bytes (Commit (label_of client item) item.acts)
-
--- what such a request needs of the transaction
-pub record HasSpelling (item : Item) : Type 0 where
-  pub budget : item.budget ≤ ACT_LIMIT
-  pub acts : AreActs item.acts
 
 -- how a transaction is committed that was resolved
 abbrev pub way_of : OnConflict → Way
@@ -81,27 +74,9 @@ abbrev pub IsResolvedCommit : ℕ → ℕ → OnConflict → Resolution → List
 IsResolvedCommit client tid option done bytes =
     IsMessage IsRequest request_spelling bytes (Commit (resolved_label client tid option done) done.acts)
 
--- what such a request needs of the run
-pub record RunHasSpelling (done : Resolution) : Type 0 where
-  pub budget : done.budget ≤ ACT_LIMIT
-  pub acts : AreActs done.acts
-  pub kept : AreFiles done.kept
-
 -- the bytes are the spelling of the request for the whole tree, with nothing known
 abbrev pub IsWholeRequest : ℕ → List ℕ → Type 0
 IsWholeRequest client bytes = IsMessage IsRequest request_spelling bytes (Refresh client [] (wants.Below []))
-
--- what the request for a transaction in this stage needs of it
-abbrev pub HasSpellingIn : Item → Stage → Type 0
-HasSpellingIn item Waiting = HasSpelling item
-HasSpellingIn item stages.Conflict = Unit {0}
-HasSpellingIn item Manual = Unit {0}
-HasSpellingIn item (Resolved done) = RunHasSpelling done
-
--- the first that waits has it, if one does
-abbrev pub HeadHasSpelling : List Item → Type 0
-HeadHasSpelling [] = Unit {0}
-HeadHasSpelling (item ∷ items) = HasSpellingIn item item.stage
 
 -- what a transaction in this stage needs of the server: that it be committed, the whole tree, or nothing
 abbrev pub IsAsked : ℕ → Item → Stage → Ask → Type 0
@@ -180,6 +155,7 @@ pub record IsToldBy (bytes : List ℕ) (told : Noted) : Type 0 where
 abbrev pub Reads : {X : Type 0} → Result X ℕ → Result X ClientFault → Type 0
 Reads read (Ok value) = read ≡ Ok value
 Reads read (Err NoMemory) = ⊤
+Reads read (Err Stopped) = ⊥
 Reads read (Err Busy) = ⊥
 Reads read (Err Pending) = ⊥
 Reads read (Err Idle) = ⊥

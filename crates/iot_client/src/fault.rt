@@ -1,18 +1,24 @@
 //! Why a client refuses a call.
 ghost use Rattle.std.specs.Prelude.{◌≡◌};
 ghost use Rattle.iot_client.specs.declared.fault.ClientFault.TheVariants.{NoMemory as no_memory};
-ghost use Rattle.iot_client.specs.Faults.{of_codec};
+ghost use Rattle.iot_client.specs.Faults.{of_codec, of_journal};
 
 use iot_codec::CodecFault;
+use iot_disk::JournalFault;
 use iot_text::NoMemory;
 use thiserror::Error;
 
-/// Why a client refuses a call. After `NoMemory` use the client no more; every other refusal leaves it as it was.
+/// Why a client refuses a call. After `NoMemory` and `Stopped` of a call that changes it only `into_disk` says anything more: start again
+/// from the disk. Every other refusal leaves it as it was.
 #[derive(Debug, Drop, Error)]
 pub enum ClientFault {
     /// Memory ran out, which is always allowed.
     #[error("out of memory")]
     NoMemory,
+
+    /// The disk failed in this call, which was to append a record.
+    #[error("the disk failed")]
+    Stopped,
 
     /// A transaction runs.
     #[error("a transaction runs")]
@@ -58,6 +64,17 @@ impl From<CodecFault> for ClientFault {
         match fault {
             CodecFault::NoMemory => ClientFault::NoMemory,
             CodecFault::Malformed { at } => ClientFault::BadReply { at },
+        }
+    }
+}
+
+impl From<JournalFault> for ClientFault {
+    ghost from_gives = { λ journal fault. fault ≡ of_journal journal };
+
+    fn from(fault: JournalFault) -> ClientFault {
+        match fault {
+            JournalFault::NoMemory => ClientFault::NoMemory,
+            JournalFault::Stopped => ClientFault::Stopped,
         }
     }
 }

@@ -1,9 +1,7 @@
 //! The interpreter of the running transaction.
-ghost use Rattle.std.specs.Prelude.{◌≡◌, [], IfOk, Some};
-ghost use Rattle.std.specs.FinMap.{empty};
-ghost use Rattle.iot_tree.specs.Tree.{Nodes};
-ghost use Rattle.iot_exec.specs.Execs.{IsRunning};
-ghost use Rattle.iot_client.specs.Doing.{IsAble, Did, DidIfAny};
+ghost use Rattle.std.specs.Prelude.{◌≡◌, IfOk, Some};
+ghost use Rattle.iot_lang.specs.Scripts.{IsScript};
+ghost use Rattle.iot_client.specs.Doing.{Starts, IsAgain, IsAgainIfAny, IsAble, Did, DidIfAny};
 
 use iot_exec::Exec;
 use iot_lang::Script;
@@ -34,9 +32,11 @@ pub(crate) struct Done {
 impl Interpreter {
     /// At the first act of a script.
     pub(crate) fn start(alloc: Global, script: Rc<Script>) -> Result<Interpreter, NoMemory>
-        ensures script { IfOk result (λ interpreter. interpreter.script.value ≡ script.value) }
-        ensures starts { IfOk result (λ interpreter. (t : Nodes) → IsRunning script.value empty t 0 [] interpreter.exec t) }
+        ensures same { IfOk result (λ interpreter. interpreter.script.value ≡ script.value) }
+        ensures starts { IfOk result (Starts script.value) }
+        ensures script { IsScript script.value }
     {
+        let _block = script.block();
         let shared = shared(&script)?;
         Ok(Interpreter {
             script,
@@ -45,19 +45,18 @@ impl Interpreter {
     }
 
     /// At the first act of the same script.
-    pub(crate) fn again(&self, alloc: Global) -> Result<Interpreter, NoMemory>
-        ensures script { IfOk result (λ interpreter. interpreter.script.value ≡ self.now.script.value) }
-        ensures starts { IfOk result (λ interpreter. (t : Nodes) → IsRunning self.now.script.value empty t 0 [] interpreter.exec t) }
+    fn again(&self, alloc: Global) -> Result<Interpreter, NoMemory>
+        ensures { IfOk result (IsAgain self.now) }
     {
         Interpreter::start(alloc, shared(&self.script)?)
     }
 
-    /// Does the next act on the tree.
-    fn act(&mut self, alloc: Global, view: &mut Tree) -> Result<Done, NoMemory>
+    /// Does the next act on the tree, but for its update.
+    fn decide(&mut self, alloc: Global, view: &Tree) -> Result<Done, NoMemory>
         requires { IsAble (Some self.old) }
-        ensures { IfOk result (λ done. Did self.old view.old done self.new view.new) }
+        ensures { IfOk result (λ done. Did self.old view.now done self.new) }
     {
-        let act = self.exec.act(alloc, view)?;
+        let act = self.exec.decide(alloc, view)?;
         Ok(Done {
             act,
             acts: self.exec.acts(),
@@ -66,17 +65,30 @@ impl Interpreter {
     }
 }
 
-/// Has the interpreter do the next act on the tree.
-pub(crate) fn act_by(
-    interpreter: &mut Option<Interpreter>,
+/// One at the first act of the same script, if there is one.
+pub(crate) fn again_by(
+    interpreter: &Option<Interpreter>,
     alloc: Global,
-    view: &mut Tree,
-) -> Result<Done, NoMemory>
-    requires { IsAble interpreter.old }
-    ensures { IfOk result (λ done. DidIfAny interpreter.old view.old done interpreter.new view.new) }
+) -> Result<Option<Interpreter>, NoMemory>
+    ensures { IfOk result (IsAgainIfAny interpreter.now) }
 {
     match interpreter {
-        Some(interpreter) => interpreter.act(alloc, view),
+        Some(interpreter) => Ok(Some(interpreter.again(alloc)?)),
+        None => Ok(None),
+    }
+}
+
+/// Has the interpreter do the next act on the tree, but for its update.
+pub(crate) fn decide_by(
+    interpreter: &mut Option<Interpreter>,
+    alloc: Global,
+    view: &Tree,
+) -> Result<Done, NoMemory>
+    requires { IsAble interpreter.old }
+    ensures { IfOk result (λ done. DidIfAny interpreter.old view.now done interpreter.new) }
+{
+    match interpreter {
+        Some(interpreter) => interpreter.decide(alloc, view),
         None => unreachable!(),
     }
 }

@@ -1,21 +1,27 @@
-//! A client: what it holds of the server's tree, its transactions that wait, and the one that runs.
+//! A client over its disk: what it holds of the server's tree, its transactions that wait, and the one that runs. Each of its changes is
+//! one record on the disk.
 #![tactic(auto)]
 
 mod asks;
 mod client;
+mod ended;
 mod fault;
 mod interpreter;
-mod kept;
 mod noted;
-mod record;
+mod noting;
+mod objects;
+mod refusals;
 mod replies;
 mod requests;
 mod running;
 mod steps;
+mod waiting;
 
 pub use asks::Ask;
 pub use client::Client;
+pub use ended::Ended;
 pub use fault::ClientFault;
+pub use iot_disk::StartFault;
+pub use iot_kept::Running;
 pub use noted::Noted;
-pub use running::{Ended, Running};
 pub use steps::Step;

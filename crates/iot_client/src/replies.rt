@@ -1,7 +1,8 @@
 //! What a client reads of the server's replies.
-ghost use Rattle.std.specs.Prelude.{◌≡◌, IfOk};
+ghost use Rattle.std.specs.Prelude.{◌≡◌, IfOk, IfErr};
 ghost use Rattle.iot_tree.specs.Tree.{IsWhole};
 ghost use Rattle.std.specs.List.{list_all};
+ghost use Rattle.iot_client.specs.Faults.{IsNoStop};
 ghost use Rattle.iot_client.specs.Messages.{is_known_row};
 ghost use Rattle.iot_wire.specs.Messages.{IsMessage};
 ghost use Rattle.iot_wire.specs.Rules.{IsReply};
@@ -25,6 +26,7 @@ pub(crate) fn objects(alloc: Global, reply: &[u8]) -> Result<Tree, ClientFault>
     ensures reads { Reads (objects_in reply.now) result }
     ensures found { IfOk result (λ tree. IsMessage IsReply reply_spelling reply.now (Objects tree)) }
     ensures only { ReadsObjects reply.now }
+    ensures fault { IfErr result IsNoStop }
 {
     match read_reply(alloc, reply)? {
         Reply::Objects(tree) => Ok(tree),
@@ -43,6 +45,7 @@ pub(crate) fn whole(alloc: Global, reply: &[u8]) -> Result<Tree, ClientFault>
     ensures found { IfOk result (λ tree. IsMessage IsReply reply_spelling reply.now (Objects tree)) }
     ensures whole { IfOk result IsWhole }
     ensures only { ReadsObjects reply.now }
+    ensures fault { IfErr result IsNoStop }
 {
     let tree = objects(alloc, reply)?;
     if !is_whole(&tree) {
@@ -76,6 +79,7 @@ pub(crate) fn noted(alloc: Global, reply: &[u8]) -> Result<Noted, ClientFault>
     ensures reads { Reads (noted_in reply.now) result }
     ensures found { IfOk result (IsToldBy reply.now) }
     ensures only { ReadsNoted reply.now }
+    ensures fault { IfErr result IsNoStop }
 {
     match read_reply(alloc, reply)? {
         Reply::Objects(_) => Err(ClientFault::BadReply { at: 0 }),

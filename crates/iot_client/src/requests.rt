@@ -3,24 +3,25 @@ ghost use Rattle.std.specs.Prelude.{◌≡◌, ◌≤◌, IfOk};
 ghost use Rattle.std.specs.List.{AllByRecursion};
 ghost use Rattle.iot_text.specs.Paths.{IsPath};
 ghost use Rattle.iot_codec.specs.Rules.{IsWant, IsLabel};
-ghost use Rattle.iot_client.specs.Messages.{IsRefresh, IsCommit, label_in, HasSpelling};
-ghost use Rattle.iot_client.specs.Messages.{IsWholeRequest, IsResolvedCommit, resolved_label, way_of};
-ghost use Rattle.iot_client.specs.Messages.{RunHasSpelling, HasSpellingIn, IsAsked};
+ghost use Rattle.iot_changes.specs.Rules.{IsResolution};
+ghost use Rattle.iot_kept.specs.Spelled.{IsSpelledItem};
+ghost use Rattle.iot_client.specs.Messages.{IsRefresh, IsCommit, label_in, IsWholeRequest};
+ghost use Rattle.iot_client.specs.Messages.{IsResolvedCommit, resolved_label, way_of, IsAsked};
 
 use crate::asks::Ask;
-use iot_held::Held;
+use iot_prune::known;
 use iot_queue::{Item, Resolution, Stage};
 use iot_text::{Name, NoMemory, Path, Text};
-use iot_tree::{ACT_LIMIT, Duplicate, Files, Label, OnConflict, Paths, Want, Way};
+use iot_tree::{ACT_LIMIT, Duplicate, Files, Label, OnConflict, Paths, Tree, Want, Way};
 use iot_wire::{Request, write_request};
 use std::alloc::Global;
 
 /// The request for what is known of the held tree, and for what is wanted.
-pub(crate) fn refresh(alloc: Global, client: u64, held: &Held, want: Want) -> Result<Text, NoMemory>
+pub(crate) fn refresh(alloc: Global, client: u64, held: &Tree, want: Want) -> Result<Text, NoMemory>
     requires { client ≤ 7 }
     ensures { IfOk result (IsRefresh client held.now want) }
 {
-    let known = held.known(alloc)?;
+    let known = known(alloc, held)?;
     each_is_path(known.as_slice());
     wants_path(&want);
     let request = Request::Refresh {
@@ -71,7 +72,7 @@ fn whole(alloc: Global, client: u64) -> Result<Text, NoMemory>
 /// What a transaction that waits needs of the server, by its stage.
 pub(crate) fn ask_for(alloc: Global, client: u64, item: &Item) -> Result<Ask, NoMemory>
     requires client { client ≤ 7 }
-    requires spelled { HasSpellingIn item.now item.now.stage }
+    requires spelled { IsSpelledItem item.now }
     ensures { IfOk result (IsAsked client item.now item.now.stage) }
 {
     match &item.stage {
@@ -94,7 +95,7 @@ fn commit_resolved(
     done: &Resolution,
 ) -> Result<Text, NoMemory>
     requires client { client ≤ 7 }
-    requires spelled { RunHasSpelling done.now }
+    requires spelled { IsResolution done.now }
     ensures { IfOk result (IsResolvedCommit client tid option done.now) }
 {
     let request = Request::Commit {
@@ -113,7 +114,7 @@ fn resolved_label(
     done: &Resolution,
 ) -> Result<Label, NoMemory>
     requires client { client ≤ 7 }
-    requires spelled { RunHasSpelling done.now }
+    requires spelled { IsResolution done.now }
     ensures value { IfOk result (λ label. label ≡ resolved_label client tid option done.now) }
     ensures fits { IfOk result IsLabel }
 {
@@ -142,7 +143,7 @@ fn way_of(option: OnConflict) -> Way
 /// The request that a transaction which waits be committed with the acts of its run.
 fn commit(alloc: Global, client: u64, item: &Item) -> Result<Text, NoMemory>
     requires client { client ≤ 7 }
-    requires spelled { HasSpelling item.now }
+    requires spelled { IsSpelledItem item.now }
     ensures { IfOk result (IsCommit client item.now) }
 {
     let request = Request::Commit {

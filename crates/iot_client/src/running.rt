@@ -1,32 +1,376 @@
-//! The running transaction.
-use iot_text::Name;
-use iot_tree::{Acts, OnConflict};
+//! The calls on the transaction that runs.
+ghost use Rattle.std.specs.Prelude.{◌≡◌, ◌≤◌, ◌+◌, Bool, [], true, None, Some, IsSome, IfOk, IfErr, OnOk, IfSome, IfNone, IsErrOf};
+ghost use Rattle.iot_codec.specs.Rules.{IsOption, IsTreeOfRows};
+ghost use Rattle.iot_text.specs.Names.{IsName};
+ghost use Rattle.iot_exec.specs.Execs.{place, kept_by, next_miss};
+ghost use Rattle.iot_kept.specs.Changes.{CanFollow};
+ghost use Rattle.iot_kept.specs.States.{view};
+ghost use Rattle.iot_client.specs.Calls.{busy, idle, may_end, unended, Refuses, RefusesReply, Notes, Brings, StandsEither};
+ghost use Rattle.iot_client.specs.Calls.{missed_by, second_class, IsFirstIfAny, StepIsIfAny, CanActIfAny, EndsIfAny, CutsIfAny};
+ghost use Rattle.iot_client.specs.Faults.{CountsFault, MayFail};
+ghost use Rattle.iot_client.specs.Messages.{objects_in, ReadsObjects};
 
-/// The running transaction.
-#[derive(Drop)]
-pub struct Running {
-    /// Its number at its client, from 1.
-    pub tid: u64,
+use crate::client::Client;
+use crate::ended::Ended;
+use crate::fault::ClientFault;
+use crate::interpreter::{Interpreter, again_by, decide_by};
+use crate::replies::objects;
+use crate::requests::refresh;
+use crate::steps::Step;
+use iot_disk::Disk;
+use iot_exec::Exec;
+use iot_kept::Change;
+use iot_lang::Script;
+use iot_text::{Name, NoMemory, Path};
+use iot_tree::{Duplicate, OnConflict, Tree, Want};
+use std::alloc::Global;
+use std::rc::Rc;
 
-    /// The script that is run.
-    pub script: Name,
+impl<D: Disk> Client<D> {
+    ghost use Rattle.iot_client.specs.Ties.{state_of, place_of, disk_of, records_of, live_of, IsTied, IsBegunIfAny};
 
-    /// What is done if it conflicts.
-    pub option: OnConflict,
+    /// Begins a transaction of this script, and gives its number. A first-class one needs that none waits.
+    ///
+    /// # Errors
+    ///
+    /// `Busy` if a transaction runs, `NoMemory`, also if there were more transactions than can be counted, `Stopped`.
+    pub fn begin(
+        &mut self,
+        alloc: Global,
+        name: &Name,
+        script: Rc<Script>,
+        option: OnConflict,
+        first: bool,
+    ) -> Result<u64, ClientFault>
+        requires tied { IsTied D.reads D.may_leave self.old }
+        requires alone { first ≡ true → (state_of self.old).items ≡ [] }
+        ensures number { IfOk result (λ number. number ≡ (state_of self.old).last + 1) }
+        ensures notes { IfOk result (λ number. Notes (Change.Begun number name.now option) self.old self.new) }
+        ensures live { OnOk result (live_of self.new ≡ Some (record { first = first; code = script.value })) }
+        ensures tied { OnOk result (IsTied D.reads D.may_leave self.new) }
+        ensures refuses { Refuses (busy (state_of self.old).running) self.old self.new result }
+        ensures counts { CountsFault result (D.faults (disk_of self.old)) (D.faults (disk_of self.new)) }
+        ensures arms { D.arms (disk_of self.new) ≡ D.arms (disk_of self.old) }
+        ensures stopped { IsErrOf result ClientFault.Stopped → StandsEither (D.may_leave (disk_of self.new)) (state_of self.old) }
+    {
+        match self.busy() {
+            Some(fault) => Err(fault),
+            None => self.run(alloc, *name, script, option, first),
+        }
+    }
 
-    /// Whether it is first class: objects that it misses are fetched for it.
-    pub first: bool,
+    /// Does the next act on the view, or says why none is done: the script has ended, it may do no more, or the transaction is
+    /// first class and the act asks about something that the view does not know. Costs what the act costs; a request
+    /// costs what is known of the held tree.
+    ///
+    /// # Errors
+    ///
+    /// `Idle` if no transaction runs, `NoMemory`, `Stopped`.
+    pub fn step(&mut self, alloc: Global) -> Result<Step, ClientFault>
+        requires tied { IsTied D.reads D.may_leave self.old }
+        requires begun { IsBegunIfAny (state_of self.old).running (live_of self.old) }
+        requires place { place_of self.old ≤ 7 }
+        ensures step { IfOk result (λ step. StepIsIfAny self.old (live_of self.old) step self.new) }
+        ensures live { OnOk result (live_of self.new ≡ live_of self.old) }
+        ensures tied { OnOk result (IsTied D.reads D.may_leave self.new) }
+        ensures refuses { Refuses (idle (state_of self.old).running) self.old self.new result }
+        ensures counts { CountsFault result (D.faults (disk_of self.old)) (D.faults (disk_of self.new)) }
+        ensures arms { D.arms (disk_of self.new) ≡ D.arms (disk_of self.old) }
+        ensures stopped { IsErrOf result ClientFault.Stopped → StandsEither (D.may_leave (disk_of self.new)) (state_of self.old) }
+    {
+        match self.idle() {
+            Some(fault) => Err(fault),
+            None => self.go_on(alloc),
+        }
+    }
 
-    /// What it did so far.
-    pub acts: Acts,
+    /// Holds the tree that the reply brings for the running transaction, which is first class and starts again. Appends one record, as
+    /// long as the tree.
+    ///
+    /// # Errors
+    ///
+    /// `Idle` if no transaction runs, `BadReply` if the bytes are no reply that brings a tree, `NoMemory`, `Stopped`.
+    pub fn fetched(&mut self, alloc: Global, reply: &[u8]) -> Result<(), ClientFault>
+        requires tied { IsTied D.reads D.may_leave self.old }
+        requires begun { IsBegunIfAny (state_of self.old).running (live_of self.old) }
+        requires first { IsFirstIfAny (live_of self.old) }
+        ensures brings { OnOk result (Brings (λ tree. Change.Fetched tree) reply.now self.old self.new) }
+        ensures only { ReadsObjects reply.now }
+        ensures live { OnOk result (live_of self.new ≡ live_of self.old) }
+        ensures tied { OnOk result (IsTied D.reads D.may_leave self.new) }
+        ensures refuses { RefusesReply (idle (state_of self.old).running) (objects_in reply.now) self.old self.new result }
+        ensures counts { CountsFault result (D.faults (disk_of self.old)) (D.faults (disk_of self.new)) }
+        ensures arms { D.arms (disk_of self.new) ≡ D.arms (disk_of self.old) }
+        ensures stopped { IsErrOf result ClientFault.Stopped → StandsEither (D.may_leave (disk_of self.new)) (state_of self.old) }
+    {
+        match self.idle() {
+            Some(fault) => Err(fault),
+            None => {
+                let tree = objects(alloc, reply)?;
+                self.begin_again(alloc, tree)
+            }
+        }
+    }
+
+    /// Makes the running transaction, if there is one, second class. Writes nothing, and does not allocate.
+    pub fn second(&mut self)
+        requires { IsTied D.reads D.may_leave self.old }
+        ensures state { state_of self.new ≡ state_of self.old }
+        ensures place { place_of self.new ≡ place_of self.old }
+        ensures disk { disk_of self.new ≡ disk_of self.old }
+        ensures records { records_of self.new ≡ records_of self.old }
+        ensures live { live_of self.new ≡ second_class (live_of self.old) }
+        ensures tied { IsTied D.reads D.may_leave self.new }
+    {
+        self.kept.set_class(false);
+    }
+
+    /// Ends the running transaction, which waits from now on.
+    ///
+    /// # Errors
+    ///
+    /// `Idle` if no transaction runs, `NotAtEnd` if its script has not ended and may do more acts, `NoMemory`, `Stopped`.
+    pub fn end(&mut self, alloc: Global) -> Result<Ended, ClientFault>
+        requires tied { IsTied D.reads D.may_leave self.old }
+        requires begun { IsBegunIfAny (state_of self.old).running (live_of self.old) }
+        ensures notes { OnOk result (Notes Change.Ended self.old self.new) }
+        ensures ends { IfOk result (EndsIfAny (state_of self.old) (state_of self.old).running (live_of self.old)) }
+        ensures view { OnOk result (view (state_of self.new) ≡ view (state_of self.old)) }
+        ensures live { OnOk result (live_of self.new ≡ None) }
+        ensures tied { OnOk result (IsTied D.reads D.may_leave self.new) }
+        ensures refuses { Refuses (unended (state_of self.old).running (may_end (state_of self.old) (live_of self.old)))
+            self.old self.new result }
+        ensures counts { CountsFault result (D.faults (disk_of self.old)) (D.faults (disk_of self.new)) }
+        ensures arms { D.arms (disk_of self.new) ≡ D.arms (disk_of self.old) }
+        ensures stopped { IsErrOf result ClientFault.Stopped → StandsEither (D.may_leave (disk_of self.new)) (state_of self.old) }
+    {
+        match self.unended() {
+            Some(fault) => Err(fault),
+            None => self.retire(alloc),
+        }
+    }
+
+    /// Cuts the running transaction off: it waits from now on with the acts that it has done, and may do no more. Gives their number,
+    /// and `None` if no transaction runs. What else a start finds of a transaction is lost with its interpreter.
+    ///
+    /// # Errors
+    ///
+    /// `NoMemory`, `Stopped`.
+    pub fn cut(&mut self, alloc: Global) -> Result<Option<u64>, ClientFault>
+        requires { IsTied D.reads D.may_leave self.old }
+        ensures cuts { IfOk result (λ told. CutsIfAny (state_of self.old).running told self.old self.new) }
+        ensures view { OnOk result (view (state_of self.new) ≡ view (state_of self.old)) }
+        ensures live { OnOk result (live_of self.new ≡ None) }
+        ensures tied { OnOk result (IsTied D.reads D.may_leave self.new) }
+        ensures refuses { Refuses None self.old self.new result }
+        ensures counts { CountsFault result (D.faults (disk_of self.old)) (D.faults (disk_of self.new)) }
+        ensures arms { D.arms (disk_of self.new) ≡ D.arms (disk_of self.old) }
+        ensures stopped { IsErrOf result ClientFault.Stopped → StandsEither (D.may_leave (disk_of self.new)) (state_of self.old) }
+    {
+        let Some(running) = self.kept.running() else {
+            return Ok(None);
+        };
+        let acts = running.acts.len() as u64;
+        self.note(alloc, Change::Cut)?;
+        self.interpreter = None;
+        Ok(Some(acts))
+    }
 }
 
-/// A transaction that ended.
-#[derive(Drop)]
-pub struct Ended {
-    /// Its number at its client, from 1.
-    pub tid: u64,
+// What a call does that is not refused.
+impl<D: Disk> Client<D> {
+    ghost use Rattle.iot_client.specs.Ties.{state_of, place_of, disk_of, class_in, live_of, IsTied, IsBegunIfAny};
 
-    /// Whether it is first class.
-    pub first: bool,
+    fn run(
+        &mut self,
+        alloc: Global,
+        script: Name,
+        code: Rc<Script>,
+        option: OnConflict,
+        first: bool,
+    ) -> Result<u64, ClientFault>
+        requires tied { IsTied D.reads D.may_leave self.old }
+        requires idle { (state_of self.old).running ≡ None }
+        requires alone { first ≡ true → (state_of self.old).items ≡ [] }
+        ensures number { IfOk result (λ number. number ≡ (state_of self.old).last + 1) }
+        ensures notes { IfOk result (λ number. Notes (Change.Begun number script option) self.old self.new) }
+        ensures live { OnOk result (live_of self.new ≡ Some (record { first = first; code = code.value })) }
+        ensures tied { OnOk result (IsTied D.reads D.may_leave self.new) }
+        ensures fails { IfErr result MayFail }
+        ensures counts { CountsFault result (D.faults (disk_of self.old)) (D.faults (disk_of self.new)) }
+        ensures arms { D.arms (disk_of self.new) ≡ D.arms (disk_of self.old) }
+        ensures stopped { IsErrOf result ClientFault.Stopped → StandsEither (D.may_leave (disk_of self.new)) (state_of self.old) }
+    {
+        names_are_names(&script, &option);
+        let interpreter = Interpreter::start(alloc, code)?;
+        let number = next_number(self.kept.last())?;
+        self.note(
+            alloc,
+            Change::Begun {
+                number,
+                script,
+                option,
+            },
+        )?;
+        self.kept.set_class(first);
+        self.interpreter = Some(interpreter);
+        Ok(number)
+    }
+
+    fn begin_again(&mut self, alloc: Global, tree: Tree) -> Result<(), ClientFault>
+        requires tied { IsTied D.reads D.may_leave self.old }
+        requires spelled { IsTreeOfRows tree }
+        requires follows { CanFollow (state_of self.old) (Change.Fetched tree) }
+        ensures notes { OnOk result (Notes (Change.Fetched tree) self.old self.new) }
+        ensures live { OnOk result (live_of self.new ≡ live_of self.old) }
+        ensures tied { OnOk result (IsTied D.reads D.may_leave self.new) }
+        ensures fails { IfErr result MayFail }
+        ensures counts { CountsFault result (D.faults (disk_of self.old)) (D.faults (disk_of self.new)) }
+        ensures arms { D.arms (disk_of self.new) ≡ D.arms (disk_of self.old) }
+        ensures stopped { IsErrOf result ClientFault.Stopped → StandsEither (D.may_leave (disk_of self.new)) (state_of self.old) }
+    {
+        let again = again_by(&self.interpreter, alloc)?;
+        self.note(alloc, Change::Fetched(tree))?;
+        self.interpreter = again;
+        Ok(())
+    }
+
+    fn go_on(&mut self, alloc: Global) -> Result<Step, ClientFault>
+        requires tied { IsTied D.reads D.may_leave self.old }
+        requires begun { IsBegunIfAny (state_of self.old).running (live_of self.old) }
+        requires place { place_of self.old ≤ 7 }
+        requires runs { IsSome (state_of self.old).running }
+        ensures step { IfOk result (λ step. StepIsIfAny self.old (live_of self.old) step self.new) }
+        ensures live { OnOk result (live_of self.new ≡ live_of self.old) }
+        ensures tied { OnOk result (IsTied D.reads D.may_leave self.new) }
+        ensures fails { IfErr result MayFail }
+        ensures counts { CountsFault result (D.faults (disk_of self.old)) (D.faults (disk_of self.new)) }
+        ensures arms { D.arms (disk_of self.new) ≡ D.arms (disk_of self.old) }
+        ensures stopped { IsErrOf result ClientFault.Stopped → StandsEither (D.may_leave (disk_of self.new)) (state_of self.old) }
+    {
+        match self.pause(alloc)? {
+            Some(step) => Ok(step),
+            None => self.act(alloc),
+        }
+    }
+
+    /// Why no act is done, if that is so.
+    fn pause(&self, alloc: Global) -> Result<Option<Step>, NoMemory>
+        requires tied { IsTied D.reads D.may_leave self.now }
+        requires begun { IsBegunIfAny (state_of self.now).running (live_of self.now) }
+        requires place { place_of self.now ≤ 7 }
+        requires runs { IsSome (state_of self.now).running }
+        ensures pauses { IfOk result (λ pause. IfSome pause (λ step. StepIsIfAny self.now (live_of self.now) step self.now)) }
+        ensures goes { IfOk result (λ pause. IfNone pause (CanActIfAny (state_of self.now) (live_of self.now))) }
+    {
+        let Some(interpreter) = &self.interpreter else {
+            unreachable!();
+        };
+        let exec = &interpreter.exec;
+        if exec.at_end() {
+            return Ok(Some(Step::AtEnd { acts: exec.acts() }));
+        }
+        if exec.at_limit() {
+            return Ok(Some(Step::AtLimit { acts: exec.acts() }));
+        }
+        match missed(alloc, self.is_first(), exec, self.kept.view())? {
+            Some(path) => {
+                let want = Want::Path(path.copy(alloc)?);
+                let request = refresh(alloc, self.me, self.kept.held(), want)?;
+                Ok(Some(Step::Fetch { request, path }))
+            }
+            None => Ok(None),
+        }
+    }
+
+    /// Whether the running transaction is first class.
+    fn is_first(&self) -> bool
+        ensures { (first : Bool) → class_in self.now ≡ Some first → result ≡ first }
+    {
+        match self.kept.running() {
+            Some(running) => running.first,
+            None => false,
+        }
+    }
+
+    fn act(&mut self, alloc: Global) -> Result<Step, ClientFault>
+        requires tied { IsTied D.reads D.may_leave self.old }
+        requires runs { IsSome (state_of self.old).running }
+        requires can { CanActIfAny (state_of self.old) (live_of self.old) }
+        ensures step { IfOk result (λ step. StepIsIfAny self.old (live_of self.old) step self.new) }
+        ensures live { OnOk result (live_of self.new ≡ live_of self.old) }
+        ensures tied { OnOk result (IsTied D.reads D.may_leave self.new) }
+        ensures fails { IfErr result MayFail }
+        ensures counts { CountsFault result (D.faults (disk_of self.old)) (D.faults (disk_of self.new)) }
+        ensures arms { D.arms (disk_of self.new) ≡ D.arms (disk_of self.old) }
+        ensures stopped { IsErrOf result ClientFault.Stopped → StandsEither (D.may_leave (disk_of self.new)) (state_of self.old) }
+    {
+        let done = decide_by(&mut self.interpreter, alloc, self.kept.view())?;
+        self.note(alloc, Change::Acted(done.act))?;
+        Ok(Step::Acted {
+            acts: done.acts,
+            ended: done.ended,
+        })
+    }
+
+    fn retire(&mut self, alloc: Global) -> Result<Ended, ClientFault>
+        requires tied { IsTied D.reads D.may_leave self.old }
+        requires runs { IsSome (state_of self.old).running }
+        requires over { may_end (state_of self.old) (live_of self.old) ≡ true }
+        ensures notes { OnOk result (Notes Change.Ended self.old self.new) }
+        ensures ends { IfOk result (EndsIfAny (state_of self.old) (state_of self.old).running (live_of self.old)) }
+        ensures view { OnOk result (view (state_of self.new) ≡ view (state_of self.old)) }
+        ensures live { OnOk result (live_of self.new ≡ None) }
+        ensures tied { OnOk result (IsTied D.reads D.may_leave self.new) }
+        ensures fails { IfErr result MayFail }
+        ensures counts { CountsFault result (D.faults (disk_of self.old)) (D.faults (disk_of self.new)) }
+        ensures arms { D.arms (disk_of self.new) ≡ D.arms (disk_of self.old) }
+        ensures stopped { IsErrOf result ClientFault.Stopped → StandsEither (D.may_leave (disk_of self.new)) (state_of self.old) }
+    {
+        let Some(running) = self.kept.running() else {
+            unreachable!();
+        };
+        let ended = Ended {
+            tid: running.tid,
+            first: running.first,
+        };
+        self.note(alloc, Change::Ended)?;
+        self.interpreter = None;
+        Ok(ended)
+    }
+}
+
+/// The number of the transaction after this one.
+fn next_number(last: u64) -> Result<u64, NoMemory>
+    ensures { IfOk result (λ number. number ≡ last + 1) }
+{
+    match last.checked_add(1) {
+        Some(number) => Ok(number),
+        None => Err(NoMemory),
+    }
+}
+
+/// The path that the next act misses, if the transaction is first class.
+fn missed(alloc: Global, first: bool, exec: &Exec, view: &Tree) -> Result<Option<Path>, NoMemory>
+    ensures { IfOk result (λ path. path ≡ missed_by first (next_miss (kept_by exec.now) (place exec.now) view.now)) }
+{
+    if first {
+        exec.next_miss(alloc, view)
+    } else {
+        Ok(None)
+    }
+}
+
+/// A `Name` is always one, as its bytes say; so is that of an option, if it has one.
+fn names_are_names(script: &Name, option: &OnConflict)
+    ensures script { IsName script.now }
+    ensures option { IsOption option.now }
+{
+    let _ = script.as_bytes();
+    match option {
+        OnConflict::Resolver(resolver) => {
+            let _ = resolver.as_bytes();
+        }
+        OnConflict::Reexec | OnConflict::Abort | OnConflict::Manual => (),
+    }
 }

@@ -9,3 +9,5 @@ mod clients;
 mod conflicts;
 #[cfg(test)]
 mod fixtures;
+#[cfg(test)]
+mod restarts;

@@ -1,50 +1,62 @@
-use Rattle.std.proofs.Common.{refl}
-use Rattle.iot_client.specs.Memory.{kept_state, class_of}
-use Rattle.iot_client.specs.Records.{after}
-use Rattle.iot_client.specs.declared.record.Record.TheVariants.{Acted}
-use Rattle.iot_client.proofs.TiesLaws.{carried}
-use Rattle.iot_client.proofs.DoingLaws.{able, follows, ties_on, lives_on, steps_on}
+use Rattle.std.proofs.Common.{Option, ap, subst, ◌∙◌}
+use Rattle.iot_tree.specs.Tree.{Nodes}
+use Rattle.iot_changes.specs.declared.changes.Change.TheVariants.{Acted}
+use Rattle.iot_kept.specs.Changes.{after}
+use Rattle.iot_kept.specs.States.{view}
+use Rattle.iot_kept.proofs.SyncedLaws.{synced_holds, synced_spelled}
+use Rattle.iot_client.specs.Doing.{DidIfAny}
+use Rattle.iot_client.specs.Ties.{state_of, class_in, live}
+use Rattle.iot_client.specs.declared.interpreter.Interpreter.{Interpreter}
+use Rattle.iot_client.proofs.DoingLaws.{follows, lives_on, steps_on}
+use Rattle.iot_client.proofs.SpelledLaws.{act_spelled}
+use Rattle.iot_client.proofs.TiesLaws.{RunsIn, carried, runs_acted}
 use Rattle.iot_client.proofs.client.Client.act.Goals as goal
 
-pub act_by-requires : goal.act_by-requires
-act_by-requires c =
+pub note-requires-clause-change : goal.note-requires-clause-change
+note-requires-clause-change g c =
     let old = c.args.self.now in
-    able (kept_state old.kept) (class_of old.kept.running) old.interpreter old.view c.requires.tied c.requires.runs c.requires.can
-
-pub note-requires-clause-follows : goal.note-requires-clause-follows
-note-requires-clause-follows c =
-    let old = c.args.self.now in
-    follows (kept_state old.kept) (class_of old.kept.running) old.interpreter c.act_by.new.interpreter old.view c.act_by.new.view
-    c.in_ok-done.done c.requires.tied c.requires.runs c.requires.can c.in_ok-done.ensures
+    act_spelled (state_of old) (class_in old) old.interpreter c.decide_by.new.interpreter c.in_ok-done.done
+    (synced_spelled _ _ old.kept c.requires.tied.synced) (synced_holds _ _ old.kept c.requires.tied.synced) c.requires.runs
+    c.requires.tied.runs
+    (subst (λ (t : Nodes). DidIfAny old.interpreter t c.in_ok-done.done c.decide_by.new.interpreter) c.view.ensures c.in_ok-done.ensures)
 
 pub returns-clause-tied : goal.returns-clause-tied
-returns-clause-tied c =
+returns-clause-tied g c =
     let old = c.args.self.now in
-    carried (after (kept_state old.kept) (Acted c.in_ok-done.done.act)) (kept_state c.note.new.self) (class_of old.kept.running) _ _ _
-    c.in_ok-note.ensures.state c.in_ok-note.ensures.class
-    (ties_on (kept_state old.kept) (class_of old.kept.running) old.interpreter c.act_by.new.interpreter old.view c.act_by.new.view
-    c.in_ok-done.done c.requires.tied
-    (follows (kept_state old.kept) (class_of old.kept.running) old.interpreter c.act_by.new.interpreter old.view c.act_by.new.view
-    c.in_ok-done.done c.requires.tied c.requires.runs c.requires.can c.in_ok-done.ensures)
-    c.in_ok-done.ensures)
+    let did : DidIfAny old.interpreter (view (state_of old)) c.in_ok-done.done c.decide_by.new.interpreter =
+    subst (λ (t : Nodes). DidIfAny old.interpreter t c.in_ok-done.done c.decide_by.new.interpreter) c.view.ensures c.in_ok-done.ensures in
+    record {
+      synced = c.in_ok-note.ensures.synced;
+      runs = carried (after (state_of old) (Acted c.in_ok-done.done.act)) (state_of c.note.new.self) (class_in old)
+          (class_in c.note.new.self) c.decide_by.new.interpreter c.note.new.self.interpreter
+          c.in_ok-note.ensures.notes.state c.in_ok-note.ensures.class
+          c.note.ensures.interpreter
+          (runs_acted (state_of old) (class_in old) old.interpreter c.decide_by.new.interpreter c.in_ok-done.done
+          (follows (state_of old) (class_in old) old.interpreter c.decide_by.new.interpreter c.in_ok-done.done c.requires.runs
+          c.requires.can did)
+          c.requires.tied.runs did);
+    }
 
 pub returns-clause-live : goal.returns-clause-live
-returns-clause-live c =
+returns-clause-live g c =
     let old = c.args.self.now in
-    lives_on (class_of old.kept.running) (class_of c.note.new.self.running) old.interpreter c.act_by.new.interpreter old.view
-    c.act_by.new.view c.in_ok-done.done c.in_ok-note.ensures.class c.in_ok-done.ensures
+    let did : DidIfAny old.interpreter (view (state_of old)) c.in_ok-done.done c.decide_by.new.interpreter =
+    subst (λ (t : Nodes). DidIfAny old.interpreter t c.in_ok-done.done c.decide_by.new.interpreter) c.view.ensures c.in_ok-done.ensures in
+    ap (λ (i : Option Interpreter). live (class_in c.note.new.self) i) c.note.ensures.interpreter
+    ∙ lives_on (state_of old) (class_in old) (class_in c.note.new.self) old.interpreter c.decide_by.new.interpreter c.in_ok-done.done
+    c.in_ok-note.ensures.class did
 
 pub returns-clause-step : goal.returns-clause-step
-returns-clause-step c =
+returns-clause-step g c =
     let old = c.args.self.now in
-    steps_on old
-    (record { me = old.me; kept = c.note.new.self; view = c.act_by.new.view; interpreter = c.act_by.new.interpreter })
-    (class_of old.kept.running) (class_of c.note.new.self.running) old.interpreter c.act_by.new.interpreter old.view c.act_by.new.view
-    c.in_ok-done.done c.requires.tied c.requires.runs c.requires.can c.in_ok-done.ensures
+    let did : DidIfAny old.interpreter (view (state_of old)) c.in_ok-done.done c.decide_by.new.interpreter =
+    subst (λ (t : Nodes). DidIfAny old.interpreter t c.in_ok-done.done c.decide_by.new.interpreter) c.view.ensures c.in_ok-done.ensures in
+    steps_on old c.note.new.self (class_in old) (class_in c.note.new.self) old.interpreter c.decide_by.new.interpreter c.in_ok-done.done
+    c.requires.tied.runs c.requires.runs c.requires.can did
     (record {
-      follows = follows (kept_state old.kept) (class_of old.kept.running) old.interpreter c.act_by.new.interpreter old.view
-          c.act_by.new.view c.in_ok-done.done c.requires.tied c.requires.runs c.requires.can c.in_ok-done.ensures;
-      state = c.in_ok-note.ensures.state;
-      place = refl;
+      follows = c.in_ok-note.ensures.notes.follows;
+      state = c.in_ok-note.ensures.notes.state;
+      place = c.in_ok-note.ensures.notes.place;
     })
-    (returns-clause-tied c)
+    (subst (λ (i : Option Interpreter). RunsIn (state_of c.note.new.self) (class_in c.note.new.self) i) c.note.ensures.interpreter
+    (returns-clause-tied g c).runs)

@@ -1,14 +1,17 @@
-use Rattle.iot_client.specs.Memory.{kept_state, class_of}
-use Rattle.iot_client.specs.Records.{after}
-use Rattle.iot_client.specs.declared.record.Record.TheVariants.{Fetched}
-use Rattle.iot_client.proofs.TiesLaws.{carried, tied_fetched}
+use Rattle.std.proofs.Common.{refl}
+use Rattle.iot_changes.specs.declared.changes.Change.TheVariants.{Fetched}
+use Rattle.iot_kept.specs.Changes.{after}
+use Rattle.iot_client.specs.Ties.{state_of, class_in}
+use Rattle.iot_client.proofs.TiesLaws.{carried, runs_fetched}
 use Rattle.iot_client.proofs.client.Client.begin_again.Goals as goal
 
 pub returns-clause-tied : goal.returns-clause-tied
-returns-clause-tied c =
+returns-clause-tied g c =
     let old = c.args.self.now in
-    carried (after (kept_state old.kept) (Fetched c.args.t)) (kept_state c.note.new.self) (class_of old.kept.running) _ _ _
-    c.in_ok-note.ensures.state c.in_ok-note.ensures.class
-    (tied_fetched (kept_state old.kept) (class_of old.kept.running) old.interpreter old.view c.in_ok-self.field-0 c.args.t
-    c.in-Some.interpreter.script.value c.in_ok-again.again c.requires.tied c.requires.follows c.in_ok-self.ensures
-    c.in_ok-again.ensures.script c.in_ok-again.ensures.starts)
+    record {
+      synced = c.in_ok-note.ensures.synced;
+      runs = carried (after (state_of old) (Fetched c.args.tree)) (state_of c.note.new.self) (class_in old) (class_in c.note.new.self)
+          c.in_ok-again.again c.in_ok-again.again c.in_ok-note.ensures.notes.state c.in_ok-note.ensures.class refl
+          (runs_fetched (state_of old) (class_in old) old.interpreter c.in_ok-again.again c.args.tree c.requires.follows
+          c.requires.tied.runs c.in_ok-again.ensures);
+    }

@@ -1,0 +1,55 @@
+//! The one place where what is durable of a client changes.
+ghost use Rattle.std.specs.Prelude.{◌≡◌, IfErr, OnOk, IsErrOf};
+ghost use Rattle.iot_changes.specs.Rules.{IsChange};
+ghost use Rattle.iot_kept.specs.Changes.{CanFollow};
+ghost use Rattle.iot_kept.specs.Kept.{IsSynced};
+ghost use Rattle.iot_kept.specs.Memory.{class_after};
+ghost use Rattle.iot_kept.specs.States.{view};
+ghost use Rattle.iot_client.specs.Calls.{ChangesHead, Notes, StandsEither};
+ghost use Rattle.iot_client.specs.Faults.{CountsFault, MayFail};
+
+use crate::client::Client;
+use crate::fault::ClientFault;
+use iot_disk::Disk;
+use iot_kept::Change;
+use std::alloc::Global;
+
+impl<D: Disk> Client<D> {
+    ghost use Rattle.iot_client.specs.Ties.{state_of, disk_of, class_in, live_of, IsTied};
+
+    /// Makes a change that can follow: appends its record first.
+    pub(crate) fn note(&mut self, alloc: Global, change: Change) -> Result<(), ClientFault>
+        requires synced { IsSynced D.reads D.may_leave self.old.kept }
+        requires change { IsChange change }
+        requires follows { CanFollow (state_of self.old) change }
+        ensures notes { OnOk result (Notes change self.old self.new) }
+        ensures class { OnOk result (class_in self.new ≡ class_after change (class_in self.old)) }
+        ensures synced { OnOk result (IsSynced D.reads D.may_leave self.new.kept) }
+        ensures interpreter { self.new.interpreter ≡ self.old.interpreter }
+        ensures fails { IfErr result MayFail }
+        ensures counts { CountsFault result (D.faults (disk_of self.old)) (D.faults (disk_of self.new)) }
+        ensures arms { D.arms (disk_of self.new) ≡ D.arms (disk_of self.old) }
+        ensures stopped { IsErrOf result ClientFault.Stopped → StandsEither (D.may_leave (disk_of self.new)) (state_of self.old) }
+    {
+        self.kept.note(alloc, change)?;
+        Ok(())
+    }
+
+    /// Makes a change of the first transaction that waits.
+    pub(crate) fn settle(&mut self, alloc: Global, change: Change) -> Result<(), ClientFault>
+        requires tied { IsTied D.reads D.may_leave self.old }
+        requires change { IsChange change }
+        requires follows { CanFollow (state_of self.old) change }
+        requires head { ChangesHead change }
+        ensures notes { OnOk result (Notes change self.old self.new) }
+        ensures view { OnOk result (view (state_of self.new) ≡ view (state_of self.old)) }
+        ensures live { OnOk result (live_of self.new ≡ live_of self.old) }
+        ensures tied { OnOk result (IsTied D.reads D.may_leave self.new) }
+        ensures fails { IfErr result MayFail }
+        ensures counts { CountsFault result (D.faults (disk_of self.old)) (D.faults (disk_of self.new)) }
+        ensures arms { D.arms (disk_of self.new) ≡ D.arms (disk_of self.old) }
+        ensures stopped { IsErrOf result ClientFault.Stopped → StandsEither (D.may_leave (disk_of self.new)) (state_of self.old) }
+    {
+        self.note(alloc, change)
+    }
+}

@@ -1,0 +1,78 @@
+//! Asking for objects, and holding what a reply brings.
+ghost use Rattle.std.specs.Prelude.{◌≡◌, ◌≤◌, None, IfOk, IfErr, OnOk, IsErrOf};
+ghost use Rattle.iot_codec.specs.Rules.{IsTreeOfRows};
+ghost use Rattle.iot_kept.specs.Changes.{CanFollow};
+ghost use Rattle.iot_client.specs.Calls.{unready, RefusesFor, RefusesReply, Notes, Brings, StandsEither};
+ghost use Rattle.iot_client.specs.Faults.{CountsFault, MayFail};
+ghost use Rattle.iot_client.specs.Messages.{IsRefresh, objects_in, ReadsObjects};
+
+use crate::client::Client;
+use crate::fault::ClientFault;
+use crate::replies::objects;
+use crate::requests::refresh;
+use iot_disk::Disk;
+use iot_kept::Change;
+use iot_tree::{Duplicate, Tree, Want};
+use std::alloc::Global;
+
+impl<D: Disk> Client<D> {
+    ghost use Rattle.iot_client.specs.Ties.{state_of, place_of, disk_of, live_of, IsTied};
+
+    /// The request for what is wanted, and for what is known of the held tree. It changes nothing.
+    ///
+    /// # Errors
+    ///
+    /// `Busy` if a transaction runs, `Pending` if one waits, `NoMemory`.
+    pub fn ask(&self, alloc: Global, want: &Want) -> Result<Vec<u8>, ClientFault>
+        requires { place_of self.now ≤ 7 }
+        ensures request { IfOk result (λ bytes. IsRefresh (place_of self.now) (state_of self.now).held want.now bytes.items) }
+        ensures refuses { RefusesFor (unready (state_of self.now).running (state_of self.now).items) result }
+    {
+        match self.unready() {
+            Some(fault) => Err(fault),
+            None => Ok(refresh(alloc, self.me, self.kept.held(), want.copy(alloc)?)?.into_bytes()),
+        }
+    }
+
+    /// Holds the tree that the reply brings. Appends one record, as long as the tree.
+    ///
+    /// # Errors
+    ///
+    /// `Busy` if a transaction runs, `Pending` if one waits, `BadReply` if the bytes are no reply that brings a tree, `NoMemory`,
+    /// `Stopped`.
+    pub fn take_objects(&mut self, alloc: Global, reply: &[u8]) -> Result<(), ClientFault>
+        requires { IsTied D.reads D.may_leave self.old }
+        ensures brings { OnOk result (Brings (λ tree. Change.Held tree) reply.now self.old self.new) }
+        ensures only { ReadsObjects reply.now }
+        ensures live { OnOk result (live_of self.new ≡ None) }
+        ensures tied { OnOk result (IsTied D.reads D.may_leave self.new) }
+        ensures refuses { RefusesReply (unready (state_of self.old).running (state_of self.old).items) (objects_in reply.now)
+            self.old self.new result }
+        ensures counts { CountsFault result (D.faults (disk_of self.old)) (D.faults (disk_of self.new)) }
+        ensures arms { D.arms (disk_of self.new) ≡ D.arms (disk_of self.old) }
+        ensures stopped { IsErrOf result ClientFault.Stopped → StandsEither (D.may_leave (disk_of self.new)) (state_of self.old) }
+    {
+        match self.unready() {
+            Some(refusal) => Err(refusal),
+            None => {
+                let tree = objects(alloc, reply)?;
+                self.hold(alloc, tree)
+            }
+        }
+    }
+
+    fn hold(&mut self, alloc: Global, tree: Tree) -> Result<(), ClientFault>
+        requires tied { IsTied D.reads D.may_leave self.old }
+        requires spelled { IsTreeOfRows tree }
+        requires follows { CanFollow (state_of self.old) (Change.Held tree) }
+        ensures notes { OnOk result (Notes (Change.Held tree) self.old self.new) }
+        ensures live { OnOk result (live_of self.new ≡ None) }
+        ensures tied { OnOk result (IsTied D.reads D.may_leave self.new) }
+        ensures fails { IfErr result MayFail }
+        ensures counts { CountsFault result (D.faults (disk_of self.old)) (D.faults (disk_of self.new)) }
+        ensures arms { D.arms (disk_of self.new) ≡ D.arms (disk_of self.old) }
+        ensures stopped { IsErrOf result ClientFault.Stopped → StandsEither (D.may_leave (disk_of self.new)) (state_of self.old) }
+    {
+        self.note(alloc, Change::Held(tree))
+    }
+}

@@ -1,0 +1,218 @@
+//! The calls on the first transaction that waits.
+ghost use Rattle.std.specs.Prelude.{◌≡◌, ◌≤◌, Ok, IfOk, IfErr, OnOk, IsErrOf};
+ghost use Rattle.iot_changes.specs.Rules.{IsResolution};
+ghost use Rattle.iot_codec.specs.Rules.{IsTreeOfRows};
+ghost use Rattle.iot_kept.specs.Changes.{HeadIs, IsSubmitted};
+ghost use Rattle.iot_kept.specs.States.{view};
+ghost use Rattle.iot_client.specs.Calls.{empty_queue, not_manual, RefusesFor, Refuses, RefusesReply, Notes, StandsEither};
+ghost use Rattle.iot_client.specs.Calls.{HeadIsIfAny, verdict_change, IsPlanned, IsHeadsRun, Reruns, Resolves};
+ghost use Rattle.iot_client.specs.Faults.{CountsFault, MayFail};
+ghost use Rattle.iot_client.specs.Messages.{IsSubmission, whole_in, ReadsObjects, noted_in, ReadsNoted, IsToldBy};
+
+use crate::asks::Ask;
+use crate::client::Client;
+use crate::fault::ClientFault;
+use crate::noted::Noted;
+use crate::replies::{noted, whole};
+use crate::requests::ask_for;
+use iot_disk::Disk;
+use iot_held::Held;
+use iot_kept::Change;
+use iot_lang::Script;
+use iot_queue::Resolution;
+use iot_resolve::{plan_of, resolve};
+use iot_text::{Name, NoMemory};
+use iot_tree::{Duplicate, Tree};
+use std::alloc::Global;
+use std::rc::Rc;
+
+impl<D: Disk> Client<D> {
+    ghost use Rattle.iot_client.specs.Ties.{state_of, place_of, disk_of, live_of, IsTied};
+
+    /// What the first transaction that waits needs of the server: that it be committed with the acts of its run or of its resolution,
+    /// or the whole tree on which it is to be resolved, or nothing if it is to be decided by hand. Copies the acts once.
+    ///
+    /// # Errors
+    ///
+    /// `Nothing` if none waits, `NoMemory`.
+    pub fn submission(&self, alloc: Global) -> Result<Ask, ClientFault>
+        requires tied { IsTied D.reads D.may_leave self.now }
+        requires place { place_of self.now ≤ 7 }
+        ensures request { IfOk result (IsSubmission (place_of self.now) (state_of self.now).items) }
+        ensures refuses { RefusesFor (empty_queue (state_of self.now).items) result }
+    {
+        match self.kept.queue().head() {
+            Some(item) => Ok(ask_for(alloc, self.me, item)?),
+            None => Err(ClientFault::Nothing),
+        }
+    }
+
+    /// Takes the reply to the submission of the first transaction that waits, and tells what that says of it. It leaves if it is
+    /// settled, or given up since it conflicts: its changes stay in the held tree, committed or not, which costs its updates. Else it
+    /// conflicts, and is to be resolved or to be decided by hand.
+    ///
+    /// # Errors
+    ///
+    /// `Nothing` if none waits, `BadReply` if the bytes are no reply to a submission, `NoMemory`, `Stopped`.
+    pub fn take_verdict(&mut self, alloc: Global, reply: &[u8]) -> Result<Noted, ClientFault>
+        requires tied { IsTied D.reads D.may_leave self.old }
+        requires submitted { HeadIsIfAny IsSubmitted (state_of self.old).items }
+        ensures noted { IfOk result (λ noted. noted_in reply.now ≡ Ok noted) }
+        ensures told { IfOk result (IsToldBy reply.now) }
+        ensures only { ReadsNoted reply.now }
+        ensures notes { IfOk result (λ noted. Notes (verdict_change noted) self.old self.new) }
+        ensures view { OnOk result (view (state_of self.new) ≡ view (state_of self.old)) }
+        ensures live { OnOk result (live_of self.new ≡ live_of self.old) }
+        ensures tied { OnOk result (IsTied D.reads D.may_leave self.new) }
+        ensures refuses { RefusesReply (empty_queue (state_of self.old).items) (noted_in reply.now) self.old self.new result }
+        ensures counts { CountsFault result (D.faults (disk_of self.old)) (D.faults (disk_of self.new)) }
+        ensures arms { D.arms (disk_of self.new) ≡ D.arms (disk_of self.old) }
+        ensures stopped { IsErrOf result ClientFault.Stopped → StandsEither (D.may_leave (disk_of self.new)) (state_of self.old) }
+    {
+        match self.empty_queue() {
+            Some(fault) => Err(fault),
+            None => {
+                let noted = noted(alloc, reply)?;
+                self.settle(alloc, verdict_change(&noted))?;
+                Ok(noted)
+            }
+        }
+    }
+
+    /// Runs this script, which is the one that is planned for the first transaction that waits, on the whole tree that the reply
+    /// brings: the transaction is to be submitted with that run. Copies the held tree and the server's once.
+    ///
+    /// # Errors
+    ///
+    /// `Nothing` if none waits, `BadReply` if the bytes are no reply that brings a whole tree, `NoMemory`, `Stopped`.
+    pub fn resolve(
+        &mut self,
+        alloc: Global,
+        reply: &[u8],
+        script: Rc<Script>,
+    ) -> Result<(), ClientFault>
+        requires tied { IsTied D.reads D.may_leave self.old }
+        requires planned { HeadIsIfAny IsPlanned (state_of self.old).items }
+        ensures resolves { OnOk result (Resolves reply.now script.value self.old self.new) }
+        ensures only { ReadsObjects reply.now }
+        ensures view { OnOk result (view (state_of self.new) ≡ view (state_of self.old)) }
+        ensures live { OnOk result (live_of self.new ≡ live_of self.old) }
+        ensures tied { OnOk result (IsTied D.reads D.may_leave self.new) }
+        ensures refuses { RefusesReply (empty_queue (state_of self.old).items) (whole_in reply.now) self.old self.new result }
+        ensures counts { CountsFault result (D.faults (disk_of self.old)) (D.faults (disk_of self.new)) }
+        ensures arms { D.arms (disk_of self.new) ≡ D.arms (disk_of self.old) }
+        ensures stopped { IsErrOf result ClientFault.Stopped → StandsEither (D.may_leave (disk_of self.new)) (state_of self.old) }
+    {
+        match self.empty_queue() {
+            Some(fault) => Err(fault),
+            None => {
+                let server = whole(alloc, reply)?;
+                self.run_again(alloc, script, &server)
+            }
+        }
+    }
+
+    /// Has the first transaction that waits resolved by the script of this name.
+    ///
+    /// # Errors
+    ///
+    /// `Nothing` if none waits, `NotManual` if the first is not to be decided by hand, `NoMemory`, `Stopped`.
+    pub fn repair(&mut self, alloc: Global, script: &Name) -> Result<(), ClientFault>
+        requires tied { IsTied D.reads D.may_leave self.old }
+        ensures notes { OnOk result (Notes (Change.Repaired script.now) self.old self.new) }
+        ensures view { OnOk result (view (state_of self.new) ≡ view (state_of self.old)) }
+        ensures live { OnOk result (live_of self.new ≡ live_of self.old) }
+        ensures tied { OnOk result (IsTied D.reads D.may_leave self.new) }
+        ensures refuses { Refuses (not_manual (state_of self.old).items) self.old self.new result }
+        ensures counts { CountsFault result (D.faults (disk_of self.old)) (D.faults (disk_of self.new)) }
+        ensures arms { D.arms (disk_of self.new) ≡ D.arms (disk_of self.old) }
+        ensures stopped { IsErrOf result ClientFault.Stopped → StandsEither (D.may_leave (disk_of self.new)) (state_of self.old) }
+    {
+        // A `Name` is always one, as its bytes say.
+        let _ = script.as_bytes();
+        match self.not_manual() {
+            Some(fault) => Err(fault),
+            None => self.settle(alloc, Change::Repaired(*script)),
+        }
+    }
+
+    /// Gives the first transaction that waits up: it leaves, and its changes stay in the held tree. Costs its updates.
+    ///
+    /// # Errors
+    ///
+    /// `Nothing` if none waits, `NotManual` if the first is not to be decided by hand, `NoMemory`, `Stopped`.
+    pub fn discard(&mut self, alloc: Global) -> Result<(), ClientFault>
+        requires tied { IsTied D.reads D.may_leave self.old }
+        ensures notes { OnOk result (Notes Change.Left self.old self.new) }
+        ensures view { OnOk result (view (state_of self.new) ≡ view (state_of self.old)) }
+        ensures live { OnOk result (live_of self.new ≡ live_of self.old) }
+        ensures tied { OnOk result (IsTied D.reads D.may_leave self.new) }
+        ensures refuses { Refuses (not_manual (state_of self.old).items) self.old self.new result }
+        ensures counts { CountsFault result (D.faults (disk_of self.old)) (D.faults (disk_of self.new)) }
+        ensures arms { D.arms (disk_of self.new) ≡ D.arms (disk_of self.old) }
+        ensures stopped { IsErrOf result ClientFault.Stopped → StandsEither (D.may_leave (disk_of self.new)) (state_of self.old) }
+    {
+        match self.not_manual() {
+            Some(fault) => Err(fault),
+            None => self.settle(alloc, Change::Left),
+        }
+    }
+
+    /// Runs the planned script for the first transaction that waits.
+    fn run_again(
+        &mut self,
+        alloc: Global,
+        script: Rc<Script>,
+        server: &Tree,
+    ) -> Result<(), ClientFault>
+        requires tied { IsTied D.reads D.may_leave self.old }
+        requires planned { HeadIs IsPlanned (state_of self.old).items }
+        requires spelled { IsTreeOfRows server.now }
+        ensures reruns { OnOk result (Reruns script.value server.now self.old self.new) }
+        ensures view { OnOk result (view (state_of self.new) ≡ view (state_of self.old)) }
+        ensures live { OnOk result (live_of self.new ≡ live_of self.old) }
+        ensures tied { OnOk result (IsTied D.reads D.may_leave self.new) }
+        ensures fails { IfErr result MayFail }
+        ensures counts { CountsFault result (D.faults (disk_of self.old)) (D.faults (disk_of self.new)) }
+        ensures arms { D.arms (disk_of self.new) ≡ D.arms (disk_of self.old) }
+        ensures stopped { IsErrOf result ClientFault.Stopped → StandsEither (D.may_leave (disk_of self.new)) (state_of self.old) }
+    {
+        let done = self.resolution(alloc, script, server)?;
+        self.settle(alloc, Change::Resolved(done))
+    }
+
+    fn resolution(
+        &self,
+        alloc: Global,
+        script: Rc<Script>,
+        server: &Tree,
+    ) -> Result<Resolution, NoMemory>
+        requires tied { IsTied D.reads D.may_leave self.now }
+        requires planned { HeadIs IsPlanned (state_of self.now).items }
+        requires spelled { IsTreeOfRows server.now }
+        ensures run { IfOk result (IsHeadsRun (state_of self.now).held (state_of self.now).items script.value server.now) }
+        ensures spelled { IfOk result IsResolution }
+    {
+        let Some(head) = self.kept.queue().head() else {
+            unreachable!();
+        };
+        let Some(plan) = plan_of(head) else {
+            unreachable!();
+        };
+        let mut local = Held::new(alloc)?;
+        local.merge(self.kept.held().copy(alloc)?);
+        local.pass(alloc, &head.acts)?;
+        let _block = script.block();
+        resolve(alloc, &plan, script, local.tree(), server)
+    }
+}
+
+/// The change by what is said of the first transaction that waits.
+fn verdict_change(noted: &Noted) -> Change
+    ensures { result ≡ verdict_change noted.now }
+{
+    match noted {
+        Noted::Settled { .. } => Change::Left,
+        Noted::Conflict { .. } => Change::Conflicted,
+    }
+}
