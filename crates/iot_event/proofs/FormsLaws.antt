@@ -88,7 +88,10 @@ counted_client first client =
     (counted_if (bytes_eq first (codes "sync")) (Some (forms.Sync client)) _ (record { counted = tt })
     (counted_if (bytes_eq first (codes "drain")) (Some (forms.Drain client)) _ (record { counted = tt })
     (counted_if (bytes_eq first (codes "discard")) (Some (forms.Discard client)) _ (record { counted = tt })
-    (counted_if (bytes_eq first (codes "show")) (Some (forms.ShowClient client)) None (record { counted = tt }) none_counted)))))))))
+    (counted_if (bytes_eq first (codes "show")) (Some (forms.ShowClient client)) _ (record { counted = tt })
+    (counted_if (bytes_eq first (codes "crash")) (Some (forms.CrashClient client)) _ (record { counted = tt })
+    (counted_if (bytes_eq first (codes "restart")) (Some (forms.RestartClient client)) None (record { counted = tt })
+    none_counted)))))))))))
 
 counted_script : (first client script : List ℕ) (option : NamedChoice) → Counted (script_form first client script option)
 counted_script first client script option =

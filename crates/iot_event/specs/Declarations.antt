@@ -9,7 +9,7 @@ use Rattle.iot_event.specs.declared.event.Choice.TheVariants.{Reexec, Resolver, 
 use Rattle.iot_event.specs.declared.event.Event.{Event}
 use Rattle.iot_event.specs.declared.event.Event.TheVariants.{Client, Script, Run, Hoard, Refresh, Begin, Step, End}
 use Rattle.iot_event.specs.declared.event.Event.TheVariants.{Connect, Disconnect, Lose, Sync, Drain, Repair, Discard}
-use Rattle.iot_event.specs.declared.event.Event.TheVariants.{ShowServer, ShowClient, CrashServer, RestartServer}
+use Rattle.iot_event.specs.declared.event.Event.TheVariants.{ShowServer, ShowClient, CrashServer, CrashClient, RestartServer, RestartClient}
 
 -- the resolver of an option, if it has one, is one of so many scripts
 abbrev pub ResolverIsDeclared : Choice → (scripts : ℕ) → Type 0
@@ -45,4 +45,6 @@ AreDeclared (Discard client ∷ later) clients scripts = (client < clients) × A
 AreDeclared (ShowServer ∷ later) clients scripts = AreDeclared later clients scripts
 AreDeclared (ShowClient client ∷ later) clients scripts = (client < clients) × AreDeclared later clients scripts
 AreDeclared (CrashServer ∷ later) clients scripts = AreDeclared later clients scripts
+AreDeclared (CrashClient client ∷ later) clients scripts = (client < clients) × AreDeclared later clients scripts
 AreDeclared (RestartServer ∷ later) clients scripts = AreDeclared later clients scripts
+AreDeclared (RestartClient client ∷ later) clients scripts = (client < clients) × AreDeclared later clients scripts

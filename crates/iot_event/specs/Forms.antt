@@ -9,7 +9,7 @@ use Rattle.iot_event.specs.declared.form.TheConstants.{STEP_LIMIT}
 use Rattle.iot_event.specs.declared.form.Form.{Form}
 use Rattle.iot_event.specs.declared.form.Form.TheVariants.{Client, Script, Run, Hoard, Refresh, Begin, Step, End}
 use Rattle.iot_event.specs.declared.form.Form.TheVariants.{Connect, Disconnect, Lose, Sync, Drain, Repair, Discard}
-use Rattle.iot_event.specs.declared.form.Form.TheVariants.{ShowServer, ShowClient, CrashServer, RestartServer}
+use Rattle.iot_event.specs.declared.form.Form.TheVariants.{ShowServer, ShowClient, CrashServer, CrashClient, RestartServer, RestartClient}
 use Rattle.iot_event.specs.declared.form.NamedChoice.{NamedChoice}
 use Rattle.iot_event.specs.declared.form.NamedChoice.TheVariants.{Reexec, Resolver, Abort, Manual}
 
@@ -22,7 +22,8 @@ server_form first second =
     else if bytes_eq first (codes "restart") then Some RestartServer
     else None
 
--- `client N`, `refresh C`, `step C`, `end C`, `connect C`, `disconnect C`, `sync C`, `drain C`, `discard C` or `show C`
+-- `client N`, `refresh C`, `step C`, `end C`, `connect C`, `disconnect C`, `sync C`, `drain C`, `discard C`, `show C`, `crash C` or
+-- `restart C`
 abbrev pub client_form : List ℕ → (client : List ℕ) → Option Form
 client_form first client =
     if bytes_eq first (codes "client") then Some (Client client)
@@ -35,6 +36,8 @@ client_form first client =
     else if bytes_eq first (codes "drain") then Some (Drain client)
     else if bytes_eq first (codes "discard") then Some (Discard client)
     else if bytes_eq first (codes "show") then Some (ShowClient client)
+    else if bytes_eq first (codes "crash") then Some (CrashClient client)
+    else if bytes_eq first (codes "restart") then Some (RestartClient client)
     else None
 
 -- what is done with the server, else what is done with a client

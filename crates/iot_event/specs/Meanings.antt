@@ -19,7 +19,7 @@ use Rattle.iot_event.specs.declared.event.Choice.TheVariants.{Reexec, Resolver, 
 use Rattle.iot_event.specs.declared.event.Event.{Event}
 use Rattle.iot_event.specs.declared.event.Event.TheVariants.{Client, Run, Hoard, Refresh, Begin, Step, End}
 use Rattle.iot_event.specs.declared.event.Event.TheVariants.{Connect, Disconnect, Lose, Sync, Drain, Repair, Discard}
-use Rattle.iot_event.specs.declared.event.Event.TheVariants.{ShowServer, ShowClient, CrashServer, RestartServer}
+use Rattle.iot_event.specs.declared.event.Event.TheVariants.{ShowServer, ShowClient, CrashServer, CrashClient, RestartServer, RestartClient}
 use Rattle.iot_event.specs.declared.fault.EventFault.{EventFault}
 use Rattle.iot_event.specs.declared.fault.EventFault.TheVariants.{BadLine, UnknownName, Twice, TooMany}
 
@@ -135,6 +135,12 @@ repair_line scope number client script = of_script scope number client script (�
 abbrev pub discard_line : Scope → (number : ℕ) (client : List ℕ) → Meaning
 discard_line scope number client = of_client scope number client (λ c. Discard c)
 
+abbrev pub crash_line : Scope → (number : ℕ) (client : List ℕ) → Meaning
+crash_line scope number client = of_client scope number client (λ c. CrashClient c)
+
+abbrev pub restart_line : Scope → (number : ℕ) (client : List ℕ) → Meaning
+restart_line scope number client = of_client scope number client (λ c. RestartClient c)
+
 abbrev pub show_line : Scope → (number : ℕ) (client : List ℕ) → Meaning
 show_line scope number client = of_client scope number client (λ c. ShowClient c)
 
@@ -159,7 +165,9 @@ meaning_of_form (Some (forms.Discard client)) scope number later = discard_line 
 meaning_of_form (Some forms.ShowServer) scope number later = Says ShowServer scope
 meaning_of_form (Some (forms.ShowClient client)) scope number later = show_line scope number client
 meaning_of_form (Some forms.CrashServer) scope number later = Says CrashServer scope
+meaning_of_form (Some (forms.CrashClient client)) scope number later = crash_line scope number client
 meaning_of_form (Some forms.RestartServer) scope number later = Says RestartServer scope
+meaning_of_form (Some (forms.RestartClient client)) scope number later = restart_line scope number client
 
 -- the line of this number, before these lines; the rule on bytes and length comes first
 abbrev pub meaning_of : Scope → (number : ℕ) (line : List ℕ) (later : List (List ℕ)) → Meaning

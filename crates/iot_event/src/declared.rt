@@ -6,7 +6,7 @@ ghost use Rattle.iot_text.specs.Paths.{path_of};
 ghost use Rattle.iot_event.specs.Forms.{form_of};
 ghost use Rattle.iot_event.specs.Closing.{closed_by};
 ghost use Rattle.iot_event.specs.Meanings.{Scope, Meaning, nothing_declared, place_of, choice_of, client_line, script_line, run_line};
-ghost use Rattle.iot_event.specs.Meanings.{hoard_line, refresh_line, begin_line, step_line, end_line, show_line};
+ghost use Rattle.iot_event.specs.Meanings.{hoard_line, refresh_line, begin_line, step_line, end_line, show_line, crash_line, restart_line};
 ghost use Rattle.iot_event.specs.Meanings.{connect_line, disconnect_line, lose_line, sync_line, drain_line};
 ghost use Rattle.iot_event.specs.Meanings.{repair_line, discard_line, meaning_of_form};
 ghost use Rattle.iot_event.specs.Events.{IsStep, IsStepOf};
@@ -290,6 +290,22 @@ impl Declared {
         Ok(Event::Discard { client })
     }
 
+    /// `crash C`
+    fn crash_line(&self, client: Name, number: u64) -> Result<Event, EventFault>
+        ensures { AnswersEvent (crash_line (scope_of self.now) number client) result self.now }
+    {
+        let client = place_of(&self.clients, client, number)?;
+        Ok(Event::CrashClient { client })
+    }
+
+    /// `restart C`
+    fn restart_line(&self, client: Name, number: u64) -> Result<Event, EventFault>
+        ensures { AnswersEvent (restart_line (scope_of self.now) number client) result self.now }
+    {
+        let client = place_of(&self.clients, client, number)?;
+        Ok(Event::RestartClient { client })
+    }
+
     /// `show C`
     fn show_line(&self, client: Name, number: u64) -> Result<Event, EventFault>
         ensures { AnswersEvent (show_line (scope_of self.now) number client) result self.now }
@@ -391,7 +407,13 @@ impl Declared {
                 after_line(self.show_line(client, number), later, number)
             }
             Form::CrashServer => after_line(Ok(Event::CrashServer), later, number),
+            Form::CrashClient { client } => {
+                after_line(self.crash_line(client, number), later, number)
+            }
             Form::RestartServer => after_line(Ok(Event::RestartServer), later, number),
+            Form::RestartClient { client } => {
+                after_line(self.restart_line(client, number), later, number)
+            }
         }
     }
 

@@ -116,8 +116,18 @@ pub enum Event {
     /// `crash server`: the server stops.
     CrashServer,
 
+    /// `crash C`: the client stops.
+    CrashClient {
+        client: u64,
+    },
+
     /// `restart server`: the server comes back.
     RestartServer,
+
+    /// `restart C`: the client comes back.
+    RestartClient {
+        client: u64,
+    },
 }
 
 /// A script, shared by the event that declares it and all who run it. Contracts see it as its `Code`.

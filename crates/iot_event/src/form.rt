@@ -156,8 +156,18 @@ pub(crate) enum Form<'a> {
     /// `crash server`
     CrashServer,
 
+    /// `crash C`
+    CrashClient {
+        client: Name,
+    },
+
     /// `restart server`
     RestartServer,
+
+    /// `restart C`
+    RestartClient {
+        client: Name,
+    },
 }
 
 /// A word as a name, if it is one.
@@ -219,6 +229,12 @@ fn client_form(first: &[u8], client: Name) -> Option<Form<'static>>
     }
     if first == b"show".as_slice() {
         return Some(Form::ShowClient { client });
+    }
+    if first == b"crash".as_slice() {
+        return Some(Form::CrashClient { client });
+    }
+    if first == b"restart".as_slice() {
+        return Some(Form::RestartClient { client });
     }
     None
 }

@@ -1,3 +1,4 @@
 pub mod KeepsLaws
 pub mod SoundLaws
 pub mod WholeLaws
+pub mod CutLaws

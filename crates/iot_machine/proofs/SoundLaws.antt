@@ -8,6 +8,7 @@ use Rattle.std.proofs.lemmas.Iterator.Adapters.{position_from-zero}
 use Rattle.std.proofs.lemmas.List.{length-set, length-append}
 use Rattle.std.specs.List.{AllByRecursion, position_from}
 use Rattle.iot_tree.specs.Tree.{Nodes, Path}
+use Rattle.iot_tree.specs.declared.limits.TheConstants.{ACT_LIMIT}
 use Rattle.iot_tree.specs.declared.want.Want.{Want}
 use Rattle.iot_tree.specs.declared.want.Want.TheVariants as wanted
 use Rattle.iot_link.specs.Links as link
@@ -19,7 +20,8 @@ use Rattle.iot_event.specs.declared.event.Event.TheVariants as events
 use Rattle.iot_machine.specs.Calls.{Call, Part, At, either}
 use Rattle.iot_machine.specs.Clients as stages
 use Rattle.iot_machine.specs.Clients.{Declared, Stage, Item, Running, ClientState, Next, AtEnd, AtLimit, Acts, Fetches, Plan, resolution_of}
-use Rattle.iot_machine.specs.Clients.{new_client, view, hold, begin, anew, fetch, one_more, act_once, item_of, joined, end, leave_by, leave}
+use Rattle.iot_machine.specs.Clients.{new_client, view, hold, begin, anew, fetch, one_more, act_once, waiting, joined, end, leave_by, leave}
+use Rattle.iot_machine.specs.Clients.{cut_by, cut}
 use Rattle.iot_machine.specs.Clients.{with_first, change_first, at_stage, reach, resolved_by, repair}
 use Rattle.iot_machine.specs.Machine.{Machine, Client, Commit, no_client, client_in, put_client, kept_by, server, node_at, add_commit}
 use Rattle.iot_machine.specs.Machine.{set_class, set_link, cut_off, link_of, break, tree_after, count_request, opening}
@@ -39,7 +41,7 @@ use Rattle.iot_machine.specs.Transactions.{says_word}
 use Rattle.iot_machine.specs.Transactions.{Ended, waits_unless, syncs_or_waits, joins, end_by, Ends}
 use Rattle.iot_machine.specs.Texts.{fetch_line, conflict_line, tree_text}
 use Rattle.iot_machine.specs.Events.{declare_client, declare_script, Refreshes, run_steps, SyncsIf, runs_script, runs_by, Runs, Drains}
-use Rattle.iot_machine.specs.Events.{Repairs, Discards}
+use Rattle.iot_machine.specs.Events.{Repairs, Discards, IfUp, CrashesClient, cuts_off, comes_back, RestartsClient}
 use Rattle.iot_machine.specs.Events.{counts_anew, RestartsServer, chosen, event_part}
 use Rattle.iot_machine.specs.Sound.{Rise, last_of, IsNewest, AreNumbered, IsNumbered, IsAnother, WaitsFirst, RunsAnother}
 use Rattle.iot_machine.specs.Sound.{IsReady, CanResolve, IsPlanned, HasPlan, HasPlans, IsListed, AreOnce, IsSound}
@@ -192,32 +194,48 @@ waits_push commit (first ∷ items) item above waits = (
   all_push (IsAnother commit) items item (λ same. absurd (omega (arith, same, above))) waits.1,
 )
 
+-- none runs, so none joins those that wait
+none_joins : (s : ClientState) → s.running ≡ None → Follows s (record s { running = None })
+none_joins s is = record {
+  numbered = λ it. record { rise = it.rise; newest = subst (IsNewest s) is it.newest };
+  planned = λ it. it;
+  known = λ commit it. record { given = it.given; waits = it.waits; runs = tt };
+}
+
+-- the one that runs joins them, with so many acts
+one_joins : (s : ClientState) (one : Running) (budget : ℕ) → s.running ≡ Some one
+    → Follows s (record s { items = s.items ++ waiting budget one ∷ []; running = None })
+one_joins s one budget is = record {
+  numbered = λ it.
+      let newest : IsNewest s (Some one) = subst (IsNewest s) is it.newest in
+      record {
+        rise = rise_push 0 s.items (waiting budget one) (omega (arith, newest.0, newest.1)) it.rise;
+        newest = le_of (last_push 0 s.items (waiting budget one)) newest.0;
+      };
+  planned = λ it. all_push HasPlan s.items (waiting budget one) tt it;
+  known = λ commit it. record {
+    given = it.given;
+    waits = waits_push commit s.items (waiting budget one) (subst (RunsAnother commit) is it.runs) it.waits;
+    runs = tt;
+  };
+}
+  where
+    le_of : {a b c : ℕ} → a ≡ b → b ≡ c → a ≤ c
+    le_of one other = omega (arith, one, other)
+
 end_follows : (s : ClientState) → Follows s (end s)
 end_follows s = by_running s.running refl
   where
     by_running : (running : Option Running) → s.running ≡ running → Follows s (record s { items = joined s.items running; running = None })
-    by_running None is = record {
-      numbered = λ it. record { rise = it.rise; newest = subst (IsNewest s) is it.newest };
-      planned = λ it. it;
-      known = λ commit it. record { given = it.given; waits = it.waits; runs = tt };
-    }
-    by_running (Some one) is = record {
-      numbered = λ it.
-          let newest : IsNewest s (Some one) = subst (IsNewest s) is it.newest in
-          record {
-            rise = rise_push 0 s.items (item_of one) (omega (arith, newest.0, newest.1)) it.rise;
-            newest = le_of (last_push 0 s.items (item_of one)) newest.0;
-          };
-      planned = λ it. all_push HasPlan s.items (item_of one) tt it;
-      known = λ commit it. record {
-        given = it.given;
-        waits = waits_push commit s.items (item_of one) (subst (RunsAnother commit) is it.runs) it.waits;
-        runs = tt;
-      };
-    }
-      where
-        le_of : {a b c : ℕ} → a ≡ b → b ≡ c → a ≤ c
-        le_of one other = omega (arith, one, other)
+    by_running None is = none_joins s is
+    by_running (Some one) is = one_joins s one ACT_LIMIT is
+
+cut_follows : (s : ClientState) → Follows s (cut s)
+cut_follows s = by_running s.running refl
+  where
+    by_running : (running : Option Running) → s.running ≡ running → Follows s (record s { items = cut_by s.items running; running = None })
+    by_running None is = none_joins s is
+    by_running (Some one) is = one_joins s one one.acts is
 
 leave_follows : (s : ClientState) → Follows s (leave s)
 leave_follows s = by_items s.items refl
@@ -977,6 +995,29 @@ module _ (c : ℕ) where
         rw step.is (put_sound c client m (rw same (follows_same (kept_by c m))) sound);
   }
 
+  -- ---- a client that is down
+
+  if_up_sound : {part : Part Machine} → StaysSound part → StaysSound (IfUp c part)
+  if_up_sound part = asks_then (keeps_either part stays_says)
+
+  crash_client_sound : StaysSound (CrashesClient c)
+  crash_client_sound =
+      asks_then (λ name. node_stays (λ state. asks_then (keeps_either (keeps_does (λ node is. is)) stays_says)))
+
+  restart_client_sound : StaysSound (RestartsClient c)
+  restart_client_sound = asks_then by_alive
+    where
+      back_as : (name : List ℕ) (state : ClientState) → Stays (λ node. node.durable ≡ state) (ComesBack name)
+      back_as name state = record { at = λ node after text a is step. ap (λ n. n.durable) step.1 ∙ is }
+
+      by_running : (running : Option Running) → StaysSound (cuts_off c running)
+      by_running None = stays_says
+      by_running (Some it) = stays_then (notes_sound cut_follows) (stays_goes_on stays_says)
+
+      by_alive : (alive : Bool) → StaysSound (comes_back c alive)
+      by_alive true = stays_says
+      by_alive false = asks_then (λ name. stays_then (node_stays (back_as name)) (λ _. asks_then by_running))
+
 -- ---- the server's events
 
 -- what leaves its list as it is
@@ -1011,24 +1052,28 @@ event_sound : (event : Event) → StaysSound (event_part event)
 event_sound (events.Client name) = keeps_does (declared_sound name)
 event_sound (events.Script name code) =
     keeps_does (λ m sound. sound_from m (declare_script (record { name = name; code = code }) m) refl refl sound)
-event_sound (events.Run client script option) = runs_sound client script (chosen option)
-event_sound (events.Hoard client path) = stays_then (takes_sound client (wanted.Below path)) (stays_goes_on stays_says)
-event_sound (events.Refresh client) = refreshes_sound client
-event_sound (events.Begin client script option) = stays_then (begins_sound client script (chosen option)) (stays_goes_on stays_says)
+event_sound (events.Run client script option) = if_up_sound client (runs_sound client script (chosen option))
+event_sound (events.Hoard client path) =
+    if_up_sound client (stays_then (takes_sound client (wanted.Below path)) (stays_goes_on stays_says))
+event_sound (events.Refresh client) = if_up_sound client (refreshes_sound client)
+event_sound (events.Begin client script option) =
+    if_up_sound client (stays_then (begins_sound client script (chosen option)) (stays_goes_on stays_says))
 event_sound (events.Step client count) =
-    if_runs_sound client (λ _. stays_then (steps_all_sound client true count) (λ _. stays_says))
-event_sound (events.End client) = ends_sound client
+    if_up_sound client (if_runs_sound client (λ _. stays_then (steps_all_sound client true count) (λ _. stays_says)))
+event_sound (events.End client) = if_up_sound client (ends_sound client)
 event_sound (events.Connect client) = keeps_does (λ m sound. link_sound client _ m sound)
 event_sound (events.Disconnect client) = keeps_does (cut_sound client)
 event_sound (events.Lose client loss) = keeps_does (λ m sound. link_sound client _ m sound)
-event_sound (events.Sync client) = stays_then (syncs_sound client) (λ _. stays_says)
-event_sound (events.Drain client) = drains_sound client
-event_sound (events.Repair client script) = repairs_sound client script
-event_sound (events.Discard client) = discards_sound client
+event_sound (events.Sync client) = if_up_sound client (stays_then (syncs_sound client) (λ _. stays_says))
+event_sound (events.Drain client) = if_up_sound client (drains_sound client)
+event_sound (events.Repair client script) = if_up_sound client (repairs_sound client script)
+event_sound (events.Discard client) = if_up_sound client (discards_sound client)
 event_sound events.ShowServer = server_stays (λ list. stays_shows (λ commits. tree_text (tree_after commits)))
 event_sound (events.ShowClient client) = node_stays client (λ state. stays_shows (λ s. tree_text (view s)))
 event_sound events.CrashServer = crash_sound server_name
+event_sound (events.CrashClient client) = crash_client_sound client
 event_sound events.RestartServer = restart_sound
+event_sound (events.RestartClient client) = restart_client_sound client
 
 pub sound_event : (event : Event) (m n : Machine) (text : List ℕ) → IsSound m → event_part event m text tt n → IsSound n
 sound_event event m n text sound step = (event_sound event).at m n text tt sound step

@@ -215,9 +215,13 @@ one_more it = record it { acts = it.acts + 1 }
 abbrev pub act_once : ClientState → ClientState
 act_once s = record s { running = option_map one_more s.running }
 
--- the running transaction, as one that waits
+-- the running transaction, as one that waits with so many acts
+abbrev pub waiting : (budget : ℕ) → Running → Item
+waiting budget it = record { number = it.number; script = it.script; budget = budget; option = it.option; stage = Waiting }
+
+-- it ended, so it may do all that its script does
 abbrev pub item_of : Running → Item
-item_of it = record { number = it.number; script = it.script; budget = ACT_LIMIT; option = it.option; stage = Waiting }
+item_of it = waiting ACT_LIMIT it
 
 abbrev pub joined : List Item → Option Running → List Item
 joined items None = items
@@ -226,6 +230,14 @@ joined items (Some it) = items ++ item_of it ∷ []
 -- the running transaction ends, and waits
 abbrev pub end : ClientState → ClientState
 end s = record s { items = joined s.items s.running; running = None }
+
+-- it was cut off, and waits: it is the acts that it has done, wherever it is run from now on
+abbrev pub cut_by : List Item → Option Running → List Item
+cut_by items None = items
+cut_by items (Some it) = items ++ waiting it.acts it ∷ []
+
+abbrev pub cut : ClientState → ClientState
+cut s = record s { items = cut_by s.items s.running; running = None }
 
 -- the first transaction leaves: what it did itself stays in the tree that is held
 abbrev pub leave_by : List Item → ClientState → ClientState

@@ -9,17 +9,17 @@ use Rattle.iot_link.specs.Links as link
 use Rattle.iot_link.specs.Links.{connected, arming}
 use Rattle.iot_link.specs.declared.passages.Loss.{Loss}
 use Rattle.iot_machine.specs.Calls.{Part, Asks, Does, Says, Nothing, Then, At, either, goes_on, OrSays}
-use Rattle.iot_machine.specs.Clients.{Declared, Running, Next, AtEnd, AtLimit, Acts, Fetches, new_client, view, leave, repair}
+use Rattle.iot_machine.specs.Clients.{Declared, Running, Next, AtEnd, AtLimit, Acts, Fetches, new_client, view, leave, repair, cut}
 use Rattle.iot_machine.specs.Machine.{link_of, set_link, cut_off}
 use Rattle.iot_machine.specs.Machine.{Machine, client_in, node_at, kept_by, script_at, server, tree_after}
 use Rattle.iot_machine.specs.Nodes.{opened}
 use Rattle.iot_machine.specs.Options as options
 use Rattle.iot_machine.specs.Options.{OnConflict}
 use Rattle.iot_machine.specs.Serving.{server_name}
-use Rattle.iot_machine.specs.Stops.{Crashes, Restarts, Shows}
+use Rattle.iot_machine.specs.Stops.{ComesBack, Crashes, Restarts, Shows}
 use Rattle.iot_machine.specs.Texts.{line, connect_line, disconnect_line, lose_line}
 use Rattle.iot_machine.specs.Texts.{client_line, hoard_line, refresh_line, begin_line, step_line, repair_line, discard_line}
-use Rattle.iot_machine.specs.Texts.{transaction_name, tree_text}
+use Rattle.iot_machine.specs.Texts.{transaction_name, tree_text, cut_line}
 use Rattle.iot_machine.specs.Transactions.{Notes, IfRuns, runs, pends, says_word, Takes, Begins, StepsAll, next_of, Ends}
 use Rattle.iot_machine.specs.Transactions.{Syncs, SyncsAll, item_name, IfManual}
 
@@ -128,6 +128,33 @@ Drains c =
     OrSays (line (codes "nothing"))
     (Then (SyncsAll c) (λ _. Then (Asks (is_drained c)) (either (Refreshes c) Nothing)))
 
+-- ---- a client that is down
+
+-- for a client that is alive
+abbrev pub IfUp : ℕ → Part Machine → Part Machine
+IfUp c part = Then (Asks (λ m. (client_in m c).node.alive)) (either part (says_word (codes "down")))
+
+-- it loses its memory
+abbrev pub CrashesClient : ℕ → Part Machine
+CrashesClient c = Then (Asks (name_of c)) (λ name. At (node_at c) (Crashes name))
+
+-- what ran when it lost its memory is cut off after the acts that it has done
+abbrev pub cuts_off : ℕ → Option Running → Part Machine
+cuts_off c None = Nothing
+cuts_off c (Some it) =
+    Then (Notes c cut) (goes_on (Says (λ m. cut_line (transaction_name (name_of c m) it.number) it.acts)))
+
+abbrev pub CutsOff : ℕ → Part Machine
+CutsOff c = Then (Asks (λ m. (kept_by c m).running)) (cuts_off c)
+
+-- it comes back with what it keeps
+abbrev pub comes_back : ℕ → (alive : Bool) → Part Machine
+comes_back c true = says_word (codes "up")
+comes_back c false = Then (Asks (name_of c)) (λ name. Then (At (node_at c) (ComesBack name)) (λ _. CutsOff c))
+
+abbrev pub RestartsClient : ℕ → Part Machine
+RestartsClient c = Then (Asks (λ m. (client_in m c).node.alive)) (comes_back c)
+
 -- ---- the server
 
 -- one that was down has answered no request since
@@ -152,20 +179,22 @@ chosen choices.Manual = options.Manual
 abbrev pub event_part : Event → Part Machine
 event_part (events.Client name) = Does (λ _. client_line name) (declare_client name)
 event_part (events.Script name code) = Does (λ _. []) (declare_script (record { name = name; code = code }))
-event_part (events.Run client script option) = Runs client script (chosen option)
-event_part (events.Hoard client path) = Hoards client path
-event_part (events.Refresh client) = Refreshes client
-event_part (events.Begin client script option) = BeginsAloud client script (chosen option)
-event_part (events.Step client count) = StepsAloud client count
-event_part (events.End client) = Ends client
+event_part (events.Run client script option) = IfUp client (Runs client script (chosen option))
+event_part (events.Hoard client path) = IfUp client (Hoards client path)
+event_part (events.Refresh client) = IfUp client (Refreshes client)
+event_part (events.Begin client script option) = IfUp client (BeginsAloud client script (chosen option))
+event_part (events.Step client count) = IfUp client (StepsAloud client count)
+event_part (events.End client) = IfUp client (Ends client)
 event_part (events.Connect client) = Connects client
 event_part (events.Disconnect client) = Disconnects client
 event_part (events.Lose client loss) = Loses client loss
-event_part (events.Sync client) = SyncsAloud client
-event_part (events.Drain client) = Drains client
-event_part (events.Repair client script) = Repairs client script
-event_part (events.Discard client) = Discards client
+event_part (events.Sync client) = IfUp client (SyncsAloud client)
+event_part (events.Drain client) = IfUp client (Drains client)
+event_part (events.Repair client script) = IfUp client (Repairs client script)
+event_part (events.Discard client) = IfUp client (Discards client)
 event_part events.ShowServer = At server (Shows (λ commits. tree_text (tree_after commits)))
 event_part (events.ShowClient client) = At (node_at client) (Shows (λ state. tree_text (view state)))
 event_part events.CrashServer = At server (Crashes server_name)
+event_part (events.CrashClient client) = CrashesClient client
 event_part events.RestartServer = RestartsServer
+event_part (events.RestartClient client) = RestartsClient client

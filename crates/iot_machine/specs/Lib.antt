@@ -11,3 +11,4 @@ pub mod Transactions
 pub mod Events
 pub mod Transcript
 pub mod Sound
+pub mod Laws

@@ -117,6 +117,10 @@ repair_line tid script = line (codes "repair " ++ tid ++ 32 ∷ script)
 abbrev pub discard_line : List ℕ → List ℕ
 discard_line tid = line (codes "discard " ++ tid)
 
+-- it was cut off after so many acts
+abbrev pub cut_line : List ℕ → ℕ → List ℕ
+cut_line tid acts = line (codes "cut " ++ tid ++ 32 ∷ decimal acts ++ codes " acts")
+
 abbrev pub pending_line : List ℕ → List ℕ
 pending_line tid = line (codes "pending " ++ tid)
 
