@@ -12,8 +12,9 @@ use Rattle.iot_codec.specs.Rules.{IsNode, IsRow, IsTreeOfRows}
 use Rattle.iot_limits.specs.Spelled.{IsSpelledNode, IsSpelledRow, IsSpelledTree}
 use Rattle.iot_queue.specs.declared.items.Item.{Item}
 use Rattle.iot_client.specs.Calls.{empty_queue, EndsBy, RefusesReply}
+use Rattle.iot_client.specs.Faults.{MayFail}
 use Rattle.iot_client.specs.Messages.{objects_in, ReadsObjects, is_known_row, is_whole, whole_tree, whole_in}
-use Rattle.iot_client.specs.Records.{HeadIs}
+use Rattle.iot_kept.specs.Changes.{HeadIs}
 use Rattle.iot_client.specs.declared.client.Client.{Client}
 use Rattle.iot_client.specs.declared.fault.ClientFault.{ClientFault}
 use Rattle.iot_client.specs.declared.fault.ClientFault.TheVariants as faults
@@ -62,10 +63,11 @@ whole_read : (reply : List ℕ) (t : Nodes) → ReadsObjects reply → SpellsTre
 whole_read reply t only spells whole =
     ap (whole_tree (length reply)) (only t spells) ∙ ap (λ (b : Bool). if b then Ok t else Err (length reply)) (whole_is t whole)
 
--- a call that reads a reply which brings a whole tree can only want memory
-module _ (old new : Client) (read : Result Nodes ℕ) (t : Nodes) (is : read ≡ Ok t) where
-  ends_by : (fault : ClientFault) → EndsBy {T = Unit {0}} read old new (Err fault) → fault ≡ faults.NoMemory
-  ends_by faults.NoMemory ends = refl
+-- a call that reads a reply which brings a whole tree may fail, and is not refused
+module _ {D : Type 0} (old new : Client D) (read : Result Nodes ℕ) (t : Nodes) (is : read ≡ Ok t) where
+  ends_by : (fault : ClientFault) → EndsBy {T = Unit {0}} read old new (Err fault) → MayFail fault
+  ends_by faults.NoMemory ends = tt
+  ends_by faults.Stopped ends = tt
   ends_by faults.Busy ends = absurd ends
   ends_by faults.Pending ends = absurd ends
   ends_by faults.Idle ends = absurd ends
@@ -74,14 +76,14 @@ module _ (old new : Client) (read : Result Nodes ℕ) (t : Nodes) (is : read ≡
   ends_by faults.NotManual ends = absurd ends
   ends_by (faults.BadReply at) ends = let bad : read ≡ Err at = ends.0 in absurd cc
 
-  pub wants_memory : (Is : Item → Type 0) (items : List Item) (fault : ClientFault) → HeadIs Is items
-      → RefusesReply {T = Unit {0}} (empty_queue items) read old new (Err fault) → fault ≡ faults.NoMemory
-  wants_memory Is [] fault some refuses = absurd some
-  wants_memory Is (item ∷ items) fault some refuses = ends_by fault refuses
+  pub may_fail : (Is : Item → Type 0) (items : List Item) (fault : ClientFault) → HeadIs Is items
+      → RefusesReply {T = Unit {0}} (empty_queue items) read old new (Err fault) → MayFail fault
+  may_fail Is [] fault some refuses = absurd some
+  may_fail Is (item ∷ items) fault some refuses = ends_by fault refuses
 
-pub not_bad : (old new : Client) (reply : List ℕ) (Is : Item → Type 0) (items : List Item) (fault : ClientFault)
+pub not_bad : {D : Type 0} (old new : Client D) (reply : List ℕ) (Is : Item → Type 0) (items : List Item) (fault : ClientFault)
     → HeadIs Is items → ReadsObjects reply → BringsTree reply → ((t : Nodes) → SpellsTree reply t → IsWhole t)
-    → RefusesReply {T = Unit {0}} (empty_queue items) (whole_in reply) old new (Err fault) → fault ≡ faults.NoMemory
+    → RefusesReply {T = Unit {0}} (empty_queue items) (whole_in reply) old new (Err fault) → MayFail fault
 not_bad old new reply Is items fault some only brings whole refuses =
-    wants_memory old new (whole_in reply) brings.tree
+    may_fail old new (whole_in reply) brings.tree
     (whole_read reply brings.tree only brings.is (whole brings.tree brings.is)) Is items fault some refuses

@@ -1,13 +1,13 @@
 -- What is decided by hand of a transaction that waits is what the machine does.
 use Rattle.std.proofs.Common.{◌≡◌, ℕ, ◌<◌, Bool, true, false, List, [], ◌∷◌, ◌++◌, length, Result, Ok, Err}
-use Rattle.std.proofs.Common.{get_or, refl, sym, ap, subst, ◌∙◌, codes}
+use Rattle.std.proofs.Common.{get_or, slice_get, Some, refl, sym, ap, subst, ◌∙◌, codes}
 use Rattle.iot_queue.specs.declared.items.Item.{Item}
 use Rattle.iot_queue.specs.declared.items.Stage.{Stage}
 use Rattle.iot_queue.specs.declared.items.Stage.TheVariants as kept
-use Rattle.iot_client.specs.Records.{HeadIs, IsByHand}
-use Rattle.iot_client.specs.Ties.{state_of}
+use Rattle.iot_kept.specs.Changes.{HeadIs, IsByHand}
 use Rattle.iot_machine.specs.Calls.{Part, either}
 use Rattle.iot_machine.specs.Clients as clients
+use Rattle.iot_machine.specs.Nodes.{changed}
 use Rattle.iot_machine.specs.Clients.{leave, repair}
 use Rattle.iot_machine.specs.Events.{Repairs, Discards}
 use Rattle.iot_machine.specs.Machine as machine
@@ -15,10 +15,11 @@ use Rattle.iot_machine.specs.Machine.{Machine, client_in, kept_by, script_at}
 use Rattle.iot_machine.specs.Texts.{line, transaction_name, repair_line, discard_line}
 use Rattle.iot_machine.specs.Transactions.{IfManual, item_name, is_manual, says_word}
 use Rattle.iot_world.specs.Laptops.{LaptopStands, StageStands, ItemStands, Noted, Repaired, decision, decision_on}
+use Rattle.iot_world.specs.Nodes.{state_in}
 use Rattle.iot_world.specs.Messages.{name_of}
 use Rattle.iot_world.specs.Saying.{undecided_word}
 use Rattle.iot_world.specs.Scripts.{IsNamed}
-use Rattle.iot_world.specs.World.{StandsFor, Steps, ScriptStands, IsReady, declared_in, no_script}
+use Rattle.iot_world.specs.World.{StandsFor, Steps, ScriptStands, IsReady, SameCounts, declared_in, no_script}
 use Rattle.iot_world.specs.declared.answers.Undecided.{Undecided}
 use Rattle.iot_world.specs.declared.answers.Undecided.TheVariants as why
 use Rattle.iot_world.specs.declared.laptop.Laptop.{Laptop}
@@ -26,44 +27,51 @@ use Rattle.iot_world.specs.declared.texts.Transaction.{Transaction}
 use Rattle.iot_world.specs.declared.world.DeclaredScript.{DeclaredScript}
 use Rattle.iot_world.specs.declared.world.World.{World}
 use Rattle.iot_world.proofs.CallsLaws.{bind, asks, says, says_this}
-use Rattle.iot_world.proofs.ListLaws.{each_at, any_default, each_length}
+use Rattle.iot_world.proofs.ListLaws.{each_at, any_default, each_length, get_here}
+use Rattle.iot_world.proofs.NodesLaws.{is_awake}
 use Rattle.iot_world.proofs.ReadyLaws.{no_machine_items}
 use Rattle.iot_world.proofs.ScriptsLaws.{named_at}
 use Rattle.iot_world.proofs.QueuesLaws.{notes_by, First, asks_first, manual_stage}
 use Rattle.iot_world.proofs.StepsLaws.{IsAt, Puts, laptop_stands}
+use Rattle.iot_world.proofs.TransactionsLaws.{counts_awake}
 
 -- ---- what is decided
 
 -- it waits for a decision by hand
-pub record ByHand (laptop : Laptop) (t : Transaction) : Type 0 where
+pub record ByHand {D : Type 0} (laptop : Laptop D) (t : Transaction) : Type 0 where
   pub first : First laptop t
   pub stage : first.item.stage ≡ kept.Manual
 
-decided_on : (laptop : Laptop) (t : Transaction) (item : Item) (stage : Stage) → decision_on laptop item stage ≡ Ok t
+decided_on : {D : Type 0} (laptop : Laptop D) (t : Transaction) (item : Item) (stage : Stage) → decision_on laptop item stage ≡ Ok t
     → (stage ≡ kept.Manual) × (t ≡ record { client = laptop.name; number = item.tid })
 decided_on laptop t item kept.Waiting is = absurd cc
 decided_on laptop t item kept.Conflict is = absurd cc
 decided_on laptop t item kept.Manual is = (refl, cc)
 decided_on laptop t item (kept.Resolved done) is = absurd cc
 
-decided_by : (laptop : Laptop) (t : Transaction) (items : List Item) → (state_of laptop.client).items ≡ items
+decided_by : {D : Type 0} (laptop : Laptop D) (t : Transaction) (items : List Item) → (state_in laptop).items ≡ items
     → decision laptop items ≡ Ok t → ByHand laptop t
 decided_by laptop t [] same is = absurd cc
 decided_by laptop t (item ∷ items) same is =
     let on = decided_on laptop t item item.stage is in
     record { first = record { item = item; rest = items; items = same; named = on.1 }; stage = on.0 }
 
-pub decided : (laptop : Laptop) (t : Transaction) (r : Result Transaction Undecided) → r ≡ decision laptop (state_of laptop.client).items
+pub decided : {D : Type 0} (laptop : Laptop D) (t : Transaction) (r : Result Transaction Undecided)
+    → r ≡ decision laptop (state_in laptop).items
     → r ≡ Ok t → ByHand laptop t
-decided laptop t r made is = decided_by laptop t (state_of laptop.client).items refl (sym made ∙ is)
+decided laptop t r made is = decided_by laptop t (state_in laptop).items refl (sym made ∙ is)
 
-pub by_hand_head : (laptop : Laptop) (t : Transaction) → ByHand laptop t → HeadIs IsByHand (state_of laptop.client).items
+-- so is the same client
+pub by_hand_now : {D : Type 0} (was laptop : Laptop D) (t : Transaction) → was ≡ laptop → ByHand was t → ByHand laptop t
+by_hand_now {D = D} was laptop t same by = subst (λ (l : Laptop D). ByHand l t) same by
+
+pub by_hand_head : {D : Type 0} (laptop : Laptop D) (t : Transaction) → ByHand laptop t → HeadIs IsByHand (state_in laptop).items
 by_hand_head laptop t by = subst (HeadIs IsByHand) (sym by.first.items) by.stage
 
 -- ---- or not
 
 -- none waits, or the first does not wait for a decision by hand
-refused_on : (laptop : Laptop) (u : Undecided) (item : Item) (stage : Stage) (ms : clients.Stage) → StageStands stage ms
+refused_on : {D : Type 0} (laptop : Laptop D) (u : Undecided) (item : Item) (stage : Stage) (ms : clients.Stage) → StageStands stage ms
     → decision_on laptop item stage ≡ Err u → (u ≡ why.NotManual) × (is_manual ms ≡ false)
 refused_on laptop u item kept.Waiting clients.Waiting same is = (cc, refl)
 refused_on laptop u item kept.Waiting clients.Conflict same is = absurd same
@@ -79,18 +87,18 @@ refused_on laptop u item (kept.Resolved done) clients.Conflict same is = absurd 
 refused_on laptop u item (kept.Resolved done) clients.Manual same is = absurd same
 refused_on laptop u item (kept.Resolved done) (clients.Resolved it) same is = (cc, refl)
 
-module _ {D : Type 0} (reads : D → List ℕ) (may_leave : D → List ℕ → Type 0) (c : ℕ) (old : World D) (was : Laptop) (x : List ℕ)
+module _ {D : Type 0} (reads : D → List ℕ) (may_leave : D → List ℕ → Type 0) (c : ℕ) (old : World D) (was : Laptop D) (x : List ℕ)
     (at : IsAt old c was) where
   -- it is said why nothing is decided
   undecided_by : (part : clients.Item → Part Machine) (items : List Item) (u : Undecided) (y : List ℕ)
-      → (state_of was.client).items ≡ items → decision was items ≡ Err u → y ≡ x ++ line (undecided_word u)
+      → (state_in was).items ≡ items → decision was items ≡ Err u → y ≡ x ++ line (undecided_word u)
       → Steps reads may_leave (IfManual c part) old old x y tt
   undecided_by part [] u y same is wrote =
       let nothing : u ≡ why.Nothing = cc in
       bind old old old x x y [] tt
       (asks old x []
       (λ m here.
-      sym (no_machine_items (state_of was.client).items (state_of was.client).held (kept_by c m).items same
+      sym (no_machine_items (state_in was).items (state_in was).held (kept_by c m).items same
       (laptop_stands reads may_leave old m c was at here).state.items)))
       (says_this (line (codes "nothing")) old x y (wrote ∙ ap (λ (u : Undecided). x ++ line (undecided_word u)) nothing))
   undecided_by part (item ∷ items) u y same is wrote =
@@ -103,14 +111,14 @@ module _ {D : Type 0} (reads : D → List ℕ) (may_leave : D → List ℕ → T
       (says_this (line (codes "not manual")) old x y (wrote ∙ ap (λ (u : Undecided). x ++ line (undecided_word u)) refused.0)))
 
   pub undecided : {part : clients.Item → Part Machine} (u : Undecided) (r : Result Transaction Undecided) (y : List ℕ)
-      → r ≡ decision was (state_of was.client).items → r ≡ Err u → y ≡ x ++ line (undecided_word u)
+      → r ≡ decision was (state_in was).items → r ≡ Err u → y ≡ x ++ line (undecided_word u)
       → Steps reads may_leave (IfManual c part) old old x y tt
-  undecided {part} u r y made is wrote = undecided_by part (state_of was.client).items u y refl (sym made ∙ is) wrote
+  undecided {part} u r y made is wrote = undecided_by part (state_in was).items u y refl (sym made ∙ is) wrote
 
   module _ (t : Transaction) (by : ByHand was t) where
     -- it is decided of
     decides : {part : clients.Item → Part Machine} (new : World D) (y : List ℕ)
-        → ((mi : clients.Item) → ItemStands (state_of was.client).held by.first.item mi → Steps reads may_leave (part mi) old new x y tt)
+        → ((mi : clients.Item) → ItemStands (state_in was).held by.first.item mi → Steps reads may_leave (part mi) old new x y tt)
         → Steps reads may_leave (IfManual c part) old new x y tt
     decides {part} new y each =
         asks_first reads may_leave c old was x at t by.first (λ mi. mi ≡ mi) new y tt (λ m mi here stands named. refl)
@@ -121,25 +129,35 @@ module _ {D : Type 0} (reads : D → List ℕ) (may_leave : D → List ℕ → T
         (each mi stands))
 
     -- its name is the same afterwards
-    name_after : (new : World D) (laptop : Laptop) → IsAt new c laptop → laptop.name ≡ was.name → (m : Machine)
-        → StandsFor reads may_leave new m → (mi : clients.Item) → ItemStands (state_of was.client).held by.first.item mi
+    name_after : (new : World D) (laptop : Laptop D) → IsAt new c laptop → laptop.name ≡ was.name → (m : Machine)
+        → StandsFor reads may_leave new m → (mi : clients.Item) → ItemStands (state_in was).held by.first.item mi
         → item_name c mi m ≡ name_of t
     name_after new laptop there same m here mi stands =
-        let now : LaptopStands m.scripts laptop (client_in m c) = laptop_stands reads may_leave new m c laptop there here in
+        let now : LaptopStands reads may_leave m.scripts laptop (client_in m c) = laptop_stands reads may_leave new m c laptop there here in
         ap (λ (n : List ℕ). transaction_name n mi.number) (sym now.name ∙ same)
         ∙ ap (λ (n : ℕ). transaction_name was.name n) (sym stands.number)
         ∙ ap name_of (sym by.first.named)
 
-    module _ (new : World D) (laptop : Laptop) (y : List ℕ) (there : IsAt new c laptop) (puts : Puts c laptop old new)
-        (ready : IsReady reads may_leave c old) where
-      same_name : (m : machine.Client) → LaptopStands ready.machine.scripts laptop m
+    module _ (new : World D) (laptop : Laptop D) (y : List ℕ) (puts : Puts c laptop old new) (ready : IsReady reads may_leave c old) where
+      there_now : (m : machine.Client) → LaptopStands reads may_leave ready.machine.scripts laptop m → IsAt new c laptop
+      there_now m now = record {
+        get =
+            subst (λ (ls : List (Laptop D)). slice_get ls c ≡ Some laptop) (sym puts.clients)
+            (get_here old.clients.items c laptop was at.get);
+        up = is_awake reads may_leave ready.machine.scripts laptop m now;
+      }
+
+      same_name : (m : machine.Client) → LaptopStands reads may_leave ready.machine.scripts laptop m
           → m.name ≡ (client_in ready.machine c).name → laptop.name ≡ was.name
       same_name m now same =
           now.name ∙ same ∙ sym (laptop_stands reads may_leave old ready.machine c was at ready.stands).name
 
       -- it leaves
-      pub discards : Noted leave was laptop → y ≡ x ++ discard_line (name_of t) → Steps reads may_leave (Discards c) old new x y tt
+      pub discards : Noted reads may_leave leave was laptop → y ≡ x ++ discard_line (name_of t)
+          → Steps reads may_leave (Discards c) old new x y tt
       discards noted wrote =
+          let now = noted.stands ready.machine.scripts (client_in ready.machine c)
+          (laptop_stands reads may_leave old ready.machine c was at ready.stands) in
           decides new y
           (λ mi stands.
           bind old new new x x y true tt
@@ -149,45 +167,46 @@ module _ {D : Type 0} (reads : D → List ℕ) (may_leave : D → List ℕ → T
           (λ m here.
           wrote
           ∙ ap (λ (n : List ℕ). x ++ discard_line n)
-          (sym
-          (name_after new laptop there
-          (same_name _
-          (noted.stands ready.machine.scripts (client_in ready.machine c)
-          (laptop_stands reads may_leave old ready.machine c was at ready.stands)) refl)
-          m here mi stands)))))
+          (sym (name_after new laptop (there_now _ now) (same_name _ now refl) m here mi stands)))))
 
-      -- it is to be resolved by a script
-      pub repairs : (s : ℕ) (name : List ℕ) → s < length old.scripts.items → (declared_in old s).name ≡ name
-          → Repaired name was laptop → y ≡ x ++ repair_line (name_of t) name → Steps reads may_leave (Repairs c s) old new x y tt
-      repairs s name within is repaired wrote =
-          decides new y
-          (λ mi stands.
-          bind old old new x x y (declared_in old s) tt
-          (asks old x (declared_in old s)
-          (λ m here. sym (script_there m here)))
-          (bind old new new x x y true tt
-          (notes_by reads may_leave c old new was laptop (repair (declared_in old s)) x at puts repaired.place
-          (λ m here.
-          repaired.stands m.scripts (client_in m c) (declared_in old s) (laptop_stands reads may_leave old m c was at here)
-          (named_there m here) is))
-          (says new x y
-          (λ m here.
-          let same : item_name c mi m ≡ name_of t =
-          name_after new laptop there
-          (same_name _
-          (repaired.stands ready.machine.scripts (client_in ready.machine c) (declared_in old s)
-          (laptop_stands reads may_leave old ready.machine c was at ready.stands) (named_there ready.machine ready.stands) is) refl)
-          m here mi stands in
-          wrote ∙ (λ i. x ++ repair_line (sym same i) (sym is i))))))
-        where
-          script_there : (m : Machine) → StandsFor reads may_leave old m → script_at s m ≡ declared_in old s
-          script_there m here = each_at ScriptStands old.scripts.items m.scripts s no_script machine.no_script within here.scripts
+      module _ (s : ℕ) (name : List ℕ) (within : s < length old.scripts.items) (is : (declared_in old s).name ≡ name)
+          (repaired : Repaired reads may_leave name was laptop) where
+        script_there : (m : Machine) → StandsFor reads may_leave old m → script_at s m ≡ declared_in old s
+        script_there m here = each_at ScriptStands old.scripts.items m.scripts s no_script machine.no_script within here.scripts
 
-          named_there : (m : Machine) → StandsFor reads may_leave old m → IsNamed m.scripts (declared_in old s)
-          named_there m here =
-              subst (IsNamed m.scripts) (script_there m here)
-              (named_at m.scripts s machine.no_script
-              (subst (λ (n : ℕ). s < n) (each_length ScriptStands old.scripts.items m.scripts here.scripts) within) here.apart)
+        named_there : (m : Machine) → StandsFor reads may_leave old m → IsNamed m.scripts (declared_in old s)
+        named_there m here =
+            subst (IsNamed m.scripts) (script_there m here)
+            (named_at m.scripts s machine.no_script
+            (subst (λ (n : ℕ). s < n) (each_length ScriptStands old.scripts.items m.scripts here.scripts) within) here.apart)
+
+        after_there : (m : Machine) → StandsFor reads may_leave old m
+            → LaptopStands reads may_leave m.scripts laptop
+            (record (client_in m c) { node = changed (repair (declared_in old s)) (client_in m c).node })
+        after_there m here =
+            repaired.stands m.scripts (client_in m c) (declared_in old s) (laptop_stands reads may_leave old m c was at here)
+            (named_there m here) is
+
+        -- as many are alive if it is repaired
+        pub counts_repaired : SameCounts old new
+        counts_repaired =
+            counts_awake reads may_leave c old new was laptop at puts _ _ (after_there ready.machine ready.stands)
+
+        -- it is to be resolved by a script
+        pub repairs : y ≡ x ++ repair_line (name_of t) name → Steps reads may_leave (Repairs c s) old new x y tt
+        repairs wrote =
+            let now = after_there ready.machine ready.stands in
+            decides new y
+            (λ mi stands.
+            bind old old new x x y (declared_in old s) tt
+            (asks old x (declared_in old s) (λ m here. sym (script_there m here)))
+            (bind old new new x x y true tt
+            (notes_by reads may_leave c old new was laptop (repair (declared_in old s)) x at puts repaired.place after_there)
+            (says new x y
+            (λ m here.
+            let same : item_name c mi m ≡ name_of t =
+            name_after new laptop (there_now _ now) (same_name _ now refl) m here mi stands in
+            wrote ∙ (λ i. x ++ repair_line (sym same i) (sym is i))))))
 
 -- a script in hand has the name of the one at its place
 pub name_at : {D : Type 0} (world : World D) (s : ℕ) (script : DeclaredScript) → s < length world.scripts.items

@@ -1,6 +1,6 @@
 -- Transactions of a world's clients end as those of the machine.
 use Rattle.std.proofs.Common.{◌≡◌, ℕ, Bool, true, false, List, ◌++◌, length, Option, Some, None}
-use Rattle.std.proofs.Common.{◌⊎◌, inl, inr, refl, sym, ap, subst, ◌∙◌, arith, codes}
+use Rattle.std.proofs.Common.{◌⊎◌, inl, inr, slice_get, refl, sym, ap, subst, ◌∙◌, arith, codes}
 use Rattle.std.proofs.lemmas.List.{length-set}
 use Rattle.iot_machine.specs.Calls.{Call, Asks, Then, At}
 use Rattle.iot_machine.specs.Refining.{Refines}
@@ -12,10 +12,12 @@ use Rattle.iot_machine.specs.Machine.{Machine, Commit, server, client_in, put_cl
 use Rattle.iot_machine.specs.Texts.{line, transaction_name, end_line, pending_line}
 use Rattle.iot_machine.specs.Transactions.{Ended as MachineEnded, ended_of, waits_unless, syncs_or_waits, joins, end_by, Ends, Syncs}
 use Rattle.iot_machine.specs.Transactions.{Synced as MachineSynced, Unanswered}
-use Rattle.iot_world.specs.Laptops.{LaptopStands, Noted, Ended, IsEndOf, IsOver, IsUnended}
+use Rattle.std.specs.List.{AllByRecursion}
+use Rattle.iot_world.specs.Disks.{IsEmpty}
+use Rattle.iot_world.specs.Laptops.{LaptopStands, ClientStands, Noted, Ended, IsEndOf, IsOver, IsUnended}
 use Rattle.iot_world.specs.Messages.{name_of}
 use Rattle.iot_world.specs.Servers.{ServerStands, HasAnswered}
-use Rattle.iot_world.specs.World.{Each, ScriptStands, ArePlaced, Steps, IsReady, scripts_of, synced_of}
+use Rattle.iot_world.specs.World.{Each, ScriptStands, ArePlaced, Steps, IsReady, IsAlive, scripts_of, synced_of}
 use Rattle.iot_world.specs.declared.answers.Synced.{Synced}
 use Rattle.iot_world.specs.declared.answers.Synced.TheVariants as synced
 use Rattle.iot_world.specs.declared.laptop.Gone.{Gone}
@@ -23,6 +25,8 @@ use Rattle.iot_world.specs.declared.laptop.Laptop.{Laptop}
 use Rattle.iot_world.specs.declared.world.DeclaredScript.{DeclaredScript}
 use Rattle.iot_world.specs.declared.world.World.{World}
 use Rattle.iot_world.proofs.CallsLaws.{bind, asks, asks_any, says_this, nothing}
+use Rattle.iot_world.proofs.ListLaws.{get_set}
+use Rattle.iot_world.proofs.NodesLaws.{is_awake}
 use Rattle.iot_world.proofs.StepsLaws.{IsAt, Puts, running_in, runs_here, laptop_stands, puts_stands, notes, asks_running}
 
 -- it left or moved on, waits for a decision by hand, or none waited
@@ -37,8 +41,8 @@ is_not_silent (inr (inr (inr is))) = cc
 
 module _ {D : Type 0} (reads : D → List ℕ) (may_leave : D → List ℕ → Type 0) where
   -- the world is ready for what follows a change of what a client keeps
-  pub ready_noted : (c : ℕ) (old new : World D) (was laptop : Laptop) (change : ClientState → ClientState) → IsReady reads may_leave c old
-      → IsAt old c was → Puts c laptop old new → Noted change was laptop → IsReady reads may_leave c new
+  pub ready_noted : (c : ℕ) (old new : World D) (was laptop : Laptop D) (change : ClientState → ClientState) → IsReady reads may_leave c old
+      → IsAt old c was → Puts c laptop old new → Noted reads may_leave change was laptop → IsReady reads may_leave c new
   ready_noted c old new was laptop change ready at puts noted =
       let m : Machine = ready.machine in
       let client : machine.Client = record (client_in m c) { node = changed change (client_in m c).node } in
@@ -48,17 +52,22 @@ module _ {D : Type 0} (reads : D → List ℕ) (may_leave : D → List ℕ → T
             puts_stands reads may_leave old new m c was laptop client at noted.place puts
             (noted.stands m.scripts (client_in m c) (laptop_stands reads may_leave old m c was at ready.stands)) ready.stands;
         inside = omega (arith, ready.inside, ap length puts.clients, length-set old.clients.items c laptop);
+        alive = λ l get.
+            subst IsAlive (get_set old.clients.items c laptop l
+            (subst (λ (ls : List (Laptop D)). slice_get ls c ≡ Some l) puts.clients get))
+            (is_awake reads may_leave m.scripts laptop client
+            (noted.stands m.scripts (client_in m c) (laptop_stands reads may_leave old m c was at ready.stands)));
       }
 
   -- ---- the server
 
   -- what the server did
   pub at_server : {A : Type 0} {call : Call (Node (List Commit)) A} (old new : World D) (x y : List ℕ) (a : A)
-      → new.clients.items ≡ old.clients.items → new.scripts.items ≡ old.scripts.items
+      → new.clients.items ≡ old.clients.items → new.scripts.items ≡ old.scripts.items → new.spare.items ≡ old.spare.items
       → ((n : ℕ) → HasAnswered n old.server → HasAnswered n new.server)
       → Refines (ServerStands reads may_leave) call old.server new.server x y a
       → Steps reads may_leave (At server call) old new x y a
-  at_server old new x y a same scripts counts one = record {
+  at_server old new x y a same scripts spare counts one = record {
     step = λ m here.
         let s = one.step m.server here.server in (
           s.0,
@@ -69,17 +78,18 @@ module _ {D : Type 0} (reads : D → List ℕ) (may_leave : D → List ℕ → T
             server = s.4;
             requests = counts m.requests here.requests;
             placed = subst ArePlaced (sym same) here.placed;
-            clients = subst (λ (ls : List Laptop). Each (LaptopStands m.scripts) ls m.clients) (sym same) here.clients;
+            clients = subst (λ (ls : List (Laptop D)). Each (ClientStands reads may_leave m.scripts) ls m.clients) (sym same) here.clients;
             scripts = subst (λ (ss : List DeclaredScript). Each ScriptStands ss m.scripts) (sym scripts) here.scripts;
             apart = here.apart;
-            few = omega (arith, here.few, ap length same);
+            spare = subst (λ (ds : List D). AllByRecursion (IsEmpty reads may_leave) ds) (sym spare) here.spare;
+            eight = omega (arith, here.eight, ap length same, ap length spare);
           },
         );
   }
 
   -- ---- the end
 
-  module _ (c : ℕ) (old : World D) (was : Laptop) (x : List ℕ) (at : IsAt old c was) where
+  module _ (c : ℕ) (old : World D) (was : Laptop D) (x : List ℕ) (at : IsAt old c was) where
     -- none runs
     pub ends_idle : (y : List ℕ) → running_in (scripts_of old) was ≡ None → y ≡ x ++ line (codes "idle")
         → Steps reads may_leave (Ends c) old old x y tt
@@ -91,7 +101,7 @@ module _ {D : Type 0} (reads : D → List ℕ) (may_leave : D → List ℕ → T
 
     module _ (it : clients.Running) (runs_it : running_in (scripts_of old) was ≡ Some it) where
       ends_then : (new : World D) (y : List ℕ) (P : Next → Type 0)
-          → ((scripts : List Declared) (m : machine.Client) → LaptopStands scripts was m → m.node.durable.running ≡ Some it
+          → ((scripts : List Declared) (m : machine.Client) → LaptopStands reads may_leave scripts was m → m.node.durable.running ≡ Some it
           → P (next_step m.first (base m.node.durable) it))
           → ((n : Next) → P n → Steps reads may_leave (end_by c it n) old new x y tt)
           → Steps reads may_leave (Ends c) old new x y tt
@@ -107,7 +117,7 @@ module _ {D : Type 0} (reads : D → List ℕ) (may_leave : D → List ℕ → T
 
       -- its script has not ended
       pub ends_early : (y : List ℕ)
-          → ((scripts : List Declared) (m : machine.Client) → LaptopStands scripts was m → m.node.durable.running ≡ Some it
+          → ((scripts : List Declared) (m : machine.Client) → LaptopStands reads may_leave scripts was m → m.node.durable.running ≡ Some it
           → IsUnended (next_step m.first (base m.node.durable) it))
           → y ≡ x ++ line (codes "not at end") → Steps reads may_leave (Ends c) old old x y tt
       ends_early y is wrote = ends_then old y IsUnended is early
@@ -118,7 +128,8 @@ module _ {D : Type 0} (reads : D → List ℕ) (may_leave : D → List ℕ → T
           early Acts is = says_this (line (codes "not at end")) old x y wrote
           early (Fetches path) is = says_this (line (codes "not at end")) old x y wrote
 
-      module _ (gone : Gone) (laptop : Laptop) (mid : World D) (ended : Ended gone was laptop) (puts : Puts c laptop old mid) where
+      module _ (gone : Gone) (laptop : Laptop D) (mid : World D) (ended : Ended reads may_leave gone was laptop)
+          (puts : Puts c laptop old mid) where
         abbrev gone_as : MachineEnded
         gone_as = record { name = name_of gone.printed.transaction; printed = gone.printed.output; first = gone.first }
 

@@ -1,13 +1,13 @@
 -- The events of a world's clients are those of the machine's.
-use Rattle.std.proofs.Common.{◌≡◌, ℕ, ◌+◌, ◌<◌, Bool, true, false, List, [], ◌∷◌, ◌++◌, length, map, Option, Some, None}
+use Rattle.std.proofs.Common.{◌≡◌, ℕ, ◌+◌, Bool, true, false, List, [], ◌∷◌, ◌++◌, length, map, Option, Some, None}
 use Rattle.std.proofs.Common.{is_some, append_assoc, refl, sym, ap, subst, ◌∙◌, arith, codes}
 use Rattle.std.proofs.lemmas.List.{append-nil, length-append, map-append}
 use Rattle.std.proofs.lemmas.Option.{same_Some}
 use Rattle.iot_tree.specs.Tree.{Nodes}
 use Rattle.iot_lang.specs.Code.{Code}
-use Rattle.iot_client.specs.States.{Transaction}
-use Rattle.iot_client.specs.Ties.{place_of, state_of, live_of}
-use Rattle.iot_client.specs.Calls.{first_of, is_over_if_any}
+use Rattle.iot_kept.specs.States.{Transaction}
+use Rattle.iot_client.specs.Calls.{is_over_if_any}
+use Rattle.iot_client.specs.Ties.{class_by}
 use Rattle.iot_event.specs.Declarations.{AreDeclared}
 use Rattle.iot_event.specs.Meanings.{is_declared}
 use Rattle.iot_event.specs.declared.event.Event.{Event}
@@ -24,11 +24,14 @@ use Rattle.iot_machine.specs.Events.{declare_client, declare_script, name_of, sa
 use Rattle.iot_machine.specs.Options.{OnConflict}
 use Rattle.iot_machine.specs.Texts.{line, client_line, begin_line, step_line, transaction_name, tree_text}
 use Rattle.iot_machine.specs.Transactions.{Begins, StepsAll, Stepped, Ends, SyncsAll, Synced, runs, next_of}
-use Rattle.iot_world.specs.Laptops.{LaptopStands, RunningStandsIfAny, IsView, new_laptop}
+use Rattle.std.specs.List.{AllByRecursion}
+use Rattle.iot_world.specs.Disks.{IsEmpty}
+use Rattle.iot_world.specs.Laptops.{LaptopStands, ClientStands, awake, RunningStandsIfAny, IsView, new_laptop}
+use Rattle.iot_world.specs.Nodes.{state_in, live_in}
 use Rattle.iot_world.specs.Saying.{place_said}
 use Rattle.iot_world.specs.Scripts.{script_named}
 use Rattle.iot_world.specs.Servers.{ServerStands, HasAnswered}
-use Rattle.iot_world.specs.World.{Each, ScriptStands, StandsFor, Steps, AddsClient, AddsScript, SameCounts, DeclaredOn, scripts_of}
+use Rattle.iot_world.specs.World.{Each, ScriptStands, StandsFor, Steps, AddsClient, AddsScript, SameDeclared, DeclaredOn, scripts_of}
 use Rattle.iot_world.specs.World.{ArePlaced, client_count, script_names}
 use Rattle.iot_world.specs.declared.laptop.Laptop.{Laptop}
 use Rattle.iot_world.specs.declared.server.ServerNode.{ServerNode}
@@ -40,10 +43,10 @@ use Rattle.iot_world.proofs.LaptopsLaws.{Running, place_is}
 use Rattle.iot_world.proofs.ListLaws.{each_push, each_place_push, set_same}
 use Rattle.iot_world.proofs.ReadyLaws.{none_stands}
 use Rattle.iot_world.proofs.StepsLaws.{IsAt, running_in, runs_here, laptop_stands, asks_running, asks_runs}
-use Rattle.iot_world.proofs.ScriptsLaws.{scripts_are, laptops_more, apart_more, undeclared}
+use Rattle.iot_world.proofs.ScriptsLaws.{scripts_are, clients_more, apart_more, undeclared}
 
 -- events that were declared are so after one that declares nothing
-pub declared_after : {D : Type 0} (old new : World D) (later : List Event) → SameCounts old new
+pub declared_after : {D : Type 0} (old new : World D) (later : List Event) → SameDeclared old new
     → AreDeclared later (client_count old) (script_names old) → DeclaredOn later new
 declared_after old new later same declared =
     subst (λ (n : ℕ). AreDeclared later n (script_names new)) (sym same.clients)
@@ -51,9 +54,10 @@ declared_after old new later same declared =
     (sym (ap (map (λ script. script.name)) same.scripts)) declared)
 
 -- so are they after one that declares what it declares
-pub declared_client : {D : Type 0} (name : List ℕ) (old new : World D) (later : List Event) → AddsClient name old new
+pub declared_client : {D : Type 0} (reads : D → List ℕ) (may_leave : D → List ℕ → Type 0) (name : List ℕ) (old new : World D)
+    (later : List Event) → AddsClient reads may_leave name old new
     → DeclaredOn (events.Client name ∷ later) old → DeclaredOn later new
-declared_client name old new later adds declared =
+declared_client reads may_leave name old new later adds declared =
     subst (λ (n : ℕ). AreDeclared later n (script_names new))
     (sym (ap length adds.clients ∙ length-append old.clients.items (adds.laptop ∷ [])))
     (subst (λ (names : List (List ℕ)). AreDeclared later (client_count old + 1) names)
@@ -94,11 +98,13 @@ regrouped u v w x y z b c two third = record {
 
 -- ---- what is said of a transaction that runs
 
-module _ (scripts : List Declared) (laptop : Laptop) (m : machine.Client) (r : Transaction) (here : LaptopStands scripts laptop m)
-    (is : (state_of laptop.client).running ≡ Some r) where
+module _ {D : Type 0} (reads : D → List ℕ) (may_leave : D → List ℕ → Type 0) (scripts : List Declared) (laptop : Laptop D)
+    (m : machine.Client)
+    (r : Transaction) (here : LaptopStands reads may_leave scripts laptop m)
+    (is : (state_in laptop).running ≡ Some r) where
   module _ (it : clients.Running) (runs : m.node.durable.running ≡ Some it) where
-    known : Running (state_of laptop.client).running (live_of laptop.client) m.first it
-    known = laptops.running_is (state_of laptop.client) (live_of laptop.client) m.first m.node.durable here.state it runs
+    known : Running (state_in laptop).running (live_in laptop) m.first it
+    known = laptops.running_is (state_in laptop) (live_in laptop) m.first m.node.durable here.state it runs
 
     own_is : known.own ≡ r
     own_is = same_Some known.own r (sym known.is ∙ is)
@@ -114,13 +120,13 @@ module _ (scripts : List Declared) (laptop : Laptop) (m : machine.Client) (r : T
   by_running text said each = by m.node.durable.running refl here.state.running
     where
       by : (o : Option clients.Running) → o ≡ m.node.durable.running
-          → RunningStandsIfAny (state_of laptop.client).running (live_of laptop.client) m.first o
+          → RunningStandsIfAny (state_in laptop).running (live_in laptop) m.first o
           → said ≡ said_of text o
       by None same stands =
-          absurd (none_stands (state_of laptop.client).running (live_of laptop.client) m.first stands r is)
+          absurd (none_stands (state_in laptop).running (live_in laptop) m.first stands r is)
       by (Some it) same stands = each it (sym same)
 
-  pub begin_said : (first : Bool) → first_of (live_of laptop.client) ≡ Some first
+  pub begin_said : (first : Bool) → class_by (state_in laptop).running (live_in laptop) ≡ Some first
       → begin_line (transaction_name laptop.name r.number) r.script first
       ≡ said_of (λ it. begin_line (transaction_name m.name it.number) it.script.name m.first) m.node.durable.running
   begin_said first class =
@@ -130,28 +136,30 @@ module _ (scripts : List Declared) (laptop : Laptop) (m : machine.Client) (r : T
       ∙ ap (λ (n : List ℕ). begin_line (transaction_name m.name it.number) n first)
       (ap (λ (t : Transaction). t.script) (sym (own_is it runs)) ∙ (known it runs).stands.name)
       ∙ ap (begin_line (transaction_name m.name it.number) it.script.name)
-      (same_Some first (known it runs).besides.first (sym class ∙ ap first_of (known it runs).lives) ∙ (known it runs).stands.class))
+      (same_Some first (known it runs).besides.first
+      (sym class ∙ ap (λ (o : Option Transaction). class_by o (live_in laptop)) is ∙ ap (class_by (Some r)) (known it runs).lives)
+      ∙ (known it runs).stands.class))
 
   pub step_said : step_line (transaction_name laptop.name r.number) (length r.acts)
-      (place_said (is_over_if_any (state_of laptop.client) (live_of laptop.client)) (length r.acts))
+      (place_said (is_over_if_any (state_in laptop) (live_in laptop)) (length r.acts))
       ≡ said_of (λ it. step_line (transaction_name m.name it.number) it.acts (place_text (next_step m.first (base m.node.durable) it)))
       m.node.durable.running
   step_said =
       by_running (λ it. step_line (transaction_name m.name it.number) it.acts (place_text (next_step m.first (base m.node.durable) it))) _
       (λ it runs.
-      let over : Bool = is_over_if_any (state_of laptop.client) (live_of laptop.client) in
+      let over : Bool = is_over_if_any (state_in laptop) (live_in laptop) in
       ap (λ (n : List ℕ). step_line n (length r.acts) (place_said over (length r.acts))) (named it runs)
       ∙ ap (λ (n : ℕ). step_line (transaction_name m.name it.number) n (place_said over (length r.acts)))
       (ap (λ (t : Transaction). length t.acts) (sym (own_is it runs)) ∙ (known it runs).stands.acts)
       ∙ ap (step_line (transaction_name m.name it.number) it.acts)
-      (sym (place_is (state_of laptop.client) (live_of laptop.client) m.first m.node.durable here.state it runs r is)))
+      (sym (place_is (state_in laptop) (live_in laptop) m.first m.node.durable here.state it runs r is)))
 
 module _ {D : Type 0} (reads : D → List ℕ) (may_leave : D → List ℕ → Type 0) where
   -- ---- declarations
 
-  pub declares_client : (name : List ℕ) (old new : World D) (x y : List ℕ) → length old.clients.items < 8 → AddsClient name old new
+  pub declares_client : (name : List ℕ) (old new : World D) (x y : List ℕ) → AddsClient reads may_leave name old new
       → y ≡ x ++ client_line name → Steps reads may_leave (event_part (events.Client name)) old new x y tt
-  declares_client name old new x y few adds wrote = record {
+  declares_client name old new x y adds wrote = record {
     step = λ m here. (
       client_line name,
       declare_client name m,
@@ -162,14 +170,23 @@ module _ {D : Type 0} (reads : D → List ℕ) (may_leave : D → List ℕ → T
         requests = subst (HasAnswered m.requests) (sym adds.server) here.requests;
         placed =
             subst ArePlaced (sym adds.clients)
-            (each_place_push (λ n (l : Laptop). place_of l.client ≡ n) old.clients.items adds.laptop here.placed adds.place);
+            (each_place_push (λ n (l : Laptop D). l.place ≡ n) old.clients.items adds.laptop here.placed adds.place);
         clients =
-            subst (λ (ls : List Laptop). Each (LaptopStands m.scripts) ls (m.clients ++ new_laptop name ∷ [])) (sym adds.clients)
-            (each_push (LaptopStands m.scripts) old.clients.items m.clients adds.laptop (new_laptop name) (adds.stands m.scripts)
-            here.clients);
+            subst (λ (ls : List (Laptop D)). Each (ClientStands reads may_leave m.scripts) ls (m.clients ++ new_laptop name ∷ []))
+            (sym adds.clients)
+            (each_push (ClientStands reads may_leave m.scripts) old.clients.items m.clients adds.laptop (new_laptop name)
+            (awake (adds.stands m.scripts)) here.clients);
         scripts = subst (λ (ss : List DeclaredScript). Each ScriptStands ss m.scripts) (sym adds.scripts) here.scripts;
         apart = here.apart;
-        few = omega (arith, few, ap length adds.clients, length-append old.clients.items (adds.laptop ∷ []));
+        spare = (subst (λ (ds : List D). AllByRecursion (IsEmpty reads may_leave) ds) adds.spare here.spare).1;
+        eight =
+            omega (
+              arith,
+              here.eight,
+              ap length adds.spare,
+              ap length adds.clients,
+              length-append old.clients.items (adds.laptop ∷ []),
+            );
       },
     );
   }
@@ -187,8 +204,8 @@ module _ {D : Type 0} (reads : D → List ℕ) (may_leave : D → List ℕ → T
         server = subst (λ (s : ServerNode D). ServerStands reads may_leave s m.server) (sym adds.server) here.server;
         requests = subst (HasAnswered m.requests) (sym adds.server) here.requests;
         clients =
-            subst (λ (ls : List Laptop). Each (LaptopStands (m.scripts ++ one ∷ [])) ls m.clients) (sym adds.clients)
-            (laptops_more m.scripts one old.clients.items m.clients here.clients);
+            subst (λ (ls : List (Laptop D)). Each (ClientStands reads may_leave (m.scripts ++ one ∷ [])) ls m.clients) (sym adds.clients)
+            (clients_more m.scripts one reads may_leave old.clients.items m.clients here.clients);
         placed = subst ArePlaced (sym adds.clients) here.placed;
         scripts =
             subst (λ (ss : List DeclaredScript). Each ScriptStands ss (m.scripts ++ one ∷ [])) (sym adds.scripts)
@@ -196,7 +213,8 @@ module _ {D : Type 0} (reads : D → List ℕ) (may_leave : D → List ℕ → T
         apart =
             apart_more m.scripts one here.apart
             (ap (script_named name) (scripts_are old.scripts.items m.scripts here.scripts) ∙ undeclared old.scripts.items name none);
-        few = omega (arith, here.few, ap length adds.clients);
+        spare = subst (λ (ds : List D). AllByRecursion (IsEmpty reads may_leave) ds) (sym adds.spare) here.spare;
+        eight = omega (arith, here.eight, ap length adds.clients, ap length adds.spare);
       },
     );
   }
@@ -219,7 +237,7 @@ module _ {D : Type 0} (reads : D → List ℕ) (may_leave : D → List ℕ → T
 
   -- ---- what is said of a client
 
-  module _ (c : ℕ) (world : World D) (laptop : Laptop) (at : IsAt world c laptop) (x y : List ℕ) where
+  module _ (c : ℕ) (world : World D) (laptop : Laptop D) (at : IsAt world c laptop) (x y : List ℕ) where
     pub says_name : (text : List ℕ → List ℕ) → y ≡ x ++ text laptop.name
         → Steps reads may_leave (Says (λ m. text (name_of c m))) world world x y tt
     says_name text wrote =
@@ -246,31 +264,33 @@ module _ {D : Type 0} (reads : D → List ℕ) (may_leave : D → List ℕ → T
           (λ m. none_said m (λ it. step_line (transaction_name (name_of c m) it.number) it.acts (place_text (next_of c it m))))
 
     -- of the one that runs it is said what it is
-    module _ (r : Transaction) (is : (state_of laptop.client).running ≡ Some r) where
-      pub says_begun : (first : Bool) → first_of (live_of laptop.client) ≡ Some first
+    module _ (r : Transaction) (is : (state_in laptop).running ≡ Some r) where
+      pub says_begun : (first : Bool) → class_by (state_in laptop).running (live_in laptop) ≡ Some first
           → y ≡ x ++ begin_line (transaction_name laptop.name r.number) r.script first
           → Steps reads may_leave (Says (begin_text c)) world world x y tt
       says_begun first class wrote =
           says world x y
           (λ m here.
           wrote ∙ ap (λ (t : List ℕ). x ++ t)
-          (begin_said m.scripts laptop (client_in m c) r (laptop_stands reads may_leave world m c laptop at here) is first class))
+          (begin_said reads may_leave m.scripts laptop (client_in m c) r (laptop_stands reads may_leave world m c laptop at here) is first
+          class))
 
       pub says_stepped : y ≡ x ++ step_line (transaction_name laptop.name r.number) (length r.acts)
-          (place_said (is_over_if_any (state_of laptop.client) (live_of laptop.client)) (length r.acts))
+          (place_said (is_over_if_any (state_in laptop) (live_in laptop)) (length r.acts))
           → Steps reads may_leave (Says (step_text c)) world world x y tt
       says_stepped wrote =
           says world x y
           (λ m here.
           wrote ∙ ap (λ (t : List ℕ). x ++ t)
-          (step_said m.scripts laptop (client_in m c) r (laptop_stands reads may_leave world m c laptop at here) is))
+          (step_said reads may_leave m.scripts laptop (client_in m c) r (laptop_stands reads may_leave world m c laptop at here) is))
 
     -- what it sees
-    pub shows_view : (t : Nodes) → IsView t laptop → y ≡ x ++ tree_text t
+    pub shows_view : (t : Nodes) → IsView reads may_leave t laptop → y ≡ x ++ tree_text t
         → Steps reads may_leave (event_part (events.ShowClient c)) world world x y tt
     shows_view t is wrote = record {
       step = λ m here.
-          let there : LaptopStands m.scripts laptop (client_in m c) = laptop_stands reads may_leave world m c laptop at here in
+          let there : LaptopStands reads may_leave m.scripts laptop (client_in m c) =
+          laptop_stands reads may_leave world m c laptop at here in
           let text : List ℕ = tree_text (view (kept_by c m)) in (
             text,
             m,
@@ -294,7 +314,7 @@ module _ {D : Type 0} (reads : D → List ℕ) (may_leave : D → List ℕ → T
 
   -- ---- begin, steps and run
 
-  pub steps_aloud : (c most : ℕ) (old mid : World D) (was : Laptop) (x y z : List ℕ) (it : clients.Running) (answer : Stepped)
+  pub steps_aloud : (c most : ℕ) (old mid : World D) (was : Laptop D) (x y z : List ℕ) (it : clients.Running) (answer : Stepped)
       → IsAt old c was → running_in (scripts_of old) was ≡ Some it
       → Steps reads may_leave (StepsAll c true most) old mid x y answer
       → Steps reads may_leave (Says (step_text c)) mid mid y z tt
@@ -305,7 +325,7 @@ module _ {D : Type 0} (reads : D → List ℕ) (may_leave : D → List ℕ → T
       (asks_running reads may_leave c old was x at))
       (bind old mid mid x y z answer tt all said)
 
-  pub none_to_step : (c most : ℕ) (old : World D) (was : Laptop) (x y : List ℕ) → IsAt old c was → running_in (scripts_of old) was ≡ None
+  pub none_to_step : (c most : ℕ) (old : World D) (was : Laptop D) (x y : List ℕ) → IsAt old c was → running_in (scripts_of old) was ≡ None
       → y ≡ x ++ line (codes "idle") → Steps reads may_leave (StepsAloud c most) old old x y tt
   none_to_step c most old was x y at none wrote =
       bind old old old x x y None tt
@@ -315,9 +335,9 @@ module _ {D : Type 0} (reads : D → List ℕ) (may_leave : D → List ℕ → T
 
   -- ---- run
 
-  module _ (c s : ℕ) (option : OnConflict ℕ) (old : World D) (was : Laptop) (at : IsAt old c was) where
+  module _ (c s : ℕ) (option : OnConflict ℕ) (old : World D) (was : Laptop D) (at : IsAt old c was) where
     -- one runs
-    pub run_busy : (x y : List ℕ) → is_some (state_of was.client).running ≡ true → y ≡ x ++ line (codes "busy")
+    pub run_busy : (x y : List ℕ) → is_some (state_in was).running ≡ true → y ≡ x ++ line (codes "busy")
         → Steps reads may_leave (Runs c s option) old old x y tt
     run_busy x y busy wrote =
         bind old old old x x y true tt
@@ -325,7 +345,7 @@ module _ {D : Type 0} (reads : D → List ℕ) (may_leave : D → List ℕ → T
         (says_this (line (codes "busy")) old x y wrote)
 
     -- none does
-    pub run_idle : (mid new : World D) (x y z : List ℕ) → is_some (state_of was.client).running ≡ false
+    pub run_idle : (mid new : World D) (x y z : List ℕ) → is_some (state_in was).running ≡ false
         → Steps reads may_leave (Then (Asks (is_connected c)) (SyncsIf c)) old mid x y tt
         → Steps reads may_leave (runs_script c s option) mid new y z tt → Steps reads may_leave (Runs c s option) old new x z tt
     run_idle mid new x y z idle one other =
@@ -333,7 +353,7 @@ module _ {D : Type 0} (reads : D → List ℕ) (may_leave : D → List ℕ → T
         (subst (λ (b : Bool). Steps reads may_leave (Asks (runs c)) old old x x b) idle (asks_runs reads may_leave c old was x at))
         (regrouped old mid new x y z tt tt one other)
 
-  module _ (c : ℕ) (old : World D) (was : Laptop) (at : IsAt old c was) (x : List ℕ) where
+  module _ (c : ℕ) (old : World D) (was : Laptop D) (at : IsAt old c was) (x : List ℕ) where
     asks_connected : Steps reads may_leave (Asks (is_connected c)) old old x x was.link.up
     asks_connected =
         asks old x was.link.up (λ m here. ap (λ (l : LinkState). l.up) (laptop_stands reads may_leave old m c was at here).link)

@@ -1,6 +1,5 @@
 -- How each call of a laptop changes the client of the machine for which it stands.
-use Rattle.std.proofs.Common.{◌≡◌, Bool, true, false, List, [], ◌∷◌, Option, Some, None, Ok, inl, inr, refl, sym, ap, subst, ◌∙◌, ℕ}
-use Rattle.std.proofs.lemmas.Option.{same_Some}
+use Rattle.std.proofs.Common.{◌≡◌, Bool, true, false, List, Option, Some, None, Ok, inl, inr, refl, sym, ap, subst, ◌∙◌, ℕ}
 use Rattle.iot_tree.specs.Tree.{Nodes, IsTree, root_alone}
 use Rattle.iot_tree.specs.declared.acts.Act.{Act}
 use Rattle.iot_tree.specs.declared.acts.Read.{Read}
@@ -11,23 +10,22 @@ use Rattle.iot_tree.proofs.RowLaws.{root_rows, root_map}
 use Rattle.iot_lang.specs.Code.{Code}
 use Rattle.iot_lang.specs.Scripts.{IsScript}
 use Rattle.iot_exec.specs.declared.ran.Ran.{Ran}
-use Rattle.iot_queue.specs.declared.items.Item.{Item}
 use Rattle.iot_wire.specs.declared.replies.Reply.TheVariants as replies
 use Rattle.iot_codec.specs.Rules.{IsTreeOfRows}
-use Rattle.iot_client.specs.Messages.{ReadsObjects, ReadsNoted, noted_in}
-use Rattle.iot_client.specs.States.{Transaction, State, acts_of, opening}
+use Rattle.iot_client.specs.Messages.{ReadsObjects, ReadsNoted, noted_in, IsRefresh}
+use Rattle.iot_tree.specs.declared.want.Want.TheVariants as wants
+use Rattle.iot_kept.specs.States.{Transaction, State, acts_of, opening}
 use Rattle.iot_client.specs.Ties.{Live, state_of, live_of, place_of, IsTied, IsOwnRunIfAny}
 use Rattle.iot_client.specs.Calls.{Notes, Brings, Reruns, Resolves, StepIsIfAny, Ends, EndsIfAny, may_end}
-use Rattle.iot_client.specs.Calls.{conflict_record, verdict_record}
+use Rattle.iot_client.specs.Calls.{verdict_change}
 use Rattle.iot_client.specs.declared.client.Client.{Client}
-use Rattle.iot_client.specs.declared.record.Record.TheVariants.{Held, Fetched, Acted, Ended, Left, Conflicted}
-use Rattle.iot_client.specs.declared.record.Record.{Record}
+use Rattle.iot_changes.specs.declared.changes.Change.TheVariants.{Held, Fetched, Acted, Ended, Left, Conflicted}
+use Rattle.iot_changes.specs.declared.changes.Change.{Change}
 use Rattle.iot_client.specs.declared.noted.Noted.{Noted as NotedIn}
 use Rattle.iot_client.specs.declared.noted.Noted.TheVariants as noteds
-use Rattle.iot_client.specs.declared.running.Ended as client
+use Rattle.iot_client.specs.declared.ended.Ended as client
 use Rattle.iot_client.specs.declared.steps.Step.{Step}
 use Rattle.iot_client.specs.declared.steps.Step.TheVariants as steps
-use Rattle.iot_client.proofs.StepsLaws.{own}
 use Rattle.iot_link.specs.Links as links
 use Rattle.iot_link.specs.Links.{LinkState}
 use Rattle.iot_machine.specs.Clients as clients
@@ -46,8 +44,11 @@ use Rattle.iot_world.specs.Scripts.{AreNamed}
 use Rattle.iot_world.specs.declared.verdict.Verdict.{Verdict}
 use Rattle.iot_world.specs.declared.laptop.Gone.{Gone}
 use Rattle.iot_world.specs.declared.laptop.Laptop.{Laptop}
+use Rattle.iot_world.specs.declared.node.ClientNode.TheVariants.{Up}
+use Rattle.iot_world.specs.Nodes.{state_in, live_in, IsSeated}
+use Rattle.iot_world.proofs.NodesLaws.{at_node, own_in}
 use Rattle.iot_world.proofs.LaptopsLaws.{Running, running_is, so_far_is, may_end_is}
-use Rattle.iot_world.proofs.LaptopStepsLaws.{held_stands, fetched_stands, acted_stands, ended_stands, left_stands}
+use Rattle.iot_world.proofs.LaptopStepsLaws.{held_stands, fetched_stands, acted_stands, ended_stands, left_stands, given_up_stands}
 use Rattle.iot_world.proofs.ResolutionLaws.{resolved_stands}
 use Rattle.iot_world.proofs.LaptopStepsLaws.{conflicted_stands, StaysIn}
 use Rattle.iot_world.proofs.LaptopStepsLaws.{reach_named}
@@ -66,15 +67,16 @@ carried a b x y first m same lives stands =
 far_root_is_tree : IsTree (root_alone FarDir)
 far_root_is_tree = subst IsTree (root_map FarDir) (root_rows FarDir refl).tree
 
-pub new_stands : (scripts : List Declared) (name : List ℕ) (client : Client) (link : LinkState) → state_of client ≡ opening
-    → live_of client ≡ None → IsTied client → link ≡ links.opened
-    → LaptopStands scripts (record { name = name; client = client; link = link }) (new_laptop name)
-new_stands scripts name client link is lives tied up = record {
+pub new_stands : {D : Type 0} (reads : D → List ℕ) (may_leave : D → List ℕ → Type 0) (scripts : List Declared) (name : List ℕ)
+    (place : ℕ) (it : Client D) (link : LinkState) → state_of it ≡ opening → live_of it ≡ None → IsSeated reads may_leave place it
+    → link ≡ links.opened
+    → LaptopStands reads may_leave scripts (record { name = name; place = place; node = Up it; link = link }) (new_laptop name)
+new_stands reads may_leave scripts name place it link is lives seated up = record {
   name = refl;
   link = up;
   alive = refl;
-  tied = tied;
-  state = carried opening (state_of client) None (live_of client) false new_client is lives (record {
+  tied = seated;
+  state = carried opening (state_of it) None (live_of it) false new_client is lives (record {
     held = refl;
     items = tt;
     running = refl;
@@ -88,28 +90,29 @@ new_stands scripts name client link is lives tied up = record {
 -- ---- the transaction that ends
 
 -- what is told of it: its number, its class, and what it printed
-pub record IsTold (old : Laptop) (ended : client.Ended) (gone : Gone) : Type 0 where
+pub record IsTold {D : Type 0} (old : Laptop D) (ended : client.Ended) (gone : Gone) : Type 0 where
   pub named : gone.printed.transaction ≡ record { client = old.name; number = ended.tid }
   pub class : gone.first ≡ ended.first
-  pub printed : gone.printed.output ≡ acts_output (acts_of (state_of old.client).running)
+  pub printed : gone.printed.output ≡ acts_output (acts_of (state_in old).running)
 
-module _ (scripts : List Declared) (old : Laptop) (m : machine.Client) (it : clients.Running) (here : LaptopStands scripts old m)
+module _ {D : Type 0} (reads : D → List ℕ) (may_leave : D → List ℕ → Type 0) (scripts : List Declared) (old : Laptop D)
+    (m : machine.Client) (it : clients.Running) (here : LaptopStands reads may_leave scripts old m)
     (runs : m.node.durable.running ≡ Some it) where
-  ends_own : (ended : client.Ended) (known : Running (state_of old.client).running (live_of old.client) m.first it)
-      → EndsIfAny (state_of old.client) (state_of old.client).running (live_of old.client) ended
-      → Ends (state_of old.client) known.own known.besides ended
+  ends_own : (ended : client.Ended) (known : Running (state_in old).running (live_in old) m.first it)
+      → EndsIfAny (state_in old) (state_in old).running (live_in old) ended
+      → Ends (state_in old) known.own known.besides ended
   ends_own ended known ends =
-      subst (λ (l : Option Live). EndsIfAny (state_of old.client) (Some known.own) l ended) known.lives
-      (subst (λ (r : Option Transaction). EndsIfAny (state_of old.client) r (live_of old.client) ended) known.is ends)
+      subst (λ (l : Option Live). EndsIfAny (state_in old) (Some known.own) l ended) known.lives
+      (subst (λ (r : Option Transaction). EndsIfAny (state_in old) r (live_in old) ended) known.is ends)
 
-  end_of : (ended : client.Ended) (gone : Gone) → IsTold old ended gone → may_end (state_of old.client) (live_of old.client) ≡ true
-      → EndsIfAny (state_of old.client) (state_of old.client).running (live_of old.client) ended → IsEndOf gone m it
+  end_of : (ended : client.Ended) (gone : Gone) → IsTold old ended gone → may_end (state_in old) (live_in old) ≡ true
+      → EndsIfAny (state_in old) (state_in old).running (live_in old) ended → IsEndOf gone m it
   end_of ended gone told over ends =
-      let known : Running (state_of old.client).running (live_of old.client) m.first it =
-      running_is (state_of old.client) (live_of old.client) m.first m.node.durable here.state it runs in
-      let its : Ends (state_of old.client) known.own known.besides ended = ends_own ended known ends in
+      let known : Running (state_in old).running (live_in old) m.first it =
+      running_is (state_in old) (live_in old) m.first m.node.durable here.state it runs in
+      let its : Ends (state_in old) known.own known.besides ended = ends_own ended known ends in
       record {
-        over = (may_end_is (state_of old.client) (live_of old.client) m.first m.node.durable here.state it runs).0 over;
+        over = (may_end_is (state_in old) (live_in old) m.first m.node.durable here.state it runs).0 over;
         name =
             ap name_of told.named ∙ ap (λ (name : List ℕ). transaction_name name ended.tid) here.name
             ∙ ap (transaction_name m.name) (its.number ∙ known.stands.number);
@@ -117,9 +120,9 @@ module _ (scripts : List Declared) (old : Laptop) (m : machine.Client) (it : cli
         did =
             told.printed
             ∙ ap acts_output
-            (sym (subst (IsOwnRunIfAny (state_of old.client)) known.lives (own old.client here.tied)).acts
+            (sym (subst (IsOwnRunIfAny (state_in old)) known.lives (own_in reads may_leave scripts old m here)).acts
             ∙ ap (λ (ran : Ran). ran.acts)
-            (so_far_is (state_of old.client) (live_of old.client) m.first m.node.durable here.state it runs));
+            (so_far_is (state_in old) (live_in old) m.first m.node.durable here.state it runs));
       }
 
 -- ---- what is said of the first that waits
@@ -138,196 +141,261 @@ said_as reads reply (serving.Settled number) said (inr spells) only read =
 said_as reads reply (serving.Conflict place question) said spells only read =
     let is : noted_in reply ≡ Ok (noteds.Conflict place) = only (replies.Conflict place spells.1.answer) spells.1.spelled in cc
 
--- the record of it, by the option
-abbrev told_record : serving.Verdict → OnConflictNamed → Record
-told_record (serving.Settled number) option = Left
-told_record (serving.Conflict read question) option = conflict_record option
+-- the change that is noted of it
+abbrev told_record : serving.Verdict → Change
+told_record (serving.Settled number) = Left
+told_record (serving.Conflict read question) = Conflicted
 
-record_as : (items : List Item) (told : serving.Verdict) (option : OnConflictNamed) → head_option items ≡ Some option
-    → verdict_record (noted_as told) items ≡ told_record told option
-record_as [] told option is = absurd cc
-record_as (item ∷ items) (serving.Settled number) option is = refl
-record_as (item ∷ items) (serving.Conflict read question) option is = ap conflict_record (same_Some _ _ is)
+record_as : (told : serving.Verdict) → verdict_change (noted_as told) ≡ told_record told
+record_as (serving.Settled number) = refl
+record_as (serving.Conflict read question) = refl
 
 -- ---- changes of what is durable
 
-module _ (old new : Laptop) (same : new.name ≡ old.name) (same_link : new.link ≡ old.link) (tied : IsTied new.client) where
+module _ {D : Type 0} (reads : D → List ℕ) (may_leave : D → List ℕ → Type 0) (laptop : Laptop D) (was now : Client D)
+    (tied : IsTied reads may_leave now) where
+  abbrev old : Laptop D
+  old = record laptop { node = Up was }
+
+  abbrev new : Laptop D
+  new = record laptop { node = Up now }
+
   abbrev is_noted : (ClientState → ClientState) → State → Option Live → Type 0
   is_noted change next live =
-      (scripts : List Declared) (m : machine.Client) → LaptopStands scripts old m → StateStands next live m.first (change m.node.durable)
+      (scripts : List Declared) (m : machine.Client) → LaptopStands reads may_leave scripts old m
+      → StateStands next live m.first (change m.node.durable)
 
   -- it stands for a client with this change
   stands_now : (scripts : List Declared) (m : machine.Client) (change : ClientState → ClientState) (first : Bool) (next : State)
-      (live : Option Live) → state_of new.client ≡ next → live_of new.client ≡ live → LaptopStands scripts old m
+      (live : Option Live) → state_of now ≡ next → live_of now ≡ live → place_of now ≡ place_of was
+      → LaptopStands reads may_leave scripts old m
       → StateStands next live first (change m.node.durable) → AreNamed scripts (change m.node.durable)
-      → LaptopStands scripts new (record m { node = changed change m.node; first = first })
-  stands_now scripts m change first next live is lives here state named = record {
-    name = same ∙ here.name;
-    link = same_link ∙ here.link;
+      → LaptopStands reads may_leave scripts new (record m { node = changed change m.node; first = first })
+  stands_now scripts m change first next live is lives place here state named = record {
+    name = here.name;
+    link = here.link;
     alive = here.alive;
-    tied = tied;
-    state = carried next (state_of new.client) live (live_of new.client) first (change m.node.durable) is lives state;
+    tied = record { place_is = place ∙ here.tied.place_is; tied = tied };
+    state = carried next (state_of now) live (live_of now) first (change m.node.durable) is lives state;
     named = named;
   }
 
-  noted : (change : ClientState → ClientState) (next : State) (live : Option Live) → state_of new.client ≡ next
-      → live_of new.client ≡ live → place_of new.client ≡ place_of old.client → ((scripts : List Declared) → KeepsNamed scripts change)
-      → is_noted change next live → Noted change old new
+  noted : (change : ClientState → ClientState) (next : State) (live : Option Live) → state_of now ≡ next
+      → live_of now ≡ live → place_of now ≡ place_of was → ((scripts : List Declared) → KeepsNamed scripts change)
+      → is_noted change next live → Noted reads may_leave change old new
   noted change next live is lives place keeps each = record {
-    place = place;
+    place = refl;
     stands = λ scripts m here.
-        stands_now scripts m change m.first next live is lives here (each scripts m here) (keeps scripts m.node.durable here.named);
+        stands_now scripts m change m.first next live is lives place here (each scripts m here) (keeps scripts m.node.durable here.named);
   }
 
   -- ---- trees that replies bring
 
-  noted_held : (t : Nodes) → IsTreeOfRows t → Notes (Held t) old.client new.client → live_of new.client ≡ None → Noted (hold t) old new
+  noted_held : (t : Nodes) → IsTreeOfRows t → Notes (Held t) was now → live_of now ≡ None → Noted reads may_leave (hold t) old new
   noted_held t rows notes lives =
       noted (hold t) _ None notes.state lives notes.place (λ scripts. hold_named scripts t)
       (λ scripts m here.
-      held_stands (state_of old.client) (live_of old.client) m.first m.node.durable here.state t notes.follows rows.tree
+      held_stands (state_of was) (live_of was) m.first m.node.durable here.state t notes.follows rows.tree
       (rows_spelled t rows))
 
-  pub holds : (reply : List ℕ) (t : Nodes) → ReadsObjects reply → Brings (λ tree. Held tree) reply old.client new.client
-      → live_of new.client ≡ None → SpellsTree reply t → Noted (hold t) old new
-  holds reply t only brings lives spells =
+  holds_now : (reply : List ℕ) (t : Nodes) → ReadsObjects reply → Brings (λ tree. Held tree) reply was now
+      → live_of now ≡ None → SpellsTree reply t → Noted reads may_leave (hold t) old new
+  holds_now reply t only brings lives spells =
       noted_held t spells.value
-      (subst (λ (tree : Nodes). Notes (Held tree) old.client new.client) (brought_tree reply brings.tree t only brings.brought spells)
+      (subst (λ (tree : Nodes). Notes (Held tree) was now) (brought_tree reply brings.tree t only brings.brought spells)
       brings.notes)
       lives
 
-  noted_fetched : (t : Nodes) → IsTreeOfRows t → Notes (Fetched t) old.client new.client → live_of new.client ≡ live_of old.client
-      → Noted (fetch t) old new
+  noted_fetched : (t : Nodes) → IsTreeOfRows t → Notes (Fetched t) was now → live_of now ≡ live_of was
+      → Noted reads may_leave (fetch t) old new
   noted_fetched t rows notes lives =
-      noted (fetch t) _ (live_of old.client) notes.state lives notes.place (λ scripts. fetch_named scripts t)
+      noted (fetch t) _ (live_of was) notes.state lives notes.place (λ scripts. fetch_named scripts t)
       (λ scripts m here.
-      fetched_stands (state_of old.client) (live_of old.client) m.first m.node.durable here.state t notes.follows rows.tree
+      fetched_stands (state_of was) (live_of was) m.first m.node.durable here.state t notes.follows rows.tree
       (rows_spelled t rows))
 
-  pub fetches : (reply : List ℕ) (t : Nodes) → ReadsObjects reply → Brings (λ tree. Fetched tree) reply old.client new.client
-      → live_of new.client ≡ live_of old.client → SpellsTree reply t → Noted (fetch t) old new
-  fetches reply t only brings lives spells =
+  fetches_now : (reply : List ℕ) (t : Nodes) → ReadsObjects reply → Brings (λ tree. Fetched tree) reply was now
+      → live_of now ≡ live_of was → SpellsTree reply t → Noted reads may_leave (fetch t) old new
+  fetches_now reply t only brings lives spells =
       noted_fetched t spells.value
-      (subst (λ (tree : Nodes). Notes (Fetched tree) old.client new.client) (brought_tree reply brings.tree t only brings.brought spells)
+      (subst (λ (tree : Nodes). Notes (Fetched tree) was now) (brought_tree reply brings.tree t only brings.brought spells)
       brings.notes)
       lives
 
   -- ---- the first that waits
 
-  pub noted_left : Notes Left old.client new.client → live_of new.client ≡ live_of old.client → Noted leave old new
-  noted_left notes lives =
-      noted leave _ (live_of old.client) notes.state lives notes.place leave_named
-      (λ scripts m here. left_stands (state_of old.client) (live_of old.client) m.first m.node.durable here.state notes.follows)
+  left_now : Notes Left was now → live_of now ≡ live_of was → Noted reads may_leave leave old new
+  left_now notes lives =
+      noted leave _ (live_of was) notes.state lives notes.place leave_named
+      (λ scripts m here. left_stands (state_of was) (live_of was) m.first m.node.durable here.state notes.follows)
 
-  noted_reached : (option : OnConflictNamed) (other : clients.Stage) → head_option (state_of old.client).items ≡ Some option
-      → StaysIn option other → Notes Conflicted old.client new.client → live_of new.client ≡ live_of old.client
-      → Noted (reach other) old new
+  noted_reached : (option : OnConflictNamed) (other : clients.Stage) → head_option (state_of was).items ≡ Some option
+      → StaysIn option other → Notes Conflicted was now → live_of now ≡ live_of was
+      → Noted reads may_leave (reach other) old new
   noted_reached option other is stays notes lives =
-      noted (reach other) _ (live_of old.client) notes.state lives notes.place (λ scripts. reach_named scripts other)
+      noted (reach other) _ (live_of was) notes.state lives notes.place (λ scripts. reach_named scripts other)
       (λ scripts m here.
-      conflicted_stands (state_of old.client) (live_of old.client) m.first m.node.durable here.state option other is stays)
+      conflicted_stands (state_of was) (live_of was) m.first m.node.durable here.state option other is stays)
+
+  noted_given_up : head_option (state_of was).items ≡ Some on.Abort → Notes Conflicted was now → live_of now ≡ live_of was
+      → Noted reads may_leave leave old new
+  noted_given_up is notes lives =
+      noted leave _ (live_of was) notes.state lives notes.place leave_named
+      (λ scripts m here.
+      given_up_stands (state_of was) (live_of was) m.first m.node.durable here.state is)
 
   -- what becomes of it by what is said of it
-  pub noted_told : (told : serving.Verdict) (option : OnConflictNamed) → head_option (state_of old.client).items ≡ Some option
-      → Notes (told_record told option) old.client new.client → live_of new.client ≡ live_of old.client
-      → Noted (told_change told option) old new
-  noted_told (serving.Settled number) option is notes lives = noted_left notes lives
+  noted_told : (told : serving.Verdict) (option : OnConflictNamed) → head_option (state_of was).items ≡ Some option
+      → Notes (told_record told) was now → live_of now ≡ live_of was
+      → Noted reads may_leave (told_change told option) old new
+  noted_told (serving.Settled number) option is notes lives = left_now notes lives
   noted_told (serving.Conflict read question) on.Reexec is notes lives = noted_reached on.Reexec clients.Conflict is refl notes lives
   noted_told (serving.Conflict read question) (on.Resolver name) is notes lives =
       noted_reached (on.Resolver name) clients.Conflict is refl notes lives
-  noted_told (serving.Conflict read question) on.Abort is notes lives = noted_left notes lives
+  noted_told (serving.Conflict read question) on.Abort is notes lives = noted_given_up is notes lives
   noted_told (serving.Conflict read question) on.Manual is notes lives = noted_reached on.Manual clients.Manual is refl notes lives
 
-  pub noted_verdict : (reply : List ℕ) (verdict : Verdict) (said : NotedIn) (option : OnConflictNamed)
-      → head_option (state_of old.client).items ≡ Some option
-      → IsVerdict (head_reads (state_of old.client).items) reply
-      → ((told : serving.Verdict) → SpellsVerdict (head_reads (state_of old.client).items) reply told → verdict_of verdict ≡ told)
+  verdict_now : (reply : List ℕ) (verdict : Verdict) (said : NotedIn) (option : OnConflictNamed)
+      → head_option (state_of was).items ≡ Some option
+      → IsVerdict (head_reads (state_of was).items) reply
+      → ((told : serving.Verdict) → SpellsVerdict (head_reads (state_of was).items) reply told → verdict_of verdict ≡ told)
       → ReadsNoted reply → noted_in reply ≡ Ok said
-      → Notes (verdict_record said (state_of old.client).items) old.client new.client → live_of new.client ≡ live_of old.client
-      → Noted (told_change (verdict_of verdict) option) old new
-  noted_verdict reply verdict said option is told each only read notes lives =
-      subst (λ (told : serving.Verdict). Noted (told_change told option) old new) (sym (each told.told told.is))
+      → Notes (verdict_change said) was now → live_of now ≡ live_of was
+      → Noted reads may_leave (told_change (verdict_of verdict) option) old new
+  verdict_now reply verdict said option is told each only read notes lives =
+      subst (λ (told : serving.Verdict). Noted reads may_leave (told_change told option) old new) (sym (each told.told told.is))
       (noted_told told.told option is
-      (subst (λ (record_now : Record). Notes record_now old.client new.client)
-      (ap (λ (said : NotedIn). verdict_record said (state_of old.client).items)
-      (said_as (head_reads (state_of old.client).items) reply told.told said told.is only read)
-      ∙ record_as (state_of old.client).items told.told option is)
+      (subst (λ (change : Change). Notes change was now)
+      (ap verdict_change (said_as (head_reads (state_of was).items) reply told.told said told.is only read) ∙ record_as told.told)
       notes)
       lives)
 
   -- it was resolved on the whole tree that the reply brings
-  resolves_on : (code : Code) (t : Nodes) → IsScript code → IsTreeOfRows t → Reruns code t old.client new.client
-      → live_of new.client ≡ live_of old.client → laptops.Resolved code t old new
+  resolves_on : (code : Code) (t : Nodes) → IsScript code → IsTreeOfRows t → Reruns code t was now
+      → live_of now ≡ live_of was → laptops.Resolved reads may_leave code t old new
   resolves_on code t script rows reruns lives = record {
-    place = reruns.notes.place;
+    place = refl;
     stands = λ scripts m plan here planned same.
-        stands_now scripts m (reach (clients.Resolved (resolution_of plan t))) m.first _ (live_of old.client) reruns.notes.state lives here
-        (resolved_stands (state_of old.client) (live_of old.client) m.first m.node.durable here.state plan planned code same script t
-        rows.tree (rows_spelled t rows) reruns.done reruns.run)
+        stands_now scripts m (reach (clients.Resolved (resolution_of plan t))) m.first _ (live_of was) reruns.notes.state lives
+        reruns.notes.place here
+        (resolved_stands (state_of was) (live_of was) m.first m.node.durable here.state plan planned code same script t
+        rows.tree reruns.done reruns.run)
         (reach_named scripts (clients.Resolved (resolution_of plan t)) m.node.durable here.named);
   }
 
-  pub resolves_with : (reply : List ℕ) (code : Code) (t : Nodes) → IsScript code → ReadsObjects reply
-      → Resolves reply code old.client new.client → live_of new.client ≡ live_of old.client → SpellsTree reply t
-      → laptops.Resolved code t old new
-  resolves_with reply code t script only resolves lives spells =
+  resolves_now : (reply : List ℕ) (code : Code) (t : Nodes) → IsScript code → ReadsObjects reply
+      → Resolves reply code was now → live_of now ≡ live_of was → SpellsTree reply t
+      → laptops.Resolved reads may_leave code t old new
+  resolves_now reply code t script only resolves lives spells =
       resolves_on code t script spells.value
-      (subst (λ (tree : Nodes). Reruns code tree old.client new.client)
+      (subst (λ (tree : Nodes). Reruns code tree was now)
       (brought_tree reply resolves.tree t only (only resolves.tree resolves.spelled) spells) resolves.reruns)
       lives
 
   -- ---- steps
 
-  noted_acted : (act : Act) → Notes (Acted act) old.client new.client → live_of new.client ≡ live_of old.client → Noted act_once old new
+  noted_acted : (act : Act) → Notes (Acted act) was now → live_of now ≡ live_of was → Noted reads may_leave act_once old new
   noted_acted act notes lives =
-      noted act_once _ (live_of old.client) notes.state lives notes.place act_named
-      (λ scripts m here. acted_stands (state_of old.client) (live_of old.client) m.first m.node.durable here.state act)
+      noted act_once _ (live_of was) notes.state lives notes.place act_named
+      (λ scripts m here. acted_stands (state_of was) (live_of was) m.first m.node.durable here.state act)
 
-  stays : new.client ≡ old.client → new ≡ old
-  stays is =
-      ap (λ (name : List ℕ). laptop name new.client new.link) same ∙ ap (λ (client : Client). laptop old.name client new.link) is
-      ∙ ap (laptop old.name old.client) same_link
-    where
-      laptop : List ℕ → Client → LinkState → Laptop
-      laptop name client link = record { name = name; client = client; link = link }
+  stays : now ≡ was → new ≡ old
+  stays is = ap (λ (it : Client D). record laptop { node = Up it }) is
 
-  step_noted : (live : Option Live) → live ≡ live_of old.client → live_of new.client ≡ live_of old.client → (step : Step)
-      → StepIsIfAny old.client live step new.client → StepNoted step old new
-  step_noted None is lives step does = absurd does
-  step_noted (Some l) is lives (steps.Acted acts ended) does = noted_acted does.act does.notes lives
-  step_noted (Some l) is lives (steps.Fetch request path) does =
-      (stays does.1.stays, does.0, subst IsFirstOf is does.1.first)
-  step_noted (Some l) is lives (steps.AtEnd acts) does = stays does.2
-  step_noted (Some l) is lives (steps.AtLimit acts) does = stays does.3
+  step_noted : place_of was ≡ laptop.place → (live : Option Live) → live ≡ live_of was → live_of now ≡ live_of was → (step : Step)
+      → StepIsIfAny was live step now → StepNoted reads may_leave step old new
+  step_noted place None is lives step does = absurd does
+  step_noted place (Some l) is lives (steps.Acted acts ended) does = noted_acted does.act does.notes lives
+  step_noted place (Some l) is lives (steps.Fetch request path) does = (
+    stays does.1.stays,
+    subst (λ (p : ℕ). IsRefresh p (state_of was).held (wants.Path path) request) place does.0,
+    subst IsFirstOf is does.1.first,
+  )
+  step_noted place (Some l) is lives (steps.AtEnd acts) does = stays does.2
+  step_noted place (Some l) is lives (steps.AtLimit acts) does = stays does.3
 
-  step_next : (live : Option Live) → live ≡ live_of old.client → (step : Step) → StepIsIfAny old.client live step new.client
-      → (scripts : List Declared) (m : machine.Client) (it : clients.Running) → LaptopStands scripts old m
+  step_next : (live : Option Live) → live ≡ live_of was → (step : Step) → StepIsIfAny was live step now
+      → (scripts : List Declared) (m : machine.Client) (it : clients.Running) → LaptopStands reads may_leave scripts old m
       → m.node.durable.running ≡ Some it → clients.next_step m.first (base m.node.durable) it ≡ laptops.next_as step
   step_next None is step does scripts m it here runs = absurd does
   step_next (Some l) is step does scripts m it here runs =
-      next_is old.client new.client m.first m.node.durable here.state it runs l (sym is) step does
+      next_is was now m.first m.node.durable here.state it runs l (sym is) step does
 
-  pub stepped : (step : Step) → live_of new.client ≡ live_of old.client
-      → StepIsIfAny old.client (live_of old.client) step new.client → Stepped step old new
-  stepped step lives does = record {
-    next = step_next (live_of old.client) refl step does;
-    noted = step_noted (live_of old.client) refl lives step does;
+  stepped_now : (step : Step) → place_of was ≡ laptop.place → live_of now ≡ live_of was
+      → StepIsIfAny was (live_of was) step now → Stepped reads may_leave step old new
+  stepped_now step place lives does = record {
+    next = step_next (live_of was) refl step does;
+    noted = step_noted place (live_of was) refl lives step does;
   }
 
   -- ---- the end
 
-  noted_ended : (ended : client.Ended) → EndsIfAny (state_of old.client) (state_of old.client).running (live_of old.client) ended
-      → Notes Ended old.client new.client → live_of new.client ≡ None → Noted end old new
+  noted_ended : (ended : client.Ended) → EndsIfAny (state_of was) (state_of was).running (live_of was) ended
+      → Notes Ended was now → live_of now ≡ None → Noted reads may_leave end old new
   noted_ended ended ends notes lives =
       noted end _ None notes.state lives notes.place end_named
-      (λ scripts m here. ended_stands (state_of old.client) (live_of old.client) m.first m.node.durable here.state ended ends)
+      (λ scripts m here. ended_stands (state_of was) (live_of was) m.first m.node.durable here.state ended ends)
 
-  pub gone_is : (ended : client.Ended) (gone : Gone) → IsTold old ended gone → may_end (state_of old.client) (live_of old.client) ≡ true
-      → EndsIfAny (state_of old.client) (state_of old.client).running (live_of old.client) ended
-      → Notes Ended old.client new.client → live_of new.client ≡ None → laptops.Ended gone old new
-  gone_is ended gone told may ends notes lives = record {
+  gone_now : (ended : client.Ended) (gone : Gone) → IsTold old ended gone → may_end (state_of was) (live_of was) ≡ true
+      → EndsIfAny (state_of was) (state_of was).running (live_of was) ended
+      → Notes Ended was now → live_of now ≡ None → laptops.Ended reads may_leave gone old new
+  gone_now ended gone told may ends notes lives = record {
     noted = noted_ended ended ends notes lives;
-    ends = λ scripts m it here runs. end_of scripts old m it here runs ended gone told may ends;
+    ends = λ scripts m it here runs. end_of reads may_leave scripts old m it here runs ended gone told may ends;
     waits = ap (λ (s : State). waits_of s.items) notes.state
-        ∙ joined_waits (state_of old.client).items (state_of old.client).running notes.follows;
+        ∙ joined_waits (state_of was).items (state_of was).running notes.follows;
   }
+
+  -- ---- of the laptop in hand
+
+  module _ (is : laptop.node ≡ Up was) where
+    abbrev hand : old ≡ laptop
+    hand = at_node laptop (Up was) is
+
+    pub holds : (reply : List ℕ) (t : Nodes) → ReadsObjects reply → Brings (λ tree. Held tree) reply was now → live_of now ≡ None
+        → SpellsTree reply t → Noted reads may_leave (hold t) laptop new
+    holds reply t only brings lives spells =
+        subst (λ (l : Laptop D). Noted reads may_leave (hold t) l new) hand (holds_now reply t only brings lives spells)
+
+    pub fetches : (reply : List ℕ) (t : Nodes) → ReadsObjects reply → Brings (λ tree. Fetched tree) reply was now
+        → live_of now ≡ live_of was → SpellsTree reply t → Noted reads may_leave (fetch t) laptop new
+    fetches reply t only brings lives spells =
+        subst (λ (l : Laptop D). Noted reads may_leave (fetch t) l new) hand (fetches_now reply t only brings lives spells)
+
+    pub leaves : Notes Left was now → live_of now ≡ live_of was → Noted reads may_leave leave laptop new
+    leaves notes lives = subst (λ (l : Laptop D). Noted reads may_leave leave l new) hand (left_now notes lives)
+
+    pub noted_verdict : (reply : List ℕ) (verdict : Verdict) (said : NotedIn) (option : OnConflictNamed)
+        → head_option (state_in laptop).items ≡ Some option
+        → IsVerdict (head_reads (state_in laptop).items) reply
+        → ((told : serving.Verdict) → SpellsVerdict (head_reads (state_in laptop).items) reply told → verdict_of verdict ≡ told)
+        → ReadsNoted reply → noted_in reply ≡ Ok said
+        → Notes (verdict_change said) was now → live_of now ≡ live_of was
+        → Noted reads may_leave (told_change (verdict_of verdict) option) laptop new
+    noted_verdict reply verdict said option first told each only read notes lives =
+        subst
+        (λ (l : Laptop D). head_option (state_in l).items ≡ Some option → IsVerdict (head_reads (state_in l).items) reply
+        → ((told : serving.Verdict) → SpellsVerdict (head_reads (state_in l).items) reply told → verdict_of verdict ≡ told)
+        → Noted reads may_leave (told_change (verdict_of verdict) option) l new)
+        hand (λ first told each. verdict_now reply verdict said option first told each only read notes lives) first told each
+
+    pub resolves_with : (reply : List ℕ) (code : Code) (t : Nodes) → IsScript code → ReadsObjects reply
+        → Resolves reply code was now → live_of now ≡ live_of was → SpellsTree reply t
+        → laptops.Resolved reads may_leave code t laptop new
+    resolves_with reply code t script only resolves lives spells =
+        subst (λ (l : Laptop D). laptops.Resolved reads may_leave code t l new) hand
+        (resolves_now reply code t script only resolves lives spells)
+
+    pub stepped : (step : Step) → live_of now ≡ live_of was → StepIsIfAny was (live_of was) step now
+        → (place_of was ≡ laptop.place) → Stepped reads may_leave step laptop new
+    stepped step lives does place =
+        subst (λ (l : Laptop D). Stepped reads may_leave step l new) hand (stepped_now step place lives does)
+
+    pub gone_is : (ended : client.Ended) (gone : Gone) → IsTold laptop ended gone
+        → may_end (state_in laptop) (live_in laptop) ≡ true
+        → EndsIfAny (state_of was) (state_of was).running (live_of was) ended
+        → Notes Ended was now → live_of now ≡ None → laptops.Ended reads may_leave gone laptop new
+    gone_is ended gone told may ends notes lives =
+        subst
+        (λ (l : Laptop D). IsTold l ended gone → may_end (state_in l) (live_in l) ≡ true → laptops.Ended reads may_leave gone l new)
+        hand (λ told may. gone_now ended gone told may ends notes lives) told may

@@ -1,5 +1,5 @@
 -- Each record of a laptop's client is a change of the client of the machine for which it stands.
-use Rattle.std.proofs.Common.{◌≡◌, ◌≢◌, ◌+◌, ◌<◌, ◌≤◌, ℕ, zero, suc, Bool, true, false, List, [], ◌∷◌, ◌++◌, drop, Option, Some, None}
+use Rattle.std.proofs.Common.{◌≡◌, ◌+◌, ◌<◌, ◌≤◌, ℕ, zero, suc, Bool, true, false, List, [], ◌∷◌, ◌++◌, drop, Option, Some, None}
 use Rattle.std.proofs.Common.{option_map, option_and_then, slice_get, length-append, refl, sym, ap, subst, ◌∙◌, arith}
 use Rattle.std.proofs.lemmas.Option.{same_Some}
 use Rattle.std.specs.Prelude.{IsSome}
@@ -21,14 +21,14 @@ use Rattle.iot_queue.specs.declared.items.Item.{Item}
 use Rattle.iot_queue.specs.declared.items.Stage.{Stage}
 use Rattle.iot_queue.specs.declared.items.Stage.TheVariants as stages
 use Rattle.iot_queue.specs.declared.items.Stage.TheVariants.{Waiting}
-use Rattle.iot_client.specs.States.{Transaction, State, acts_of, after_each, after_items}
-use Rattle.iot_client.specs.Records.{CanFollow, with_acts, ended, left, stage_by, conflicted, after}
+use Rattle.iot_kept.specs.States.{Transaction, State, acts_of, after_each, after_items}
+use Rattle.iot_kept.specs.Changes.{CanFollow, HeadIs, MayLeave, with_acts, ended, left, stage_by, stays_in, conflicted, after}
 use Rattle.iot_client.specs.Ties.{Live, state_of, live_of, count}
 use Rattle.iot_client.specs.Calls.{has_ended, next_acts, missed, StepIs, Ends, EndsIfAny}
 use Rattle.iot_client.specs.declared.client.Client.{Client}
-use Rattle.iot_client.specs.declared.record.Record.TheVariants.{Held, Fetched, Acted, Ended, Left}
-use Rattle.iot_client.specs.declared.record.Record.TheVariants.{Conflicted}
-use Rattle.iot_client.specs.declared.running.Ended as client
+use Rattle.iot_changes.specs.declared.changes.Change.TheVariants.{Held, Fetched, Acted, Ended, Left}
+use Rattle.iot_changes.specs.declared.changes.Change.TheVariants.{Conflicted}
+use Rattle.iot_client.specs.declared.ended.Ended as client
 use Rattle.iot_client.specs.declared.steps.Step.{Step}
 use Rattle.iot_client.specs.declared.steps.Step.TheVariants as steps
 use Rattle.iot_machine.specs.Clients as clients
@@ -96,7 +96,7 @@ none_stand [] t u [] none stand = tt
 none_stand [] t u (m ∷ ms) none stand = absurd stand
 none_stand (item ∷ items) t u ms none stand = absurd cc
 
-more_stand : (items : List Item) (t : Nodes) (ms : List clients.Item) (item : Item) (m : clients.Item) → ItemsStand items t ms
+pub more_stand : (items : List Item) (t : Nodes) (ms : List clients.Item) (item : Item) (m : clients.Item) → ItemsStand items t ms
     → ItemStands (after_each t items) item m → ItemsStand (items ++ item ∷ []) t (ms ++ m ∷ [])
 more_stand [] t [] item m all it = (it, tt)
 more_stand [] t (other ∷ ms) item m all it = absurd all
@@ -198,24 +198,12 @@ StaysIn (on.Resolver name) other = other ≡ clients.Conflict
 StaysIn on.Abort other = ⊥
 StaysIn on.Manual other = other ≡ clients.Manual
 
-stays_there : (option : OnConflictNamed) (other : clients.Stage) → StaysIn option other → StageStands (stage_by option) other
-stays_there on.Reexec other is = subst (StageStands stages.Conflict) (sym is) tt
-stays_there (on.Resolver name) other is = subst (StageStands stages.Conflict) (sym is) tt
-stays_there on.Abort other is = absurd is
-stays_there on.Manual other is = subst (StageStands stages.Manual) (sym is) tt
-
 stays_planned : (option : OnConflictNamed) (other : clients.Stage) (o : OnConflict Declared) → option ≡ option_named o
     → StaysIn option other → IsPlanned o other
 stays_planned on.Reexec other o same is = subst (IsPlanned o) (sym is) (can_again o same)
 stays_planned (on.Resolver name) other o same is = subst (IsPlanned o) (sym is) (can_by name o same)
 stays_planned on.Abort other o same is = absurd is
 stays_planned on.Manual other o same is = subst (IsPlanned o) (sym is) tt
-
-conflicted_item : (t : Nodes) (other : clients.Stage) (item : Item) (m : clients.Item) → StaysIn item.option other → ItemStands t item m
-    → ItemStands t (conflicted item) (at_stage other m)
-conflicted_item t other item m is stands =
-    staged_item t (stage_by item.option) other item m (stays_there item.option other is)
-    (stays_planned item.option other m.option stands.option is) stands
 
 -- ---- the scripts of a client's transactions
 
@@ -224,7 +212,7 @@ abbrev pub KeepsNamed : List Declared → (ClientState → ClientState) → Type
 KeepsNamed scripts change = (s : ClientState) → AreNamed scripts s → AreNamed scripts (change s)
 
 module _ (scripts : List Declared) where
-  all_named : (items : List clients.Item) (item : clients.Item) → AllByRecursion (ItemIsNamed scripts) items → ItemIsNamed scripts item
+  pub all_named : (items : List clients.Item) (item : clients.Item) → AllByRecursion (ItemIsNamed scripts) items → ItemIsNamed scripts item
       → AllByRecursion (ItemIsNamed scripts) (items ++ item ∷ [])
   all_named [] item all one = (one, tt)
   all_named (head ∷ items) item all one = (all.0, all_named items item all.1 one)
@@ -334,13 +322,37 @@ module _ (s : State) (live : Option Live) (first : Bool) (m : ClientState) (here
     spelled = here.spelled;
   }
 
+  -- the first is at this stage
+  reached : (stage : Stage) (other : clients.Stage) (option : OnConflictNamed) → head_option s.items ≡ Some option
+      → StageStands stage other → StaysIn option other
+      → StateStands (record s { items = with_head (staged stage) s.items }) live first (reach other m)
+  reached stage other option is same stays =
+      changed_stands (staged stage) (at_stage other) (λ item. refl)
+      (λ item later first after some others stands.
+      staged_item s.held stage other item first same
+      (stays_planned option other first.option (sym (same_Some item.option option (sym (ap head_option some) ∙ is)) ∙ stands.option) stays)
+      stands)
+
+  -- what becomes of the first, by its option
+  conflicted_as : (queue : List Item) (option : OnConflictNamed) → head_option queue ≡ Some option
+      → conflicted s queue ≡ stays_in (stage_by option) s
+  conflicted_as [] option is = absurd cc
+  conflicted_as (item ∷ items) option is = ap (λ (o : OnConflictNamed). stays_in (stage_by o) s) (same_Some item.option option is)
+
+  reached_by : (option : OnConflictNamed) (other : clients.Stage) → head_option s.items ≡ Some option → StaysIn option other
+      → StateStands (stays_in (stage_by option) s) live first (reach other m)
+  reached_by on.Reexec other is stays =
+      reached stages.Conflict other on.Reexec is (subst (StageStands stages.Conflict) (sym stays) tt) stays
+  reached_by (on.Resolver name) other is stays =
+      reached stages.Conflict other (on.Resolver name) is (subst (StageStands stages.Conflict) (sym stays) tt) stays
+  reached_by on.Abort other is stays = absurd stays
+  reached_by on.Manual other is stays = reached stages.Manual other on.Manual is (subst (StageStands stages.Manual) (sym stays) tt) stays
+
   pub conflicted_stands : (option : OnConflictNamed) (other : clients.Stage) → head_option s.items ≡ Some option → StaysIn option other
       → StateStands (after s Conflicted) live first (reach other m)
   conflicted_stands option other is stays =
-      changed_stands conflicted (at_stage other) (λ item. refl)
-      (λ item later first after some others stands.
-      conflicted_item s.held other item first
-      (subst (λ (option : OnConflictNamed). StaysIn option other) (sym (same_Some _ _ (sym (ap head_option some) ∙ is))) stays) stands)
+      subst (λ (next : State). StateStands next live first (reach other m)) (sym (conflicted_as s.items option is))
+      (reached_by option other is stays)
 
   left_head : (item : Item) (items : List Item) → HeadStands s.held item items m.items
       → StateStands (record s { held = after_acts s.held item.acts; items = items }) live first (leave m)
@@ -360,12 +372,18 @@ module _ (s : State) (live : Option Live) (first : Bool) (m : ClientState) (here
             (run_spelled head.first.script.code s.held head.first.budget head.stands.script here.spelled);
       })
 
-  left_by : (queue : List Item) → queue ≡ s.items → s.items ≢ [] → StateStands (left s queue) live first (leave m)
-  left_by [] is some = absurd (some (sym is))
+  left_by : (queue : List Item) → queue ≡ s.items → (queue ≡ [] → ⊥) → StateStands (left s queue) live first (leave m)
+  left_by [] is some = absurd (some refl)
   left_by (item ∷ items) is some = left_head item items (head_stands s live first m here item items (sym is))
 
   pub left_stands : CanFollow s Left → StateStands (after s Left) live first (leave m)
-  left_stands some = left_by s.items refl some
+  left_stands can = left_by s.items refl (λ none. subst (λ (items : List Item). HeadIs MayLeave items) none can)
+
+  -- one that is given up leaves too
+  pub given_up_stands : head_option s.items ≡ Some on.Abort → StateStands (after s Conflicted) live first (leave m)
+  given_up_stands is =
+      subst (λ (next : State). StateStands next live first (leave m)) (sym (conflicted_as s.items on.Abort is))
+      (left_by s.items refl (λ none. let e : None ≡ Some on.Abort = sym (ap head_option none) ∙ is in cc))
 
 -- ---- the next step
 
@@ -382,7 +400,7 @@ acts_next false away known = refl
 no_less : (n : ℕ) → n ≤ n
 no_less n = omega arith
 
-module _ (old new : Client) (own : Live) (first : Bool) (t : Nodes) (it : clients.Running)
+module _ {D : Type 0} (old new : Client D) (own : Live) (first : Bool) (t : Nodes) (it : clients.Running)
     (ends : has_ended (state_of old) own.code ≡ (so_far t it).ended) (counts : count (state_of old) ≡ it.acts)
     (away : missed (next_acts (state_of old) own.code) ≡ next_away t it) (class : own.first ≡ first) where
   on_to : has_ended (state_of old) own.code ≡ false → count (state_of old) < ACT_LIMIT
@@ -408,7 +426,7 @@ module _ (s : State) (live : Option Live) (first : Bool) (m : ClientState) (here
       ∙ ap (λ (n : ℕ). missed (drop n (plain_run it.script (base m) (n + 1)).acts)) (counted s live first m here it runs)
       ∙ missed_is (plain_run it.script (base m) (it.acts + 1)).acts it.acts
 
-pub next_is : (old new : Client) (first : Bool) (m : ClientState) → StateStands (state_of old) (live_of old) first m
+pub next_is : {D : Type 0} (old new : Client D) (first : Bool) (m : ClientState) → StateStands (state_of old) (live_of old) first m
     → (it : clients.Running) → m.running ≡ Some it → (own : Live) → live_of old ≡ Some own → (step : Step)
     → StepIs old own step new → next_step first (base m) it ≡ next_as step
 next_is old new first m here it runs own lives step is =

@@ -11,7 +11,7 @@ use Rattle.iot_acts.specs.Traces.{after_acts}
 use Rattle.iot_exec.specs.Runs.{run}
 use Rattle.iot_exec.specs.declared.ran.Ran.{Ran}
 use Rattle.iot_queue.specs.declared.items.Item.{Item}
-use Rattle.iot_client.specs.States.{Transaction, State, acts_of, after_each, after_items, view}
+use Rattle.iot_kept.specs.States.{Transaction, State, acts_of, after_each, after_items, view}
 use Rattle.iot_client.specs.Ties.{Live, IsOwnRunIfAny, count, run_of}
 use Rattle.iot_client.specs.Calls.{has_ended, is_over_if_any, may_end}
 use Rattle.iot_machine.specs.Clients as clients
@@ -24,7 +24,7 @@ use Rattle.iot_world.specs.Saying.{place_said}
 
 -- ---- the transactions that wait
 
-items_are : (items : List Item) (t : Nodes) (ms : List clients.Item) → ItemsStand items t ms
+pub items_are : (items : List Item) (t : Nodes) (ms : List clients.Item) → ItemsStand items t ms
     → after_each t items ≡ clients.after_items t ms
 items_are [] t [] stand = refl
 items_are [] t (m ∷ ms) stand = absurd stand

@@ -24,3 +24,9 @@ pub mod EndsLaws
 pub mod EventsLaws
 pub mod DisksLaws
 pub mod WorldLaws
+pub mod DiskLaws
+pub mod NodesLaws
+pub mod LaptopNodesLaws
+pub mod PassLaws
+pub mod CrashesLaws
+pub mod HoldingLaws

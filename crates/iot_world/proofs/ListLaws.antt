@@ -67,6 +67,12 @@ module _ {W M : Type 0} (stands : W → M → Type 0) where
   get_inside (w' ∷ ws) (m ∷ ms) zero w at all = omega arith
   get_inside (w' ∷ ws) (m ∷ ms) (suc c) w at all = let e : c < length ms = get_inside ws ms c w at all.1 in omega (arith, e)
 
+-- there is an element at a place inside
+pub inside_get : {A : Type 0} (xs : List A) (c : ℕ) → c < length xs → (x : A) × (slice_get xs c ≡ Some x)
+inside_get [] c within = absurd (omega arith)
+inside_get (x ∷ xs) zero within = (x, refl)
+inside_get (x ∷ xs) (suc c) within = inside_get xs c (omega (arith, within))
+
 -- what was set is there
 pub get_set : {A : Type 0} (xs : List A) (c : ℕ) (x y : A) → slice_get (slice_set xs c x) c ≡ Some y → x ≡ y
 get_set [] c x y at = absurd cc

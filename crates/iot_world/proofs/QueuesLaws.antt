@@ -1,16 +1,18 @@
 -- Transactions that wait are submitted as those of the machine.
 use Rattle.std.proofs.Common.{◌≡◌, ℕ, suc, ◌+◌, ◌-◌, ◌*◌, ◌<◌, ◌≤◌, ◌&&◌, not, is_some, Bool, true, false, List, [], ◌∷◌, ◌++◌}
-use Rattle.std.proofs.Common.{length, Option, Some, None, refl, sym, ap, subst, ◌∙◌, arith, codes}
+use Rattle.std.proofs.Common.{length, slice_get, slice_set, Option, Some, None, refl, sym, ap, subst, ◌∙◌, arith, codes}
 use Rattle.std.proofs.lemmas.List.{append-nil}
 use Rattle.std.proofs.lemmas.Option.{same_Some}
 use Rattle.std.specs.List.{AllByRecursion}
+use Rattle.std.specs.Prelude.{IsSome}
+use Rattle.iot_count.specs.Counts.{IsSteady}
+use Rattle.iot_disk.specs.Disk.{Arms}
 use Rattle.iot_tree.specs.Tree.{Nodes}
 use Rattle.iot_acts.specs.Traces.{after_acts}
 use Rattle.iot_queue.specs.declared.items.Item.{Item}
 use Rattle.iot_queue.specs.declared.items.Stage.{Stage}
 use Rattle.iot_queue.specs.declared.items.Stage.TheVariants as kept
-use Rattle.iot_client.specs.Records.{HeadIs}
-use Rattle.iot_client.specs.Ties.{state_of}
+use Rattle.iot_kept.specs.Changes.{HeadIs}
 use Rattle.iot_link.specs.Links.{LinkState}
 use Rattle.iot_machine.specs.Calls.{Call, Part, Asks, Does, Nothing, Then, Rounds, either}
 use Rattle.iot_machine.specs.Refining.{Leads}
@@ -23,18 +25,41 @@ use Rattle.iot_machine.specs.Nodes.{Node, changed}
 use Rattle.iot_machine.specs.Texts.{line, transaction_name, manual_line}
 use Rattle.iot_machine.specs.Transactions.{Notes, Syncs, sync_at, item_name, Synced, Empty, Left, Moved, ByHand, Unanswered, Halted}
 use Rattle.iot_machine.specs.Transactions.{runs, pends, sync_if, unless_ends, SyncsAll}
-use Rattle.iot_world.specs.Laptops.{LaptopStands, SamePlace, StageStands, ItemStands, ItemsStand, Relinked, waits_of, head_name}
+use Rattle.iot_world.specs.Disks.{NoneRose}
+use Rattle.iot_world.specs.Laptops.{LaptopStands, ClientStands, awake, fallen, SamePlace, StageStands, ItemStands, ItemsStand}
+use Rattle.iot_world.specs.Laptops.{RelinkedAnyhow, waits_of, head_name}
+use Rattle.iot_world.specs.Nodes.{state_in, disk_by, disk_in}
 use Rattle.iot_world.specs.Messages.{name_of}
 use Rattle.iot_world.specs.Scripts.{ItemIsNamed}
-use Rattle.iot_world.specs.World.{StandsFor, Steps, IsReady, SameCounts, ClientIs}
+use Rattle.iot_world.specs.World.{StandsFor, Steps, IsInside, IsReady, SameCounts, SameDisks, ClientIs}
 use Rattle.iot_world.specs.declared.laptop.Laptop.{Laptop}
+use Rattle.iot_world.specs.declared.node.ClientNode.{ClientNode}
 use Rattle.iot_world.specs.declared.texts.Transaction.{Transaction}
 use Rattle.iot_world.specs.declared.world.World.{World}
 use Rattle.iot_world.proofs.CallsLaws.{bind, asks, answers, asks_any, does, says, nothing, says_this, said_nothing, said_something}
 use Rattle.iot_world.proofs.CallsLaws.{leads_on, leads_out}
+use Rattle.iot_world.proofs.DiskLaws.{untouched}
+use Rattle.iot_world.proofs.DisksLaws.{client_disks, steady_lifts}
 use Rattle.iot_world.proofs.LaptopsLaws.{HeadStands, head_stands, runs_is, waits_is}
 use Rattle.iot_world.proofs.ReadyLaws.{no_machine_items, no_some, one_at, ready_after, same_counts, counts_then}
-use Rattle.iot_world.proofs.StepsLaws.{IsAt, Puts, laptop_stands, puts_stands, asks_pends}
+use Rattle.iot_world.proofs.StepsLaws.{IsAt, Puts, client_stands, laptop_stands, puts_client, puts_stands, asks_pends}
+use Rattle.iot_world.proofs.TransactionsLaws.{tied_disk}
+
+-- ---- a client, alive or down
+
+module _ {D : Type 0} (reads : D → List ℕ) (may_leave : D → List ℕ → Type 0) (scripts : List Declared) (laptop : Laptop D)
+    (m : machine.Client) where
+  link_there : ClientStands reads may_leave scripts laptop m → laptop.link ≡ m.link
+  link_there (awake here) = here.link
+  link_there (fallen here) = here.link
+
+  name_of_client : ClientStands reads may_leave scripts laptop m → laptop.name ≡ m.name
+  name_of_client (awake here) = here.name
+  name_of_client (fallen here) = here.name
+
+  disk_there : ClientStands reads may_leave scripts laptop m → IsSome (disk_in laptop)
+  disk_there (awake here) = tied_disk reads may_leave laptop.place laptop.node here.tied
+  disk_there (fallen here) = subst (λ (n : ClientNode D). IsSome (disk_by n)) (sym here.down) refl
 
 -- ---- stages
 
@@ -60,10 +85,10 @@ manual_stage s m is stands = by m (subst (λ (s : Stage). StageStands s m) is st
 
 module _ {D : Type 0} (reads : D → List ℕ) (may_leave : D → List ℕ → Type 0) (c : ℕ) where
   -- a change of what a client keeps, which may go by the machine's scripts
-  pub notes_by : (old new : World D) (was laptop : Laptop) (change : ClientState → ClientState) (x : List ℕ) → IsAt old c was
+  pub notes_by : (old new : World D) (was laptop : Laptop D) (change : ClientState → ClientState) (x : List ℕ) → IsAt old c was
       → Puts c laptop old new → SamePlace was laptop
       → ((m : Machine) → StandsFor reads may_leave old m
-      → LaptopStands m.scripts laptop (record (client_in m c) { node = changed change (client_in m c).node }))
+      → LaptopStands reads may_leave m.scripts laptop (record (client_in m c) { node = changed change (client_in m c).node }))
       → Steps reads may_leave (Notes c change) old new x x true
   notes_by old new was laptop change x at puts place stands = record {
     step = λ m here.
@@ -78,67 +103,66 @@ module _ {D : Type 0} (reads : D → List ℕ) (may_leave : D → List ℕ → T
 
 -- ---- the first that waits
 
-pub record First (laptop : Laptop) (t : Transaction) : Type 0 where
+pub record First {D : Type 0} (laptop : Laptop D) (t : Transaction) : Type 0 where
   pub item : Item
   pub rest : List Item
-  pub items : (state_of laptop.client).items ≡ item ∷ rest
+  pub items : (state_in laptop).items ≡ item ∷ rest
   pub named : t ≡ record { client = laptop.name; number = item.tid }
 
-first_by : (laptop : Laptop) (t : Transaction) (items : List Item) → (state_of laptop.client).items ≡ items → head_name laptop items ≡
-    Some t
-    → First laptop t
+first_by : {D : Type 0} (laptop : Laptop D) (t : Transaction) (items : List Item) → (state_in laptop).items ≡ items
+    → head_name laptop items ≡ Some t → First laptop t
 first_by laptop t [] same is = absurd cc
 first_by laptop t (item ∷ rest) same is =
     record { item = item; rest = rest; items = same; named = sym (same_Some (record { client = laptop.name; number = item.tid }) t is) }
 
-pub first_of : (laptop : Laptop) (t : Transaction) (o : Option Transaction) → o ≡ head_name laptop (state_of laptop.client).items → o ≡
-    Some t
-    → First laptop t
-first_of laptop t o head is = first_by laptop t (state_of laptop.client).items refl (sym head ∙ is)
+pub first_of : {D : Type 0} (laptop : Laptop D) (t : Transaction) (o : Option Transaction) → o ≡ head_name laptop (state_in laptop).items
+    → o ≡ Some t → First laptop t
+first_of laptop t o head is = first_by laptop t (state_in laptop).items refl (sym head ∙ is)
 
-none_by : (laptop : Laptop) (items : List Item) → head_name laptop items ≡ None → items ≡ []
+none_by : {D : Type 0} (laptop : Laptop D) (items : List Item) → head_name laptop items ≡ None → items ≡ []
 none_by laptop [] is = refl
 none_by laptop (item ∷ items) is = absurd cc
 
-pub none_waits : (laptop : Laptop) (o : Option Transaction) → o ≡ head_name laptop (state_of laptop.client).items → o ≡ None
-    → (state_of laptop.client).items ≡ []
-none_waits laptop o head is = none_by laptop (state_of laptop.client).items (sym head ∙ is)
+pub none_waits : {D : Type 0} (laptop : Laptop D) (o : Option Transaction) → o ≡ head_name laptop (state_in laptop).items → o ≡ None
+    → (state_in laptop).items ≡ []
+none_waits laptop o head is = none_by laptop (state_in laptop).items (sym head ∙ is)
 
-pub first_waits : (laptop : Laptop) (t : Transaction) → First laptop t → waits_of (state_of laptop.client).items ≡ true
+pub first_waits : {D : Type 0} (laptop : Laptop D) (t : Transaction) → First laptop t → waits_of (state_in laptop).items ≡ true
 first_waits laptop t first = ap waits_of first.items
 
-pub by_hand_first : (laptop : Laptop) (t : Transaction) (first : First laptop t)
-    → HeadIs (λ item. item.stage ≡ kept.Manual) (state_of laptop.client).items → first.item.stage ≡ kept.Manual
+pub by_hand_first : {D : Type 0} (laptop : Laptop D) (t : Transaction) (first : First laptop t)
+    → HeadIs (λ item. item.stage ≡ kept.Manual) (state_in laptop).items → first.item.stage ≡ kept.Manual
 by_hand_first laptop t first head = subst (HeadIs (λ item. item.stage ≡ kept.Manual)) first.items head
 
 -- what is so of the client in hand is so of the one at its place
-pub there_is : {D : Type 0} (P : Laptop → Type 0) (world : World D) (c : ℕ) (was : Laptop) → IsAt world c was → P was → ClientIs P c world
-there_is P world c was at so = λ laptop here. subst P (one_at world c was laptop at here) so
+pub there_is : {D : Type 0} (P : Laptop D → Type 0) (world : World D) (c : ℕ) (was : Laptop D) → IsAt world c was → P was
+    → ClientIs P c world
+there_is P world c was at so = λ laptop here. subst P (one_at world c was laptop at.get here) so
 
-module _ {D : Type 0} (reads : D → List ℕ) (may_leave : D → List ℕ → Type 0) (c : ℕ) (old : World D) (was : Laptop) (x : List ℕ)
+module _ {D : Type 0} (reads : D → List ℕ) (may_leave : D → List ℕ → Type 0) (c : ℕ) (old : World D) (was : Laptop D) (x : List ℕ)
     (at : IsAt old c was) where
   -- none waits
-  pub syncs_none : (y : List ℕ) → (state_of was.client).items ≡ [] → y ≡ x ++ line (codes "nothing")
+  pub syncs_none : (y : List ℕ) → (state_in was).items ≡ [] → y ≡ x ++ line (codes "nothing")
       → Steps reads may_leave (Syncs c) old old x y Empty
   syncs_none y none wrote =
       bind old old old x x y [] Empty
       (asks old x []
       (λ m here.
-      sym (no_machine_items (state_of was.client).items (state_of was.client).held (kept_by c m).items none
+      sym (no_machine_items (state_in was).items (state_in was).held (kept_by c m).items none
       (laptop_stands reads may_leave old m c was at here).state.items)))
       (bind old old old x y y tt Empty (says_this (line (codes "nothing")) old x y wrote) (answers old y Empty))
 
   module _ (t : Transaction) (first : First was t) where
     -- it is one of the machine's for which the world stands
     pub head_in : (m : Machine) → StandsFor reads may_leave old m
-        → HeadStands (state_of was.client).held first.item first.rest (kept_by c m).items
+        → HeadStands (state_in was).held first.item first.rest (kept_by c m).items
     head_in m here = head_stands _ _ _ _ (laptop_stands reads may_leave old m c was at here).state first.item first.rest first.items
 
     -- its name there
     pub name_there : (m : Machine) (mi : clients.Item) → StandsFor reads may_leave old m
-        → ItemStands (state_of was.client).held first.item mi → item_name c mi m ≡ name_of t
+        → ItemStands (state_in was).held first.item mi → item_name c mi m ≡ name_of t
     name_there m mi here stands =
-        let there : LaptopStands m.scripts was (client_in m c) = laptop_stands reads may_leave old m c was at here in
+        let there : LaptopStands reads may_leave m.scripts was (client_in m c) = laptop_stands reads may_leave old m c was at here in
         ap (λ (n : List ℕ). transaction_name n mi.number) (sym there.name)
         ∙ ap (λ (n : ℕ). transaction_name was.name n) (sym stands.number)
         ∙ ap name_of (sym first.named)
@@ -151,15 +175,15 @@ module _ {D : Type 0} (reads : D → List ℕ) (may_leave : D → List ℕ → T
 
     -- it is the first that waits, and so is it
     record Headed (P : clients.Item → Type 0) (ms : List clients.Item) : Type 0 where
-      head : HeadStands (state_of was.client).held first.item first.rest ms
+      head : HeadStands (state_in was).held first.item first.rest ms
       so : P head.first
 
     -- whatever it is in the machine, if it is so, the rest is a step
     pub asks_first : {A : Type 0} {next : List clients.Item → Call Machine A} (P : clients.Item → Type 0) (new : World D) (z : List ℕ)
         (answer : A)
-        → ((m : Machine) (mi : clients.Item) → StandsFor reads may_leave old m → ItemStands (state_of was.client).held first.item mi
+        → ((m : Machine) (mi : clients.Item) → StandsFor reads may_leave old m → ItemStands (state_in was).held first.item mi
         → ItemIsNamed m.scripts mi → P mi)
-        → ((mi : clients.Item) (ms : List clients.Item) → ItemStands (state_of was.client).held first.item mi → P mi
+        → ((mi : clients.Item) (ms : List clients.Item) → ItemStands (state_in was).held first.item mi → P mi
         → Steps reads may_leave (next (mi ∷ ms)) old new x z answer)
         → Steps reads may_leave (Then (Asks (λ m. (kept_by c m).items)) next) old new x z answer
     asks_first {next = next} P new z answer known each =
@@ -218,16 +242,16 @@ module _ {D : Type 0} (reads : D → List ℕ) (may_leave : D → List ℕ → T
     pub counts : SameCounts old now
 
   module _ (most : ℕ) (old : World D) (x : List ℕ) where
-    pub syncs_start : (was : Laptop) → IsAt old c was → most ≡ 3 * length (state_of was.client).items → IsReady reads may_leave c old
+    pub syncs_start : (was : Laptop D) → IsAt old c was → most ≡ 3 * length (state_in was).items → IsReady reads may_leave c old
         → AfterSyncs most old x 0 old x
     syncs_start was at is ready = record {
       leads = record {
         from = λ new after a more.
-            let n : ℕ = length (state_of was.client).items in
+            let n : ℕ = length (state_in was).items in
             bind old old new x x after n a
             (asks old x n
             (λ m here.
-            items_long (state_of was.client).items (state_of was.client).held (kept_by c m).items
+            items_long (state_in was).items (state_in was).held (kept_by c m).items
             (laptop_stands reads may_leave old m c was at here).state.items))
             (subst (λ (k : ℕ). Steps reads may_leave (Rounds k Left one_round) old new x after a)
             (let e : most - 0 ≡ 3 * n = omega (arith, is) in e) more);
@@ -242,19 +266,19 @@ module _ {D : Type 0} (reads : D → List ℕ) (may_leave : D → List ℕ → T
           subst (λ (n : ℕ). Leads (StandsFor reads may_leave) (SyncsAll c) (Rounds n Left one_round) old now x y)
           (let e : most - done ≡ suc (most - (done + 1)) = omega (arith, more) in e) so_far.leads
 
-      module _ (laptop : Laptop) (at : IsAt now c laptop) where
-        asks_waits : (waits : Bool) → waits_of (state_of laptop.client).items ≡ waits → Steps reads may_leave (Asks (pends c)) now now
+      module _ (laptop : Laptop D) (at : IsAt now c laptop) where
+        asks_waits : (waits : Bool) → waits_of (state_in laptop).items ≡ waits → Steps reads may_leave (Asks (pends c)) now now
             y y waits
         asks_waits waits is =
             subst (λ (b : Bool). Steps reads may_leave (Asks (pends c)) now now y y b) is (asks_pends reads may_leave c now laptop y at)
 
         -- none waits any more
-        pub syncs_over : waits_of (state_of laptop.client).items ≡ false → Steps reads may_leave (SyncsAll c) old now x y Empty
+        pub syncs_over : waits_of (state_in laptop).items ≡ false → Steps reads may_leave (SyncsAll c) old now x y Empty
         syncs_over is =
             leads_out (most - (done + 1)) Left one_round old now now x y y (Some Empty) Empty refl leads_here
             (bind now now now y y y false (Some Empty) (asks_waits false is) (answers now y (Some Empty)))
 
-        module _ (is : waits_of (state_of laptop.client).items ≡ true) (next : World D) (z : List ℕ) where
+        module _ (is : waits_of (state_in laptop).items ≡ true) (next : World D) (z : List ℕ) where
           round : (synced : Synced) → Steps reads may_leave (Syncs c) now next y z synced
               → Steps reads may_leave one_round now next y z (unless_ends synced)
           round synced one =
@@ -290,22 +314,22 @@ module _ {D : Type 0} (reads : D → List ℕ) (may_leave : D → List ℕ → T
   -- ---- drain
 
   -- whether a refresh follows
-  asks_drained : (mid : World D) (laptop : Laptop) (y : List ℕ) (d : Bool) → IsAt mid c laptop
-      → d ≡ not (waits_of (state_of laptop.client).items) && not (is_some (state_of laptop.client).running) && laptop.link.up
+  asks_drained : (mid : World D) (laptop : Laptop D) (y : List ℕ) (d : Bool) → IsAt mid c laptop
+      → d ≡ not (waits_of (state_in laptop).items) && not (is_some (state_in laptop).running) && laptop.link.up
       → Steps reads may_leave (Asks (is_drained c)) mid mid y y d
   asks_drained mid laptop y d at is =
       asks mid y d
       (λ m here.
       let there = laptop_stands reads may_leave mid m c laptop at here in
-      is ∙ ap (λ (b : Bool). not b && not (is_some (state_of laptop.client).running) && laptop.link.up) (waits_is _ _ _ _ there.state)
+      is ∙ ap (λ (b : Bool). not b && not (is_some (state_in laptop).running) && laptop.link.up) (waits_is _ _ _ _ there.state)
       ∙ ap (λ (b : Bool). not (pends c m) && not b && laptop.link.up) (runs_is _ _ _ _ there.state)
       ∙ ap (λ (l : LinkState). not (pends c m) && not (runs c m) && l.up) there.link)
 
   abbrev pub refreshing : Part Machine
   refreshing = Then (Asks (is_drained c)) (either (Refreshes c) Nothing)
 
-  module _ (mid : World D) (y : List ℕ) (laptop : Laptop) (d : Bool) (at : IsAt mid c laptop)
-      (is : d ≡ not (waits_of (state_of laptop.client).items) && not (is_some (state_of laptop.client).running) && laptop.link.up) where
+  module _ (mid : World D) (y : List ℕ) (laptop : Laptop D) (d : Bool) (at : IsAt mid c laptop)
+      (is : d ≡ not (waits_of (state_in laptop).items) && not (is_some (state_in laptop).running) && laptop.link.up) where
     -- what is known is brought anew
     pub drained : (new : World D) (z : List ℕ) → d ≡ true → Steps reads may_leave (Refreshes c) mid new y z tt
         → Steps reads may_leave refreshing mid new y z tt
@@ -329,20 +353,32 @@ module _ {D : Type 0} (reads : D → List ℕ) (may_leave : D → List ℕ → T
 
   -- ---- the link
 
-  -- it is another now, and the client says so
-  pub relinks : (old new : World D) (was laptop : Laptop) (change want : machine.Client → machine.Client) (text : List ℕ → List ℕ)
+  -- it is another now, and the client, alive or down, says so
+  pub relinks : (old new : World D) (was laptop : Laptop D) (change want : machine.Client → machine.Client) (text : List ℕ → List ℕ)
       (x y : List ℕ)
-      → IsAt old c was → Puts c laptop old new → Relinked change was laptop
-      → ((scripts : List Declared) (m : machine.Client) → LaptopStands scripts was m → (change m ≡ want m) × ((want m).name ≡ m.name))
+      → slice_get old.clients.items c ≡ Some was → Puts c laptop old new → RelinkedAnyhow reads may_leave change was laptop
+      → ((m : machine.Client) → was.link ≡ m.link → (change m ≡ want m) × ((want m).name ≡ m.name))
       → y ≡ x ++ text laptop.name
       → Steps reads may_leave (Does (λ m. text (client_name c m)) (λ m. put_client c (want (client_in m c)) m)) old new x y tt
-  relinks old new was laptop change want text x y at puts relinked agree wrote =
+  relinks old new was laptop change want text x y get puts relinked agree wrote =
       does old new x y
       (λ m here.
-      let there : LaptopStands m.scripts was (client_in m c) = laptop_stands reads may_leave old m c was at here in
-      let same = agree m.scripts (client_in m c) there in
-      let now : LaptopStands m.scripts laptop (want (client_in m c)) =
-      subst (LaptopStands m.scripts laptop) same.0 (relinked.stands m.scripts (client_in m c) there) in (
-        wrote ∙ ap (λ (n : List ℕ). x ++ text n) (now.name ∙ same.1),
-        puts_stands reads may_leave old new m c was laptop (want (client_in m c)) at relinked.place puts now here,
+      let there : ClientStands reads may_leave m.scripts was (client_in m c) = client_stands reads may_leave old m c was get here in
+      let same = agree (client_in m c) (link_there reads may_leave m.scripts was (client_in m c) there) in
+      let now : ClientStands reads may_leave m.scripts laptop (want (client_in m c)) =
+      subst (ClientStands reads may_leave m.scripts laptop) same.0 (relinked.stands m.scripts (client_in m c) there) in (
+        wrote ∙ ap (λ (n : List ℕ). x ++ text n) (name_of_client reads may_leave m.scripts laptop (want (client_in m c)) now ∙ same.1),
+        puts_client reads may_leave old new m c was laptop (want (client_in m c)) get relinked.place puts now here,
       ))
+
+-- its disk was not touched
+pub relinked_disks : {D : Type 0} (reads : D → List ℕ) (may_leave : D → List ℕ → Type 0) (arms_of : D → Arms) (faults_of : D → ℕ) (c : ℕ)
+    (old new : World D) (was laptop : Laptop D) (change : machine.Client → machine.Client) → IsInside reads may_leave c old
+    → slice_get old.clients.items c ≡ Some was → new.server ≡ old.server → new.clients.items ≡ slice_set old.clients.items c laptop
+    → new.spare ≡ old.spare → RelinkedAnyhow reads may_leave change was laptop → SameDisks arms_of faults_of NoneRose old new
+relinked_disks reads may_leave arms_of faults_of c old new was laptop change inside get server clients spare relinked =
+    client_disks arms_of faults_of old new c was laptop IsSteady NoneRose (steady_lifts arms_of faults_of) get server clients spare
+    (untouched arms_of faults_of (disk_in was) (disk_in laptop) IsSteady (λ n. refl)
+    (disk_there reads may_leave inside.machine.scripts was (client_in inside.machine c)
+    (client_stands reads may_leave old inside.machine c was get inside.stands))
+    relinked.disk)

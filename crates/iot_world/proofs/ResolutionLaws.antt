@@ -1,12 +1,11 @@
--- The resolution that a laptop's client makes is the one that the machine plans, and has a spelling.
-use Rattle.std.proofs.Common.{◌≡◌, ◌≤◌, ℕ, Bool, true, false, IsTrue, List, [], ◌∷◌, cond, length, Option, Some, None, if◌then◌else◌}
+-- The resolution that a laptop's client makes is the one that the machine plans.
+use Rattle.std.proofs.Common.{◌≡◌, ◌≤◌, ℕ, Bool, true, false, IsTrue, List, [], ◌∷◌, cond, Option, Some, None, if◌then◌else◌}
 use Rattle.std.proofs.Common.{refl, sym, ap, subst, ◌∙◌, arith}
 use Rattle.std.proofs.lemmas.Option.{same_Some, none-some}
-use Rattle.std.specs.Cmp.{first_so, second_so}
 use Rattle.std.specs.FinMap.{entries, entries_sorted, get-entries, get-from_entries, find, is_sorted}
-use Rattle.std.specs.FinMap.Entries.{below_all, same_entries}
+use Rattle.std.specs.FinMap.Entries.{same_entries}
 use Rattle.std.specs.List.{AllByRecursion, filter_map, cons_option}
-use Rattle.std.specs.Ordering.{is_lt, eq_by_cmp}
+use Rattle.std.specs.Ordering.{eq_by_cmp}
 use Rattle.iot_text.specs.Paths.{path_cmp, IsPath}
 use Rattle.iot_text.proofs.PathsLaws.{path_total, path_same}
 use Rattle.iot_tree.specs.Tree.{Path, Row, Nodes, IsTree}
@@ -16,11 +15,10 @@ use Rattle.iot_tree.specs.declared.limits.TheConstants.{ACT_LIMIT}
 use Rattle.iot_tree.specs.declared.nodes.Node.TheVariants.{Dir, File, FarDir, FarFile}
 use Rattle.iot_tree.proofs.EachLaws.{each_entry}
 use Rattle.iot_tree.proofs.RowLaws.{tested}
-use Rattle.iot_codec.specs.Rules.{IsContents, AreRising}
+use Rattle.iot_codec.specs.Rules.{IsContents}
 use Rattle.iot_lang.specs.Code.{Code}
 use Rattle.iot_lang.specs.Scripts.{IsScript}
 use Rattle.iot_limits.specs.Spelled.{IsSpelledRow, IsSpelledTree, AreSpelledFiles}
-use Rattle.iot_limits.proofs.SpelledLaws.{run_is_spelled}
 use Rattle.iot_acts.specs.Traces.{after_acts}
 use Rattle.iot_exec.specs.Commands.{kept_files}
 use Rattle.iot_exec.specs.Files.{file_of, files_of}
@@ -39,12 +37,10 @@ use Rattle.iot_resolve.specs.Resolved.{resolved}
 use Rattle.iot_resolve.specs.declared.plan.Plan as plans
 use Rattle.iot_resolve.proofs.FilesLaws.{offers_files}
 use Rattle.iot_client.specs.Calls.{IsPlannedRun, IsHeadsRun}
-use Rattle.iot_client.specs.Messages.{RunHasSpelling}
-use Rattle.iot_client.specs.Records.{after}
-use Rattle.iot_client.specs.States.{State}
+use Rattle.iot_kept.specs.Changes.{after}
+use Rattle.iot_kept.specs.States.{State}
 use Rattle.iot_client.specs.Ties.{Live}
-use Rattle.iot_client.specs.declared.record.Record.TheVariants.{Resolved}
-use Rattle.iot_judging.proofs.BudgetLaws.{few_acts}
+use Rattle.iot_changes.specs.declared.changes.Change.TheVariants.{Resolved}
 use Rattle.iot_judging.proofs.SpelledTreesLaws.{run_spelled}
 use Rattle.iot_machine.specs.Clients as clients
 use Rattle.iot_machine.specs.Clients.{Declared, ClientState, Plan, plan_by, found_by, resolution_of, local_run, at_stage, reach}
@@ -66,21 +62,6 @@ files_are files rising =
     sym
     (same_entries path_cmp path_total path_same (entries (kept_files files)) files (entries_sorted (kept_files files)) (tested _ rising)
     (λ q. sym (get-entries (kept_files files) q) ∙ get-from_entries path_total files q))
-
-rise_after : (before : OneFile) (files : List OneFile) → IsTrue (below_all path_cmp before.0 files) → IsTrue (is_sorted path_cmp files)
-    → AreRising path_cmp files (Some before)
-rise_after before [] below sorted = tt
-rise_after before (file ∷ files) below sorted = (
-  first_so (is_lt (path_cmp before.0 file.0)) _ below,
-  rise_after file files (first_so (below_all path_cmp file.0 files) _ sorted) (second_so (below_all path_cmp file.0 files) _ sorted),
-)
-
-pub they_rise : (files : List OneFile) → IsTrue (is_sorted path_cmp files) → AreRising path_cmp files None
-they_rise [] sorted = tt
-they_rise (file ∷ files) sorted = (
-  refl,
-  rise_after file files (first_so (below_all path_cmp file.0 files) _ sorted) (second_so (below_all path_cmp file.0 files) _ sorted),
-)
 
 -- ---- files that have spellings
 
@@ -139,41 +120,27 @@ pub record IsGoodPlan (plan : Plan) : Type 0 where
   pub good : AreGood plan.offered
 
 module _ (plan : Plan) (t : Nodes) (is_good : IsGoodPlan plan) (script : IsScript plan.script.code) (tree : IsTree t)
-    (spelled : IsSpelledTree t) where
-  abbrev code : Code
-  code = plan.script.code
+  where
+    abbrev code : Code
+    code = plan.script.code
 
-  found_files_good : AreGood (found_by plan t)
-  found_files_good = among_good (found_in code (kept_files plan.offered) t plan.budget) plan.offered is_good.good
+    found_files_good : AreGood (found_by plan t)
+    found_files_good = among_good (found_in code (kept_files plan.offered) t plan.budget) plan.offered is_good.good
 
-  found_rising : IsTrue (is_sorted path_cmp (found_by plan t))
-  found_rising = (are_found code plan.offered t plan.budget).rising is_good.rising
+    found_rising : IsTrue (is_sorted path_cmp (found_by plan t))
+    found_rising = (are_found code plan.offered t plan.budget).rising is_good.rising
 
-  run_spelling : RunHasSpelling (shaped plan.script.name plan.budget code plan.offered t)
-  run_spelling = record {
-    budget = is_good.few;
-    acts = record {
-      few =
-          let few : length (run code (kept_files plan.offered) t plan.budget).acts ≤ plan.budget =
-          few_acts code (kept_files plan.offered) t plan.budget in
-          omega (arith, few, is_good.few);
-      each = (run_is_spelled code (kept_files plan.offered) t plan.budget script (kept_spelled plan.offered is_good.good) spelled).acts;
-    };
-    kept = record { rising = they_rise (found_by plan t) found_rising; each = found_files_good };
-  }
-
-  -- it is the machine's
-  pub shaped_stands : ResolutionStands (shaped plan.script.name plan.budget code plan.offered t) (resolution_of plan t)
-  shaped_stands = record {
-    name = refl;
-    budget = refl;
-    kept = files_are (found_by plan t) found_rising;
-    script = script;
-    acts = sym (ap (λ (ran : Ran). ran.acts) (are_found code plan.offered t plan.budget).same_run);
-    tree = tree;
-    files = kept_spelled (found_by plan t) found_files_good;
-    spelled = run_spelling;
-  }
+    -- it is the machine's
+    pub shaped_stands : ResolutionStands (shaped plan.script.name plan.budget code plan.offered t) (resolution_of plan t)
+    shaped_stands = record {
+      name = refl;
+      budget = refl;
+      kept = files_are (found_by plan t) found_rising;
+      script = script;
+      acts = sym (ap (λ (ran : Ran). ran.acts) (are_found code plan.offered t plan.budget).same_run);
+      tree = tree;
+      files = kept_spelled (found_by plan t) found_files_good;
+    }
 
 -- ---- the plan of the client and that of the machine
 
@@ -239,7 +206,7 @@ can_if_planned held first plan options.Manual is = absurd cc
 
 module _ (held : Nodes) (item : Item) (first : clients.Item) (stands : ItemStands held item first) (spelled : IsSpelledTree held)
     (plan : Plan) (ours : clients.plan_of held first ≡ Some plan) (code : Code) (same : plan.script.code ≡ code) (script : IsScript code)
-    (t : Nodes) (tree : IsTree t) (t_spelled : IsSpelledTree t) (done : Resolution) where
+    (t : Nodes) (tree : IsTree t) (done : Resolution) where
   run_by : (o : Option plans.Plan) → resolves.plan_of item ≡ o → IsPlannedRun o code (after_acts held item.acts) t done
       → ResolutionStands done (resolution_of plan t)
   run_by None theirs ran = absurd ran
@@ -249,7 +216,7 @@ module _ (held : Nodes) (item : Item) (first : clients.Item) (stands : ItemStand
       let shape : resolved p code (after_acts held item.acts) t ≡ shaped plan.script.name plan.budget plan.script.code plan.offered t =
       (λ i. shaped (agree.name i) (agree.budget i) (sym same i) (agree.files i) t) in
       subst (λ (done : Resolution). ResolutionStands done (resolution_of plan t)) (sym (ran ∙ shape))
-      (shaped_stands plan t agree.good (subst IsScript (sym same) script) tree t_spelled)
+      (shaped_stands plan t agree.good (subst IsScript (sym same) script) tree)
 
   -- it is resolved as the machine resolves it
   pub resolved_item : IsPlannedRun (resolves.plan_of item) code (after_acts held item.acts) t done
@@ -260,14 +227,14 @@ module _ (held : Nodes) (item : Item) (first : clients.Item) (stands : ItemStand
 
 module _ (s : State) (live : Option Live) (class : Bool) (m : ClientState) (here : StateStands s live class m) (plan : Plan)
     (planned : head_plan m.held m.items ≡ Some plan) (code : Code) (same : plan.script.code ≡ code) (script : IsScript code) (t : Nodes)
-    (tree : IsTree t) (spelled : IsSpelledTree t) (done : Resolution) (ran : IsHeadsRun s.held s.items code t done) where
+    (tree : IsTree t) (done : Resolution) (ran : IsHeadsRun s.held s.items code t done) where
   resolves_first : (item : Item) (later : List Item) (first : clients.Item) (others : List clients.Item) → s.items ≡ item ∷ later
       → m.items ≡ first ∷ others → ItemStands s.held item first
       → ItemStands s.held (staged (stages.Resolved done) item) (at_stage (clients.Resolved (resolution_of plan t)) first)
   resolves_first item later first others some all stands =
       resolved_item s.held item first stands here.spelled plan
       (ap (λ (held : Nodes). clients.plan_of held first) here.held ∙ ap (head_plan m.held) (sym all) ∙ planned)
-      code same script t tree spelled done (subst (λ (items : List Item). IsHeadsRun s.held items code t done) some ran)
+      code same script t tree done (subst (λ (items : List Item). IsHeadsRun s.held items code t done) some ran)
 
   pub resolved_stands : StateStands (after s (Resolved done)) live class (reach (clients.Resolved (resolution_of plan t)) m)
   resolved_stands =

@@ -20,8 +20,7 @@ use Rattle.iot_queue.specs.declared.items.Stage.TheVariants as kept
 use Rattle.iot_resolve.specs.Plans as resolves
 use Rattle.iot_resolve.specs.declared.plan.Plan as plans
 use Rattle.iot_client.specs.Messages.{IsRefresh, IsWholeRequest}
-use Rattle.iot_client.specs.Records.{HeadIs}
-use Rattle.iot_client.specs.Ties.{state_of, place_of}
+use Rattle.iot_kept.specs.Changes.{HeadIs}
 use Rattle.iot_wire.proofs.MessagesLaws.{call_one}
 use Rattle.iot_wire.proofs.SpellingLaws.{reply_laws}
 use Rattle.iot_wire.specs.Messages.{IsOneMessage}
@@ -42,6 +41,7 @@ use Rattle.iot_machine.specs.Texts.{line, resolve_line}
 use Rattle.iot_machine.specs.Transactions.{Syncs, sync_at, Exchange, resolves as machine_resolves, Synced, Moved, Unanswered}
 use Rattle.iot_world.specs.Laptops.{LaptopStands, ItemStands, ItemsStand, Resolved, AsksAll, IsHeadPlan, head_plan}
 use Rattle.iot_world.specs.Laptops.{again, resolver, planned_by, planned_in}
+use Rattle.iot_world.specs.Nodes.{state_in}
 use Rattle.iot_world.specs.Messages.{IsSomeRequest, SpellsTree, SpellsCut, BringsTree, name_of}
 use Rattle.iot_world.specs.Saying.{resolver_said}
 use Rattle.iot_world.specs.Scripts.{script_named, code_named, HasNamed, ItemIsNamed, option_named}
@@ -57,6 +57,7 @@ use Rattle.iot_world.proofs.QueuesLaws.{notes_by, First, asks_first, name_there,
 use Rattle.iot_world.proofs.ReadyLaws.{one_at}
 use Rattle.iot_world.proofs.ScriptsLaws.{scripts_are}
 use Rattle.iot_world.proofs.StepsLaws.{IsAt, Puts, laptop_stands}
+use Rattle.iot_world.proofs.TransactionsLaws.{counts_awake}
 
 -- ---- the whole tree
 
@@ -72,17 +73,20 @@ asks_below place bytes is =
     subst (λ (paths : List Path). IsMessage IsRequest request_spelling bytes (Refresh place paths (wanted.Below []))) (sym nothing_known) is
 
 -- the message is that request, for a transaction that conflicts
-pub some_whole : (laptop : Laptop) (items : List Item) (message : Message) → HeadIs (λ item. AsksAll laptop item message) items
+pub some_whole : {D : Type 0} (laptop : Laptop D) (items : List Item) (message : Message)
+    → HeadIs (λ item. AsksAll laptop item message) items
     → IsSomeRequest message.request.items
 some_whole laptop [] message asks = absurd asks
 some_whole laptop (item ∷ items) message asks = record { request = _; is = asks.asked }
 
-pub below_asked : (laptop : Laptop) (items : List Item) (message : Message) → HeadIs (λ item. AsksAll laptop item message) items
-    → IsRefresh (place_of laptop.client) new_client.held (wanted.Below []) message.request.items
+pub below_asked : {D : Type 0} (laptop : Laptop D) (items : List Item) (message : Message)
+    → HeadIs (λ item. AsksAll laptop item message) items
+    → IsRefresh (laptop.place) new_client.held (wanted.Below []) message.request.items
 below_asked laptop [] message asks = absurd asks
-below_asked laptop (item ∷ items) message asks = asks_below (place_of laptop.client) message.request.items asks.asked
+below_asked laptop (item ∷ items) message asks = asks_below (laptop.place) message.request.items asks.asked
 
-pub conflict_asked : (laptop : Laptop) (items : List Item) (message : Message) → HeadIs (λ item. AsksAll laptop item message) items
+pub conflict_asked : {D : Type 0} (laptop : Laptop D) (items : List Item) (message : Message)
+    → HeadIs (λ item. AsksAll laptop item message) items
     → HeadIs (λ item. item.stage ≡ kept.Conflict) items
 conflict_asked laptop [] message asks = asks
 conflict_asked laptop (item ∷ items) message asks = asks.conflict
@@ -211,49 +215,63 @@ some_planned scripts held (item ∷ items) (m ∷ ms) stand named conflicts =
 -- ---- carrying it out
 
 module _ {D : Type 0} (reads : D → List ℕ) (may_leave : D → List ℕ → Type 0) (c : ℕ) where
-  module _ (old : World D) (was : Laptop) (at : IsAt old c was) where
+  module _ (old : World D) (was : Laptop D) (at : IsAt old c was) where
     -- the same is planned in each machine for which the world stands
     plan_there : (m : Machine) → StandsFor reads may_leave old m
         → head_plan (kept_by c m).held (kept_by c m).items
-        ≡ planned_in (scripts_of old) (state_of was.client).held (state_of was.client).items
+        ≡ planned_in (scripts_of old) (state_in was).held (state_in was).items
     plan_there m here =
-        let there : LaptopStands m.scripts was (client_in m c) = laptop_stands reads may_leave old m c was at here in
+        let there : LaptopStands reads may_leave m.scripts was (client_in m c) = laptop_stands reads may_leave old m c was at here in
         ap (λ (t : Nodes). head_plan t (kept_by c m).items) (sym there.state.held)
-        ∙ plans_are m.scripts (state_of was.client).held (state_of was.client).items (kept_by c m).items there.state.items
+        ∙ plans_are m.scripts (state_in was).held (state_in was).items (kept_by c m).items there.state.items
         there.named.items
-        ∙ ap (λ (ss : List Declared). planned_in ss (state_of was.client).held (state_of was.client).items)
+        ∙ ap (λ (ss : List Declared). planned_in ss (state_in was).held (state_in was).items)
         (scripts_are old.scripts.items m.scripts here.scripts)
 
-    has_plan : IsReady reads may_leave c old → HeadIs (λ item. item.stage ≡ kept.Conflict) (state_of was.client).items
-        → (p : Plan) × (planned_in (scripts_of old) (state_of was.client).held (state_of was.client).items ≡ Some p)
+    has_plan : IsReady reads may_leave c old → HeadIs (λ item. item.stage ≡ kept.Conflict) (state_in was).items
+        → (p : Plan) × (planned_in (scripts_of old) (state_in was).held (state_in was).items ≡ Some p)
     has_plan ready conflicts =
         let m : Machine = ready.machine in
-        let there : LaptopStands m.scripts was (client_in m c) = laptop_stands reads may_leave old m c was at ready.stands in
-        let p = some_planned m.scripts (state_of was.client).held (state_of was.client).items (kept_by c m).items there.state.items
+        let there : LaptopStands reads may_leave m.scripts was (client_in m c) =
+        laptop_stands reads may_leave old m c was at ready.stands in
+        let p = some_planned m.scripts (state_in was).held (state_in was).items (kept_by c m).items there.state.items
         there.named.items conflicts in (
           p.0,
-          ap (λ (ss : List Declared). planned_in ss (state_of was.client).held (state_of was.client).items)
+          ap (λ (ss : List Declared). planned_in ss (state_in was).held (state_in was).items)
               (sym (scripts_are old.scripts.items m.scripts ready.stands.scripts))
               ∙ p.1,
         )
 
-    module _ (plan : plans.Plan) (is : IsHeadPlan (state_of was.client).items plan) where
+    module _ (plan : plans.Plan) (is : IsHeadPlan (state_in was).items plan) where
       -- its script is declared
       pub plan_declared : IsReady reads may_leave c old → IsSome (script_named plan.script (scripts_of old))
       plan_declared ready =
-          let p = has_plan ready (head_conflicts (state_of was.client).items plan is) in
-          (agree (scripts_of old) (state_of was.client).held (state_of was.client).items plan p.0 is p.1).named
+          let p = has_plan ready (head_conflicts (state_in was).items plan is) in
+          (agree (scripts_of old) (state_in was).held (state_in was).items plan p.0 is p.1).named
 
       -- what is planned was carried out
-      pub carries_out : (new : World D) (laptop : Laptop) (code : Code) (t : Nodes) → code_named plan.script (scripts_of old) ≡ Some code
-          → Resolved code t was laptop → Puts c laptop old new → CarriesOut reads may_leave c t old new
+      pub carries_out : (new : World D) (laptop : Laptop D) (code : Code) (t : Nodes) → code_named plan.script (scripts_of old) ≡ Some code
+          → Resolved reads may_leave code t was laptop → Puts c laptop old new → CarriesOut reads may_leave c t old new
       carries_out new laptop code t coded resolved puts = λ p text planned.
-          let its = agree (scripts_of old) (state_of was.client).held (state_of was.client).items plan p is (planned was at) in
+          let its = agree (scripts_of old) (state_in was).held (state_in was).items plan p is (planned was at.get) in
           let same : p.script.code ≡ code = same_Some _ _ (sym its.code ∙ coded) in
           notes_by reads may_leave c old new was laptop (reach (clients.Resolved (resolution_of p t))) text at puts resolved.place
           (λ m here.
           resolved.stands m.scripts (client_in m c) p (laptop_stands reads may_leave old m c was at here)
-          (plan_there m here ∙ planned was at) same)
+          (plan_there m here ∙ planned was at.get) same)
+
+      -- so as many are alive
+      pub counts_resolved : (new : World D) (laptop : Laptop D) (code : Code) (t : Nodes) → IsReady reads may_leave c old
+          → code_named plan.script (scripts_of old) ≡ Some code → Resolved reads may_leave code t was laptop → Puts c laptop old new
+          → SameCounts old new
+      counts_resolved new laptop code t ready coded resolved puts =
+          let m : Machine = ready.machine in
+          let p = has_plan ready (head_conflicts (state_in was).items plan is) in
+          let its = agree (scripts_of old) (state_in was).held (state_in was).items plan p.0 is p.1 in
+          let same : p.0.script.code ≡ code = same_Some _ _ (sym its.code ∙ coded) in
+          counts_awake reads may_leave c old new was laptop at puts _ _
+          (resolved.stands m.scripts (client_in m c) p.0 (laptop_stands reads may_leave old m c was at ready.stands)
+          (plan_there m ready.stands ∙ p.1) same)
 
   -- ---- the tree that comes
 
@@ -284,15 +302,15 @@ module _ {D : Type 0} (reads : D → List ℕ) (may_leave : D → List ℕ → T
 
   -- ---- the first that waits
 
-  module _ (old : World D) (was : Laptop) (x : List ℕ) (at : IsAt old c was) (t : Transaction) (first : First was t)
-      (ready : IsReady reads may_leave c old) (conflicts : HeadIs (λ item. item.stage ≡ kept.Conflict) (state_of was.client).items)
+  module _ (old : World D) (was : Laptop D) (x : List ℕ) (at : IsAt old c was) (t : Transaction) (first : First was t)
+      (ready : IsReady reads may_leave c old) (conflicts : HeadIs (λ item. item.stage ≡ kept.Conflict) (state_in was).items)
       (mid : World D) (y : List ℕ) (o : Option (Vec ℕ Global))
       (exchanged : Exchanges reads may_leave c (Lends new_client.held (wanted.Below [])) (SpellsCut new_client.held (wanted.Below [])) o
       old mid x y) where
     first_conflicts : first.item.stage ≡ kept.Conflict
     first_conflicts = subst (HeadIs (λ item. item.stage ≡ kept.Conflict)) first.items conflicts
 
-    plan_here : (p : Plan) × (planned_in (scripts_of old) (state_of was.client).held (state_of was.client).items ≡ Some p)
+    plan_here : (p : Plan) × (planned_in (scripts_of old) (state_in was).held (state_in was).items ≡ Some p)
     plan_here = has_plan old was at ready conflicts
 
     -- it is resolved by this plan in each machine
@@ -300,11 +318,11 @@ module _ {D : Type 0} (reads : D → List ℕ) (may_leave : D → List ℕ → T
         → Steps reads may_leave (machine_resolves c (name_of t) (Some plan_here.0)) old new x z answer
         → Steps reads may_leave (Syncs c) old new x z answer
     resolves_any new z answer one =
-        asks_first reads may_leave c old was x at t first (λ mi. plan_of (state_of was.client).held mi ≡ Some plan_here.0) new z answer
+        asks_first reads may_leave c old was x at t first (λ mi. plan_of (state_in was).held mi ≡ Some plan_here.0) new z answer
         (λ m mi here stands named.
-        planned_as m.scripts (state_of was.client).held first.item mi stands named
-        ∙ ap (λ (items : List Item). planned_in m.scripts (state_of was.client).held items) (sym first.items)
-        ∙ ap (λ (ss : List Declared). planned_in ss (state_of was.client).held (state_of was.client).items)
+        planned_as m.scripts (state_in was).held first.item mi stands named
+        ∙ ap (λ (items : List Item). planned_in m.scripts (state_in was).held items) (sym first.items)
+        ∙ ap (λ (ss : List Declared). planned_in ss (state_in was).held (state_in was).items)
         (scripts_are old.scripts.items m.scripts here.scripts)
         ∙ plan_here.1)
         (λ mi ms stands planned.
@@ -330,19 +348,19 @@ module _ {D : Type 0} (reads : D → List ℕ) (may_leave : D → List ℕ → T
 
     module _ (reply : Vec ℕ Global) (is : o ≡ Some reply) where
       -- it was resolved on that tree
-      pub syncs_resolved : (plan : plans.Plan) (new : World D) (z : List ℕ) → IsHeadPlan (state_of was.client).items plan
+      pub syncs_resolved : (plan : plans.Plan) (new : World D) (z : List ℕ) → IsHeadPlan (state_in was).items plan
           → mid.clients.items ≡ old.clients.items → SameCounts old mid
           → ((u : Nodes) → SpellsTree reply.items u → CarriesOut reads may_leave c u mid new)
           → z ≡ y ++ resolve_line (name_of t) (resolver_said plan) → Steps reads may_leave (Syncs c) old new x z Moved
       syncs_resolved plan new z planned clients_same counts carried wrote =
           let p : Plan = plan_here.0 in
           let brought = tree_came old mid x y o exchanged reply is in
-          let its = agree (scripts_of old) (state_of was.client).held (state_of was.client).items plan p planned plan_here.1 in
+          let its = agree (scripts_of old) (state_in was).held (state_in was).items plan p planned plan_here.1 in
           let planned_mid : IsPlannedAt p c mid =
           λ laptop here.
           let one : laptop ≡ was =
-          one_at old c laptop was (ap (λ ls. slice_get ls c) (sym clients_same) ∙ here) at in
-          (λ i. planned_in (map script_of (counts.scripts i)) (state_of (one i).client).held (state_of (one i).client).items)
+          one_at old c laptop was (ap (λ ls. slice_get ls c) (sym clients_same) ∙ here) at.get in
+          (λ i. planned_in (map script_of (counts.scripts i)) (state_in (one i)).held (state_in (one i)).items)
           ∙ plan_here.1 in
           resolves_any new z Moved
           (bind old mid new x y z (Some brought.0) Moved brought.2

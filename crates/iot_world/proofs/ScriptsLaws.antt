@@ -5,12 +5,12 @@ use Rattle.std.proofs.lemmas.Option.{slice_get-get_or}
 use Rattle.std.proofs.lemmas.Slice.Eq.{bytes_eq-Decides}
 use Rattle.std.specs.List.{find, AllByRecursion}
 use Rattle.iot_event.specs.Meanings.{is_declared}
-use Rattle.iot_machine.specs.Clients.{Declared, Item, Running}
+use Rattle.iot_machine.specs.Clients.{Declared, Item, Running, ClientState}
 use Rattle.iot_machine.specs.Machine as machine
 use Rattle.iot_machine.specs.Options as options
 use Rattle.iot_machine.specs.Options.{OnConflict}
-use Rattle.iot_world.specs.Laptops.{LaptopStands}
-use Rattle.iot_world.specs.Scripts.{script_named, IsNamed, HasNamed, AreApart, ItemIsNamed, RunIsNamedIfAny}
+use Rattle.iot_world.specs.Laptops.{ClientStands, awake, fallen}
+use Rattle.iot_world.specs.Scripts.{script_named, IsNamed, HasNamed, AreApart, ItemIsNamed, RunIsNamedIfAny, AreNamed}
 use Rattle.iot_world.specs.Scripts.{option_named, or_none, meant}
 use Rattle.iot_world.specs.World.{Each, ScriptStands, script_of}
 use Rattle.iot_world.specs.declared.laptop.Laptop.{Laptop}
@@ -78,26 +78,37 @@ module _ (scripts : List Declared) (one : Declared) where
   running_more None named = tt
   running_more (Some it) named = record { script = named_more it.script named.script; resolver = has_more it.option named.resolver }
 
-  laptop_more : (laptop : Laptop) (m : machine.Client) → LaptopStands scripts laptop m → LaptopStands (scripts ++ one ∷ []) laptop m
-  laptop_more laptop m here = record {
-    name = here.name;
-    link = here.link;
-    alive = here.alive;
-    tied = here.tied;
-    state = here.state;
-    named = record {
-      items = items_more m.node.durable.items here.named.items;
-      running = running_more m.node.durable.running here.named.running;
-    };
-  }
+  state_more : (m : ClientState) → AreNamed scripts m → AreNamed (scripts ++ one ∷ []) m
+  state_more m named = record { items = items_more m.items named.items; running = running_more m.running named.running }
 
-  -- each client's transactions still have their scripts
-  pub laptops_more : (laptops : List Laptop) (ms : List machine.Client) → Each (LaptopStands scripts) laptops ms
-      → Each (LaptopStands (scripts ++ one ∷ [])) laptops ms
-  laptops_more [] [] each = tt
-  laptops_more [] (m ∷ ms) each = absurd each
-  laptops_more (laptop ∷ laptops) [] each = absurd each
-  laptops_more (laptop ∷ laptops) (m ∷ ms) each = (laptop_more laptop m each.0, laptops_more laptops ms each.1)
+  module _ {D : Type 0} (reads : D → List ℕ) (may_leave : D → List ℕ → Type 0) where
+    client_more : (laptop : Laptop D) (m : machine.Client) → ClientStands reads may_leave scripts laptop m
+        → ClientStands reads may_leave (scripts ++ one ∷ []) laptop m
+    client_more laptop m (awake here) = awake (record {
+      name = here.name;
+      link = here.link;
+      alive = here.alive;
+      tied = here.tied;
+      state = here.state;
+      named = state_more m.node.durable here.named;
+    })
+    client_more laptop m (fallen here) = fallen (record {
+      name = here.name;
+      link = here.link;
+      alive = here.alive;
+      disk = here.disk;
+      down = here.down;
+      holds = here.holds;
+      named = state_more m.node.durable here.named;
+    })
+
+    -- each client's transactions still have their scripts
+    pub clients_more : (laptops : List (Laptop D)) (ms : List machine.Client) → Each (ClientStands reads may_leave scripts) laptops ms
+        → Each (ClientStands reads may_leave (scripts ++ one ∷ [])) laptops ms
+    clients_more [] [] each = tt
+    clients_more [] (m ∷ ms) each = absurd each
+    clients_more (laptop ∷ laptops) [] each = absurd each
+    clients_more (laptop ∷ laptops) (m ∷ ms) each = (client_more laptop m each.0, clients_more laptops ms each.1)
 
 -- ---- scripts with names of their own
 

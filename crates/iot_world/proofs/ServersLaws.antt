@@ -2,7 +2,6 @@
 use Rattle.std.proofs.Common.{◌≡◌, ◌<◌, ℕ, ◌+◌, ◌^◌, true, false, List, [], ◌∷◌, ◌++◌, length, Some, None, codes}
 use Rattle.std.proofs.Common.{refl, sym, ap, subst, ◌∙◌, arith}
 use Rattle.std.proofs.lemmas.Bool.{le-leb, lt-leb}
-use Rattle.iot_disk.specs.Disk.{Arms}
 use Rattle.iot_disk.specs.declared.faults.StartFault.{StartFault}
 use Rattle.iot_disk.specs.declared.faults.StartFault.TheVariants as start
 use Rattle.iot_journal.specs.Decoding.{Encodes, decoded}
@@ -30,9 +29,8 @@ use Rattle.iot_machine.specs.Texts.{line, tree_text, commit_line}
 use Rattle.iot_world.specs.Messages.{commit_said, name_of}
 use Rattle.iot_world.specs.Faults.{FaultCounts, of_start}
 use Rattle.iot_world.specs.Records.{IsImage, AreImages, records_of, state_of}
-use Rattle.iot_count.specs.Counts.{Counted, IsSteady}
-use Rattle.iot_world.specs.Servers.{is_up, disk_of, tree_of, Keeps, IsStore, ServerStands, ServerIsSound, Falls, AreOf}
-use Rattle.iot_world.specs.Servers.{SameDisk, HasDisk, IsLive}
+use Rattle.iot_world.specs.Servers.{is_up, tree_of, Keeps, IsStore, ServerStands, ServerIsSound, Falls, AreOf}
+use Rattle.iot_world.specs.Servers.{HasDisk, IsLive}
 use Rattle.iot_world.specs.declared.message.Message.{Message}
 use Rattle.iot_world.specs.declared.message.Handed.{Handed}
 use Rattle.iot_world.specs.declared.server.ServerNode.{ServerNode}
@@ -259,56 +257,12 @@ start_counts start.Stopped bytes before now takes cause = cause
 start_counts start.Foreign bytes before now takes cause = absurd takes
 start_counts (start.Damaged at) bytes before now takes cause = absurd takes
 
--- ---- disks
-
-pub one_disk : {D : Type 0} (one other : D) → Some one ≡ Some other → one ≡ other
-one_disk one other e = cc
-
-module _ {D : Type 0} (arms_of : D → Arms) (faults_of : D → ℕ) where
-  -- nothing was done to it
-  pub untouched : (old new : ServerNode D) (counts : Counted → Type 0) → ((n : ℕ) → counts (record { before = n; after = n })) → HasDisk old
-      → new ≡ old → SameDisk arms_of faults_of counts old new
-  untouched old new counts steady has same = record {
-    was = has.disk;
-    now = has.disk;
-    old_has = has.has;
-    new_has = ap disk_of same ∙ has.has;
-    arms = refl;
-    faults = steady (faults_of has.disk);
-  }
-
-  -- the counts of a disk mean the same in other words
-  pub counted : (old new : ServerNode D) (one other : Counted → Type 0) → ((faults : Counted) → one faults → other faults)
-      → SameDisk arms_of faults_of one old new → SameDisk arms_of faults_of other old new
-  counted old new one other means same = record {
-    was = same.was;
-    now = same.now;
-    old_has = same.old_has;
-    new_has = same.new_has;
-    arms = same.arms;
-    faults = means (record { before = faults_of same.was; after = faults_of same.now }) same.faults;
-  }
-
-  -- nothing was done to it, and then something
-  pub then_done : (old mid new : ServerNode D) (counts : Counted → Type 0) → SameDisk arms_of faults_of IsSteady old mid
-      → SameDisk arms_of faults_of counts mid new → SameDisk arms_of faults_of counts old new
-  then_done old mid new counts first second =
-      let same : first.now ≡ second.was = one_disk first.now second.was (sym first.new_has ∙ second.old_has) in
-      record {
-        was = first.was;
-        now = second.now;
-        old_has = first.old_has;
-        new_has = second.new_has;
-        arms = second.arms ∙ ap arms_of (sym same) ∙ first.arms;
-        faults =
-            subst (λ (n : ℕ). counts (record { before = n; after = faults_of second.now })) (ap faults_of (sym same) ∙ first.faults)
-            second.faults;
-      }
+-- ---- its disk
 
 -- a server that keeps something has a disk
 pub has_disk : {D : Type 0} (reads : D → List ℕ) (may_leave : D → List ℕ → Type 0) (server : ServerNode D) (records : List (List ℕ))
     (state : State)
     → Keeps reads may_leave records state server → HasDisk server
-has_disk reads may_leave (Up it) records state keeps = record { disk = servers.disk_of it; has = refl }
-has_disk reads may_leave (Down disk) records state keeps = record { disk = disk; has = refl }
+has_disk reads may_leave (Up it) records state keeps = refl
+has_disk reads may_leave (Down disk) records state keeps = refl
 has_disk reads may_leave Between records state keeps = absurd keeps

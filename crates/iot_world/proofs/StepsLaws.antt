@@ -1,12 +1,12 @@
 -- What a world does to its clients is what the machine does to its own.
-use Rattle.std.proofs.Common.{◌≡◌, ℕ, ◌+◌, ◌<◌, ◌≤◌, Bool, true, false, List, [], ◌++◌, length, Option, Some, None, is_some}
+use Rattle.std.proofs.Common.{◌≡◌, ℕ, ◌+◌, ◌<◌, Bool, true, false, List, [], ◌++◌, length, Option, Some, None, is_some}
 use Rattle.std.proofs.Common.{slice_get, slice_set, refl, sym, ap, subst, ◌∙◌, arith, codes}
 use Rattle.std.proofs.lemmas.List.{append-nil, length-set}
 use Rattle.iot_tree.specs.Tree.{Nodes}
 use Rattle.iot_tree.specs.declared.labels.OnConflict as labels
 use Rattle.iot_tree.specs.declared.want.Want.{Want}
-use Rattle.iot_client.specs.States.{Transaction}
-use Rattle.iot_client.specs.Ties.{Live, state_of, live_of, place_of}
+use Rattle.iot_kept.specs.States.{Transaction}
+use Rattle.iot_client.specs.Ties.{Live}
 use Rattle.iot_link.specs.Links.{LinkState, passage}
 use Rattle.iot_link.specs.declared.passages.Passage.{Passage}
 use Rattle.iot_link.specs.declared.passages.Passage.TheVariants as passages
@@ -22,7 +22,10 @@ use Rattle.iot_machine.specs.Options.{OnConflict}
 use Rattle.iot_machine.specs.Serving.{Lends}
 use Rattle.iot_machine.specs.Texts.{line}
 use Rattle.iot_machine.specs.Transactions.{Notes, Handles, Exchange, Refuses, runs, pends, IfIdle, IfNonePends, Held, Missed, Holds, Starts}
-use Rattle.iot_world.specs.Laptops.{LaptopStands, RunningStands, RunningStandsIfAny, SamePlace, Noted, Begun, Relinked}
+use Rattle.std.specs.List.{AllByRecursion}
+use Rattle.iot_world.specs.Disks.{IsEmpty}
+use Rattle.iot_world.specs.Laptops.{LaptopStands, ClientStands, awake, RunningStands, RunningStandsIfAny, SamePlace, Noted, Begun, Relinked}
+use Rattle.iot_world.specs.Nodes.{is_alive, state_in, live_in}
 use Rattle.iot_world.specs.Laptops.{after_passage, waits_of}
 use Rattle.iot_world.specs.Scripts.{IsNamed, HasNamed, RunIsNamedIfAny, option_named, meant}
 use Rattle.iot_world.specs.Servers.{is_up, ServerStands, HasAnswered}
@@ -34,16 +37,19 @@ use Rattle.iot_world.specs.declared.world.World.{World}
 use Rattle.iot_world.proofs.CallsLaws.{bind, asks, answers, says_this}
 use Rattle.iot_world.proofs.ListLaws.{each_get, each_set, get_inside, set_at, set_twice, set_same, each_place_set}
 use Rattle.iot_world.proofs.LaptopsLaws.{runs_is, waits_is}
+use Rattle.iot_world.proofs.NodesLaws.{awake_stands}
 use Rattle.iot_world.proofs.ScriptsLaws.{scripts_are, meant_named}
 
--- the client at this place of a world
-abbrev pub IsAt : {D : Type 0} → World D → ℕ → Laptop → Type 0
-IsAt world c laptop = slice_get world.clients.items c ≡ Some laptop
+-- the client at this place of a world, which is alive
+pub record IsAt {D : Type 0} (world : World D) (c : ℕ) (laptop : Laptop D) : Type 0 where
+  pub get : slice_get world.clients.items c ≡ Some laptop
+  pub up : is_alive laptop ≡ true
 
--- this client stands at its place now; else nothing but disks has changed
-pub record Puts {D : Type 0} (c : ℕ) (laptop : Laptop) (old new : World D) : Type 0 where
+-- this client stands at its place now; else nothing has changed
+pub record Puts {D : Type 0} (c : ℕ) (laptop : Laptop D) (old new : World D) : Type 0 where
   pub server : new.server ≡ old.server
   pub scripts : new.scripts.items ≡ old.scripts.items
+  pub spare : new.spare.items ≡ old.spare.items
   pub clients : new.clients.items ≡ slice_set old.clients.items c laptop
 
 -- ---- the running transaction
@@ -84,16 +90,17 @@ running_by scripts (Some running) None first (Some it) stands named = absurd sta
 running_by scripts (Some running) (Some live) first (Some it) stands named =
     running_with scripts running live first it stands named.resolver
 
-abbrev pub running_in : List Declared → Laptop → Option clients.Running
-running_in scripts laptop = running_of scripts (state_of laptop.client).running (live_of laptop.client)
+abbrev pub running_in : {D : Type 0} → List Declared → Laptop D → Option clients.Running
+running_in scripts laptop = running_of scripts (state_in laptop).running (live_in laptop)
 
-pub running_is : (scripts : List Declared) (laptop : Laptop) (m : machine.Client) → LaptopStands scripts laptop m
+pub running_is : {D : Type 0} (reads : D → List ℕ) (may_leave : D → List ℕ → Type 0) (scripts : List Declared) (laptop : Laptop D)
+    (m : machine.Client) → LaptopStands reads may_leave scripts laptop m
     → m.node.durable.running ≡ running_in scripts laptop
-running_is scripts laptop m here =
-    running_by scripts (state_of laptop.client).running (live_of laptop.client) m.first m.node.durable.running here.state.running
+running_is reads may_leave scripts laptop m here =
+    running_by scripts (state_in laptop).running (live_in laptop) m.first m.node.durable.running here.state.running
     here.named.running
 
-pub record Runs (scripts : List Declared) (laptop : Laptop) : Type 0 where
+pub record Runs {D : Type 0} (scripts : List Declared) (laptop : Laptop D) : Type 0 where
   pub it : clients.Running
   pub is : running_in scripts laptop ≡ Some it
 
@@ -106,10 +113,11 @@ runs_by scripts (Some running) None first None is stands = absurd stands
 runs_by scripts (Some running) None first (Some it) is stands = absurd stands
 
 -- if a transaction runs, it is one of the machine's
-pub it_runs : (scripts others : List Declared) (laptop : Laptop) (m : machine.Client) → LaptopStands others laptop m
-    → is_some (state_of laptop.client).running ≡ true → Runs scripts laptop
-it_runs scripts others laptop m here is =
-    let one = runs_by scripts (state_of laptop.client).running (live_of laptop.client) m.first m.node.durable.running is
+pub it_runs : {D : Type 0} (reads : D → List ℕ) (may_leave : D → List ℕ → Type 0) (scripts others : List Declared) (laptop : Laptop D)
+    (m : machine.Client) → LaptopStands reads may_leave others laptop m
+    → is_some (state_in laptop).running ≡ true → Runs scripts laptop
+it_runs reads may_leave scripts others laptop m here is =
+    let one = runs_by scripts (state_in laptop).running (live_in laptop) m.first m.node.durable.running is
     here.state.running in
     record { it = one.0; is = one.1 }
 
@@ -118,51 +126,67 @@ none_by : (scripts : List Declared) (running : Option Transaction) (live : Optio
 none_by scripts None live is = refl
 none_by scripts (Some running) live is = absurd cc
 
-pub none_runs : (scripts : List Declared) (laptop : Laptop) → is_some (state_of laptop.client).running ≡ false
+pub none_runs : {D : Type 0} (scripts : List Declared) (laptop : Laptop D) → is_some (state_in laptop).running ≡ false
     → running_in scripts laptop ≡ None
-none_runs scripts laptop is = none_by scripts (state_of laptop.client).running (live_of laptop.client) is
+none_runs scripts laptop is = none_by scripts (state_in laptop).running (live_in laptop) is
 
 module _ {D : Type 0} (reads : D → List ℕ) (may_leave : D → List ℕ → Type 0) where
   -- ---- one client
 
-  pub laptop_stands : (world : World D) (m : Machine) (c : ℕ) (laptop : Laptop) → IsAt world c laptop → StandsFor reads may_leave world m
-      → LaptopStands m.scripts laptop (client_in m c)
-  laptop_stands world m c laptop at here =
-      each_get (LaptopStands m.scripts) world.clients.items m.clients c laptop no_client at here.clients
+  pub client_stands : (world : World D) (m : Machine) (c : ℕ) (laptop : Laptop D) → slice_get world.clients.items c ≡ Some laptop
+      → StandsFor reads may_leave world m → ClientStands reads may_leave m.scripts laptop (client_in m c)
+  client_stands world m c laptop get here =
+      each_get (ClientStands reads may_leave m.scripts) world.clients.items m.clients c laptop no_client get here.clients
 
-  pub inside : (world : World D) (m : Machine) (c : ℕ) (laptop : Laptop) → IsAt world c laptop → StandsFor reads may_leave world m
+  pub laptop_stands : (world : World D) (m : Machine) (c : ℕ) (laptop : Laptop D) → IsAt world c laptop → StandsFor reads may_leave world m
+      → LaptopStands reads may_leave m.scripts laptop (client_in m c)
+  laptop_stands world m c laptop at here =
+      awake_stands reads may_leave m.scripts laptop (client_in m c) at.up (client_stands world m c laptop at.get here)
+
+  pub inside : (world : World D) (m : Machine) (c : ℕ) (laptop : Laptop D) → IsAt world c laptop → StandsFor reads may_leave world m
       → c < length m.clients
-  inside world m c laptop at here = get_inside (LaptopStands m.scripts) world.clients.items m.clients c laptop at here.clients
+  inside world m c laptop at here =
+      get_inside (ClientStands reads may_leave m.scripts) world.clients.items m.clients c laptop at.get here.clients
 
   -- what runs in the machine is what runs here
-  pub runs_here : (c : ℕ) (world : World D) (laptop : Laptop) → IsAt world c laptop → (m : Machine) → StandsFor reads may_leave world m
+  pub runs_here : (c : ℕ) (world : World D) (laptop : Laptop D) → IsAt world c laptop → (m : Machine) → StandsFor reads may_leave world m
       → (kept_by c m).running ≡ running_in (scripts_of world) laptop
   runs_here c world laptop at m here =
-      running_is m.scripts laptop (client_in m c) (laptop_stands world m c laptop at here)
+      running_is reads may_leave m.scripts laptop (client_in m c) (laptop_stands world m c laptop at here)
       ∙ ap (λ (scripts : List Declared). running_in scripts laptop) (scripts_are world.scripts.items m.scripts here.scripts)
 
-  pub puts_stands : (old new : World D) (m : Machine) (c : ℕ) (was laptop : Laptop) (client : machine.Client) → IsAt old c was
-      → SamePlace was laptop → Puts c laptop old new → LaptopStands m.scripts laptop client → StandsFor reads may_leave old m
+  -- with another client at a place, alive or down
+  pub puts_client : (old new : World D) (m : Machine) (c : ℕ) (was laptop : Laptop D) (client : machine.Client)
+      → slice_get old.clients.items c ≡ Some was → SamePlace was laptop → Puts c laptop old new
+      → ClientStands reads may_leave m.scripts laptop client → StandsFor reads may_leave old m
       → StandsFor reads may_leave new (put_client c client m)
-  puts_stands old new m c was laptop client at place puts stands here = record {
+  puts_client old new m c was laptop client get place puts stands here = record {
     server = subst (λ (s : ServerNode D). ServerStands reads may_leave s m.server) (sym puts.server) here.server;
     requests = subst (HasAnswered m.requests) (sym puts.server) here.requests;
     clients =
-        subst (λ (ls : List Laptop). Each (LaptopStands m.scripts) ls (slice_set m.clients c client)) (sym puts.clients)
-        (each_set (LaptopStands m.scripts) old.clients.items m.clients c laptop client stands here.clients);
+        subst (λ (ls : List (Laptop D)). Each (ClientStands reads may_leave m.scripts) ls (slice_set m.clients c client)) (sym puts.clients)
+        (each_set (ClientStands reads may_leave m.scripts) old.clients.items m.clients c laptop client stands here.clients);
     scripts = subst (λ (ss : List DeclaredScript). Each ScriptStands ss m.scripts) (sym puts.scripts) here.scripts;
     apart = here.apart;
     placed =
         subst ArePlaced (sym puts.clients)
-        (each_place_set (λ n (l : Laptop). place_of l.client ≡ n) old.clients.items c laptop here.placed (place ∙ here.placed c was at));
-    few = omega (arith, here.few, ap length puts.clients, length-set old.clients.items c laptop);
+        (each_place_set (λ n (l : Laptop D). l.place ≡ n) old.clients.items c laptop here.placed (place ∙ here.placed c was get));
+    spare = subst (λ (ds : List D). AllByRecursion (IsEmpty reads may_leave) ds) (sym puts.spare) here.spare;
+    eight = omega (arith, here.eight, ap length puts.clients, ap length puts.spare, length-set old.clients.items c laptop);
   }
 
+  pub puts_stands : (old new : World D) (m : Machine) (c : ℕ) (was laptop : Laptop D) (client : machine.Client) → IsAt old c was
+      → SamePlace was laptop → Puts c laptop old new → LaptopStands reads may_leave m.scripts laptop client
+      → StandsFor reads may_leave old m → StandsFor reads may_leave new (put_client c client m)
+  puts_stands old new m c was laptop client at place puts stands here =
+      puts_client old new m c was laptop client at.get place puts (awake stands) here
+
   -- a change of one client
-  pub changes : {A : Type 0} (c : ℕ) (old new : World D) (was laptop : Laptop) (change : machine.Client → machine.Client) (a : A) (x :
+  pub changes : {A : Type 0} (c : ℕ) (old new : World D) (was laptop : Laptop D) (change : machine.Client → machine.Client) (a : A) (x :
       List ℕ)
       → IsAt old c was → Puts c laptop old new → SamePlace was laptop
-      → ((scripts : List Declared) (m : machine.Client) → LaptopStands scripts was m → LaptopStands scripts laptop (change m))
+      → ((scripts : List Declared) (m : machine.Client) → LaptopStands reads may_leave scripts was m
+      → LaptopStands reads may_leave scripts laptop (change m))
       → Steps reads may_leave (Gets (λ _. a) (λ m. put_client c (change (client_in m c)) m)) old new x x a
   changes c old new was laptop change a x at puts place stands = record {
     step = λ m here. (
@@ -176,8 +200,8 @@ module _ {D : Type 0} (reads : D → List ℕ) (may_leave : D → List ℕ → T
   }
 
   -- a change of what a client keeps
-  pub notes : (c : ℕ) (old new : World D) (was laptop : Laptop) (change : ClientState → ClientState) (x : List ℕ) → IsAt old c was
-      → Puts c laptop old new → Noted change was laptop → Steps reads may_leave (Notes c change) old new x x true
+  pub notes : (c : ℕ) (old new : World D) (was laptop : Laptop D) (change : ClientState → ClientState) (x : List ℕ) → IsAt old c was
+      → Puts c laptop old new → Noted reads may_leave change was laptop → Steps reads may_leave (Notes c change) old new x x true
   notes c old new was laptop change x at puts noted = record {
     step = λ m here.
         let node : Node ClientState = changed change (client_in m c).node in (
@@ -191,29 +215,30 @@ module _ {D : Type 0} (reads : D → List ℕ) (may_leave : D → List ℕ → T
   }
 
   -- a client that was put back as it was
-  pub put_back : (old mid : World D) (c : ℕ) (was laptop : Laptop) (m : Machine) → IsAt old c was → laptop ≡ was → Puts c laptop old mid
+  pub put_back : (old mid : World D) (c : ℕ) (was laptop : Laptop D) (m : Machine) → IsAt old c was → laptop ≡ was → Puts c laptop old mid
       → StandsFor reads may_leave old m → StandsFor reads may_leave mid m
   put_back old mid c was laptop m at same puts here =
       subst (StandsFor reads may_leave mid)
       (ap (λ (cs : List machine.Client). record m { clients = cs }) (set_same m.clients c no_client))
-      (puts_stands old mid m c was laptop (client_in m c) at (ap (λ (l : Laptop). place_of l.client) same) puts
-      (subst (λ (l : Laptop). LaptopStands m.scripts l (client_in m c)) (sym same) (laptop_stands old m c was at here)) here)
+      (puts_stands old mid m c was laptop (client_in m c) at (ap (λ (l : Laptop D). l.place) same) puts
+      (subst (λ (l : Laptop D). LaptopStands reads may_leave m.scripts l (client_in m c)) (sym same) (laptop_stands old m c was at here))
+      here)
 
   -- ---- what is asked of a client
 
-  module _ (c : ℕ) (world : World D) (laptop : Laptop) (x : List ℕ) (at : IsAt world c laptop) where
-    pub asks_runs : Steps reads may_leave (Asks (runs c)) world world x x (is_some (state_of laptop.client).running)
+  module _ (c : ℕ) (world : World D) (laptop : Laptop D) (x : List ℕ) (at : IsAt world c laptop) where
+    pub asks_runs : Steps reads may_leave (Asks (runs c)) world world x x (is_some (state_in laptop).running)
     asks_runs =
-        asks world x (is_some (state_of laptop.client).running)
+        asks world x (is_some (state_in laptop).running)
         (λ m here. runs_is _ _ _ _ (laptop_stands world m c laptop at here).state)
 
-    pub asks_pends : Steps reads may_leave (Asks (pends c)) world world x x (waits_of (state_of laptop.client).items)
+    pub asks_pends : Steps reads may_leave (Asks (pends c)) world world x x (waits_of (state_in laptop).items)
     asks_pends =
-        asks world x (waits_of (state_of laptop.client).items)
+        asks world x (waits_of (state_in laptop).items)
         (λ m here. waits_is _ _ _ _ (laptop_stands world m c laptop at here).state)
 
-    pub asks_held : Steps reads may_leave (Asks (λ m. (kept_by c m).held)) world world x x (state_of laptop.client).held
-    asks_held = asks world x (state_of laptop.client).held (λ m here. (laptop_stands world m c laptop at here).state.held)
+    pub asks_held : Steps reads may_leave (Asks (λ m. (kept_by c m).held)) world world x x (state_in laptop).held
+    asks_held = asks world x (state_in laptop).held (λ m here. (laptop_stands world m c laptop at here).state.held)
 
     pub asks_running : Steps reads may_leave (Asks (λ m. (kept_by c m).running)) world world x x (running_in (scripts_of world) laptop)
     asks_running =
@@ -224,28 +249,28 @@ module _ {D : Type 0} (reads : D → List ℕ) (may_leave : D → List ℕ → T
     pub refuses : (word y : List ℕ) → y ≡ x ++ line word → Steps reads may_leave (Refuses word) world world x y false
     refuses word y wrote = bind world world world x y y tt false (says_this (line word) world x y wrote) (answers world y false)
 
-    pub is_busy : {call : Call Machine Bool} (y : List ℕ) → is_some (state_of laptop.client).running ≡ true
+    pub is_busy : {call : Call Machine Bool} (y : List ℕ) → is_some (state_in laptop).running ≡ true
         → y ≡ x ++ line (codes "busy") → Steps reads may_leave (IfIdle c call) world world x y false
     is_busy {call} y is wrote =
         bind world world world x x y true false
         (subst (λ (b : Bool). Steps reads may_leave (Asks (runs c)) world world x x b) is asks_runs)
         (refuses (codes "busy") y wrote)
 
-    pub is_idle : {call : Call Machine Bool} (new : World D) (y : List ℕ) (b : Bool) → is_some (state_of laptop.client).running ≡ false
+    pub is_idle : {call : Call Machine Bool} (new : World D) (y : List ℕ) (b : Bool) → is_some (state_in laptop).running ≡ false
         → Steps reads may_leave call world new x y b → Steps reads may_leave (IfIdle c call) world new x y b
     is_idle {call} new y b is one =
         bind world world new x x y false b
         (subst (λ (b : Bool). Steps reads may_leave (Asks (runs c)) world world x x b) is asks_runs)
         one
 
-    pub is_pending : {call : Call Machine Bool} (y : List ℕ) → waits_of (state_of laptop.client).items ≡ true
+    pub is_pending : {call : Call Machine Bool} (y : List ℕ) → waits_of (state_in laptop).items ≡ true
         → y ≡ x ++ line (codes "pending") → Steps reads may_leave (IfNonePends c call) world world x y false
     is_pending {call} y is wrote =
         bind world world world x x y true false
         (subst (λ (b : Bool). Steps reads may_leave (Asks (pends c)) world world x x b) is asks_pends)
         (refuses (codes "pending") y wrote)
 
-    pub none_pends : {call : Call Machine Bool} (new : World D) (y : List ℕ) (b : Bool) → waits_of (state_of laptop.client).items ≡ false
+    pub none_pends : {call : Call Machine Bool} (new : World D) (y : List ℕ) (b : Bool) → waits_of (state_in laptop).items ≡ false
         → Steps reads may_leave call world new x y b → Steps reads may_leave (IfNonePends c call) world new x y b
     none_pends {call} new y b is one =
         bind world world new x x y false b
@@ -256,11 +281,11 @@ module _ {D : Type 0} (reads : D → List ℕ) (may_leave : D → List ℕ → T
 
   -- a live server handled a request, and nothing else has changed
   pub handles : {A : Type 0} {call : Call (Node (List Commit)) (Option A)} (old new : World D) (x y : List ℕ) (answer : A)
-      → new.clients ≡ old.clients → new.scripts ≡ old.scripts → Refines (ServerStands reads may_leave) call old.server new.server x y
-      (Some answer)
+      → new.clients ≡ old.clients → new.scripts ≡ old.scripts → new.spare ≡ old.spare
+      → Refines (ServerStands reads may_leave) call old.server new.server x y (Some answer)
       → ((n : ℕ) → HasAnswered n old.server → HasAnswered (n + 1) new.server)
       → Steps reads may_leave (Handles call) old new x y (Some answer)
-  handles old new x y answer same scripts one counts = record {
+  handles old new x y answer same scripts spare one counts = record {
     step = λ m here.
         let s = one.step m.server here.server in
         let mid : Machine = server.set s.1 m in (
@@ -279,16 +304,19 @@ module _ {D : Type 0} (reads : D → List ℕ) (may_leave : D → List ℕ → T
           record {
             server = s.4;
             requests = counts m.requests here.requests;
-            clients = subst (λ ls. Each (LaptopStands m.scripts) ls.items m.clients) (sym same) here.clients;
+            clients = subst (λ ls. Each (ClientStands reads may_leave m.scripts) ls.items m.clients) (sym same) here.clients;
             scripts = subst (λ ss. Each ScriptStands ss.items m.scripts) (sym scripts) here.scripts;
             apart = here.apart;
             placed = subst (λ ls. ArePlaced ls.items) (sym same) here.placed;
-            few = subst (λ ls. length ls.items ≤ 8) (sym same) here.few;
+            spare = subst (λ ds. AllByRecursion (IsEmpty reads may_leave) ds.items) (sym spare) here.spare;
+            eight =
+                subst (λ ds. length new.clients.items + length ds.items ≡ 8) (sym spare)
+                (subst (λ ls. length ls.items + length old.spare.items ≡ 8) (sym same) here.eight);
           },
         );
   }
 
-  module _ {A : Type 0} (call : Call (Node (List Commit)) (Option A)) (c : ℕ) (old new : World D) (was laptop : Laptop) (x : List ℕ)
+  module _ {A : Type 0} (call : Call (Node (List Commit)) (Option A)) (c : ℕ) (old new : World D) (was laptop : Laptop D) (x : List ℕ)
       (at : IsAt old c was) where
     asks_passage : (how : Passage) → how ≡ passage was.link (is_up old.server)
         → Steps reads may_leave (Asks (λ m. passage (link_of c m) m.server.alive)) old old x x how
@@ -300,87 +328,89 @@ module _ {D : Type 0} (reads : D → List ℕ) (may_leave : D → List ℕ → T
 
     module _ (how : Passage) (is : how ≡ passage was.link (is_up old.server)) where
       -- no reply, and the request did not get to the server
-      pub no_request : how ≡ passages.Away → Puts c laptop old new → Relinked (after_passage how) was laptop
+      pub no_request : how ≡ passages.Away → Puts c laptop old new → Relinked reads may_leave (after_passage how) was laptop
           → Steps reads may_leave (Exchange c call) old new x x None
       no_request away puts relinked =
           bind old old new x x x passages.Away None (asks_passage passages.Away (sym away ∙ is))
           (changes c old new was laptop (after_passage passages.Away) None x at puts relinked.place
           (λ scripts m here.
-          subst (λ (p : Passage). LaptopStands scripts laptop (after_passage p m)) away (relinked.stands scripts m here)))
+          subst (λ (p : Passage). LaptopStands reads may_leave scripts laptop (after_passage p m)) away (relinked.stands scripts m here)))
 
-      pub lost_request : how ≡ passages.RequestLost → Puts c laptop old new → Relinked (after_passage how) was laptop
+      pub lost_request : how ≡ passages.RequestLost → Puts c laptop old new → Relinked reads may_leave (after_passage how) was laptop
           → Steps reads may_leave (Exchange c call) old new x x None
       lost_request lost puts relinked =
           bind old old new x x x passages.RequestLost None (asks_passage passages.RequestLost (sym lost ∙ is))
           (changes c old new was laptop (after_passage passages.RequestLost) None x at puts relinked.place
           (λ scripts m here.
-          subst (λ (p : Passage). LaptopStands scripts laptop (after_passage p m)) lost (relinked.stands scripts m here)))
+          subst (λ (p : Passage). LaptopStands reads may_leave scripts laptop (after_passage p m)) lost (relinked.stands scripts m here)))
 
       -- the reply is lost
       pub lost_reply : (y : List ℕ) (answer : A) → how ≡ passages.ReplyLost
           → new.clients.items ≡ slice_set old.clients.items c laptop → new.scripts.items ≡ old.scripts.items
-          → Relinked (after_passage how) was laptop
+          → new.spare.items ≡ old.spare.items → Relinked reads may_leave (after_passage how) was laptop
           → Refines (ServerStands reads may_leave) call old.server new.server x y (Some answer)
           → ((n : ℕ) → HasAnswered n old.server → HasAnswered (n + 1) new.server)
           → Steps reads may_leave (Exchange c call) old new x y None
-      lost_reply y answer lost same scripts relinked one counts =
+      lost_reply y answer lost same scripts spare relinked one counts =
           let mid : World D = record old { server = new.server } in
           bind old old new x x y passages.ReplyLost None (asks_passage passages.ReplyLost (sym lost ∙ is))
-          (bind old mid new x y y (Some answer) None (handles old mid x y answer refl refl one counts)
-          (changes c mid new was laptop (after_passage passages.ReplyLost) None y at
-          (record { server = refl; scripts = scripts; clients = same }) relinked.place
+          (bind old mid new x y y (Some answer) None (handles old mid x y answer refl refl refl one counts)
+          (changes c mid new was laptop (after_passage passages.ReplyLost) None y (record { get = at.get; up = at.up })
+          (record { server = refl; scripts = scripts; spare = spare; clients = same }) relinked.place
           (λ scripts m here.
-          subst (λ (p : Passage). LaptopStands scripts laptop (after_passage p m)) lost (relinked.stands scripts m here))))
+          subst (λ (p : Passage). LaptopStands reads may_leave scripts laptop (after_passage p m)) lost (relinked.stands scripts m here))))
 
       -- it comes
       pub both : (y : List ℕ) (answer : A) → how ≡ passages.Both → new.clients.items ≡ slice_set old.clients.items c laptop
-          → new.scripts.items ≡ old.scripts.items → laptop ≡ was
+          → new.scripts.items ≡ old.scripts.items → new.spare.items ≡ old.spare.items → laptop ≡ was
           → Refines (ServerStands reads may_leave) call old.server new.server x y (Some answer)
           → ((n : ℕ) → HasAnswered n old.server → HasAnswered (n + 1) new.server)
           → Steps reads may_leave (Exchange c call) old new x y (Some answer)
-      both y answer comes same scripts stays one counts =
+      both y answer comes same scripts spare stays one counts =
           let mid : World D = record old { server = new.server } in
           bind old old new x x y passages.Both (Some answer) (asks_passage passages.Both (sym comes ∙ is))
-          (bind old mid new x y y (Some answer) (Some answer) (handles old mid x y answer refl refl one counts)
+          (bind old mid new x y y (Some answer) (Some answer) (handles old mid x y answer refl refl refl one counts)
           (record {
             step = λ m here. (
               [],
               m,
               sym (append-nil y),
               (refl, refl, refl),
-              put_back mid new c was laptop m at stays (record { server = refl; scripts = scripts; clients = same }) here,
+              put_back mid new c was laptop m (record { get = at.get; up = at.up }) stays
+                  (record { server = refl; scripts = scripts; spare = spare; clients = same }) here,
             );
           }))
 
   -- ---- objects
 
   -- what is wanted is brought and held
-  pub brings : (c : ℕ) (old mid new : World D) (was laptop : Laptop) (change : Nodes → ClientState → ClientState) (want : Want) (t : Nodes)
+  pub brings : (c : ℕ) (old mid new : World D) (was laptop : Laptop D) (change : Nodes → ClientState → ClientState) (want : Want)
+      (t : Nodes)
       (x y : List ℕ)
       → IsAt old c was → IsAt mid c was
-      → Steps reads may_leave (Exchange c (Lends (state_of was.client).held want)) old mid x y (Some t)
-      → Puts c laptop mid new → Noted (change t) was laptop → Steps reads may_leave (Holds c change want) old new x y Held
+      → Steps reads may_leave (Exchange c (Lends (state_in was).held want)) old mid x y (Some t)
+      → Puts c laptop mid new → Noted reads may_leave (change t) was laptop → Steps reads may_leave (Holds c change want) old new x y Held
   brings c old mid new was laptop change want t x y at there exchanged puts noted =
       bind old mid new x y y (Some t) Held
-      (bind old old mid x x y (state_of was.client).held (Some t) (asks_held c old was x at) exchanged)
+      (bind old old mid x x y (state_in was).held (Some t) (asks_held c old was x at) exchanged)
       (bind mid new new y y y true Held (notes c mid new was laptop (change t) y there puts noted) (answers new y Held))
 
   -- nothing comes
-  pub misses : (c : ℕ) (old new : World D) (was : Laptop) (change : Nodes → ClientState → ClientState) (want : Want) (x y : List ℕ)
+  pub misses : (c : ℕ) (old new : World D) (was : Laptop D) (change : Nodes → ClientState → ClientState) (want : Want) (x y : List ℕ)
       → IsAt old c was
-      → Steps reads may_leave (Exchange c (Lends (state_of was.client).held want)) old new x y None
+      → Steps reads may_leave (Exchange c (Lends (state_in was).held want)) old new x y None
       → Steps reads may_leave (Holds c change want) old new x y Missed
   misses c old new was change want x y at exchanged =
       bind old new new x y y None Missed
-      (bind old old new x x y (state_of was.client).held None (asks_held c old was x at) exchanged)
+      (bind old old new x x y (state_in was).held None (asks_held c old was x at) exchanged)
       (answers new y Missed)
 
   -- ---- begin
 
   -- its next transaction has begun
-  pub starts : (c : ℕ) (old new : World D) (was laptop : Laptop) (script : Declared) (option : OnConflict Declared)
+  pub starts : (c : ℕ) (old new : World D) (was laptop : Laptop D) (script : Declared) (option : OnConflict Declared)
       (kept : labels.OnConflict) (first : Bool) (x : List ℕ)
-      → IsAt old c was → Puts c laptop old new → Begun script kept first was laptop → kept ≡ option_named option
+      → IsAt old c was → Puts c laptop old new → Begun reads may_leave script kept first was laptop → kept ≡ option_named option
       → IsNamed (scripts_of old) script → HasNamed (scripts_of old) option
       → Steps reads may_leave (Starts c script option first) old new x x true
   starts c old new was laptop script option kept first x at puts begun same_option named has_named = record {

@@ -18,8 +18,7 @@ use Rattle.iot_queue.specs.declared.items.Resolution.{Resolution}
 use Rattle.iot_queue.specs.declared.items.Stage.{Stage}
 use Rattle.iot_queue.specs.declared.items.Stage.TheVariants as kept
 use Rattle.iot_client.specs.Messages.{way_of}
-use Rattle.iot_client.specs.Records.{HeadIs, IsSubmitted, IsSubmittedIn}
-use Rattle.iot_client.specs.Ties.{state_of, place_of}
+use Rattle.iot_kept.specs.Changes.{HeadIs, IsSubmitted, IsSubmittedIn}
 use Rattle.iot_machine.specs.Clients as clients
 use Rattle.iot_machine.specs.Clients.{ClientState, Declared, local_run, attempt_by, ground}
 use Rattle.iot_machine.specs.Machine.{Machine, client_in, kept_by}
@@ -31,6 +30,7 @@ use Rattle.iot_machine.specs.Texts.{line}
 use Rattle.iot_machine.specs.Transactions.{Syncs, Submits, sync_at, item_name, submission_of, submits, told, Tells, Synced, Unanswered}
 use Rattle.iot_world.specs.Laptops.{LaptopStands, ResolutionStands, StageStands, ItemStands, Noted, HandsIn, acts_in, label_in}
 use Rattle.iot_world.specs.Laptops.{head_reads, head_option}
+use Rattle.iot_world.specs.Nodes.{state_in}
 use Rattle.iot_world.specs.Messages.{IsSomeRequest, SpellsVerdict, IsVerdict, name_of, told_text, told_change, told_synced}
 use Rattle.iot_world.specs.Scripts.{option_named}
 use Rattle.iot_world.specs.Servers.{IsHanded, IsSubmission}
@@ -87,36 +87,37 @@ submitted_at c m mi stage = record {
 }
 
 -- the message is a request
-pub some_commit : (laptop : Laptop) (items : List Item) (message : Message) → HeadIs (λ item. HandsIn laptop item message) items
+pub some_commit : {D : Type 0} (laptop : Laptop D) (items : List Item) (message : Message)
+    → HeadIs (λ item. HandsIn laptop item message) items
     → IsSomeRequest message.request.items
 some_commit laptop [] message hands = absurd hands
 some_commit laptop (item ∷ items) message hands = record { request = _; is = hands.asked }
 
-module _ {D : Type 0} (reads : D → List ℕ) (may_leave : D → List ℕ → Type 0) (c : ℕ) (old : World D) (was : Laptop)
+module _ {D : Type 0} (reads : D → List ℕ) (may_leave : D → List ℕ → Type 0) (c : ℕ) (old : World D) (was : Laptop D)
     (at : IsAt old c was) (t : Transaction) (first : First was t) where
   abbrev transaction : Transaction
   transaction = record { client = was.name; number = first.item.tid }
 
   module _ (m : Machine) (mi : clients.Item) (here : StandsFor reads may_leave old m)
-      (stands : ItemStands (state_of was.client).held first.item mi) where
-    there : LaptopStands m.scripts was (client_in m c)
+      (stands : ItemStands (state_in was).held first.item mi) where
+    there : LaptopStands reads may_leave m.scripts was (client_in m c)
     there = laptop_stands reads may_leave old m c was at here
 
     named : item_name c mi m ≡ name_of transaction
     named = name_there reads may_leave c old was [] at t first m mi here stands ∙ ap name_of first.named
 
     -- with its own run
-    own_submission : IsSubmission (label_in (place_of was.client) first.item kept.Waiting) (acts_in first.item kept.Waiting) transaction
+    own_submission : IsSubmission (label_in (was.place) first.item kept.Waiting) (acts_in first.item kept.Waiting) transaction
         (submitted_at c m mi clients.Waiting)
     own_submission = record {
       name = named;
       has_label =
-          ap (λ (p : ℕ). label_with p mi.number mi.script.name mi.budget Certified none_listed) (sym (here.placed c was at))
-          ∙ ap (λ (n : ℕ). label_with (place_of was.client) n mi.script.name mi.budget Certified none_listed) (sym stands.number)
-          ∙ ap (λ (n : List ℕ). label_with (place_of was.client) first.item.tid n mi.budget Certified none_listed) (sym stands.name)
-          ∙ ap (λ (n : ℕ). label_with (place_of was.client) first.item.tid first.item.script n Certified none_listed) (sym stands.budget)
-          ∙ ap (λ files. label_with (place_of was.client) first.item.tid first.item.script first.item.budget Certified files) no_files;
-      base = (state_of was.client).held;
+          ap (λ (p : ℕ). label_with p mi.number mi.script.name mi.budget Certified none_listed) (sym (here.placed c was at.get))
+          ∙ ap (λ (n : ℕ). label_with (was.place) n mi.script.name mi.budget Certified none_listed) (sym stands.number)
+          ∙ ap (λ (n : List ℕ). label_with (was.place) first.item.tid n mi.budget Certified none_listed) (sym stands.name)
+          ∙ ap (λ (n : ℕ). label_with (was.place) first.item.tid first.item.script n Certified none_listed) (sym stands.budget)
+          ∙ ap (λ files. label_with (was.place) first.item.tid first.item.script first.item.budget Certified files) no_files;
+      base = (state_in was).held;
       tree = there.state.tree;
       has_acts = stands.acts;
       reads =
@@ -129,23 +130,23 @@ module _ {D : Type 0} (reads : D → List ℕ) (may_leave : D → List ℕ → T
       its_way : clients.way_of mi.option ≡ way_of first.item.option
       its_way = ways_are mi.option can ∙ ap way_of (sym stands.option)
 
-      resolved_submission : IsSubmission (label_in (place_of was.client) first.item (kept.Resolved done))
+      resolved_submission : IsSubmission (label_in (was.place) first.item (kept.Resolved done))
           (acts_in first.item (kept.Resolved done)) transaction (submitted_at c m mi (clients.Resolved it))
       resolved_submission = record {
         name = named;
         has_label =
             ap (λ (p : ℕ). label_with p mi.number it.script.name it.budget (clients.way_of mi.option) (entries it.kept))
-            (sym (here.placed c was at))
-            ∙ ap (λ (n : ℕ). label_with (place_of was.client) n it.script.name it.budget (clients.way_of mi.option) (entries it.kept))
+            (sym (here.placed c was at.get))
+            ∙ ap (λ (n : ℕ). label_with (was.place) n it.script.name it.budget (clients.way_of mi.option) (entries it.kept))
             (sym stands.number)
             ∙ ap
-            (λ (n : List ℕ). label_with (place_of was.client) first.item.tid n it.budget (clients.way_of mi.option) (entries it.kept))
+            (λ (n : List ℕ). label_with (was.place) first.item.tid n it.budget (clients.way_of mi.option) (entries it.kept))
             (sym resolved.name)
             ∙ ap
-            (λ (n : ℕ). label_with (place_of was.client) first.item.tid done.script n (clients.way_of mi.option) (entries it.kept))
+            (λ (n : ℕ). label_with (was.place) first.item.tid done.script n (clients.way_of mi.option) (entries it.kept))
             (sym resolved.budget)
-            ∙ ap (λ (w : Way). label_with (place_of was.client) first.item.tid done.script done.budget w (entries it.kept)) its_way
-            ∙ ap (λ files. label_with (place_of was.client) first.item.tid done.script done.budget (way_of first.item.option) files)
+            ∙ ap (λ (w : Way). label_with (was.place) first.item.tid done.script done.budget w (entries it.kept)) its_way
+            ∙ ap (λ files. label_with (was.place) first.item.tid done.script done.budget (way_of first.item.option) files)
             (sym resolved.kept);
         base = it.tree;
         tree = resolved.tree;
@@ -156,7 +157,7 @@ module _ {D : Type 0} (reads : D → List ℕ) (may_leave : D → List ℕ → T
 
     -- by its stage
     submission_by : (s : Stage) (ms : clients.Stage) → StageStands s ms → IsSubmittedIn s → IsPlanned mi.option ms
-        → IsSubmission (label_in (place_of was.client) first.item s) (acts_in first.item s) transaction (submitted_at c m mi ms)
+        → IsSubmission (label_in (was.place) first.item s) (acts_in first.item s) transaction (submitted_at c m mi ms)
     submission_by kept.Waiting clients.Waiting same is planned = own_submission
     submission_by kept.Waiting clients.Conflict same is planned = absurd same
     submission_by kept.Waiting clients.Manual same is planned = absurd same
@@ -168,32 +169,32 @@ module _ {D : Type 0} (reads : D → List ℕ) (may_leave : D → List ℕ → T
     submission_by (kept.Resolved done) clients.Manual same is planned = absurd same
     submission_by (kept.Resolved done) (clients.Resolved it) same is planned = resolved_submission done it same planned
 
-  module _ (message : Message) (hands : HeadIs (λ item. HandsIn was item message) (state_of was.client).items) where
+  module _ (message : Message) (hands : HeadIs (λ item. HandsIn was item message) (state_in was).items) where
     hands_in : HandsIn was first.item message
     hands_in = subst (HeadIs (λ item. HandsIn was item message)) first.items hands
 
-    read_here : head_reads (state_of was.client).items ≡ reads_of (acts_in first.item first.item.stage)
+    read_here : head_reads (state_in was).items ≡ reads_of (acts_in first.item first.item.stage)
     read_here = ap head_reads first.items
 
     -- it can be settled
-    pub submitted_head : HeadIs IsSubmitted (state_of was.client).items
+    pub submitted_head : HeadIs IsSubmitted (state_in was).items
     submitted_head = subst (HeadIs IsSubmitted) (sym first.items) hands_in.submitted
 
     -- this is what the machine submits
     record IsMine (it : Submission) : Type 0 where
       pub handed : IsHanded message it
       pub name : it.name ≡ name_of t
-      pub read : it.reads ≡ head_reads (state_of was.client).items
+      pub read : it.reads ≡ head_reads (state_in was).items
 
-    mine : (m : Machine) (mi : clients.Item) → StandsFor reads may_leave old m → ItemStands (state_of was.client).held first.item mi
+    mine : (m : Machine) (mi : clients.Item) → StandsFor reads may_leave old m → ItemStands (state_in was).held first.item mi
         → IsMine (submission_of c m mi)
     mine m mi here stands =
-        let its : IsSubmission (label_in (place_of was.client) first.item first.item.stage) (acts_in first.item first.item.stage)
+        let its : IsSubmission (label_in (was.place) first.item first.item.stage) (acts_in first.item first.item.stage)
         transaction (submission_of c m mi) =
         submission_by m mi here stands first.item.stage mi.stage stands.stage hands_in.submitted stands.planned in
         record {
           handed = record {
-            label = label_in (place_of was.client) first.item first.item.stage;
+            label = label_in (was.place) first.item first.item.stage;
             acts = acts_in first.item first.item.stage;
             asked = hands_in.asked;
             transaction = transaction;
@@ -235,7 +236,7 @@ module _ {D : Type 0} (reads : D → List ℕ) (may_leave : D → List ℕ → T
 
       module _ (reply : Vec ℕ Global) (is : o ≡ Some reply) where
         -- a verdict came
-        pub verdict_came : IsReady reads may_leave c old → IsVerdict (head_reads (state_of was.client).items) reply.items
+        pub verdict_came : IsReady reads may_leave c old → IsVerdict (head_reads (state_in was).items) reply.items
         verdict_came ready =
             let head = head_in reads may_leave c old was x at t first ready.machine ready.stands in
             let it : Submission = submission_of c ready.machine head.first in
@@ -251,9 +252,10 @@ module _ {D : Type 0} (reads : D → List ℕ) (may_leave : D → List ℕ → T
             ready_came reads may_leave c old mid x y o (Judges it) (SpellsVerdict it.reads) (exchanged it own.handed) reply is ready
             counts
 
-        module _ (new : World D) (laptop : Laptop) (z : List ℕ) (stays : IsAt mid c was) (puts : Puts c laptop mid new) where
+        module _ (new : World D) (laptop : Laptop D) (z : List ℕ) (stays : IsAt mid c was) (puts : Puts c laptop mid new) where
           -- the client notes it, and it is told
-          tells : (change : ClientState → ClientState) (text : List ℕ) (synced : Synced) → Noted change was laptop → z ≡ y ++ text
+          tells : (change : ClientState → ClientState) (text : List ℕ) (synced : Synced) → Noted reads may_leave change was laptop
+              → z ≡ y ++ text
               → Steps reads may_leave (Tells c change text synced) mid new y z synced
           tells change text synced noted wrote =
               bind mid new new y y z true synced (notes reads may_leave c mid new was laptop change y stays puts noted)
@@ -261,7 +263,7 @@ module _ {D : Type 0} (reads : D → List ℕ) (may_leave : D → List ℕ → T
 
           -- so it is told by its option
           told_by : (name : List ℕ) (option : OnConflict Declared) (verdict : Verdict)
-              → Noted (told_change verdict (option_named option)) was laptop
+              → Noted reads may_leave (told_change verdict (option_named option)) was laptop
               → z ≡ y ++ told_text name verdict (option_named option)
               → Steps reads may_leave (told c name option (Some verdict)) mid new y z (told_synced verdict (option_named option))
           told_by name option (Settled number) noted wrote = tells _ _ _ noted wrote
@@ -272,9 +274,9 @@ module _ {D : Type 0} (reads : D → List ℕ) (may_leave : D → List ℕ → T
 
           -- it becomes what its option says
           pub syncs_told : (verdict : Verdict) (option : labels.OnConflict) (answer : Synced)
-              → ((told : Verdict) → SpellsVerdict (head_reads (state_of was.client).items) reply.items told → verdict ≡ told)
-              → head_option (state_of was.client).items ≡ Some option
-              → Noted (told_change verdict option) was laptop → z ≡ y ++ told_text (name_of t) verdict option
+              → ((told : Verdict) → SpellsVerdict (head_reads (state_in was).items) reply.items told → verdict ≡ told)
+              → head_option (state_in was).items ≡ Some option
+              → Noted reads may_leave (told_change verdict option) was laptop → z ≡ y ++ told_text (name_of t) verdict option
               → answer ≡ told_synced verdict option → Steps reads may_leave (Syncs c) old new x z answer
           syncs_told verdict option answer says has_option noted wrote so =
               submits_any new z answer
@@ -287,7 +289,8 @@ module _ {D : Type 0} (reads : D → List ℕ) (may_leave : D → List ℕ → T
               (subst (λ (a : Synced). Steps reads may_leave (told c it.name chosen (Some e.0)) mid new y z a)
               (sym (so ∙ (λ i. told_synced (which i) (named i))))
               (told_by it.name chosen e.0
-              (subst (λ (change : ClientState → ClientState). Noted change was laptop) (λ i. told_change (which i) (named i)) noted)
+              (subst (λ (change : ClientState → ClientState). Noted reads may_leave change was laptop)
+              (λ i. told_change (which i) (named i)) noted)
               (wrote ∙ (λ i. y ++ told_text (sym own.name i) (which i) (named i))))))
 
       -- no reply came

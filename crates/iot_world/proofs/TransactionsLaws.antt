@@ -2,15 +2,16 @@
 use Rattle.std.proofs.Common.{◌≡◌, ℕ, zero, suc, ◌+◌, ◌-◌, ◌<◌, ◌≤◌, Bool, true, false, List, [], length, Option, Some, None, is_some}
 use Rattle.std.proofs.Common.{map, ◌∷◌, slice_get, slice_set, slice_index_or, get_or, refl, sym, ap, subst, ◌∙◌, arith}
 use Rattle.std.proofs.lemmas.List.{length-set, length-map}
+use Rattle.std.proofs.lemmas.Option.{same_Some}
+use Rattle.std.specs.Prelude.{IsSome}
+use Rattle.iot_count.specs.Counts.{Counted, IsSteady}
+use Rattle.iot_disk.specs.Disk.{Arms}
 use Rattle.iot_tree.specs.Tree.{Path}
 use Rattle.iot_tree.specs.declared.labels.OnConflict as labels
 use Rattle.iot_tree.specs.declared.want.Want.{Want}
 use Rattle.iot_tree.specs.declared.want.Want.TheVariants as wanted
-use Rattle.iot_count.specs.Counts.{Counted}
-use Rattle.iot_disk.specs.Disk.{Arms}
 use Rattle.iot_lang.specs.Code.{Code}
 use Rattle.iot_client.specs.Messages.{IsRefresh}
-use Rattle.iot_client.specs.Ties.{state_of, place_of}
 use Rattle.iot_client.specs.declared.steps.Step.{Step}
 use Rattle.iot_client.specs.declared.steps.Step.TheVariants as steps
 use Rattle.iot_event.specs.Declarations.{ResolverIsDeclared}
@@ -20,7 +21,8 @@ use Rattle.iot_machine.specs.Calls.{Call, Asks, Answers, Then}
 use Rattle.iot_machine.specs.Events.{chosen}
 use Rattle.iot_machine.specs.Refining.{Leads}
 use Rattle.iot_machine.specs.Clients as clients
-use Rattle.iot_machine.specs.Clients.{Declared, Next, AtEnd, AtLimit, Acts, Fetches, hold, act_once, fetch, base, next_step}
+use Rattle.iot_machine.specs.Clients.{ClientState, Declared, Next, AtEnd, AtLimit, Acts, Fetches, hold, act_once, fetch, base, next_step}
+use Rattle.iot_machine.specs.Machine as machine
 use Rattle.iot_machine.specs.Machine.{Machine, client_in, kept_by, script_at, option_at}
 use Rattle.iot_machine.specs.Machine.{no_script as no_machine_script}
 use Rattle.iot_machine.specs.Options as options
@@ -29,23 +31,32 @@ use Rattle.iot_machine.specs.Texts.{fetch_line}
 use Rattle.iot_machine.specs.Transactions.{pends, Brought, Held, Missed, Holds, Starts, starts_on, starts_if, Begins, SaysIf}
 use Rattle.iot_machine.specs.Transactions.{Steps as SingleStep, Stepped as MachineStepped, Went, Over, Away, Stops, next_of, step_by}
 use Rattle.iot_machine.specs.Transactions.{fetched, StepsAll, unless_went}
-use Rattle.iot_world.specs.Laptops.{Begun, Stepped, next_as, waits_of}
+use Rattle.iot_world.specs.Disks.{SameDisk, NoneRose}
+use Rattle.iot_world.specs.Faults.{FaultCounts, FaultCountsAll}
+use Rattle.iot_world.specs.Laptops.{LaptopStands, Noted, Relinked, Begun, Stepped, IsFirst, next_as, waits_of}
+use Rattle.iot_world.specs.Nodes.{is_alive, state_in, disk_by, disk_in, IsTiedBy}
 use Rattle.iot_world.specs.Saying.{SaidIf}
 use Rattle.iot_world.specs.Scripts.{IsNamed, HasNamed, AreApart, option_named}
-use Rattle.iot_world.specs.Servers.{SameDisk}
-use Rattle.iot_world.specs.World.{StandsFor, Steps, ScriptStands, IsReady, SameCounts, SameDisks, IsApart, IsIdle, ClientIs, CanHold}
+use Rattle.iot_world.specs.Servers.{disk_of}
+use Rattle.iot_world.specs.World.{StandsFor, Steps, ScriptStands, IsReady, IsAlive, SameCounts, SameDisks}
+use Rattle.iot_world.specs.World.{IsIdle, ClientIs, CanHold}
 use Rattle.iot_world.specs.World.{scripts_of, option_in}
 use Rattle.iot_world.specs.World.{declared_in, script_of, no_script, brought_of}
 use Rattle.iot_world.specs.declared.answers.Brought.{Brought as Brings}
 use Rattle.iot_world.specs.declared.answers.Brought.TheVariants as brings
 use Rattle.iot_world.specs.declared.world.DeclaredScript.{DeclaredScript}
+use Rattle.iot_world.specs.declared.fault.WorldFault.{WorldFault}
 use Rattle.iot_world.specs.declared.laptop.Laptop.{Laptop}
-use Rattle.iot_world.specs.declared.server.ServerNode.{ServerNode}
+use Rattle.iot_world.specs.declared.node.ClientNode.{ClientNode}
+use Rattle.iot_world.specs.declared.node.ClientNode.TheVariants.{Up, Down, Between}
 use Rattle.iot_world.specs.declared.world.World.{World}
 use Rattle.iot_world.proofs.CallsLaws.{bind, asks, answers, says_this, nothing, leads_all, leads_on, leads_out}
+use Rattle.iot_world.proofs.DiskLaws.{untouched}
+use Rattle.iot_world.proofs.DisksLaws.{Lifts, client_disks, server_disks, then_done_disks, steady_lifts, fault_lifts}
 use Rattle.iot_world.proofs.ListLaws.{each_at, any_default, get_set}
+use Rattle.iot_world.proofs.NodesLaws.{is_awake}
 use Rattle.iot_world.proofs.ScriptsLaws.{scripts_are, named_at}
-use Rattle.iot_world.proofs.ReadyLaws.{ready_after, same_counts, counts_then, one_at, no_some, no_items_wait}
+use Rattle.iot_world.proofs.ReadyLaws.{ready_after, same_counts, counts_then, counts_put, no_some, no_items_wait}
 use Rattle.iot_world.proofs.StepsLaws.{IsAt, Puts, running_in, runs_here, laptop_stands, put_back, notes}
 use Rattle.iot_world.proofs.StepsLaws.{asks_pends, asks_running, is_idle, starts}
 
@@ -86,38 +97,144 @@ option_same one other choices.Abort same = refl
 option_same one other choices.Manual same = refl
 
 -- the same step
-pub stepped_as : (step other : Step) (was laptop : Laptop) → step ≡ other → Stepped step was laptop → Stepped other was laptop
-stepped_as step other was laptop is stepped = subst (λ (s : Step). Stepped s was laptop) is stepped
-
--- only clients have changed since something was done to the disks
-pub disks_apart : {D : Type 0} (arms_of : D → Arms) (faults_of : D → ℕ) (old mid new : World D) (counts : Counted → Type 0)
-    → SameDisks arms_of faults_of counts old mid → IsApart mid new → SameDisks arms_of faults_of counts old new
-disks_apart {D = D} arms_of faults_of old mid new counts one apart = record {
-  first = subst (λ (s : ServerNode D). SameDisk arms_of faults_of counts old.server s) (sym apart.server) one.first;
-  others = apart.spare ∙ one.others;
-}
+pub stepped_as : {D : Type 0} (reads : D → List ℕ) (may_leave : D → List ℕ → Type 0) (step other : Step) (was laptop : Laptop D)
+    → step ≡ other → Stepped reads may_leave step was laptop → Stepped reads may_leave other was laptop
+stepped_as reads may_leave step other was laptop is stepped = subst (λ (s : Step). Stepped reads may_leave s was laptop) is stepped
 
 -- nothing runs at this place
-pub idle_at : {D : Type 0} (c : ℕ) (world : World D) (laptop : Laptop) → IsAt world c laptop
-    → is_some (state_of laptop.client).running ≡ false → ClientIs IsIdle c world
-idle_at c world laptop at idle other is =
-    subst (λ (l : Laptop). IsIdle l) (one_at world c laptop other at is) (no_some (state_of laptop.client).running idle)
+pub idle_at : {D : Type 0} (c : ℕ) (world : World D) (laptop : Laptop D) → IsAt world c laptop
+    → is_some (state_in laptop).running ≡ false → ClientIs IsIdle c world
+idle_at {D = D} c world laptop at idle other is =
+    subst (λ (l : Laptop D). IsIdle l) (same_Some laptop other (sym at.get ∙ is)) (no_some (state_in laptop).running idle)
 
 -- and nothing waits
-pub can_hold_at : {D : Type 0} (c : ℕ) (world : World D) (laptop : Laptop) → IsAt world c laptop
-    → is_some (state_of laptop.client).running ≡ false → waits_of (state_of laptop.client).items ≡ false → CanHold c world
-can_hold_at c world laptop at idle none other is =
-    subst (λ (l : Laptop). IsIdle l × ((state_of l.client).items ≡ [])) (one_at world c laptop other at is)
-    (no_some (state_of laptop.client).running idle, no_items_wait (state_of laptop.client).items none)
+pub can_hold_at : {D : Type 0} (c : ℕ) (world : World D) (laptop : Laptop D) → IsAt world c laptop
+    → is_some (state_in laptop).running ≡ false → waits_of (state_in laptop).items ≡ false → CanHold c world
+can_hold_at {D = D} c world laptop at idle none other is =
+    subst (λ (l : Laptop D). IsIdle l × ((state_in l).items ≡ [])) (same_Some laptop other (sym at.get ∙ is))
+    (no_some (state_in laptop).running idle, no_items_wait (state_in laptop).items none)
+
+-- of one that was looked at twice
+pub can_hold_both : {D : Type 0} (c : ℕ) (world : World D) (one other : Laptop D) → IsAt world c one → IsAt world c other
+    → is_some (state_in one).running ≡ false → waits_of (state_in other).items ≡ false → CanHold c world
+can_hold_both {D = D} c world one other at at_too idle none =
+    can_hold_at c world one at idle
+    (subst (λ (l : Laptop D). waits_of (state_in l).items ≡ false) (same_Some other one (sym at_too.get ∙ at.get)) none)
 
 -- a client that was put back still asks for what it asked for
-pub asks_still : (laptops : List Laptop) (c : ℕ) (was laptop : Laptop) (want : Want) (request : List ℕ) → laptop ≡ was
-    → IsRefresh (place_of was.client) (state_of was.client).held want request
-    → (other : Laptop) → slice_get (slice_set laptops c laptop) c ≡ Some other
-    → IsRefresh (place_of other.client) (state_of other.client).held want request
-asks_still laptops c was laptop want request same asks other is =
-    subst (λ (l : Laptop). IsRefresh (place_of l.client) (state_of l.client).held want request)
+pub asks_still : {D : Type 0} (laptops : List (Laptop D)) (c : ℕ) (was laptop : Laptop D) (want : Want) (request : List ℕ) → laptop ≡ was
+    → IsRefresh (was.place) (state_in was).held want request
+    → (other : Laptop D) → slice_get (slice_set laptops c laptop) c ≡ Some other
+    → IsRefresh (other.place) (state_in other).held want request
+asks_still {D = D} laptops c was laptop want request same asks other is =
+    subst (λ (l : Laptop D). IsRefresh (l.place) (state_in l).held want request)
     (sym same ∙ get_set laptops c laptop other is) asks
+
+-- so does the same client
+pub asks_same : {D : Type 0} (was now : Laptop D) (want : Want) (request : List ℕ) → was ≡ now
+    → IsRefresh was.place (state_in was).held want request → IsRefresh now.place (state_in now).held want request
+asks_same {D = D} was now want request same asks =
+    subst (λ (l : Laptop D). IsRefresh (l.place) (state_in l).held want request) same asks
+
+-- nothing runs or waits there if nothing did in the client that was put there
+pub can_now : {D : Type 0} (laptops : List (Laptop D)) (c : ℕ) (laptop : Laptop D) → IsIdle laptop × ((state_in laptop).items ≡ [])
+    → (other : Laptop D) → slice_get (slice_set laptops c laptop) c ≡ Some other → IsIdle other × ((state_in other).items ≡ [])
+can_now {D = D} laptops c laptop none other is =
+    subst (λ (l : Laptop D). IsIdle l × ((state_in l).items ≡ [])) (get_set laptops c laptop other is) none
+
+-- and what runs there is first class if it was
+pub first_still : {D : Type 0} (laptops : List (Laptop D)) (c : ℕ) (was laptop : Laptop D) → laptop ≡ was → IsFirst was
+    → (other : Laptop D) → slice_get (slice_set laptops c laptop) c ≡ Some other → IsFirst other
+first_still {D = D} laptops c was laptop same first other is =
+    subst (λ (l : Laptop D). IsFirst l) (sym same ∙ get_set laptops c laptop other is) first
+
+-- ---- a client in the place of another
+
+module _ {D : Type 0} (reads : D → List ℕ) (may_leave : D → List ℕ → Type 0) (c : ℕ) (old new : World D) (was laptop : Laptop D)
+    (at : IsAt old c was) (puts : Puts c laptop old new) where
+  -- as many are alive if it is
+  pub counts_awake : (scripts : List Declared) (m : machine.Client) → LaptopStands reads may_leave scripts laptop m → SameCounts old new
+  counts_awake scripts m here =
+      counts_put c old new was laptop at.get (at.up ∙ sym (is_awake reads may_leave scripts laptop m here)) puts
+
+  pub counts_back : laptop ≡ was → SameCounts old new
+  counts_back same = counts_put c old new was laptop at.get (ap (λ (l : Laptop D). is_alive l) (sym same)) puts
+
+  pub counts_noted : (change : ClientState → ClientState) → IsReady reads may_leave c old → Noted reads may_leave change was laptop
+      → SameCounts old new
+  counts_noted change ready noted =
+      counts_awake _ _
+      (noted.stands ready.machine.scripts (client_in ready.machine c)
+      (laptop_stands reads may_leave old ready.machine c was at ready.stands))
+
+-- a client that is alive has its disk
+pub tied_disk : {D : Type 0} (reads : D → List ℕ) (may_leave : D → List ℕ → Type 0) (place : ℕ) (node : ClientNode D)
+    → IsTiedBy reads may_leave place node → IsSome (disk_by node)
+tied_disk reads may_leave place (Up it) tied = refl
+tied_disk reads may_leave place (Down disk) tied = absurd tied
+tied_disk reads may_leave place Between tied = absurd tied
+
+-- only its disk may have changed
+module _ {D : Type 0} (reads : D → List ℕ) (may_leave : D → List ℕ → Type 0) (arms_of : D → Arms) (faults_of : D → ℕ) (c : ℕ)
+    (old new : World D) (was laptop : Laptop D) (at : IsAt old c was) (server : new.server ≡ old.server)
+    (clients_are : new.clients.items ≡ slice_set old.clients.items c laptop) (spare : new.spare ≡ old.spare) where
+  pub put_disks : SameDisk arms_of faults_of IsSteady (disk_in was) (disk_in laptop) → SameDisks arms_of faults_of NoneRose old new
+  put_disks same =
+      client_disks arms_of faults_of old new c was laptop IsSteady NoneRose (steady_lifts arms_of faults_of) at.get server clients_are spare
+      same
+
+  pub failed_disks : (fault : WorldFault) → SameDisk arms_of faults_of (FaultCounts fault) (disk_in was) (disk_in laptop)
+      → SameDisks arms_of faults_of (FaultCountsAll fault) old new
+  failed_disks fault same =
+      client_disks arms_of faults_of old new c was laptop (FaultCounts fault) (FaultCountsAll fault) (fault_lifts arms_of faults_of fault)
+      at.get server clients_are spare same
+
+  pub back_disks : IsReady reads may_leave c old → laptop ≡ was → SameDisks arms_of faults_of NoneRose old new
+  back_disks ready same =
+      put_disks
+      (untouched arms_of faults_of (disk_in was) (disk_in laptop) IsSteady (λ n. refl)
+      (tied_disk reads may_leave was.place was.node (laptop_stands reads may_leave old ready.machine c was at ready.stands).tied)
+      (ap (λ (l : Laptop D). disk_in l) same))
+
+-- a client was put there whose link is another, and the server may have changed
+module _ {D : Type 0} (reads : D → List ℕ) (may_leave : D → List ℕ → Type 0) (c : ℕ) (old new : World D) (was laptop : Laptop D)
+    (at : IsAt old c was) (ready : IsReady reads may_leave c old)
+    (clients_are : new.clients.items ≡ slice_set old.clients.items c laptop) where
+  pub counts_exchanged : (change : machine.Client → machine.Client) → new.scripts.items ≡ old.scripts.items
+      → Relinked reads may_leave change was laptop → SameCounts old new
+  counts_exchanged change scripts relinked =
+      let mid : World D = record new { server = old.server; spare = old.spare } in
+      let same : SameCounts old mid =
+      counts_awake reads may_leave c old mid was laptop at
+      (record { server = refl; scripts = scripts; spare = refl; clients = clients_are }) _ _
+      (relinked.stands ready.machine.scripts (client_in ready.machine c)
+      (laptop_stands reads may_leave old ready.machine c was at ready.stands)) in
+      record { clients = same.clients; scripts = same.scripts; alive = same.alive }
+
+  module _ (arms_of : D → Arms) (faults_of : D → ℕ) (spare : new.spare ≡ old.spare) (disk : disk_in laptop ≡ disk_in was) where
+    pub disks_relinked : new.server ≡ old.server → SameDisks arms_of faults_of NoneRose old new
+    disks_relinked server =
+        put_disks reads may_leave arms_of faults_of c old new was laptop at server clients_are spare
+        (untouched arms_of faults_of (disk_in was) (disk_in laptop) IsSteady (λ n. refl)
+        (tied_disk reads may_leave was.place was.node (laptop_stands reads may_leave old ready.machine c was at ready.stands).tied) disk)
+
+    disks_served : (counts : Counted → Type 0) (all : List ℕ → List ℕ → Type 0) → Lifts arms_of faults_of counts all
+        → SameDisk arms_of faults_of counts (disk_of old.server) (disk_of new.server) → SameDisks arms_of faults_of all old new
+    disks_served counts all lifts served =
+        let mid : World D = record new { server = old.server } in
+        then_done_disks arms_of faults_of old mid new all
+        (put_disks reads may_leave arms_of faults_of c old mid was laptop at refl clients_are spare
+        (untouched arms_of faults_of (disk_in was) (disk_in laptop) IsSteady (λ n. refl)
+        (tied_disk reads may_leave was.place was.node (laptop_stands reads may_leave old ready.machine c was at ready.stands).tied) disk))
+        (server_disks arms_of faults_of mid new counts all lifts refl refl served)
+
+    pub disks_exchanged : SameDisk arms_of faults_of IsSteady (disk_of old.server) (disk_of new.server)
+        → SameDisks arms_of faults_of NoneRose old new
+    disks_exchanged served = disks_served IsSteady NoneRose (steady_lifts arms_of faults_of) served
+
+    pub disks_failed : (fault : WorldFault) → SameDisk arms_of faults_of (FaultCounts fault) (disk_of old.server) (disk_of new.server)
+        → SameDisks arms_of faults_of (FaultCountsAll fault) old new
+    disks_failed fault served = disks_served (FaultCounts fault) (FaultCountsAll fault) (fault_lifts arms_of faults_of fault) served
 
 -- a step after which none is made is the last
 last_went : (loud : Bool) (went : MachineStepped) → is_some (unless_went loud went) ≡ true → unless_went loud went ≡ Some went
@@ -134,12 +251,17 @@ module _ {D : Type 0} (reads : D → List ℕ) (may_leave : D → List ℕ → T
   -- ---- a world that stands for the same machines
 
   -- one whose client was put back as it was
-  pub ready_put_back : (old mid : World D) (c : ℕ) (was laptop : Laptop) → IsReady reads may_leave c old → IsAt old c was → laptop ≡ was
+  pub ready_put_back : (old mid : World D) (c : ℕ) (was laptop : Laptop D) → IsReady reads may_leave c old → IsAt old c was → laptop ≡ was
       → Puts c laptop old mid → IsReady reads may_leave c mid
   ready_put_back old mid c was laptop ready at same puts = record {
     machine = ready.machine;
     stands = put_back reads may_leave old mid c was laptop ready.machine at same puts ready.stands;
     inside = omega (arith, ready.inside, ap length puts.clients, length-set old.clients.items c laptop);
+    alive = λ l get.
+        subst IsAlive
+        (sym same
+        ∙ get_set old.clients.items c laptop l (subst (λ (ls : List (Laptop D)). slice_get ls c ≡ Some l) puts.clients get))
+        at.up;
   }
 
   pub from_same : {A : Type 0} {call : Call Machine A} (old mid new : World D) (x y : List ℕ) (a : A)
@@ -174,17 +296,42 @@ module _ {D : Type 0} (reads : D → List ℕ) (may_leave : D → List ℕ → T
     option_has_named choices.Manual within = tt
 
   -- its next transaction has begun, of the script in hand
-  pub starts_here : (c s : ℕ) (option : Choice) (old new : World D) (was laptop : Laptop) (script : Declared) (kept : labels.OnConflict)
+  pub starts_here : (c s : ℕ) (option : Choice) (old new : World D) (was laptop : Laptop D) (script : Declared) (kept : labels.OnConflict)
       (first : Bool) (x : List ℕ) → IsReady reads may_leave c old → s < length old.scripts.items
       → ResolverIsDeclared option (length old.scripts.items) → IsAt old c was → Puts c laptop old new → script ≡ declared_in old s
-      → kept ≡ option_named (option_in old option) → Begun script kept first was laptop
+      → kept ≡ option_named (option_in old option) → Begun reads may_leave script kept first was laptop
       → Steps reads may_leave (Starts c (declared_in old s) (option_in old option) first) old new x x true
   starts_here c s option old new was laptop script kept first x ready within resolves at puts is same begun =
       starts reads may_leave c old new was laptop (declared_in old s) (option_in old option) kept first x at puts
-      (subst (λ (d : Declared). Begun d kept first was laptop) is begun) same (declared_named c old ready s within)
+      (subst (λ (d : Declared). Begun reads may_leave d kept first was laptop) is begun) same (declared_named c old ready s within)
       (option_has_named c old ready option resolves)
 
-  module _ (c s : ℕ) (option : Choice) (world : World D) (laptop : Laptop) (x : List ℕ) (at : IsAt world c laptop) where
+  pub counts_begun : (c s : ℕ) (option : Choice) (old new : World D) (was laptop : Laptop D) (script : Declared) (kept : labels.OnConflict)
+      (first : Bool) → IsReady reads may_leave c old → s < length old.scripts.items
+      → ResolverIsDeclared option (length old.scripts.items) → IsAt old c was → Puts c laptop old new → script ≡ declared_in old s
+      → kept ≡ option_named (option_in old option) → Begun reads may_leave script kept first was laptop → SameCounts old new
+  counts_begun c s option old new was laptop script kept first ready within resolves at puts is same begun =
+      let m : Machine = ready.machine in
+      let are : m.scripts ≡ scripts_of old = scripts_are old.scripts.items m.scripts ready.stands.scripts in
+      counts_awake reads may_leave c old new was laptop at puts _ _
+      (begun.stands m.scripts (client_in m c) (option_in old option) (laptop_stands reads may_leave old m c was at ready.stands)
+      (subst (λ (d : Declared). IsNamed m.scripts d) (sym is)
+      (subst (λ (ss : List Declared). IsNamed ss (declared_in old s)) (sym are) (declared_named c old ready s within)))
+      (subst (λ (ss : List Declared). HasNamed ss (option_in old option)) (sym are) (option_has_named c old ready option resolves)) same)
+
+  -- a step leaves a client that was alive alive
+  pub counts_stepped : (c : ℕ) (old new : World D) (was laptop : Laptop D) (step : Step) → IsReady reads may_leave c old → IsAt old c was
+      → Puts c laptop old new → Stepped reads may_leave step was laptop → SameCounts old new
+  counts_stepped c old new was laptop (steps.Acted acts ended) ready at puts stepped =
+      counts_noted reads may_leave c old new was laptop at puts act_once ready stepped.noted
+  counts_stepped c old new was laptop (steps.Fetch request path) ready at puts stepped =
+      counts_back reads may_leave c old new was laptop at puts stepped.noted.0
+  counts_stepped c old new was laptop (steps.AtEnd acts) ready at puts stepped =
+      counts_back reads may_leave c old new was laptop at puts stepped.noted
+  counts_stepped c old new was laptop (steps.AtLimit acts) ready at puts stepped =
+      counts_back reads may_leave c old new was laptop at puts stepped.noted
+
+  module _ (c s : ℕ) (option : Choice) (world : World D) (laptop : Laptop D) (x : List ℕ) (at : IsAt world c laptop) where
     script_is : (n : ℕ) → n < length world.scripts.items → (m : Machine) → StandsFor reads may_leave world m
         → declared_in world n ≡ script_at n m
     script_is n within m here =
@@ -206,7 +353,7 @@ module _ {D : Type 0} (reads : D → List ℕ) (may_leave : D → List ℕ → T
 
     module _ (within : s < length world.scripts.items) (resolves : ResolverIsDeclared option (length world.scripts.items)) where
       begins_by : (new : World D) (y : List ℕ) (waiting : Bool)
-          → is_some (state_of laptop.client).running ≡ false → waits_of (state_of laptop.client).items ≡ waiting
+          → is_some (state_in laptop).running ≡ false → waits_of (state_in laptop).items ≡ waiting
           → Steps reads may_leave (starts_if c (declared_in world s) (option_in world option) waiting) world new x y true
           → Steps reads may_leave (Begins c s (chosen option)) world new x y true
       begins_by new y waiting idle is one =
@@ -219,14 +366,14 @@ module _ {D : Type 0} (reads : D → List ℕ) (may_leave : D → List ℕ → T
           one)))
 
       -- behind those that wait
-      pub begins_second : (new : World D) → is_some (state_of laptop.client).running ≡ false
-          → waits_of (state_of laptop.client).items ≡ true
+      pub begins_second : (new : World D) → is_some (state_in laptop).running ≡ false
+          → waits_of (state_in laptop).items ≡ true
           → Steps reads may_leave (Starts c (declared_in world s) (option_in world option) false) world new x x true
           → Steps reads may_leave (Begins c s (chosen option)) world new x x true
       begins_second new idle waits one = begins_by new x true idle waits one
 
       begins_brought : (mid new : World D) (y : List ℕ) (how : Brought)
-          → is_some (state_of laptop.client).running ≡ false → waits_of (state_of laptop.client).items ≡ false
+          → is_some (state_in laptop).running ≡ false → waits_of (state_in laptop).items ≡ false
           → mid.scripts.items ≡ world.scripts.items
           → Steps reads may_leave (Holds c hold wanted.Nothing) world mid x y how
           → Steps reads may_leave (starts_on c (declared_in mid s) (option_in mid option) how) mid new y y true
@@ -241,7 +388,7 @@ module _ {D : Type 0} (reads : D → List ℕ) (may_leave : D → List ℕ → T
 
       -- on what the refresh brought
       pub begins_first : (mid new : World D) (y : List ℕ) (brought : Brings) → brought ≡ brings.Held
-          → is_some (state_of laptop.client).running ≡ false → waits_of (state_of laptop.client).items ≡ false
+          → is_some (state_in laptop).running ≡ false → waits_of (state_in laptop).items ≡ false
           → mid.scripts.items ≡ world.scripts.items
           → Steps reads may_leave (Holds c hold wanted.Nothing) world mid x y (brought_of brought)
           → Steps reads may_leave (Starts c (declared_in mid s) (option_in mid option) true) mid new y y true
@@ -252,7 +399,7 @@ module _ {D : Type 0} (reads : D → List ℕ) (may_leave : D → List ℕ → T
 
       -- though the refresh was missed
       pub begins_missed : (mid new : World D) (y : List ℕ) (brought : Brings) → brought ≡ brings.Missed
-          → is_some (state_of laptop.client).running ≡ false → waits_of (state_of laptop.client).items ≡ false
+          → is_some (state_in laptop).running ≡ false → waits_of (state_in laptop).items ≡ false
           → mid.scripts.items ≡ world.scripts.items
           → Steps reads may_leave (Holds c hold wanted.Nothing) world mid x y (brought_of brought)
           → Steps reads may_leave (Starts c (declared_in mid s) (option_in mid option) false) mid new y y true
@@ -263,7 +410,7 @@ module _ {D : Type 0} (reads : D → List ℕ) (may_leave : D → List ℕ → T
 
   -- ---- single steps
 
-  module _ (c : ℕ) (loud : Bool) (old : World D) (was : Laptop) (x : List ℕ) (at : IsAt old c was) where
+  module _ (c : ℕ) (loud : Bool) (old : World D) (was : Laptop D) (x : List ℕ) (at : IsAt old c was) where
     -- none runs
     pub no_step : running_in (scripts_of old) was ≡ None → Steps reads may_leave (SingleStep c loud) old old x x Over
     no_step none =
@@ -272,8 +419,8 @@ module _ {D : Type 0} (reads : D → List ℕ) (may_leave : D → List ℕ → T
         (asks_running reads may_leave c old was x at))
         (answers old x Over)
 
-    module _ (it : clients.Running) (step : Step) (laptop : Laptop) (runs_it : running_in (scripts_of old) was ≡ Some it)
-        (stepped : Stepped step was laptop) where
+    module _ (it : clients.Running) (step : Step) (laptop : Laptop D) (runs_it : running_in (scripts_of old) was ≡ Some it)
+        (stepped : Stepped reads may_leave step was laptop) where
       asks_next : Steps reads may_leave (Asks (next_of c it)) old old x x (next_as step)
       asks_next =
           asks old x (next_as step)
@@ -290,9 +437,10 @@ module _ {D : Type 0} (reads : D → List ℕ) (may_leave : D → List ℕ → T
           (asks_running reads may_leave c old was x at))
           (bind old old new x x y (next_as step) went asks_next one)
 
-    module _ (it : clients.Running) (laptop : Laptop) (runs_it : running_in (scripts_of old) was ≡ Some it) where
+    module _ (it : clients.Running) (laptop : Laptop D) (runs_it : running_in (scripts_of old) was ≡ Some it) where
       -- an act was done
-      pub step_acted : (new : World D) (acts : ℕ) (ended : Bool) → Stepped (steps.Acted acts ended) was laptop → Puts c laptop old new
+      pub step_acted : (new : World D) (acts : ℕ) (ended : Bool) → Stepped reads may_leave (steps.Acted acts ended) was laptop
+          → Puts c laptop old new
           → Steps reads may_leave (SingleStep c loud) old new x x Went
       step_acted new acts ended stepped puts =
           step_then it (steps.Acted acts ended) laptop runs_it stepped new x Went
@@ -300,20 +448,21 @@ module _ {D : Type 0} (reads : D → List ℕ) (may_leave : D → List ℕ → T
           (answers new x Went))
 
       -- the script has ended, or may do no more
-      pub step_at_end : (new : World D) (acts : ℕ) → Stepped (steps.AtEnd acts) was laptop → Puts c laptop old new
+      pub step_at_end : (new : World D) (acts : ℕ) → Stepped reads may_leave (steps.AtEnd acts) was laptop → Puts c laptop old new
           → Steps reads may_leave (SingleStep c loud) old new x x Over
       step_at_end new acts stepped puts =
           to_same old old new x x Over (λ m here. put_back reads may_leave old new c was laptop m at stepped.noted puts here)
           (step_then it (steps.AtEnd acts) laptop runs_it stepped old x Over (answers old x Over))
 
-      pub step_at_limit : (new : World D) (acts : ℕ) → Stepped (steps.AtLimit acts) was laptop → Puts c laptop old new
+      pub step_at_limit : (new : World D) (acts : ℕ) → Stepped reads may_leave (steps.AtLimit acts) was laptop → Puts c laptop old new
           → Steps reads may_leave (SingleStep c loud) old new x x Over
       step_at_limit new acts stepped puts =
           to_same old old new x x Over (λ m here. put_back reads may_leave old new c was laptop m at stepped.noted puts here)
           (step_then it (steps.AtLimit acts) laptop runs_it stepped old x Over (answers old x Over))
 
       -- what the act misses was asked for
-      module _ (mid new : World D) (request : List ℕ) (path : Path) (y z : List ℕ) (stepped : Stepped (steps.Fetch request path) was laptop)
+      module _ (mid new : World D) (request : List ℕ) (path : Path) (y z : List ℕ)
+          (stepped : Stepped reads may_leave (steps.Fetch request path) was laptop)
           (puts : Puts c laptop old mid) where
         step_asked : (how : Brought) (went : MachineStepped) → Steps reads may_leave (Holds c fetch (wanted.Path path)) mid new x y how
             → Steps reads may_leave (fetched c loud path how) new new y z went

@@ -1,6 +1,7 @@
 -- The server's events, the nodes that a world lends, and events as steps of the machine whose world it is.
 use Rattle.std.proofs.Common.{◌≡◌, ℕ, ◌<◌, ◌≤◌, Bool, true, false, List, [], length, Option, Some, refl, sym, ap, subst, arith}
-use Rattle.std.proofs.Common.{slice_get, get_or}
+use Rattle.std.proofs.Common.{slice_get, None, inl, inr, ◌∙◌}
+use Rattle.std.proofs.Common.{get_or}
 use Rattle.std.proofs.lemmas.List.{append-nil}
 use Rattle.std.proofs.lemmas.Option.{slice_get_read}
 use Rattle.iot_event.specs.declared.event.Event.{Event}
@@ -8,25 +9,33 @@ use Rattle.iot_store.specs.States.{State}
 use Rattle.iot_machine.specs.Calls.{Call, At}
 use Rattle.iot_machine.specs.Refining.{Refines}
 use Rattle.iot_machine.specs.Nodes.{Node}
-use Rattle.iot_client.specs.Ties.{state_of, live_of}
-use Rattle.iot_client.proofs.StepsLaws.{own}
+use Rattle.std.specs.Prelude.{IfSome}
+use Rattle.iot_client.specs.Ties.{Live, state_of, live_of, disk_of as client_disk}
+use Rattle.iot_client.specs.declared.client.Client.{Client}
+use Rattle.iot_kept.specs.States as kept
+use Rattle.iot_kept.specs.States.{view}
 use Rattle.iot_machine.specs.Machine.{Machine, Commit, server, client_in, kept_by}
 use Rattle.iot_machine.specs.Events.{counts_anew, RestartsServer, event_part}
 use Rattle.iot_machine.specs.Serving.{server_name}
 use Rattle.iot_machine.specs.Stops.{Restarts}
 use Rattle.iot_machine.proofs.SoundLaws.{sound_event}
 use Rattle.iot_server.specs.declared.server.Server.{Server}
-use Rattle.iot_world.specs.Laptops.{LaptopStands}
+use Rattle.std.specs.List.{AllByRecursion}
+use Rattle.iot_world.specs.Disks.{IsEmpty}
+use Rattle.iot_world.specs.Laptops.{LaptopStands, ClientStands, awake, fallen, ItemsStand, RunningStandsIfAny}
+use Rattle.iot_world.specs.Nodes.{state_by, live_by, disk_by, lent_by, state_in, live_in, disk_in}
 use Rattle.iot_world.specs.Servers.{is_up, lent_of, ServerStands, HasAnswered, answered_since}
-use Rattle.iot_world.specs.World.{Each, ScriptStands, StandsFor, Steps, EventSteps, ArePlaced, LendsServer, LendsClient}
+use Rattle.iot_world.specs.World.{Each, ScriptStands, StandsFor, Steps, EventSteps, ArePlaced, LendsServer, LendsClient, ClientIs}
 use Rattle.iot_world.specs.declared.laptop.Laptop.{Laptop}
 use Rattle.iot_world.specs.declared.server.ServerNode.{ServerNode}
 use Rattle.iot_world.specs.declared.server.ServerNode.TheVariants.{Up, Down, Between}
 use Rattle.iot_world.specs.declared.world.DeclaredScript.{DeclaredScript}
 use Rattle.iot_world.specs.declared.world.World.{World}
 use Rattle.iot_world.proofs.LaptopsLaws.{view_is}
+use Rattle.iot_world.proofs.NodesLaws.{is_awake, lent_up, lent_alive, lent_none, own_in}
 use Rattle.iot_world.proofs.ListLaws.{each_length}
-use Rattle.iot_world.proofs.StepsLaws.{inside, laptop_stands}
+use Rattle.iot_world.proofs.ReadyLaws.{one_at}
+use Rattle.iot_world.proofs.StepsLaws.{IsAt, inside, client_stands, laptop_stands}
 
 -- one that is down counts no requests
 pub down_answered : {D : Type 0} (n : ℕ) (server : ServerNode D) → is_up server ≡ false → HasAnswered n server
@@ -34,20 +43,28 @@ down_answered n (Up it) down = absurd cc
 down_answered n (Down disk) down = tt
 down_answered n Between down = tt
 
+-- what was looked up is there
+pub looked_up : {A : Type 0} (xs ys : List A) (place : ℕ) (x : A) → ys ≡ xs → place < length ys → x ≡ get_or ys place x
+    → slice_get xs place ≡ Some x
+looked_up xs ys place x same within value =
+    ap (λ l. slice_get l place) (sym same) ∙ slice_get_read ys (length ys) place x refl within value
+
 module _ {D : Type 0} (reads : D → List ℕ) (may_leave : D → List ℕ → Type 0) where
   -- only the server has changed
-  module _ (old new : World D) (same : new.clients.items ≡ old.clients.items) (scripts : new.scripts.items ≡ old.scripts.items) where
+  module _ (old new : World D) (same : new.clients.items ≡ old.clients.items) (scripts : new.scripts.items ≡ old.scripts.items)
+      (spare : new.spare.items ≡ old.spare.items) where
     served : (m : Machine) (node : Node (List Commit)) (n : ℕ) → StandsFor reads may_leave old m → ServerStands reads may_leave
         new.server node
         → HasAnswered n new.server → StandsFor reads may_leave new (record m { server = node; requests = n })
     served m node n here stands counts = record {
       server = stands;
       requests = counts;
-      clients = subst (λ (ls : List Laptop). Each (LaptopStands m.scripts) ls m.clients) (sym same) here.clients;
+      clients = subst (λ (ls : List (Laptop D)). Each (ClientStands reads may_leave m.scripts) ls m.clients) (sym same) here.clients;
       apart = here.apart;
       scripts = subst (λ (ss : List DeclaredScript). Each ScriptStands ss m.scripts) (sym scripts) here.scripts;
       placed = subst ArePlaced (sym same) here.placed;
-      few = omega (arith, here.few, ap length same);
+      spare = subst (λ (ds : List D). AllByRecursion (IsEmpty reads may_leave) ds) (sym spare) here.spare;
+      eight = omega (arith, here.eight, ap length same, ap length spare);
     }
 
     pub at_server : {A : Type 0} {call : Call (Node (List Commit)) A} (x y : List ℕ) (a : A)
@@ -125,27 +142,61 @@ module _ {D : Type 0} (reads : D → List ℕ) (may_leave : D → List ℕ → T
       subst (λ (o : Option (Server D)). LendsServer o m) (sym is) (lends_by world.server m here.server here.requests)
 
   -- the client at a place is the machine's there
-  pub lends_client : (world : World D) (lent : List Laptop) (place : ℕ) (laptop : Laptop) → lent ≡ world.clients.items → place < length lent
-      → laptop ≡ get_or lent place laptop → (m : Machine) → StandsFor reads may_leave world m → LendsClient (Some laptop.client) place m
-  lends_client world lent place laptop is within value m here =
-      let at = subst (λ (ls : List Laptop). slice_get ls place ≡ Some laptop) is
-      (slice_get_read lent (length lent) place laptop refl within value) in
-      let there : LaptopStands m.scripts laptop (client_in m place) = laptop_stands reads may_leave world m place laptop at here in (
-        inside reads may_leave world m place laptop at here,
-        record {
-          held = there.state.held;
-          view =
-              view_is (state_of laptop.client) (live_of laptop.client) (client_in m place).first (kept_by place m) there.state
-              (own laptop.client there.tied);
-          queue = there.state.items;
-          running = there.state.running;
-        },
-      )
+  module _ (world : World D) (place : ℕ) (laptop : Laptop D) (get : slice_get world.clients.items place ≡ Some laptop) where
+    pub lends_client : (it : Client D) → Some it ≡ lent_by laptop.node → (m : Machine) → StandsFor reads may_leave world m
+        → LendsClient (Some it) place m
+    lends_client it is m here =
+        let at : IsAt world place laptop = record { get = get; up = lent_alive laptop.node it (sym is) } in
+        let there : LaptopStands reads may_leave m.scripts laptop (client_in m place) =
+        laptop_stands reads may_leave world m place laptop at here in
+        let same : state_in laptop ≡ state_of it = ap state_by (lent_up laptop.node it (sym is)) in
+        let same_live : live_in laptop ≡ live_of it = ap live_by (lent_up laptop.node it (sym is)) in (
+          inside reads may_leave world m place laptop at here,
+          record {
+            alive = there.alive;
+            held = ap (λ (s : kept.State). s.held) (sym same) ∙ there.state.held;
+            view =
+                ap view (sym same)
+                ∙ view_is (state_in laptop) (live_in laptop) (client_in m place).first (kept_by place m) there.state
+                (own_in reads may_leave m.scripts laptop (client_in m place) there);
+            queue = subst (λ (s : kept.State). ItemsStand s.items s.held (kept_by place m).items) same there.state.items;
+            running =
+                subst (λ (s : kept.State). RunningStandsIfAny s.running (live_of it) (client_in m place).first (kept_by place m).running)
+                same
+                (subst
+                (λ (l : Option Live). RunningStandsIfAny (state_in laptop).running l (client_in m place).first (kept_by place m).running)
+                same_live there.state.running);
+          },
+        )
 
-  pub lends_none : (world : World D) (lent : List Laptop) (place : ℕ) → lent ≡ world.clients.items → length lent ≤ place → (m : Machine)
-      → StandsFor reads may_leave world m → length m.clients ≤ place
-  lends_none world lent place is without m here =
-      omega (arith, without, ap length is, each_length (LaptopStands m.scripts) world.clients.items m.clients here.clients)
+    pub lends_fallen : None ≡ lent_by laptop.node → (m : Machine) → StandsFor reads may_leave world m
+        → LendsClient {D = D} None place m
+    lends_fallen is m here = inr (by (client_stands reads may_leave world m place laptop get here))
+      where
+        by : ClientStands reads may_leave m.scripts laptop (client_in m place) → (client_in m place).node.alive ≡ false
+        by (awake there) = absurd (lent_none laptop.node (sym is) (is_awake reads may_leave m.scripts laptop (client_in m place) there))
+        by (fallen there) = there.alive
+
+    -- whether it is alive or down
+    pub lends_any : (o : Option (Client D)) → o ≡ lent_by laptop.node → (m : Machine) → StandsFor reads may_leave world m
+        → LendsClient o place m
+    lends_any None is = lends_fallen is
+    lends_any (Some it) is = lends_client it is
+
+    -- and its disk is that of the place
+    pub lends_disk : (o : Option (Client D)) → o ≡ lent_by laptop.node
+        → IfSome o (λ it. ClientIs (λ (l : Laptop D). disk_in l ≡ Some (client_disk it)) place world)
+    lends_disk None is = tt
+    lends_disk (Some it) is =
+        λ other there.
+        ap (λ (l : Laptop D). disk_in l) (sym (one_at world place laptop other get there))
+        ∙ ap disk_by (lent_up laptop.node it (sym is))
+
+  pub lends_none : (world : World D) (place : ℕ) → length world.clients.items ≤ place → (m : Machine)
+      → StandsFor reads may_leave world m → LendsClient {D = D} None place m
+  lends_none world place without m here =
+      let e = each_length (ClientStands reads may_leave m.scripts) world.clients.items m.clients here.clients in
+      inl (omega (arith, without, e))
 
   -- ---- events
 

@@ -29,4 +29,6 @@ IsAllowed (events.Discard client) clients scripts = client < clients
 IsAllowed events.ShowServer clients scripts = Unit {0}
 IsAllowed (events.ShowClient client) clients scripts = client < clients
 IsAllowed events.CrashServer clients scripts = Unit {0}
+IsAllowed (events.CrashClient client) clients scripts = client < clients
 IsAllowed events.RestartServer clients scripts = Unit {0}
+IsAllowed (events.RestartClient client) clients scripts = client < clients

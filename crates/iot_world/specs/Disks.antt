@@ -1,6 +1,7 @@
--- The disks of a world, of which the first is the server's.
-use Rattle.std.specs.Prelude.{◌≡◌, ℕ, List, [], ◌∷◌, length}
+-- The disks of a world: the server's is the first, then those of its clients, and then those that no node has yet.
+use Rattle.std.specs.Prelude.{◌≡◌, ◌⊎◌, ℕ, List, [], ◌∷◌, length, Option, Some}
 use Rattle.std.specs.List.{AllByRecursion}
+use Rattle.iot_count.specs.Counts.{Counted, Rose}
 use Rattle.iot_disk.specs.Disk.{Arms, Only}
 
 -- nothing is on the disk, and nothing is pending
@@ -13,16 +14,23 @@ pub record AreFresh {D : Type 0} (reads : D → List ℕ) (may_leave : D → Lis
   pub nine : length disks ≡ 9
   pub each : AllByRecursion (IsEmpty reads may_leave) disks
 
--- only the first disk may be another than before, and it was not armed
-pub record OnlyFirst {D : Type 0} (arms_of : D → Arms) (old new : List D) : Type 0 where
+-- the disk of a node, which it has before and after a call: it was not armed, and its faults are counted so
+pub record SameDisk {D : Type 0} (arms_of : D → Arms) (faults_of : D → ℕ) (counts : Counted → Type 0) (old new : Option D) : Type 0 where
   pub was : D
   pub now : D
-  pub others : List D
-  pub before : old ≡ was ∷ others
-  pub after : new ≡ now ∷ others
+  pub old_has : old ≡ Some was
+  pub new_has : new ≡ Some now
   pub arms : arms_of now ≡ arms_of was
+  pub faults : counts (record { before = faults_of was; after = faults_of now })
 
--- a count of the first disk
-abbrev pub first_count : {D : Type 0} → (D → ℕ) → List D → ℕ
-first_count count [] = 0
-first_count count (disk ∷ disks) = count disk
+-- ---- the counts of several disks
+
+-- none of them rose
+abbrev pub NoneRose : (before after : List ℕ) → Type 0
+NoneRose before after = after ≡ before
+
+-- one of them rose
+abbrev pub SomeRose : (before after : List ℕ) → Type 0
+SomeRose [] after = ⊥
+SomeRose (count ∷ before) [] = ⊥
+SomeRose (count ∷ before) (now ∷ after) = Rose count now ⊎ SomeRose before after

@@ -27,10 +27,13 @@ use Rattle.iot_wire.specs.Messages.{IsMessage}
 use Rattle.iot_wire.specs.Rules.{IsRequest}
 use Rattle.iot_wire.specs.Spelling.{request_spelling}
 use Rattle.iot_wire.specs.declared.requests.Request.TheVariants.{Commit}
-use Rattle.iot_client.specs.States.{Transaction, State}
-use Rattle.iot_client.specs.Records.{IsSubmitted}
-use Rattle.iot_client.specs.Messages.{IsRefresh, IsWholeRequest, label_of, resolved_label, RunHasSpelling}
-use Rattle.iot_client.specs.Ties.{Live, state_of, live_of, place_of, IsTied}
+use Rattle.iot_kept.specs.States.{Transaction, State}
+use Rattle.iot_kept.specs.Changes.{IsSubmitted}
+use Rattle.iot_client.specs.Messages.{IsRefresh, IsWholeRequest, label_of, resolved_label}
+use Rattle.iot_client.specs.Ties as client
+use Rattle.iot_client.specs.Ties.{Live}
+use Rattle.iot_client.specs.declared.client.Client.{Client}
+use Rattle.iot_kept.specs.Standing.{EachStands}
 use Rattle.iot_client.specs.declared.steps.Step.{Step}
 use Rattle.iot_client.specs.declared.steps.Step.TheVariants as steps
 use Rattle.iot_link.specs.Links as link
@@ -38,20 +41,24 @@ use Rattle.iot_link.specs.Links.{LinkState, connected}
 use Rattle.iot_link.specs.declared.passages.Passage.{Passage}
 use Rattle.iot_link.specs.declared.passages.Passage.TheVariants as passages
 use Rattle.iot_machine.specs.Clients as clients
-use Rattle.iot_machine.specs.Clients.{Declared, ClientState, local_run, base, so_far, view, new_client, begin, act_once, end}
+use Rattle.iot_machine.specs.Clients.{Declared, ClientState, local_run, base, so_far, view, new_client, begin, act_once, end, cut}
 use Rattle.iot_machine.specs.Clients.{Plan, plan_of, resolution_of, reach, repair}
 use Rattle.iot_machine.specs.Clients.{Next, AtEnd, AtLimit, Acts, Fetches, next_step}
 use Rattle.iot_machine.specs.Machine as machine
-use Rattle.iot_machine.specs.Nodes.{opened, changed}
+use Rattle.iot_machine.specs.Nodes.{opened, changed, back}
+use Rattle.iot_machine.specs.Nodes as nodes
 use Rattle.iot_machine.specs.Options as options
 use Rattle.iot_machine.specs.Sound.{HasPlan}
 use Rattle.iot_machine.specs.Texts.{transaction_name, acts_output}
 use Rattle.iot_world.specs.Messages.{name_of}
+use Rattle.iot_world.specs.Nodes.{is_alive, state_in, live_in, disk_in, IsTiedIn}
 use Rattle.iot_world.specs.Scripts.{script_named, IsNamed, HasNamed, AreNamed, option_named}
 use Rattle.iot_world.specs.declared.answers.Undecided.{Undecided}
 use Rattle.iot_world.specs.declared.answers.Undecided.TheVariants.{Nothing, NotManual}
 use Rattle.iot_world.specs.declared.laptop.Gone.{Gone}
 use Rattle.iot_world.specs.declared.laptop.Laptop.{Laptop}
+use Rattle.iot_world.specs.declared.node.CutOff.{CutOff}
+use Rattle.iot_world.specs.declared.node.ClientNode.TheVariants.{Up, Down}
 use Rattle.iot_world.specs.declared.message.Message.{Message}
 use Rattle.iot_world.specs.declared.message.Need.{Need}
 use Rattle.iot_world.specs.declared.message.Need.TheVariants as needs
@@ -68,7 +75,6 @@ pub record ResolutionStands (done : Resolution) (m : clients.Resolution) : Type 
   pub acts : done.acts ≡ (run m.script.code m.kept m.tree m.budget).acts
   pub tree : IsTree m.tree
   pub files : AreSpelledFiles m.kept
-  pub spelled : RunHasSpelling done
 
 abbrev pub StageStands : Stage → clients.Stage → Type 0
 StageStands stages.Waiting clients.Waiting = Unit {0}
@@ -121,22 +127,88 @@ pub record StateStands (state : State) (live : Option Live) (first : Bool) (m : 
   pub tree : IsTree state.held
   pub spelled : IsSpelledTree state.held
 
+-- ---- on a disk
+
+-- the running transaction, as it is on a disk: its acts are those of its script so far, on the tree after those that wait
+pub record RunningKept (t : Nodes) (running : Transaction) (m : clients.Running) : Type 0 where
+  pub number : running.number ≡ m.number
+  pub name : running.script ≡ m.script.name
+  pub script : IsScript m.script.code
+  pub few : m.acts ≤ ACT_LIMIT
+  pub count : length running.acts ≡ m.acts
+  pub acts : running.acts ≡ (so_far t m).acts
+  pub tree : after_acts t running.acts ≡ (so_far t m).tree
+  pub option : running.option ≡ option_named m.option
+
+abbrev pub RunningKeptIfAny : Nodes → Option Transaction → Option clients.Running → Type 0
+RunningKeptIfAny t None None = Unit {0}
+RunningKeptIfAny t None (Some m) = ⊥
+RunningKeptIfAny t (Some running) None = ⊥
+RunningKeptIfAny t (Some running) (Some m) = RunningKept t running m
+
+-- the state is what a client of the machine keeps
+pub record StateKept (state : State) (m : ClientState) : Type 0 where
+  pub held : state.held ≡ m.held
+  pub items : ItemsStand state.items state.held m.items
+  pub running : RunningKeptIfAny (base m) state.running m.running
+  pub last : state.last ≡ m.last
+  pub tree : IsTree state.held
+  pub spelled : IsSpelledTree state.held
+
+-- each of the images stands for it
+pub record ClientHolds (images : List ℕ → Type 0) (m : ClientState) : Type 0 where
+  pub state : State
+  pub each : EachStands images state
+  pub kept : StateKept state m
+
 -- ---- a laptop
 
--- among these scripts
-pub record LaptopStands (scripts : List Declared) (laptop : Laptop) (m : machine.Client) : Type 0 where
+-- one that is alive, among these scripts
+pub record LaptopStands {D : Type 0} (reads : D → List ℕ) (may_leave : D → List ℕ → Type 0) (scripts : List Declared) (laptop : Laptop D)
+    (m : machine.Client) : Type 0 where
   pub name : laptop.name ≡ m.name
   pub link : laptop.link ≡ m.link
   pub alive : m.node.alive ≡ true
-  pub tied : IsTied laptop.client
-  pub state : StateStands (state_of laptop.client) (live_of laptop.client) m.first m.node.durable
+  pub tied : IsTiedIn reads may_leave laptop
+  pub state : StateStands (state_in laptop) (live_in laptop) m.first m.node.durable
   pub named : AreNamed scripts m.node.durable
 
--- it stands for some client, among some scripts
-pub record Stands (laptop : Laptop) : Type 0 where
+-- one that is down
+pub record FallenStands {D : Type 0} (may_leave : D → List ℕ → Type 0) (scripts : List Declared) (laptop : Laptop D)
+    (m : machine.Client) : Type 0 where
+  pub name : laptop.name ≡ m.name
+  pub link : laptop.link ≡ m.link
+  pub alive : m.node.alive ≡ false
+  pub disk : D
+  pub down : laptop.node ≡ Down disk
+  pub holds : ClientHolds (may_leave disk) m.node.durable
+  pub named : AreNamed scripts m.node.durable
+
+pub data ClientStands {D : Type 0} (reads : D → List ℕ) (may_leave : D → List ℕ → Type 0) (scripts : List Declared) (laptop : Laptop D)
+    (m : machine.Client) : Type 0 where
+  awake : LaptopStands reads may_leave scripts laptop m → ClientStands reads may_leave scripts laptop m
+  fallen : FallenStands may_leave scripts laptop m → ClientStands reads may_leave scripts laptop m
+
+-- it is alive, and stands for some client, among some scripts
+pub record Stands {D : Type 0} (reads : D → List ℕ) (may_leave : D → List ℕ → Type 0) (laptop : Laptop D) : Type 0 where
   pub scripts : List Declared
   pub machine : machine.Client
-  pub stands : LaptopStands scripts laptop machine
+  pub stands : LaptopStands reads may_leave scripts laptop machine
+
+-- alive or down, it stands for some client
+pub record StandsAnyhow {D : Type 0} (reads : D → List ℕ) (may_leave : D → List ℕ → Type 0) (laptop : Laptop D) : Type 0 where
+  pub scripts : List Declared
+  pub machine : machine.Client
+  pub stands : ClientStands reads may_leave scripts laptop machine
+
+-- this is its client, which is alive
+pub record IsLent {D : Type 0} (reads : D → List ℕ) (may_leave : D → List ℕ → Type 0) (laptop : Laptop D) (it : Client D) : Type 0 where
+  pub node : laptop.node ≡ Up it
+  pub state : client.state_of it ≡ state_in laptop
+  pub live : client.live_of it ≡ live_in laptop
+  pub place : client.place_of it ≡ laptop.place
+  pub tied : client.IsTied reads may_leave it
+  pub begun : client.IsBegunIfAny (client.state_of it).running (client.live_of it)
 
 -- a client that was declared
 abbrev pub new_laptop : List ℕ → machine.Client
@@ -152,44 +224,69 @@ abbrev pub IsFirstOf : Option Live → Type 0
 IsFirstOf None = ⊥
 IsFirstOf (Some live) = live.first ≡ true
 
-abbrev pub IsFirst : Laptop → Type 0
-IsFirst laptop = IsFirstOf (live_of laptop.client)
+abbrev pub IsFirst : {D : Type 0} → Laptop D → Type 0
+IsFirst laptop = IsFirstOf (live_in laptop)
 
 -- the tree that each client sees for which it stands
-abbrev pub IsView : Nodes → Laptop → Type 0
-IsView t laptop = (scripts : List Declared) (m : machine.Client) → LaptopStands scripts laptop m → t ≡ view m.node.durable
+abbrev pub IsView : {D : Type 0} → (D → List ℕ) → (D → List ℕ → Type 0) → Nodes → Laptop D → Type 0
+IsView reads may_leave t laptop =
+    (scripts : List Declared) (m : machine.Client) → LaptopStands reads may_leave scripts laptop m → t ≡ view m.node.durable
 
 -- ---- how a laptop changes
 
 -- it is at the place where it was
-abbrev pub SamePlace : Laptop → Laptop → Type 0
-SamePlace old new = place_of new.client ≡ place_of old.client
+abbrev pub SamePlace : {D : Type 0} → Laptop D → Laptop D → Type 0
+SamePlace old new = new.place ≡ old.place
 
 -- it stands for what this change makes of each client for which it stood
-pub record Noted (change : ClientState → ClientState) (old new : Laptop) : Type 0 where
+pub record Noted {D : Type 0} (reads : D → List ℕ) (may_leave : D → List ℕ → Type 0) (change : ClientState → ClientState)
+    (old new : Laptop D) : Type 0 where
   pub place : SamePlace old new
-  pub stands : (scripts : List Declared) (m : machine.Client) → LaptopStands scripts old m
-      → LaptopStands scripts new (record m { node = changed change m.node })
+  pub stands : (scripts : List Declared) (m : machine.Client) → LaptopStands reads may_leave scripts old m
+      → LaptopStands reads may_leave scripts new (record m { node = changed change m.node })
 
 -- its next transaction has begun, with this option, first class or not
-pub record Begun (script : Declared) (option : OnConflict) (first : Bool) (old new : Laptop) : Type 0 where
+pub record Begun {D : Type 0} (reads : D → List ℕ) (may_leave : D → List ℕ → Type 0) (script : Declared) (option : OnConflict)
+    (first : Bool)
+    (old new : Laptop D) : Type 0 where
   pub place : SamePlace old new
-  pub stands : (scripts : List Declared) (m : machine.Client) (on_conflict : options.OnConflict Declared) → LaptopStands scripts old m
-      → IsNamed scripts script → HasNamed scripts on_conflict → option ≡ option_named on_conflict
-      → LaptopStands scripts new (record m { node = changed (begin script on_conflict) m.node; first = first })
+  pub stands : (scripts : List Declared) (m : machine.Client) (on_conflict : options.OnConflict Declared)
+      → LaptopStands reads may_leave scripts old m → IsNamed scripts script → HasNamed scripts on_conflict
+      → option ≡ option_named on_conflict
+      → LaptopStands reads may_leave scripts new (record m { node = changed (begin script on_conflict) m.node; first = first })
 
 -- its link is another now, and what runs is first class or not
-pub record Relinked (change : machine.Client → machine.Client) (old new : Laptop) : Type 0 where
+pub record Relinked {D : Type 0} (reads : D → List ℕ) (may_leave : D → List ℕ → Type 0) (change : machine.Client → machine.Client)
+    (old new : Laptop D) : Type 0 where
   pub place : SamePlace old new
-  pub state : state_of new.client ≡ state_of old.client
-  pub stands : (scripts : List Declared) (m : machine.Client) → LaptopStands scripts old m → LaptopStands scripts new (change m)
+  pub state : state_in new ≡ state_in old
+  pub stands : (scripts : List Declared) (m : machine.Client) → LaptopStands reads may_leave scripts old m
+      → LaptopStands reads may_leave scripts new (change m)
+
+-- the same of a client that is alive or down: it stays so, with its disk
+pub record RelinkedAnyhow {D : Type 0} (reads : D → List ℕ) (may_leave : D → List ℕ → Type 0)
+    (change : machine.Client → machine.Client) (old new : Laptop D) : Type 0 where
+  pub place : SamePlace old new
+  pub alive : is_alive new ≡ is_alive old
+  pub disk : disk_in new ≡ disk_in old
+  pub stands : (scripts : List Declared) (m : machine.Client) → ClientStands reads may_leave scripts old m
+      → ClientStands reads may_leave scripts new (change m)
+
+-- what runs is second class now
+pub record IsSecondNow {D : Type 0} (reads : D → List ℕ) (may_leave : D → List ℕ → Type 0) (old new : Laptop D) : Type 0 where
+  pub place : SamePlace old new
+  pub state : state_in new ≡ state_in old
+  pub link : new.link ≡ old.link
+  pub disk : disk_in new ≡ disk_in old
+  pub stands : (scripts : List Declared) (m : machine.Client) → LaptopStands reads may_leave scripts old m
+      → LaptopStands reads may_leave scripts new (record m { first = false })
 
 -- the first that waits is to be resolved by the script of this name
-pub record Repaired (name : List ℕ) (old new : Laptop) : Type 0 where
+pub record Repaired {D : Type 0} (reads : D → List ℕ) (may_leave : D → List ℕ → Type 0) (name : List ℕ) (old new : Laptop D) : Type 0 where
   pub place : SamePlace old new
-  pub stands : (scripts : List Declared) (m : machine.Client) (script : Declared) → LaptopStands scripts old m
+  pub stands : (scripts : List Declared) (m : machine.Client) (script : Declared) → LaptopStands reads may_leave scripts old m
       → IsNamed scripts script → script.name ≡ name
-      → LaptopStands scripts new (record m { node = changed (repair script) m.node })
+      → LaptopStands reads may_leave scripts new (record m { node = changed (repair script) m.node })
 
 -- what the machine plans for its first that waits
 abbrev pub head_plan : (held : Nodes) → List clients.Item → Option Plan
@@ -197,11 +294,75 @@ head_plan held [] = None
 head_plan held (m ∷ ms) = plan_of held m
 
 -- the first that waits was resolved by this script on this tree, as it is planned
-pub record Resolved (code : Code) (t : Nodes) (old new : Laptop) : Type 0 where
+pub record Resolved {D : Type 0} (reads : D → List ℕ) (may_leave : D → List ℕ → Type 0) (code : Code) (t : Nodes)
+    (old new : Laptop D) : Type 0 where
   pub place : SamePlace old new
-  pub stands : (scripts : List Declared) (m : machine.Client) (plan : Plan) → LaptopStands scripts old m
+  pub stands : (scripts : List Declared) (m : machine.Client) (plan : Plan) → LaptopStands reads may_leave scripts old m
       → head_plan m.node.durable.held m.node.durable.items ≡ Some plan → plan.script.code ≡ code
-      → LaptopStands scripts new (record m { node = changed (reach (clients.Resolved (resolution_of plan t))) m.node })
+      → LaptopStands reads may_leave scripts new (record m { node = changed (reach (clients.Resolved (resolution_of plan t))) m.node })
+
+-- ---- crashes and restarts
+
+-- it is down now, with what is durable of it
+pub record HasFallen {D : Type 0} (reads : D → List ℕ) (may_leave : D → List ℕ → Type 0) (old new : Laptop D) : Type 0 where
+  pub place : SamePlace old new
+  pub stands : (scripts : List Declared) (m : machine.Client) → LaptopStands reads may_leave scripts old m
+      → FallenStands may_leave scripts new (record m { node = nodes.fallen m.node })
+
+-- it is down, and stands for some client
+pub record Fallen {D : Type 0} (may_leave : D → List ℕ → Type 0) (laptop : Laptop D) : Type 0 where
+  pub scripts : List Declared
+  pub machine : machine.Client
+  pub stands : FallenStands may_leave scripts laptop machine
+
+-- one that has just come back: what it found running has no script yet, and is only to be cut off
+pub record ReturnedStands {D : Type 0} (reads : D → List ℕ) (may_leave : D → List ℕ → Type 0) (scripts : List Declared)
+    (laptop : Laptop D) (m : machine.Client) : Type 0 where
+  pub name : laptop.name ≡ m.name
+  pub link : laptop.link ≡ m.link
+  pub alive : m.node.alive ≡ true
+  pub tied : IsTiedIn reads may_leave laptop
+  pub live : live_in laptop ≡ None
+  pub kept : StateKept (state_in laptop) m.node.durable
+  pub named : AreNamed scripts m.node.durable
+
+pub record Returned {D : Type 0} (reads : D → List ℕ) (may_leave : D → List ℕ → Type 0) (laptop : Laptop D) : Type 0 where
+  pub scripts : List Declared
+  pub machine : machine.Client
+  pub stands : ReturnedStands reads may_leave scripts laptop machine
+
+-- it comes back with what was durable of it
+pub record ComesBack {D : Type 0} (reads : D → List ℕ) (may_leave : D → List ℕ → Type 0) (old new : Laptop D) : Type 0 where
+  pub place : SamePlace old new
+  pub stands : (scripts : List Declared) (m : machine.Client) → FallenStands may_leave scripts old m
+      → ReturnedStands reads may_leave scripts new (record m { node = back m.node.durable m.node })
+
+-- the name of the transaction that runs
+abbrev pub running_name : {D : Type 0} → Laptop D → Option Transaction → Option names.Transaction
+running_name laptop None = None
+running_name laptop (Some running) = Some (record { client = laptop.name; number = running.number })
+
+-- this is told of the one that was cut off
+pub record IsCutOff (told : CutOff) (m : machine.Client) : Type 0 where
+  pub it : clients.Running
+  pub runs : m.node.durable.running ≡ Some it
+  pub name : name_of told.transaction ≡ transaction_name m.name it.number
+  pub acts : told.acts ≡ it.acts
+
+-- what was found running, if something was, was cut off
+abbrev pub CutsOffAs : {D : Type 0} → (D → List ℕ) → (D → List ℕ → Type 0) → Option CutOff → (new : Laptop D) → List Declared
+    → machine.Client → Type 0
+CutsOffAs reads may_leave None new scripts m = (m.node.durable.running ≡ None) × LaptopStands reads may_leave scripts new m
+CutsOffAs reads may_leave (Some told) new scripts m =
+    IsCutOff told m × LaptopStands reads may_leave scripts new (record m { node = changed cut m.node })
+
+pub record CutsOff {D : Type 0} (reads : D → List ℕ) (may_leave : D → List ℕ → Type 0) (told : Option CutOff) (old new : Laptop D) : Type
+    0 where
+  pub place : SamePlace old new
+  pub stands : (scripts : List Declared) (m : machine.Client) → ReturnedStands reads may_leave scripts old m
+      → CutsOffAs reads may_leave told new scripts m
+
+-- ---- exchanges
 
 -- after an exchange that got so far
 abbrev pub after_passage : Passage → machine.Client → machine.Client
@@ -209,6 +370,8 @@ after_passage passages.Away m = record m { first = false }
 after_passage passages.RequestLost m = record m { link = link.broken; first = false }
 after_passage passages.ReplyLost m = record m { link = link.broken; first = false }
 after_passage passages.Both m = m
+
+-- ---- its link
 
 -- connected, disconnected, or armed to lose a message
 abbrev pub linked : LinkState → machine.Client → machine.Client
@@ -220,7 +383,7 @@ cut_off m = record m { link = connected false m.link; first = false }
 -- ---- the first that waits
 
 -- its name
-abbrev pub head_name : Laptop → List Item → Option names.Transaction
+abbrev pub head_name : {D : Type 0} → Laptop D → List Item → Option names.Transaction
 head_name laptop [] = None
 head_name laptop (item ∷ items) = Some (record { client = laptop.name; number = item.tid })
 
@@ -229,13 +392,13 @@ head_option [] = None
 head_option (item ∷ items) = Some item.option
 
 -- the first that waits, if it is to be decided by hand
-abbrev pub decision_on : Laptop → Item → Stage → Result names.Transaction Undecided
+abbrev pub decision_on : {D : Type 0} → Laptop D → Item → Stage → Result names.Transaction Undecided
 decision_on laptop item stages.Waiting = Err NotManual
 decision_on laptop item stages.Conflict = Err NotManual
 decision_on laptop item stages.Manual = Ok (record { client = laptop.name; number = item.tid })
 decision_on laptop item (stages.Resolved done) = Err NotManual
 
-abbrev pub decision : Laptop → List Item → Result names.Transaction Undecided
+abbrev pub decision : {D : Type 0} → Laptop D → List Item → Result names.Transaction Undecided
 decision laptop [] = Err Nothing
 decision laptop (item ∷ items) = decision_on laptop item item.stage
 
@@ -280,25 +443,25 @@ head_reads (item ∷ items) = reads_of (acts_in item item.stage)
 -- ---- messages
 
 -- the message hands in this transaction, with its way and with what it printed
-pub record HandsIn (laptop : Laptop) (item : Item) (message : Message) : Type 0 where
+pub record HandsIn {D : Type 0} (laptop : Laptop D) (item : Item) (message : Message) : Type 0 where
   pub submitted : IsSubmitted item
   pub asked : IsMessage IsRequest request_spelling message.request.items
-      (Commit (label_in (place_of laptop.client) item item.stage) (acts_in item item.stage))
+      (Commit (label_in (laptop.place) item item.stage) (acts_in item item.stage))
   pub handed : message.handed ≡ Some (record {
     printed = record {
       transaction = record { client = laptop.name; number = item.tid };
       output = acts_output (acts_in item item.stage);
     };
-    way = (label_in (place_of laptop.client) item item.stage).way;
+    way = (label_in (laptop.place) item item.stage).way;
   })
 
 -- the message asks for the server's whole tree
-pub record AsksAll (laptop : Laptop) (item : Item) (message : Message) : Type 0 where
+pub record AsksAll {D : Type 0} (laptop : Laptop D) (item : Item) (message : Message) : Type 0 where
   pub conflict : item.stage ≡ stages.Conflict
-  pub asked : IsWholeRequest (place_of laptop.client) message.request.items
+  pub asked : IsWholeRequest (laptop.place) message.request.items
 
 -- what a transaction that waits needs of the server
-abbrev pub IsNeed : Laptop → Item → Need → Type 0
+abbrev pub IsNeed : {D : Type 0} → Laptop D → Item → Need → Type 0
 IsNeed laptop item (needs.Verdict message) = HandsIn laptop item message
 IsNeed laptop item (needs.Tree message) = AsksAll laptop item message
 IsNeed laptop item needs.Decision = item.stage ≡ stages.Manual
@@ -313,19 +476,19 @@ next_as (steps.AtEnd acts) = AtEnd
 next_as (steps.AtLimit acts) = AtLimit
 
 -- the client has done an act, and else is as it was
-abbrev pub StepNoted : Step → Laptop → Laptop → Type 0
-StepNoted (steps.Acted acts ended) old new = Noted act_once old new
-StepNoted (steps.Fetch request path) old new =
-    (new ≡ old) × IsRefresh (place_of old.client) (state_of old.client).held (wanted.Path path) request × IsFirst old
-StepNoted (steps.AtEnd acts) old new = new ≡ old
-StepNoted (steps.AtLimit acts) old new = new ≡ old
+abbrev pub StepNoted : {D : Type 0} → (D → List ℕ) → (D → List ℕ → Type 0) → Step → Laptop D → Laptop D → Type 0
+StepNoted reads may_leave (steps.Acted acts ended) old new = Noted reads may_leave act_once old new
+StepNoted reads may_leave (steps.Fetch request path) old new =
+    (new ≡ old) × IsRefresh (old.place) (state_in old).held (wanted.Path path) request × IsFirst old
+StepNoted reads may_leave (steps.AtEnd acts) old new = new ≡ old
+StepNoted reads may_leave (steps.AtLimit acts) old new = new ≡ old
 
 -- the step is the next one of each client for which the laptop stands
-pub record Stepped (step : Step) (old new : Laptop) : Type 0 where
-  pub next : (scripts : List Declared) (m : machine.Client) (it : clients.Running) → LaptopStands scripts old m
+pub record Stepped {D : Type 0} (reads : D → List ℕ) (may_leave : D → List ℕ → Type 0) (step : Step) (old new : Laptop D) : Type 0 where
+  pub next : (scripts : List Declared) (m : machine.Client) (it : clients.Running) → LaptopStands reads may_leave scripts old m
       → m.node.durable.running ≡ Some it
       → next_step m.first (base m.node.durable) it ≡ next_as step
-  pub noted : StepNoted step old new
+  pub noted : StepNoted reads may_leave step old new
 
 -- ---- the end
 
@@ -348,8 +511,8 @@ pub record IsEndOf (gone : Gone) (m : machine.Client) (it : clients.Running) : T
   pub class : gone.first ≡ m.first
   pub did : gone.printed.output ≡ acts_output (so_far (base m.node.durable) it).acts
 
-pub record Ended (gone : Gone) (old new : Laptop) : Type 0 where
-  pub noted : Noted end old new
-  pub ends : (scripts : List Declared) (m : machine.Client) (it : clients.Running) → LaptopStands scripts old m
+pub record Ended {D : Type 0} (reads : D → List ℕ) (may_leave : D → List ℕ → Type 0) (gone : Gone) (old new : Laptop D) : Type 0 where
+  pub noted : Noted reads may_leave end old new
+  pub ends : (scripts : List Declared) (m : machine.Client) (it : clients.Running) → LaptopStands reads may_leave scripts old m
       → m.node.durable.running ≡ Some it → IsEndOf gone m it
-  pub waits : waits_of (state_of new.client).items ≡ true
+  pub waits : waits_of (state_in new).items ≡ true

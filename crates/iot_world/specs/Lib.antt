@@ -1,10 +1,12 @@
-pub mod Allowed
 pub mod Disks
-pub mod Records
 pub mod Faults
-pub mod Messages
 pub mod Scripts
+pub mod Records
+pub mod Messages
 pub mod Servers
-pub mod Laptops
 pub mod Saying
+pub mod Nodes
+pub mod Laptops
 pub mod World
+pub mod Holding
+pub mod Allowed

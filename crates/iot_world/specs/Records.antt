@@ -47,8 +47,3 @@ pub record AreImages (records : List (List ℕ)) (state : State) (images : List 
 -- each of the images has the records of this list, which lead to its tree and its labels
 abbrev pub Holds : (List ℕ → Type 0) → List Commit → Type 0
 Holds images commits = AreImages (records_of commits) (state_of commits) images
-
--- so is it on the first of these disks
-abbrev pub FirstHolds : {D : Type 0} → (D → List ℕ → Type 0) → List D → List Commit → Type 0
-FirstHolds may_leave [] commits = ⊥
-FirstHolds may_leave (disk ∷ disks) commits = Holds (may_leave disk) commits

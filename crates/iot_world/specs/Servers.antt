@@ -1,10 +1,9 @@
 -- The server as a node, alive or down, over its disk.
-use Rattle.std.specs.Prelude.{◌≡◌, ℕ, ◌%◌, ◌^◌, Bool, true, false, List, length, Option, Some, None}
+use Rattle.std.specs.Prelude.{◌≡◌, ℕ, ◌%◌, ◌^◌, Bool, true, false, List, length, Option, Some, None, IsSome}
 use Rattle.std.specs.List.{AllByRecursion}
 use Rattle.iot_tree.specs.Tree.{Nodes, IsTree}
 use Rattle.iot_tree.specs.declared.acts.Act.{Act}
 use Rattle.iot_tree.specs.declared.labels.Label.{Label}
-use Rattle.iot_count.specs.Counts.{Counted}
 use Rattle.iot_disk.specs.Disk.{Arms}
 use Rattle.iot_store.specs.States.{State}
 use Rattle.iot_store.specs.Store as store
@@ -171,16 +170,6 @@ lent_of Between = None
 
 -- ---- its disk
 
--- the disk in a server is that of another, which was not armed, and whose faults are counted so
-pub record SameDisk {D : Type 0} (arms_of : D → Arms) (faults_of : D → ℕ) (counts : Counted → Type 0)
-    (old new : ServerNode D) : Type 0 where
-  pub was : D
-  pub now : D
-  pub old_has : disk_of old ≡ Some was
-  pub new_has : disk_of new ≡ Some now
-  pub arms : arms_of now ≡ arms_of was
-  pub faults : counts (record { before = faults_of was; after = faults_of now })
-
 -- a new server has the disk that was handed in, which was not armed and did not fail
 pub record Starts {D : Type 0} (arms_of : D → Arms) (faults_of : D → ℕ) (was : D) (server : ServerNode D) : Type 0 where
   pub now : D
@@ -194,6 +183,5 @@ pub record HandsBack {D : Type 0} (arms_of : D → Arms) (faults_of : D → ℕ)
   pub faults : FaultCounts refused.1 (record { before = faults_of was; after = faults_of refused.0 })
 
 -- it has a disk
-pub record HasDisk {D : Type 0} (server : ServerNode D) : Type 0 where
-  pub disk : D
-  pub has : disk_of server ≡ Some disk
+abbrev pub HasDisk : {D : Type 0} → ServerNode D → Type 0
+HasDisk server = IsSome (disk_of server)

@@ -1,16 +1,17 @@
 -- Which plain machine a world stands for, node by node, and how a world changes.
-use Rattle.std.specs.Prelude.{◌≡◌, ℕ, ◌%◌, ◌^◌, ◌≤◌, ◌<◌, true, false, List, [], ◌∷◌, ◌++◌, length, map, Option, Some, None}
+use Rattle.std.specs.Prelude.{◌≡◌, ◌⊎◌, ℕ, ◌+◌, ◌%◌, ◌^◌, ◌≤◌, ◌<◌, true, false, List, [], ◌∷◌, ◌++◌, length, map, Option, Some, None}
+use Rattle.std.specs.Prelude.{IsSome}
 use Rattle.std.specs.Prelude.{Vec, slice_get, slice_index_or}
+use Rattle.std.specs.List.{AllByRecursion}
 use Rattle.std.specs.Vec.{vec_len, vec_capacity}
 use Rattle.std.specs.declared.alloc.Global.{Global}
-use Rattle.iot_count.specs.Counts.{Counted}
 use Rattle.iot_disk.specs.Disk.{Arms}
 use Rattle.iot_lang.specs.Code.{Code, End}
 use Rattle.iot_tree.specs.Tree.{Nodes}
 use Rattle.iot_tree.specs.declared.want.Want.{Want}
 use Rattle.iot_client.specs.Messages.{IsRefresh}
-use Rattle.iot_client.specs.States as states
-use Rattle.iot_client.specs.Ties.{state_of, live_of, place_of}
+use Rattle.iot_kept.specs.States as states
+use Rattle.iot_client.specs.Ties.{state_of, live_of}
 use Rattle.iot_client.specs.declared.client.Client.{Client}
 use Rattle.iot_event.specs.Declarations.{AreDeclared}
 use Rattle.iot_event.specs.declared.event.Choice.{Choice}
@@ -30,12 +31,13 @@ use Rattle.iot_machine.specs.Sound.{IsSound}
 use Rattle.iot_machine.specs.Transactions as machine
 use Rattle.iot_server.specs.Servers as servers
 use Rattle.iot_server.specs.declared.server.Server.{Server}
-use Rattle.iot_world.specs.Disks.{OnlyFirst, first_count}
-use Rattle.iot_world.specs.Faults.{FaultCounts}
-use Rattle.iot_world.specs.Laptops.{LaptopStands, ItemsStand, RunningStandsIfAny, new_laptop, planned_in}
+use Rattle.iot_world.specs.Disks.{IsEmpty}
+use Rattle.iot_world.specs.Faults.{FaultCountsAll}
+use Rattle.iot_world.specs.Laptops.{LaptopStands, ClientStands, ItemsStand, RunningStandsIfAny, new_laptop, planned_in}
+use Rattle.iot_world.specs.Nodes.{is_alive, state_in, disk_in}
 use Rattle.iot_world.specs.Records.{label_of}
 use Rattle.iot_world.specs.Scripts.{AreApart}
-use Rattle.iot_world.specs.Servers.{disk_of, ServerStands, HasAnswered, SameDisk, Starts, HasDisk}
+use Rattle.iot_world.specs.Servers.{disk_of, ServerStands, HasAnswered}
 use Rattle.iot_world.specs.declared.answers.Brought.{Brought}
 use Rattle.iot_world.specs.declared.answers.Brought.TheVariants as brings
 use Rattle.iot_world.specs.declared.answers.Stepped.{Stepped}
@@ -64,18 +66,20 @@ abbrev pub ScriptStands : DeclaredScript → Declared → Type 0
 ScriptStands script m = m ≡ script_of script
 
 -- the client at each place knows its place
-abbrev pub ArePlaced : List Laptop → Type 0
-ArePlaced laptops = (place : ℕ) (laptop : Laptop) → slice_get laptops place ≡ Some laptop → place_of laptop.client ≡ place
+abbrev pub ArePlaced : {D : Type 0} → List (Laptop D) → Type 0
+ArePlaced {D = D} laptops = (place : ℕ) (laptop : Laptop D) → slice_get laptops place ≡ Some laptop → laptop.place ≡ place
 
--- its nodes, with their links, are those of the machine, and no two of its scripts have the same name
+-- its nodes, with their links, are those of the machine, no two of its scripts have the same name, and there is an empty disk for each
+-- client that may still be declared
 pub record StandsFor {D : Type 0} (reads : D → List ℕ) (may_leave : D → List ℕ → Type 0) (world : World D) (m : Machine) : Type 0 where
   pub server : ServerStands reads may_leave world.server m.server
   pub requests : HasAnswered m.requests world.server
-  pub clients : Each (LaptopStands m.scripts) world.clients.items m.clients
+  pub clients : Each (ClientStands reads may_leave m.scripts) world.clients.items m.clients
   pub scripts : Each ScriptStands world.scripts.items m.scripts
   pub apart : AreApart m.scripts
   pub placed : ArePlaced world.clients.items
-  pub few : length world.clients.items ≤ 8
+  pub spare : AllByRecursion (IsEmpty reads may_leave) world.spare.items
+  pub eight : length world.clients.items + length world.spare.items ≡ 8
 
 -- and its list of commits goes together with the queues of its clients
 pub record IsWorldOf {D : Type 0} (reads : D → List ℕ) (may_leave : D → List ℕ → Type 0) (world : World D) (m : Machine) : Type 0 where
@@ -115,15 +119,21 @@ abbrev pub DeclaredOn : {D : Type 0} → List Event → World D → Type 0
 DeclaredOn events world = AreDeclared events (client_count world) (script_names world)
 
 -- the client at this place is so
-abbrev pub ClientIs : {D : Type 0} → (Laptop → Type 0) → ℕ → World D → Type 0
-ClientIs P place world = (laptop : Laptop) → slice_get world.clients.items place ≡ Some laptop → P laptop
+abbrev pub ClientIs : {D : Type 0} → (Laptop D → Type 0) → ℕ → World D → Type 0
+ClientIs {D = D} P place world = (laptop : Laptop D) → slice_get world.clients.items place ≡ Some laptop → P laptop
 
-abbrev pub IsIdle : Laptop → Type 0
-IsIdle laptop = (state_of laptop.client).running ≡ None
+abbrev pub IsAlive : {D : Type 0} → Laptop D → Type 0
+IsAlive laptop = is_alive laptop ≡ true
+
+abbrev pub IsDown : {D : Type 0} → Laptop D → Type 0
+IsDown laptop = is_alive laptop ≡ false
+
+abbrev pub IsIdle : {D : Type 0} → Laptop D → Type 0
+IsIdle laptop = (state_in laptop).running ≡ None
 
 -- nothing runs there, and nothing waits
 abbrev pub CanHold : {D : Type 0} → ℕ → World D → Type 0
-CanHold place world = ClientIs (λ laptop. IsIdle laptop × ((state_of laptop.client).items ≡ [])) place world
+CanHold place world = ClientIs (λ laptop. IsIdle laptop × ((state_in laptop).items ≡ [])) place world
 
 abbrev pub no_script : DeclaredScript
 no_script = record { name = []; script = End }
@@ -139,10 +149,17 @@ option_in world choices.Abort = options.Abort
 option_in world choices.Manual = options.Manual
 
 -- it stands for some machine, and there is a client at this place
+pub record IsInside {D : Type 0} (reads : D → List ℕ) (may_leave : D → List ℕ → Type 0) (place : ℕ) (world : World D) : Type 0 where
+  pub machine : Machine
+  pub stands : StandsFor reads may_leave world machine
+  pub inside : place < length world.clients.items
+
+-- and it is alive
 pub record IsReady {D : Type 0} (reads : D → List ℕ) (may_leave : D → List ℕ → Type 0) (place : ℕ) (world : World D) : Type 0 where
   pub machine : Machine
   pub stands : StandsFor reads may_leave world machine
   pub inside : place < length world.clients.items
+  pub alive : ClientIs IsAlive place world
 
 -- ---- answers of the world's calls as those of the machine's
 
@@ -167,7 +184,7 @@ synced_of syncs.Unanswered = machine.Unanswered
 -- the client at this place asks with this request for what it knows, and for something that it wants
 pub record IsAsked {D : Type 0} (place : ℕ) (request : List ℕ) (world : World D) : Type 0 where
   pub want : Want
-  pub is : ClientIs (λ was. IsRefresh (place_of was.client) (state_of was.client).held want request) place world
+  pub is : ClientIs (λ was. IsRefresh (was.place) (state_in was).held want request) place world
 
 -- an exchange of this request, and what the bytes of the reply spell, if one came
 abbrev pub Exchanges : {D A : Type 0} → (D → List ℕ) → (D → List ℕ → Type 0) → (client : ℕ)
@@ -181,7 +198,7 @@ Exchanges {A = A} reads may_leave client call Spelled (Some reply) old new befor
 -- the client at this place is as before, but for its link and the class of what runs
 abbrev pub KeepsState : {D : Type 0} → ℕ → (old new : World D) → Type 0
 KeepsState place old new =
-    ClientIs (λ was. ClientIs (λ laptop. state_of laptop.client ≡ state_of was.client) place new) place old
+    ClientIs (λ was. ClientIs (λ laptop. state_in laptop ≡ state_in was) place new) place old
 
 -- and if a reply came, all clients are as before
 abbrev pub KeepsClients : {D : Type 0} → ℕ → Option (Vec ℕ Global) → (old new : World D) → Type 0
@@ -193,7 +210,7 @@ KeepsClients place (Some reply) old new = new.clients.items ≡ old.clients.item
 -- this is planned for the first that waits at the client at this place
 abbrev pub IsPlannedAt : {D : Type 0} → Plan → ℕ → World D → Type 0
 IsPlannedAt plan place world =
-    ClientIs (λ laptop. planned_in (scripts_of world) (state_of laptop.client).held (state_of laptop.client).items ≡ Some plan) place world
+    ClientIs (λ laptop. planned_in (scripts_of world) (state_in laptop).held (state_in laptop).items ≡ Some plan) place world
 
 -- what is planned there was carried out on this tree
 abbrev pub CarriesOut : {D : Type 0} → (D → List ℕ) → (D → List ℕ → Type 0) → (client : ℕ) → Nodes → (old new : World D) → Type 0
@@ -207,19 +224,36 @@ abbrev pub with_first : {D : Type 0} → Option D → List D → List D
 with_first None disks = disks
 with_first (Some disk) disks = disk ∷ disks
 
+-- those of its clients, in front of others
+abbrev pub with_clients : {D : Type 0} → List (Laptop D) → List D → List D
+with_clients [] disks = disks
+with_clients (laptop ∷ laptops) disks = with_first (disk_in laptop) (with_clients laptops disks)
+
 -- the disks that it gives back
 abbrev pub disks_of : {D : Type 0} → World D → List D
-disks_of world = with_first (disk_of world.server) world.spare.items
+disks_of world = with_first (disk_of world.server) (with_clients world.clients.items world.spare.items)
 
--- it has all its disks, and room to put them together again
+abbrev pub LaptopHasDisk : {D : Type 0} → Laptop D → Type 0
+LaptopHasDisk laptop = IsSome (disk_in laptop)
+
+-- each node has its disk, and there is room to put them together again
 pub record HasDisks {D : Type 0} (world : World D) : Type 0 where
-  pub first : HasDisk world.server
-  pub room : vec_len world.spare < vec_capacity world.spare
+  pub server : IsSome (disk_of world.server)
+  pub clients : AllByRecursion LaptopHasDisk world.clients.items
+  pub room : length world.clients.items + vec_len world.spare < vec_capacity world.spare
 
--- The disks are those of before. Only the server's may have changed: it was not armed, and its faults are counted so.
-pub record SameDisks {D : Type 0} (arms_of : D → Arms) (faults_of : D → ℕ) (counts : Counted → Type 0) (old new : World D) : Type 0 where
-  pub first : SameDisk arms_of faults_of counts old.server new.server
-  pub others : new.spare ≡ old.spare
+-- these disks are the last of those
+pub record AreLast {D : Type 0} (disks all : List D) : Type 0 where
+  pub front : List D
+  pub split : all ≡ front ++ disks
+
+-- The disks are those of before. None was armed, and their faults are counted so. What is still spare was spare before.
+pub record SameDisks {D : Type 0} (arms_of : D → Arms) (faults_of : D → ℕ) (counts : (before after : List ℕ) → Type 0) (old new : World D)
+    : Type 0 where
+  pub arms : map arms_of (disks_of new) ≡ map arms_of (disks_of old)
+  pub faults : counts (map faults_of (disks_of old)) (map faults_of (disks_of new))
+  pub has : HasDisks old → HasDisks new
+  pub spare : AreLast new.spare.items old.spare.items
 
 -- ---- how a world begins
 
@@ -234,24 +268,28 @@ pub record Opens {D : Type 0} (reads : D → List ℕ) (may_leave : D → List �
     (disks : List D) (world : World D) : Type 0 where
   pub opened : IsOpened reads may_leave world
   pub has : HasDisks world
+  pub arms : map arms_of (disks_of world) ≡ map arms_of disks
+  pub faults : map faults_of (disks_of world) ≡ map faults_of disks
   pub first : D
   pub were : disks ≡ first ∷ world.spare.items
-  pub starts : Starts arms_of faults_of first world.server
 
 -- the disks come back with this fault, and none was armed
 pub record HandsAllBack {D : Type 0} (arms_of : D → Arms) (faults_of : D → ℕ) (disks back : List D)
     (fault : WorldFault) : Type 0 where
-  pub same : OnlyFirst arms_of disks back
-  pub faults : FaultCounts fault (record { before = first_count faults_of disks; after = first_count faults_of back })
+  pub arms : map arms_of back ≡ map arms_of disks
+  pub faults : FaultCountsAll fault (map faults_of disks) (map faults_of back)
 
 -- ---- how a world changes
 
 -- a client joins
-pub record AddsClient {D : Type 0} (name : List ℕ) (old new : World D) : Type 0 where
+pub record AddsClient {D : Type 0} (reads : D → List ℕ) (may_leave : D → List ℕ → Type 0) (name : List ℕ) (old new : World D) : Type
+    0 where
   pub server : new.server ≡ old.server
-  pub laptop : Laptop
-  pub stands : (scripts : List Declared) → LaptopStands scripts laptop (new_laptop name)
-  pub place : place_of laptop.client ≡ client_count old
+  pub laptop : Laptop D
+  pub stands : (scripts : List Declared) → LaptopStands reads may_leave scripts laptop (new_laptop name)
+  pub place : laptop.place ≡ client_count old
+  pub disk : D
+  pub spare : old.spare.items ≡ disk ∷ new.spare.items
   pub clients : new.clients.items ≡ old.clients.items ++ laptop ∷ []
   pub scripts : new.scripts.items ≡ old.scripts.items
 
@@ -260,23 +298,24 @@ pub record AddsScript {D : Type 0} (name : List ℕ) (code : Code) (old new : Wo
   pub server : new.server ≡ old.server
   pub clients : new.clients.items ≡ old.clients.items
   pub scripts : new.scripts.items ≡ old.scripts.items ++ record { name = name; script = code } ∷ []
+  pub spare : new.spare.items ≡ old.spare.items
 
 -- the server is another then, and the clients are as they were
 pub record SetsServer {D : Type 0} (old new : World D) : Type 0 where
   pub clients : new.clients.items ≡ old.clients.items
   pub scripts : new.scripts.items ≡ old.scripts.items
+  pub spare : new.spare.items ≡ old.spare.items
 
 -- nothing was declared
+pub record SameDeclared {D : Type 0} (old new : World D) : Type 0 where
+  pub clients : client_count new ≡ client_count old
+  pub scripts : new.scripts.items ≡ old.scripts.items
+
+-- nothing was declared, and none of its clients has gone down or come back
 pub record SameCounts {D : Type 0} (old new : World D) : Type 0 where
   pub clients : client_count new ≡ client_count old
   pub scripts : new.scripts.items ≡ old.scripts.items
-
--- one client was changed, and nothing else
-pub record IsApart {D : Type 0} (old new : World D) : Type 0 where
-  pub server : new.server ≡ old.server
-  pub spare : new.spare ≡ old.spare
-  pub clients : client_count new ≡ client_count old
-  pub scripts : new.scripts.items ≡ old.scripts.items
+  pub alive : map is_alive new.clients.items ≡ map is_alive old.clients.items
 
 -- ---- nodes that are lent
 
@@ -292,12 +331,14 @@ LendsServer None m = m.server.alive ≡ false
 LendsServer (Some it) m = IsServerOf it m
 
 -- a client with the machine's held tree, view, queue and running transaction
-pub record IsClientOf (it : Client) (m : machines.Client) : Type 0 where
+pub record IsClientOf {D : Type 0} (it : Client D) (m : machines.Client) : Type 0 where
+  pub alive : m.node.alive ≡ true
   pub held : (state_of it).held ≡ m.node.durable.held
   pub view : states.view (state_of it) ≡ clients.view m.node.durable
   pub queue : ItemsStand (state_of it).items (state_of it).held m.node.durable.items
   pub running : RunningStandsIfAny (state_of it).running (live_of it) m.first m.node.durable.running
 
-abbrev pub LendsClient : Option Client → ℕ → Machine → Type 0
-LendsClient None place m = length m.clients ≤ place
+-- none is lent of a client that is not declared, or is down
+abbrev pub LendsClient : {D : Type 0} → Option (Client D) → ℕ → Machine → Type 0
+LendsClient None place m = (length m.clients ≤ place) ⊎ ((client_in m place).node.alive ≡ false)
 LendsClient (Some it) place m = (place < length m.clients) × IsClientOf it (client_in m place)

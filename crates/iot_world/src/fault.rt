@@ -1,9 +1,11 @@
 //! Why an event was not done.
 ghost use Rattle.std.specs.Prelude.{◌≡◌};
 ghost use Rattle.iot_server.specs.Faults.{IsNotMalformed};
-ghost use Rattle.iot_world.specs.Faults.{of_start, of_handle};
+ghost use Rattle.iot_world.specs.Faults.{of_start, of_handle, of_client};
 ghost use Rattle.iot_store.specs.Causes.{TakesBytes};
+ghost use Rattle.iot_client.specs.Faults.{MayFail};
 
+use iot_client::ClientFault;
 use iot_disk::StartFault;
 use iot_server::ServerFault;
 use iot_text::NoMemory;
@@ -14,7 +16,7 @@ pub enum WorldFault {
     /// Memory ran out.
     NoMemory,
 
-    /// The server's disk failed in it.
+    /// A disk failed in it: the server's or a client's.
     DiskFailed,
 }
 
@@ -40,6 +42,24 @@ impl WorldFault {
             ServerFault::NoMemory => WorldFault::NoMemory,
             ServerFault::Stopped => WorldFault::DiskFailed,
             ServerFault::Malformed { .. } => unreachable!(),
+        }
+    }
+
+    /// The fault of a call of a client that is not refused.
+    pub(crate) fn of_client(fault: ClientFault) -> WorldFault
+        requires { MayFail fault }
+        ensures { result ≡ of_client fault }
+    {
+        match fault {
+            ClientFault::NoMemory => WorldFault::NoMemory,
+            ClientFault::Stopped => WorldFault::DiskFailed,
+            ClientFault::Busy
+            | ClientFault::Pending
+            | ClientFault::Idle
+            | ClientFault::NotAtEnd
+            | ClientFault::Nothing
+            | ClientFault::NotManual
+            | ClientFault::BadReply { .. } => unreachable!(),
         }
     }
 }

@@ -1,30 +1,35 @@
-//! A client that was declared, by its name, and its link with the server. Its calls are those of the client, where they cannot be
-//! refused.
-ghost use Rattle.std.specs.Prelude.{◌≡◌, ◌≤◌, ◌*◌, ◌&&◌, ℕ, not, true, List, [], Some, None, IfOk, OnOk, is_some, length};
+//! A client that was declared, by its name and its place, and its link with the server. Most of its calls are those of the client, where
+//! they cannot be refused; it is alive then.
+ghost use Rattle.std.specs.Prelude.{◌≡◌, ◌≤◌, ◌*◌, ◌&&◌, ℕ, not, true, [], Some, None, IfOk, OnOk, is_some, length};
+ghost use Rattle.std.specs.Option.{option_copied};
 ghost use Rattle.iot_tree.specs.Tree.{Nodes, IsWhole};
 ghost use Rattle.iot_lang.specs.Scripts.{IsScript};
 ghost use Rattle.iot_client.specs.Messages.{IsRefresh, way_of};
-ghost use Rattle.iot_client.specs.Records.{HeadIs, IsSubmitted, IsByHand};
-ghost use Rattle.iot_client.specs.Ties.{state_of, live_of, place_of};
-ghost use Rattle.iot_client.specs.Calls.{may_end};
-ghost use Rattle.iot_client.specs.States.{acts_of};
+ghost use Rattle.iot_kept.specs.Changes.{HeadIs, IsSubmitted, IsByHand};
+ghost use Rattle.iot_client.specs.Calls.{may_end, is_over_if_any};
+ghost use Rattle.iot_client.specs.Ties.{class_by};
+ghost use Rattle.iot_kept.specs.Memory.{transaction_of, class_of};
+ghost use Rattle.iot_kept.specs.States.{acts_of};
 ghost use Rattle.iot_client.specs.declared.fault.ClientFault.TheVariants.{NoMemory as no_memory};
 ghost use Rattle.iot_link.specs.Links.{passage, connected, arming};
 ghost use Rattle.iot_link.specs.declared.passages.Passage.TheVariants.{Both};
-ghost use Rattle.iot_machine.specs.Clients.{Declared, hold, fetch, leave};
+ghost use Rattle.iot_machine.specs.Clients.{hold, fetch, leave};
 ghost use Rattle.iot_machine.specs.Serving as serving;
 ghost use Rattle.iot_machine.specs.Texts.{acts_output};
 ghost use Rattle.iot_queue.specs.declared.items.Stage.TheVariants.{Conflict as in_conflict};
-ghost use Rattle.iot_world.specs.Laptops.{LaptopStands, Stands, Noted, Begun, Stepped, Ended, Relinked, after_passage, linked, cut_off};
-ghost use Rattle.iot_world.specs.Laptops.{waits_of, new_laptop, IsView, IsFirst, head_name, head_option, head_reads, decision, decision_on};
-ghost use Rattle.iot_world.specs.Laptops.{IsHeadPlan, IsNeed, HandsIn, Repaired, Resolved, label_in, acts_in};
+ghost use Rattle.iot_world.specs.Disks.{SameDisk};
+ghost use Rattle.iot_world.specs.Faults.{CallCounts};
+ghost use Rattle.iot_world.specs.Laptops.{label_in, acts_in};
 ghost use Rattle.iot_world.specs.Messages.{BringsTree, SpellsTree, IsVerdict, SpellsVerdict, verdict_of, told_change};
 
 use crate::answers::Undecided;
+use crate::fault::WorldFault;
 use crate::message::{Handed, Message, Need, Printed};
+use crate::node::ClientNode;
 use crate::texts::{Transaction, output_of};
 use crate::verdict::{Told, verdict_in};
-use iot_client::{Ask, Client, ClientFault, Step};
+use iot_client::{Ask, Client, ClientFault, Running, Step};
+use iot_disk::Disk;
 use iot_lang::Script;
 use iot_link::{Link, Loss, Passage};
 use iot_queue::{Item, Stage};
@@ -34,11 +39,12 @@ use iot_tree::{ACT_LIMIT, Act, OnConflict, Tree, Want, Way};
 use std::alloc::Global;
 use std::rc::Rc;
 
-/// A client, its name and its link.
+/// A client, its name, its place in the order of declaration, and its link.
 #[derive(Drop)]
-pub(crate) struct Laptop {
+pub(crate) struct Laptop<D: Disk> {
     pub(crate) name: Name,
-    pub(crate) client: Client,
+    pub(crate) place: u64,
+    pub(crate) node: ClientNode<D>,
     pub(crate) link: Link,
 }
 
@@ -49,46 +55,86 @@ pub(crate) struct Gone {
     pub(crate) first: bool,
 }
 
-impl Laptop {
-    /// The client of this name at this place, which knows nothing yet.
-    pub(crate) fn new(alloc: Global, name: Name, place: u64) -> Result<Laptop, NoMemory>
-        ensures stands { IfOk result (λ laptop. (scripts : List Declared) → LaptopStands scripts laptop (new_laptop name)) }
-        ensures place { IfOk result (λ laptop. place_of laptop.client ≡ place) }
+impl<D: Disk> Laptop<D> {
+    ghost use Rattle.iot_world.specs.Nodes.{is_alive, state_in, live_in, disk_in, lent_by};
+    ghost use Rattle.iot_world.specs.Laptops.{Stands, StandsAnyhow, IsLent, Noted, Begun, Stepped, Ended};
+    ghost use Rattle.iot_world.specs.Laptops.{Relinked, RelinkedAnyhow, IsSecondNow, after_passage, linked, cut_off};
+    ghost use Rattle.iot_world.specs.Laptops.{waits_of, IsView, IsFirst, head_name, head_option, head_reads, decision, decision_on};
+    ghost use Rattle.iot_world.specs.Laptops.{IsHeadPlan, IsNeed, Repaired, Resolved};
+
+    /// Whether it is alive.
+    pub(crate) fn is_alive(&self) -> bool
+        ensures { result ≡ is_alive self.now }
     {
-        Ok(Laptop {
-            name,
-            client: Client::new(alloc, place)?,
-            link: Link::new(),
-        })
+        matches!(self.node, ClientNode::Up(_))
+    }
+
+    /// The client, if it is alive.
+    pub(crate) fn lent(&self) -> Option<&Client<D>>
+        ensures { option_copied result ≡ lent_by self.now.node }
+    {
+        match &self.node {
+            ClientNode::Up(client) => Some(client),
+            ClientNode::Down(_) | ClientNode::Between => None,
+        }
+    }
+
+    /// The client, which is alive.
+    fn client(&self) -> &Client<D>
+        requires { Stands D.reads D.may_leave self.now }
+        ensures { IsLent D.reads D.may_leave self.now result.now }
+    {
+        match &self.node {
+            ClientNode::Up(client) => client,
+            ClientNode::Down(_) | ClientNode::Between => unreachable!(),
+        }
     }
 
     /// Whether a transaction runs.
     pub(crate) fn runs(&self) -> bool
-        requires { Stands self.now }
-        ensures { result ≡ is_some (state_of self.now.client).running }
+        requires { Stands D.reads D.may_leave self.now }
+        ensures { result ≡ is_some (state_in self.now).running }
     {
-        self.client.running().is_some()
+        self.running().is_some()
     }
 
     /// Whether transactions wait.
     pub(crate) fn waits(&self) -> bool
-        ensures { result ≡ waits_of (state_of self.now.client).items }
+        requires { Stands D.reads D.may_leave self.now }
+        ensures { result ≡ waits_of (state_in self.now).items }
     {
-        self.client.queue().head().is_some()
+        self.client().queue().head().is_some()
     }
 
     /// Whether the transaction that runs may end.
     pub(crate) fn may_end(&self) -> bool
-        requires { Stands self.now }
-        ensures { result ≡ may_end (state_of self.now.client) (live_of self.now.client) }
+        requires { Stands D.reads D.may_leave self.now }
+        ensures { result ≡ may_end (state_in self.now) (live_in self.now) }
     {
-        if self.client.at_end() {
+        if self.at_end() {
             return true;
         }
-        match self.client.running() {
+        match self.running() {
             Some(running) => running.acts.len() as u64 >= ACT_LIMIT,
             None => false,
         }
+    }
+
+    /// The transaction that runs, if one does.
+    pub(crate) fn running(&self) -> Option<&Running>
+        requires { Stands D.reads D.may_leave self.now }
+        ensures running { transaction_of (option_copied result) ≡ (state_in self.now).running }
+        ensures class { class_of (option_copied result) ≡ class_by (state_in self.now).running (live_in self.now) }
+    {
+        self.client().running()
+    }
+
+    /// Whether a transaction runs whose script has ended.
+    pub(crate) fn at_end(&self) -> bool
+        requires { Stands D.reads D.may_leave self.now }
+        ensures { result ≡ is_over_if_any (state_in self.now) (live_in self.now) }
+    {
+        self.client().at_end()
     }
 
     /// The name of its transaction of this number.
@@ -103,35 +149,35 @@ impl Laptop {
 
     /// The tree that it sees.
     pub(crate) fn view(&self) -> &Tree
-        requires { Stands self.now }
-        ensures { IsView result.now self.now }
+        requires { Stands D.reads D.may_leave self.now }
+        ensures { IsView D.reads D.may_leave result.now self.now }
     {
-        self.client.view()
+        self.client().view()
     }
 
     // ---- its link
 
     /// Makes its link up.
     pub(crate) fn connect(&mut self)
-        requires { Stands self.old }
-        ensures { Relinked (linked (connected true self.old.link)) self.old self.new }
+        ensures { RelinkedAnyhow D.reads D.may_leave (linked (connected true self.old.link)) self.old self.new }
     {
         self.link.connect();
     }
 
     /// Makes its link not up. What runs is second class from then on.
     pub(crate) fn disconnect(&mut self)
-        requires { Stands self.old }
-        ensures { Relinked cut_off self.old self.new }
+        requires { StandsAnyhow D.reads D.may_leave self.old }
+        ensures { RelinkedAnyhow D.reads D.may_leave cut_off self.old self.new }
     {
         self.link.disconnect();
-        self.client.second();
+        if let ClientNode::Up(client) = &mut self.node {
+            client.second();
+        }
     }
 
     /// Arms its link to lose a message.
     pub(crate) fn lose(&mut self, loss: Loss)
-        requires { Stands self.old }
-        ensures { Relinked (linked (arming loss self.old.link)) self.old self.new }
+        ensures { RelinkedAnyhow D.reads D.may_leave (linked (arming loss self.old.link)) self.old self.new }
     {
         self.link.arm(loss);
     }
@@ -139,23 +185,35 @@ impl Laptop {
     /// Takes one exchange with a server that is alive or not, and tells how far it gets. What runs is second class after one that
     /// did not get through.
     pub(crate) fn pass(&mut self, server_up: bool) -> Passage
-        requires { Stands self.old }
+        requires { Stands D.reads D.may_leave self.old }
         ensures passage { result ≡ passage self.old.link server_up }
-        ensures after { Relinked (after_passage result) self.old self.new }
+        ensures after { Relinked D.reads D.may_leave (after_passage result) self.old self.new }
         ensures both { result ≡ Both → self.new ≡ self.old }
+        ensures disk { disk_in self.new ≡ disk_in self.old }
     {
         let passage = self.link.outcome(server_up);
         match passage {
             Passage::Both => (),
-            Passage::Away | Passage::RequestLost | Passage::ReplyLost => self.client.second(),
+            Passage::Away | Passage::RequestLost | Passage::ReplyLost => self.second(),
         }
         passage
     }
 
+    /// What runs is second class from now on.
+    fn second(&mut self)
+        requires { Stands D.reads D.may_leave self.old }
+        ensures { IsSecondNow D.reads D.may_leave self.old self.new }
+    {
+        match &mut self.node {
+            ClientNode::Up(client) => client.second(),
+            ClientNode::Down(_) | ClientNode::Between => unreachable!(),
+        }
+    }
+
     /// Whether its link is up, and nothing waits or runs.
     pub(crate) fn is_drained(&self) -> bool
-        requires { Stands self.now }
-        ensures { result ≡ not (waits_of (state_of self.now.client).items) && not (is_some (state_of self.now.client).running)
+        requires { Stands D.reads D.may_leave self.now }
+        ensures { result ≡ not (waits_of (state_in self.now).items) && not (is_some (state_in self.now).running)
             && self.now.link.up }
     {
         !self.waits() && !self.runs() && self.link.is_up()
@@ -165,30 +223,34 @@ impl Laptop {
 
     /// Asks for what is wanted.
     pub(crate) fn ask(&self, alloc: Global, want: &Want) -> Result<Message, NoMemory>
-        requires stands { Stands self.now }
-        requires place { place_of self.now.client ≤ 7 }
-        requires idle { (state_of self.now.client).running ≡ None }
-        requires none { (state_of self.now.client).items ≡ [] }
+        requires stands { Stands D.reads D.may_leave self.now }
+        requires place { self.now.place ≤ 7 }
+        requires idle { (state_in self.now).running ≡ None }
+        requires none { (state_in self.now).items ≡ [] }
         ensures { IfOk result (λ message.
-            IsRefresh (place_of self.now.client) (state_of self.now.client).held want.now message.request.items) }
+            IsRefresh self.now.place (state_in self.now).held want.now message.request.items) }
     {
-        match self.client.ask(alloc, want) {
+        match self.client().ask(alloc, want) {
             Ok(request) => Ok(Message::asking(request)),
             Err(fault) => Err(memory(fault)),
         }
     }
 
     /// Holds what the reply brings.
-    pub(crate) fn take(&mut self, alloc: Global, reply: &[u8]) -> Result<(), NoMemory>
-        requires stands { Stands self.old }
-        requires idle { (state_of self.old.client).running ≡ None }
-        requires none { (state_of self.old.client).items ≡ [] }
+    pub(crate) fn take(&mut self, alloc: Global, reply: &[u8]) -> Result<(), WorldFault>
+        requires stands { Stands D.reads D.may_leave self.old }
+        requires idle { (state_in self.old).running ≡ None }
+        requires none { (state_in self.old).items ≡ [] }
         requires brings { BringsTree reply.now }
-        ensures { OnOk result ((t : Nodes) → SpellsTree reply.now t → Noted (hold t) self.old self.new) }
+        ensures does { OnOk result ((t : Nodes) → SpellsTree reply.now t → Noted D.reads D.may_leave (hold t) self.old self.new) }
+        ensures disk { SameDisk D.arms D.faults (CallCounts result) (disk_in self.old) (disk_in self.new) }
     {
-        match self.client.take_objects(alloc, reply) {
-            Ok(()) => Ok(()),
-            Err(fault) => Err(memory(fault)),
+        match &mut self.node {
+            ClientNode::Up(client) => match client.take_objects(alloc, reply) {
+                Ok(()) => Ok(()),
+                Err(fault) => Err(WorldFault::of_client(fault)),
+            },
+            ClientNode::Down(_) | ClientNode::Between => unreachable!(),
         }
     }
 
@@ -202,70 +264,91 @@ impl Laptop {
         script: Rc<Script>,
         option: OnConflict,
         first: bool,
-    ) -> Result<(), NoMemory>
-        requires stands { Stands self.old }
-        requires idle { (state_of self.old.client).running ≡ None }
-        requires alone { first ≡ true → (state_of self.old.client).items ≡ [] }
+    ) -> Result<(), WorldFault>
+        requires stands { Stands D.reads D.may_leave self.old }
+        requires idle { (state_in self.old).running ≡ None }
+        requires alone { first ≡ true → (state_in self.old).items ≡ [] }
         requires script { IsScript script.value }
-        ensures { OnOk result (Begun (record { name = name.now; code = script.value }) option first self.old self.new) }
+        ensures does { OnOk result
+            (Begun D.reads D.may_leave (record { name = name.now; code = script.value }) option first self.old self.new) }
+        ensures disk { SameDisk D.arms D.faults (CallCounts result) (disk_in self.old) (disk_in self.new) }
     {
-        match self.client.begin(alloc, name, script, option, first) {
-            Ok(_number) => Ok(()),
-            Err(fault) => Err(memory(fault)),
+        match &mut self.node {
+            ClientNode::Up(client) => match client.begin(alloc, name, script, option, first) {
+                Ok(_number) => Ok(()),
+                Err(fault) => Err(WorldFault::of_client(fault)),
+            },
+            ClientNode::Down(_) | ClientNode::Between => unreachable!(),
         }
     }
 
     /// Does the next act of the transaction that runs, or says why none is done.
-    pub(crate) fn step(&mut self, alloc: Global) -> Result<Step, NoMemory>
-        requires stands { Stands self.old }
-        requires place { place_of self.old.client ≤ 7 }
-        requires runs { is_some (state_of self.old.client).running ≡ true }
-        ensures { IfOk result (λ step. Stepped step self.old self.new) }
+    pub(crate) fn step(&mut self, alloc: Global) -> Result<Step, WorldFault>
+        requires stands { Stands D.reads D.may_leave self.old }
+        requires place { self.old.place ≤ 7 }
+        requires runs { is_some (state_in self.old).running ≡ true }
+        ensures does { IfOk result (λ step. Stepped D.reads D.may_leave step self.old self.new) }
+        ensures disk { SameDisk D.arms D.faults (CallCounts result) (disk_in self.old) (disk_in self.new) }
     {
-        match self.client.step(alloc) {
-            Ok(step) => Ok(step),
-            Err(fault) => Err(memory(fault)),
+        match &mut self.node {
+            ClientNode::Up(client) => match client.step(alloc) {
+                Ok(step) => Ok(step),
+                Err(fault) => Err(WorldFault::of_client(fault)),
+            },
+            ClientNode::Down(_) | ClientNode::Between => unreachable!(),
         }
     }
 
     /// Holds what the reply brings for the transaction that runs, which begins anew.
-    pub(crate) fn fetched(&mut self, alloc: Global, reply: &[u8]) -> Result<(), NoMemory>
-        requires stands { Stands self.old }
+    pub(crate) fn fetched(&mut self, alloc: Global, reply: &[u8]) -> Result<(), WorldFault>
+        requires stands { Stands D.reads D.may_leave self.old }
         requires first { IsFirst self.old }
         requires brings { BringsTree reply.now }
-        ensures { OnOk result ((t : Nodes) → SpellsTree reply.now t → Noted (fetch t) self.old self.new) }
+        ensures does { OnOk result ((t : Nodes) → SpellsTree reply.now t → Noted D.reads D.may_leave (fetch t) self.old self.new) }
+        ensures disk { SameDisk D.arms D.faults (CallCounts result) (disk_in self.old) (disk_in self.new) }
     {
-        match self.client.fetched(alloc, reply) {
-            Ok(()) => Ok(()),
-            Err(fault) => Err(memory(fault)),
+        match &mut self.node {
+            ClientNode::Up(client) => match client.fetched(alloc, reply) {
+                Ok(()) => Ok(()),
+                Err(fault) => Err(WorldFault::of_client(fault)),
+            },
+            ClientNode::Down(_) | ClientNode::Between => unreachable!(),
         }
     }
 
     /// Lets the transaction that runs wait, if its script has ended or may do no more acts.
-    pub(crate) fn end(&mut self, alloc: Global) -> Result<Gone, NoMemory>
-        requires stands { Stands self.old }
-        requires over { may_end (state_of self.old.client) (live_of self.old.client) ≡ true }
-        ensures { IfOk result (λ gone. Ended gone self.old self.new) }
+    pub(crate) fn end(&mut self, alloc: Global) -> Result<Gone, WorldFault>
+        requires stands { Stands D.reads D.may_leave self.old }
+        requires over { may_end (state_in self.old) (live_in self.old) ≡ true }
+        ensures does { IfOk result (λ gone. Ended D.reads D.may_leave gone self.old self.new) }
+        ensures disk { SameDisk D.arms D.faults (CallCounts result) (disk_in self.old) (disk_in self.new) }
     {
         let output = self.output(alloc)?;
-        match self.client.end(alloc) {
-            Ok(ended) => Ok(Gone {
-                printed: Printed {
-                    transaction: self.transaction(ended.tid),
-                    output,
-                },
-                first: ended.first,
-            }),
-            Err(fault) => Err(memory(fault)),
+        let client_name = self.name;
+        match &mut self.node {
+            ClientNode::Up(client) => match client.end(alloc) {
+                Ok(ended) => Ok(Gone {
+                    printed: Printed {
+                        transaction: Transaction {
+                            client: client_name,
+                            number: ended.tid,
+                        },
+                        output,
+                    },
+                    first: ended.first,
+                }),
+                Err(fault) => Err(WorldFault::of_client(fault)),
+            },
+            ClientNode::Down(_) | ClientNode::Between => unreachable!(),
         }
     }
 
     /// What the transaction that runs has printed.
     fn output(&self, alloc: Global) -> Result<Text, NoMemory>
-        requires { Stands self.now }
-        ensures { IfOk result (λ output. output ≡ acts_output (acts_of (state_of self.now.client).running)) }
+        requires { Stands D.reads D.may_leave self.now }
+        ensures { IfOk result (λ output. output ≡ acts_output (acts_of (state_in self.now).running)) }
     {
-        match self.client.running() {
+        match self.running() {
             Some(running) => output_of(alloc, running.acts.as_slice()),
             None => Ok(Text::new(alloc)),
         }
@@ -275,9 +358,10 @@ impl Laptop {
 
     /// How often one drain syncs at most.
     pub(crate) fn most_syncs(&self) -> Result<u64, NoMemory>
-        ensures { IfOk result (λ most. most ≡ 3 * length (state_of self.now.client).items) }
+        requires { Stands D.reads D.may_leave self.now }
+        ensures { IfOk result (λ most. most ≡ 3 * length (state_in self.now).items) }
     {
-        let waiting = self.client.queue().items().len() as u64;
+        let waiting = self.client().queue().items().len() as u64;
         match waiting.checked_mul(3) {
             Some(most) => Ok(most),
             None => Err(NoMemory),
@@ -286,9 +370,10 @@ impl Laptop {
 
     /// The name of the first that waits.
     pub(crate) fn head(&self) -> Option<Transaction>
-        ensures { result ≡ head_name self.now (state_of self.now.client).items }
+        requires { Stands D.reads D.may_leave self.now }
+        ensures { result ≡ head_name self.now (state_in self.now).items }
     {
-        match self.client.queue().head() {
+        match self.client().queue().head() {
             Some(item) => Some(self.transaction(item.tid)),
             None => None,
         }
@@ -296,9 +381,10 @@ impl Laptop {
 
     /// The first that waits, if it is to be decided by hand.
     pub(crate) fn decision(&self) -> Result<Transaction, Undecided>
-        ensures { result ≡ decision self.now (state_of self.now.client).items }
+        requires { Stands D.reads D.may_leave self.now }
+        ensures { result ≡ decision self.now (state_in self.now).items }
     {
-        match self.client.queue().head() {
+        match self.client().queue().head() {
             Some(item) => self.decision_on(item),
             None => Err(Undecided::Nothing),
         }
@@ -315,15 +401,15 @@ impl Laptop {
 
     /// What the first that waits needs of the server.
     pub(crate) fn need(&self, alloc: Global) -> Result<Need, NoMemory>
-        requires stands { Stands self.now }
-        requires place { place_of self.now.client ≤ 7 }
-        requires waits { waits_of (state_of self.now.client).items ≡ true }
-        ensures { IfOk result (λ need. HeadIs (λ item. IsNeed self.now item need) (state_of self.now.client).items) }
+        requires stands { Stands D.reads D.may_leave self.now }
+        requires place { self.now.place ≤ 7 }
+        requires waits { waits_of (state_in self.now).items ≡ true }
+        ensures { IfOk result (λ need. HeadIs (λ item. IsNeed self.now item need) (state_in self.now).items) }
     {
-        let Some(item) = self.client.queue().head() else {
+        let Some(item) = self.client().queue().head() else {
             unreachable!();
         };
-        match self.client.submission(alloc) {
+        match self.client().submission(alloc) {
             Ok(Ask::Commit(request)) => Ok(Need::Verdict(Message {
                 request: request.into_bytes(),
                 handed: Some(self.handed(alloc, item)?),
@@ -341,7 +427,7 @@ impl Laptop {
             transaction = record { client = self.now.name; number = item.now.tid };
             output = acts_output (acts_in item.now item.now.stage);
           };
-          way = (label_in (place_of self.now.client) item.now item.now.stage).way;
+          way = (label_in self.now.place item.now item.now.stage).way;
         }) }
     {
         let printed = Printed {
@@ -355,33 +441,52 @@ impl Laptop {
     }
 
     /// Takes the reply to the submission of the first that waits, and tells what that says of it.
-    pub(crate) fn settle(&mut self, alloc: Global, reply: &[u8]) -> Result<Told, NoMemory>
-        requires stands { Stands self.old }
-        requires submitted { HeadIs IsSubmitted (state_of self.old.client).items }
-        requires told { IsVerdict (head_reads (state_of self.old.client).items) reply.now }
+    pub(crate) fn settle(&mut self, alloc: Global, reply: &[u8]) -> Result<Told, WorldFault>
+        requires stands { Stands D.reads D.may_leave self.old }
+        requires submitted { HeadIs IsSubmitted (state_in self.old).items }
+        requires told { IsVerdict (head_reads (state_in self.old).items) reply.now }
         ensures verdict { IfOk result (λ said. (told : serving.Verdict)
-            → SpellsVerdict (head_reads (state_of self.old.client).items) reply.now told → verdict_of said.verdict ≡ told) }
-        ensures option { IfOk result (λ said. head_option (state_of self.old.client).items ≡ Some said.option) }
-        ensures notes { IfOk result (λ said. Noted (told_change (verdict_of said.verdict) said.option) self.old self.new) }
+            → SpellsVerdict (head_reads (state_in self.old).items) reply.now told → verdict_of said.verdict ≡ told) }
+        ensures option { IfOk result (λ said. head_option (state_in self.old).items ≡ Some said.option) }
+        ensures notes { IfOk result (λ said.
+            Noted D.reads D.may_leave (told_change (verdict_of said.verdict) said.option) self.old self.new) }
+        ensures disk { SameDisk D.arms D.faults (CallCounts result) (disk_in self.old) (disk_in self.new) }
     {
-        let Some(item) = self.client.queue().head() else {
+        let told = self.told(alloc, reply)?;
+        match &mut self.node {
+            ClientNode::Up(client) => match client.take_verdict(alloc, reply) {
+                Ok(_noted) => Ok(told),
+                Err(fault) => Err(WorldFault::of_client(fault)),
+            },
+            ClientNode::Down(_) | ClientNode::Between => unreachable!(),
+        }
+    }
+
+    /// What the reply to the submission of the first that waits says of it.
+    fn told(&self, alloc: Global, reply: &[u8]) -> Result<Told, NoMemory>
+        requires stands { Stands D.reads D.may_leave self.now }
+        requires submitted { HeadIs IsSubmitted (state_in self.now).items }
+        requires told { IsVerdict (head_reads (state_in self.now).items) reply.now }
+        ensures verdict { IfOk result (λ said. (told : serving.Verdict)
+            → SpellsVerdict (head_reads (state_in self.now).items) reply.now told → verdict_of said.verdict ≡ told) }
+        ensures option { IfOk result (λ said. head_option (state_in self.now).items ≡ Some said.option) }
+    {
+        let Some(item) = self.client().queue().head() else {
             unreachable!();
         };
-        let option = item.option;
-        let verdict = verdict_in(alloc, submitted(item), reply)?;
-        match self.client.take_verdict(alloc, reply) {
-            Ok(_noted) => Ok(Told { verdict, option }),
-            Err(fault) => Err(memory(fault)),
-        }
+        Ok(Told {
+            verdict: verdict_in(alloc, submitted(item), reply)?,
+            option: item.option,
+        })
     }
 
     /// What is planned for the first that waits, which conflicts.
     pub(crate) fn plan(&self) -> Plan
-        requires stands { Stands self.now }
-        requires conflict { HeadIs (λ item. item.stage ≡ in_conflict) (state_of self.now.client).items }
-        ensures { IsHeadPlan (state_of self.now.client).items result }
+        requires stands { Stands D.reads D.may_leave self.now }
+        requires conflict { HeadIs (λ item. item.stage ≡ in_conflict) (state_in self.now).items }
+        ensures { IsHeadPlan (state_in self.now).items result }
     {
-        let Some(item) = self.client.queue().head() else {
+        let Some(item) = self.client().queue().head() else {
             unreachable!();
         };
         match plan_of(item) {
@@ -396,41 +501,53 @@ impl Laptop {
         alloc: Global,
         reply: &[u8],
         script: Rc<Script>,
-    ) -> Result<(), NoMemory>
-        requires stands { Stands self.old }
-        requires conflict { HeadIs (λ item. item.stage ≡ in_conflict) (state_of self.old.client).items }
+    ) -> Result<(), WorldFault>
+        requires stands { Stands D.reads D.may_leave self.old }
+        requires conflict { HeadIs (λ item. item.stage ≡ in_conflict) (state_in self.old).items }
         requires brings { BringsTree reply.now }
         requires whole { (t : Nodes) → SpellsTree reply.now t → IsWhole t }
         requires script { IsScript script.value }
-        ensures { OnOk result ((t : Nodes) → SpellsTree reply.now t → Resolved script.value t self.old self.new) }
+        ensures does { OnOk result ((t : Nodes) → SpellsTree reply.now t → Resolved D.reads D.may_leave script.value t self.old self.new) }
+        ensures disk { SameDisk D.arms D.faults (CallCounts result) (disk_in self.old) (disk_in self.new) }
     {
-        match self.client.resolve(alloc, reply, script) {
-            Ok(()) => Ok(()),
-            Err(fault) => Err(memory(fault)),
+        match &mut self.node {
+            ClientNode::Up(client) => match client.resolve(alloc, reply, script) {
+                Ok(()) => Ok(()),
+                Err(fault) => Err(WorldFault::of_client(fault)),
+            },
+            ClientNode::Down(_) | ClientNode::Between => unreachable!(),
         }
     }
 
     /// Has the first that waits, which is to be decided by hand, resolved by the script of this name.
-    pub(crate) fn repair(&mut self, alloc: Global, script: &Name) -> Result<(), NoMemory>
-        requires stands { Stands self.old }
-        requires manual { HeadIs IsByHand (state_of self.old.client).items }
-        ensures { OnOk result (Repaired script.now self.old self.new) }
+    pub(crate) fn repair(&mut self, alloc: Global, script: &Name) -> Result<(), WorldFault>
+        requires stands { Stands D.reads D.may_leave self.old }
+        requires manual { HeadIs IsByHand (state_in self.old).items }
+        ensures does { OnOk result (Repaired D.reads D.may_leave script.now self.old self.new) }
+        ensures disk { SameDisk D.arms D.faults (CallCounts result) (disk_in self.old) (disk_in self.new) }
     {
-        match self.client.repair(alloc, script) {
-            Ok(()) => Ok(()),
-            Err(fault) => Err(memory(fault)),
+        match &mut self.node {
+            ClientNode::Up(client) => match client.repair(alloc, script) {
+                Ok(()) => Ok(()),
+                Err(fault) => Err(WorldFault::of_client(fault)),
+            },
+            ClientNode::Down(_) | ClientNode::Between => unreachable!(),
         }
     }
 
     /// Lets the first that waits, which is to be decided by hand, leave.
-    pub(crate) fn discard(&mut self, alloc: Global) -> Result<(), NoMemory>
-        requires stands { Stands self.old }
-        requires manual { HeadIs IsByHand (state_of self.old.client).items }
-        ensures { OnOk result (Noted leave self.old self.new) }
+    pub(crate) fn discard(&mut self, alloc: Global) -> Result<(), WorldFault>
+        requires stands { Stands D.reads D.may_leave self.old }
+        requires manual { HeadIs IsByHand (state_in self.old).items }
+        ensures does { OnOk result (Noted D.reads D.may_leave leave self.old self.new) }
+        ensures disk { SameDisk D.arms D.faults (CallCounts result) (disk_in self.old) (disk_in self.new) }
     {
-        match self.client.discard(alloc) {
-            Ok(()) => Ok(()),
-            Err(fault) => Err(memory(fault)),
+        match &mut self.node {
+            ClientNode::Up(client) => match client.discard(alloc) {
+                Ok(()) => Ok(()),
+                Err(fault) => Err(WorldFault::of_client(fault)),
+            },
+            ClientNode::Down(_) | ClientNode::Between => unreachable!(),
         }
     }
 }
@@ -465,13 +582,14 @@ fn resolved_way(option: OnConflict) -> Way
     }
 }
 
-/// The one fault of a call that is not refused.
+/// The one fault of a client's call that is not refused and appends nothing.
 fn memory(fault: ClientFault) -> NoMemory
     requires { fault ≡ no_memory }
 {
     match fault {
         ClientFault::NoMemory => NoMemory,
-        ClientFault::Busy
+        ClientFault::Stopped
+        | ClientFault::Busy
         | ClientFault::Pending
         | ClientFault::Idle
         | ClientFault::NotAtEnd

@@ -6,6 +6,7 @@ mod disks;
 mod fault;
 mod laptop;
 mod message;
+mod node;
 mod objects;
 mod queues;
 mod server;

@@ -8,7 +8,7 @@ ghost use Rattle.iot_machine.specs.Clients.{hold, fetch};
 ghost use Rattle.iot_machine.specs.Events.{Hoards, Refreshes};
 ghost use Rattle.iot_machine.specs.Serving.{Submission, Lends, Judges};
 ghost use Rattle.iot_machine.specs.Transactions.{Holds, Takes};
-ghost use Rattle.iot_world.specs.Faults.{CallCounts};
+ghost use Rattle.iot_world.specs.Faults.{CallCountsAll};
 ghost use Rattle.iot_world.specs.Laptops.{IsFirst};
 ghost use Rattle.iot_world.specs.Messages.{IsSomeRequest, SpellsCut, SpellsVerdict};
 ghost use Rattle.iot_world.specs.Servers.{IsHanded};
@@ -25,6 +25,7 @@ use iot_tree::{Duplicate, Want};
 use std::alloc::Global;
 
 impl<D: Disk> World<D> {
+    ghost use Rattle.iot_world.specs.Nodes.{state_in};
     ghost use Rattle.iot_world.specs.World.{Steps, IsReady, SameCounts, SameDisks, CanHold, ClientIs, IsAsked};
     ghost use Rattle.iot_world.specs.World.{Exchanges, KeepsState, KeepsClients, brought_of};
 
@@ -38,7 +39,7 @@ impl<D: Disk> World<D> {
         requires ready { IsReady D.reads D.may_leave client self.old }
         ensures step { OnOk result (Steps D.reads D.may_leave (Hoards client path.now) self.old self.new out.old out.new tt) }
         ensures counts { OnOk result (SameCounts self.old self.new) }
-        ensures disks { SameDisks D.arms D.faults (CallCounts result) self.old self.new }
+        ensures disks { SameDisks D.arms D.faults (CallCountsAll result) self.old self.new }
     {
         let want = Want::Below(path.copy(alloc)?);
         if !self.take(alloc, client, &want, out)? {
@@ -57,7 +58,7 @@ impl<D: Disk> World<D> {
         requires ready { IsReady D.reads D.may_leave client self.old }
         ensures step { OnOk result (Steps D.reads D.may_leave (Refreshes client) self.old self.new out.old out.new tt) }
         ensures counts { OnOk result (SameCounts self.old self.new) }
-        ensures disks { SameDisks D.arms D.faults (CallCounts result) self.old self.new }
+        ensures disks { SameDisks D.arms D.faults (CallCountsAll result) self.old self.new }
     {
         if !self.take(alloc, client, &Want::Nothing, out)? {
             return Ok(());
@@ -77,7 +78,7 @@ impl<D: Disk> World<D> {
         requires ready { IsReady D.reads D.may_leave client self.old }
         ensures step { IfOk result (Steps D.reads D.may_leave (Takes client want.now) self.old self.new out.old out.new) }
         ensures counts { OnOk result (SameCounts self.old self.new) }
-        ensures disks { SameDisks D.arms D.faults (CallCounts result) self.old self.new }
+        ensures disks { SameDisks D.arms D.faults (CallCountsAll result) self.old self.new }
     {
         if self.clients[client as usize].runs() {
             say(b"busy", out)?;
@@ -110,7 +111,7 @@ impl<D: Disk> World<D> {
             Steps D.reads D.may_leave (Holds client hold want.now) self.old self.new out.old out.new (brought_of brought)) }
         ensures can { OnOk result (CanHold client self.new) }
         ensures counts { OnOk result (SameCounts self.old self.new) }
-        ensures disks { SameDisks D.arms D.faults (CallCounts result) self.old self.new }
+        ensures disks { SameDisks D.arms D.faults (CallCountsAll result) self.old self.new }
     {
         let message = self.clients[client as usize].ask(alloc, want)?;
         match self.exchange(alloc, client, &message, out)? {
@@ -134,10 +135,10 @@ impl<D: Disk> World<D> {
         requires first { ClientIs IsFirst client self.old }
         requires asked { IsAsked client request self.old }
         ensures step { IfOk result (λ brought. (want : Want)
-            → ClientIs (λ was. IsRefresh (place_of was.client) (state_of was.client).held want request) client self.old
+            → ClientIs (λ was. IsRefresh (was.place) (state_in was).held want request) client self.old
             → Steps D.reads D.may_leave (Holds client fetch want) self.old self.new out.old out.new (brought_of brought)) }
         ensures counts { OnOk result (SameCounts self.old self.new) }
-        ensures disks { SameDisks D.arms D.faults (CallCounts result) self.old self.new }
+        ensures disks { SameDisks D.arms D.faults (CallCountsAll result) self.old self.new }
     {
         let message = Message::asking(request.into_bytes());
         match self.exchange(alloc, client, &message, out)? {
@@ -166,7 +167,7 @@ impl<D: Disk> World<D> {
         ensures clients { IfOk result (λ reply. KeepsClients client reply self.old self.new) }
         ensures state { OnOk result (KeepsState client self.old self.new) }
         ensures counts { OnOk result (SameCounts self.old self.new) }
-        ensures disks { SameDisks D.arms D.faults (CallCounts result) self.old self.new }
+        ensures disks { SameDisks D.arms D.faults (CallCountsAll result) self.old self.new }
     {
         let up = self.server.is_up();
         match self.clients[client as usize].pass(up) {

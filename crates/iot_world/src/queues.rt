@@ -1,13 +1,13 @@
 //! A client's link, and the transactions that wait there for the server.
 ghost use Rattle.std.specs.Prelude.{◌≡◌, ◌<◌, ℕ, List, Some, length, OnOk, IfOk, IsSome};
-ghost use Rattle.iot_client.specs.Records.{HeadIs};
-ghost use Rattle.iot_client.specs.Ties.{state_of};
+ghost use Rattle.iot_kept.specs.Changes.{HeadIs};
 ghost use Rattle.iot_lang.specs.Scripts.{IsScript};
 ghost use Rattle.iot_machine.specs.Calls.{Nothing, Asks, Then, either};
 ghost use Rattle.iot_machine.specs.Events.{Refreshes, Connects, Disconnects, Loses, SyncsAloud, Drains, is_drained, Repairs, Discards};
 ghost use Rattle.iot_machine.specs.Transactions.{Syncs, SyncsAll};
 ghost use Rattle.iot_tree.specs.Tree.{Nodes, IsWhole};
-ghost use Rattle.iot_world.specs.Faults.{CallCounts};
+ghost use Rattle.iot_world.specs.Disks.{NoneRose};
+ghost use Rattle.iot_world.specs.Faults.{CallCountsAll};
 ghost use Rattle.iot_world.specs.Laptops.{head_name, HandsIn, AsksAll, IsHeadPlan};
 ghost use Rattle.iot_world.specs.Messages.{BringsTree, SpellsTree};
 ghost use Rattle.iot_world.specs.Scripts.{script_named, code_named};
@@ -29,15 +29,17 @@ use std::alloc::Global;
 use std::rc::Rc;
 
 impl<D: Disk> World<D> {
-    ghost use Rattle.iot_world.specs.World.{Steps, IsReady, SameCounts, SameDisks, IsApart, ClientIs, synced_of};
+    ghost use Rattle.iot_world.specs.Nodes.{state_in};
+    ghost use Rattle.iot_world.specs.World.{Steps, IsInside, IsReady, SameCounts, SameDisks, ClientIs, synced_of};
     ghost use Rattle.iot_world.specs.World.{scripts_of, CarriesOut};
 
     // ---- the link
 
     pub(crate) fn connect(&mut self, client: u64, out: &mut Text) -> Result<(), NoMemory>
-        requires ready { IsReady D.reads D.may_leave client self.old }
+        requires inside { IsInside D.reads D.may_leave client self.old }
         ensures step { OnOk result (Steps D.reads D.may_leave (Connects client) self.old self.new out.old out.new tt) }
-        ensures apart { IsApart self.old self.new }
+        ensures counts { OnOk result (SameCounts self.old self.new) }
+        ensures disks { SameDisks D.arms D.faults NoneRose self.old self.new }
     {
         let laptop = &mut self.clients[client as usize];
         laptop.connect();
@@ -46,9 +48,10 @@ impl<D: Disk> World<D> {
     }
 
     pub(crate) fn disconnect(&mut self, client: u64, out: &mut Text) -> Result<(), NoMemory>
-        requires ready { IsReady D.reads D.may_leave client self.old }
+        requires inside { IsInside D.reads D.may_leave client self.old }
         ensures step { OnOk result (Steps D.reads D.may_leave (Disconnects client) self.old self.new out.old out.new tt) }
-        ensures apart { IsApart self.old self.new }
+        ensures counts { OnOk result (SameCounts self.old self.new) }
+        ensures disks { SameDisks D.arms D.faults NoneRose self.old self.new }
     {
         let laptop = &mut self.clients[client as usize];
         laptop.disconnect();
@@ -57,9 +60,10 @@ impl<D: Disk> World<D> {
     }
 
     pub(crate) fn lose(&mut self, client: u64, loss: Loss, out: &mut Text) -> Result<(), NoMemory>
-        requires ready { IsReady D.reads D.may_leave client self.old }
+        requires inside { IsInside D.reads D.may_leave client self.old }
         ensures step { OnOk result (Steps D.reads D.may_leave (Loses client loss) self.old self.new out.old out.new tt) }
-        ensures apart { IsApart self.old self.new }
+        ensures counts { OnOk result (SameCounts self.old self.new) }
+        ensures disks { SameDisks D.arms D.faults NoneRose self.old self.new }
     {
         let laptop = &mut self.clients[client as usize];
         laptop.lose(loss);
@@ -78,7 +82,7 @@ impl<D: Disk> World<D> {
         requires ready { IsReady D.reads D.may_leave client self.old }
         ensures step { OnOk result (Steps D.reads D.may_leave (SyncsAloud client) self.old self.new out.old out.new tt) }
         ensures counts { OnOk result (SameCounts self.old self.new) }
-        ensures disks { SameDisks D.arms D.faults (CallCounts result) self.old self.new }
+        ensures disks { SameDisks D.arms D.faults (CallCountsAll result) self.old self.new }
     {
         let _synced = self.sync(alloc, client, out)?;
         Ok(())
@@ -95,7 +99,7 @@ impl<D: Disk> World<D> {
         ensures step { IfOk result (λ synced.
             Steps D.reads D.may_leave (Syncs client) self.old self.new out.old out.new (synced_of synced)) }
         ensures counts { OnOk result (SameCounts self.old self.new) }
-        ensures disks { SameDisks D.arms D.faults (CallCounts result) self.old self.new }
+        ensures disks { SameDisks D.arms D.faults (CallCountsAll result) self.old self.new }
     {
         let laptop = &self.clients[client as usize];
         let Some(transaction) = laptop.head() else {
@@ -122,13 +126,13 @@ impl<D: Disk> World<D> {
         out: &mut Text,
     ) -> Result<Synced, WorldFault>
         requires ready { IsReady D.reads D.may_leave client self.old }
-        requires head { ClientIs (λ laptop. head_name laptop (state_of laptop.client).items ≡ Some transaction.now) client self.old }
-        requires hands { ClientIs (λ laptop. HeadIs (λ item. HandsIn laptop item message.now) (state_of laptop.client).items)
+        requires head { ClientIs (λ laptop. head_name laptop (state_in laptop).items ≡ Some transaction.now) client self.old }
+        requires hands { ClientIs (λ laptop. HeadIs (λ item. HandsIn laptop item message.now) (state_in laptop).items)
             client self.old }
         ensures step { IfOk result (λ synced.
             Steps D.reads D.may_leave (Syncs client) self.old self.new out.old out.new (synced_of synced)) }
         ensures counts { OnOk result (SameCounts self.old self.new) }
-        ensures disks { SameDisks D.arms D.faults (CallCounts result) self.old self.new }
+        ensures disks { SameDisks D.arms D.faults (CallCountsAll result) self.old self.new }
     {
         match self.exchange(alloc, client, message, out)? {
             Some(reply) => {
@@ -153,13 +157,13 @@ impl<D: Disk> World<D> {
         out: &mut Text,
     ) -> Result<Synced, WorldFault>
         requires ready { IsReady D.reads D.may_leave client self.old }
-        requires head { ClientIs (λ laptop. head_name laptop (state_of laptop.client).items ≡ Some transaction.now) client self.old }
-        requires asks { ClientIs (λ laptop. HeadIs (λ item. AsksAll laptop item message.now) (state_of laptop.client).items)
+        requires head { ClientIs (λ laptop. head_name laptop (state_in laptop).items ≡ Some transaction.now) client self.old }
+        requires asks { ClientIs (λ laptop. HeadIs (λ item. AsksAll laptop item message.now) (state_in laptop).items)
             client self.old }
         ensures step { IfOk result (λ synced.
             Steps D.reads D.may_leave (Syncs client) self.old self.new out.old out.new (synced_of synced)) }
         ensures counts { OnOk result (SameCounts self.old self.new) }
-        ensures disks { SameDisks D.arms D.faults (CallCounts result) self.old self.new }
+        ensures disks { SameDisks D.arms D.faults (CallCountsAll result) self.old self.new }
     {
         match self.exchange(alloc, client, message, out)? {
             Some(reply) => {
@@ -182,13 +186,14 @@ impl<D: Disk> World<D> {
         client: u64,
         plan: &Plan,
         reply: &[u8],
-    ) -> Result<(), NoMemory>
+    ) -> Result<(), WorldFault>
         requires ready { IsReady D.reads D.may_leave client self.old }
-        requires planned { ClientIs (λ laptop. IsHeadPlan (state_of laptop.client).items plan.now) client self.old }
+        requires planned { ClientIs (λ laptop. IsHeadPlan (state_in laptop).items plan.now) client self.old }
         requires brings { BringsTree reply.now }
         requires whole { (t : Nodes) → SpellsTree reply.now t → IsWhole t }
         ensures step { OnOk result ((t : Nodes) → SpellsTree reply.now t → CarriesOut D.reads D.may_leave client t self.old self.new) }
-        ensures apart { IsApart self.old self.new }
+        ensures counts { OnOk result (SameCounts self.old self.new) }
+        ensures disks { SameDisks D.arms D.faults (CallCountsAll result) self.old self.new }
     {
         let code = self.script_named(&plan.script)?;
         self.clients[client as usize].resolve(alloc, reply, code)?;
@@ -218,7 +223,7 @@ impl<D: Disk> World<D> {
         ensures step { IfOk result (λ synced.
             Steps D.reads D.may_leave (SyncsAll client) self.old self.new out.old out.new (synced_of synced)) }
         ensures counts { OnOk result (SameCounts self.old self.new) }
-        ensures disks { SameDisks D.arms D.faults (CallCounts result) self.old self.new }
+        ensures disks { SameDisks D.arms D.faults (CallCountsAll result) self.old self.new }
     {
         let most = self.clients[client as usize].most_syncs()?;
         'syncs: for _ in 0..most {
@@ -243,7 +248,7 @@ impl<D: Disk> World<D> {
         requires ready { IsReady D.reads D.may_leave client self.old }
         ensures step { OnOk result (Steps D.reads D.may_leave (Drains client) self.old self.new out.old out.new tt) }
         ensures counts { OnOk result (SameCounts self.old self.new) }
-        ensures disks { SameDisks D.arms D.faults (CallCounts result) self.old self.new }
+        ensures disks { SameDisks D.arms D.faults (CallCountsAll result) self.old self.new }
     {
         let before = out.len();
         let _synced = self.sync_all(alloc, client, out)?;
@@ -266,7 +271,7 @@ impl<D: Disk> World<D> {
         ensures step { OnOk result (Steps D.reads D.may_leave
             (Then (Asks (is_drained client)) (either (Refreshes client) Nothing)) self.old self.new out.old out.new tt) }
         ensures counts { OnOk result (SameCounts self.old self.new) }
-        ensures disks { SameDisks D.arms D.faults (CallCounts result) self.old self.new }
+        ensures disks { SameDisks D.arms D.faults (CallCountsAll result) self.old self.new }
     {
         if !self.clients[client as usize].is_drained() {
             return Ok(());
@@ -284,11 +289,12 @@ impl<D: Disk> World<D> {
         client: u64,
         script: u64,
         out: &mut Text,
-    ) -> Result<(), NoMemory>
+    ) -> Result<(), WorldFault>
         requires ready { IsReady D.reads D.may_leave client self.old }
         requires script { script < length self.old.scripts.items }
         ensures step { OnOk result (Steps D.reads D.may_leave (Repairs client script) self.old self.new out.old out.new tt) }
-        ensures apart { IsApart self.old self.new }
+        ensures counts { OnOk result (SameCounts self.old self.new) }
+        ensures disks { SameDisks D.arms D.faults (CallCountsAll result) self.old self.new }
     {
         let transaction = match self.clients[client as usize].decision() {
             Ok(transaction) => transaction,
@@ -309,10 +315,11 @@ impl<D: Disk> World<D> {
         alloc: Global,
         client: u64,
         out: &mut Text,
-    ) -> Result<(), NoMemory>
+    ) -> Result<(), WorldFault>
         requires ready { IsReady D.reads D.may_leave client self.old }
         ensures step { OnOk result (Steps D.reads D.may_leave (Discards client) self.old self.new out.old out.new tt) }
-        ensures apart { IsApart self.old self.new }
+        ensures counts { OnOk result (SameCounts self.old self.new) }
+        ensures disks { SameDisks D.arms D.faults (CallCountsAll result) self.old self.new }
     {
         let transaction = match self.clients[client as usize].decision() {
             Ok(transaction) => transaction,

@@ -1,5 +1,5 @@
 //! The server as a node: alive, or down with its disk.
-ghost use Rattle.std.specs.Prelude.{◌≡◌, ◌+◌, [], ℕ, true, false, IfOk, IfErr, OnOk};
+ghost use Rattle.std.specs.Prelude.{◌≡◌, ◌+◌, [], ℕ, true, false, Some, IfOk, IfErr, OnOk};
 ghost use Rattle.std.specs.Option.{option_copied};
 ghost use Rattle.iot_client.specs.Messages.{IsRefresh};
 ghost use Rattle.iot_disk.specs.Disk.{Only};
@@ -38,7 +38,8 @@ pub(crate) enum ServerNode<D: Disk> {
 impl<D: Disk> ServerNode<D> {
     ghost use Rattle.iot_world.specs.Servers.{is_up, disk_of, count_of, tree_of, lent_of, ServerStands, ServerIsSound, Falls};
     ghost use Rattle.iot_world.specs.Servers.{IsHanded, Serves, IsLive, Handled, HasAnswered, answered_since};
-    ghost use Rattle.iot_world.specs.Servers.{SameDisk, HasDisk, Starts, HandsBack};
+    ghost use Rattle.iot_world.specs.Disks.{SameDisk};
+    ghost use Rattle.iot_world.specs.Servers.{HasDisk, Starts, HandsBack};
     ghost use Rattle.iot_world.specs.Messages.{IsSomeRequest, SpellsCut, SpellsVerdict};
     ghost use Rattle.iot_world.specs.Faults.{CallCounts};
     ghost use Rattle.iot_count.specs.Counts.{IsSteady};
@@ -76,7 +77,7 @@ impl<D: Disk> ServerNode<D> {
         ensures judges { IfOk result (λ reply. (it : Submission) → IsHanded message.now it
             → Serves D.reads D.may_leave (Judges it) (SpellsVerdict it.reads) reply.items self.old self.new out.old out.new) }
         ensures requests { OnOk result ((n : ℕ) → HasAnswered n self.old → HasAnswered (n + 1) self.new) }
-        ensures disk { SameDisk D.arms D.faults (CallCounts result) self.old self.new }
+        ensures disk { SameDisk D.arms D.faults (CallCounts result) (disk_of self.old) (disk_of self.new) }
     {
         let before = self.number();
         let reply = self.handle(alloc, message)?;
@@ -90,7 +91,7 @@ impl<D: Disk> ServerNode<D> {
         requires request { IsSomeRequest message.now.request.items }
         ensures handled { IfOk result (λ reply. Handled D.reads D.may_leave message.now.request.items reply.items self.old self.new) }
         ensures requests { OnOk result ((n : ℕ) → HasAnswered n self.old → HasAnswered (n + 1) self.new) }
-        ensures disk { SameDisk D.arms D.faults (CallCounts result) self.old self.new }
+        ensures disk { SameDisk D.arms D.faults (CallCounts result) (disk_of self.old) (disk_of self.new) }
     {
         match self {
             ServerNode::Up(server) => match server.handle(alloc, &message.request) {
@@ -107,7 +108,7 @@ impl<D: Disk> ServerNode<D> {
         ensures down { OnOk result (is_up self.new ≡ false) }
         ensures step { OnOk result
             (Refines (ServerStands D.reads D.may_leave) (Crashes server_name) self.old self.new out.old out.new tt) }
-        ensures disk { SameDisk D.arms D.faults IsSteady self.old self.new }
+        ensures disk { SameDisk D.arms D.faults IsSteady (disk_of self.old) (disk_of self.new) }
     {
         if !self.is_up() {
             say(b"down", out)?;
@@ -122,7 +123,7 @@ impl<D: Disk> ServerNode<D> {
     fn fall(&mut self)
         requires { is_up self.old ≡ true }
         ensures falls { Falls self.old self.new }
-        ensures disk { SameDisk D.arms D.faults IsSteady self.old self.new }
+        ensures disk { SameDisk D.arms D.faults IsSteady (disk_of self.old) (disk_of self.new) }
     {
         match mem::replace(self, ServerNode::Between) {
             ServerNode::Up(server) => self.settle(ServerNode::Down(server.into_disk())),
@@ -148,7 +149,7 @@ impl<D: Disk> ServerNode<D> {
         ensures requests { OnOk result ((n : ℕ) → HasAnswered n self.old → HasAnswered (answered_since (is_up self.old) n) self.new) }
         ensures step { OnOk result
             (Refines (ServerStands D.reads D.may_leave) (Restarts server_name) self.old self.new out.old out.new tt) }
-        ensures disk { SameDisk D.arms D.faults (CallCounts result) self.old self.new }
+        ensures disk { SameDisk D.arms D.faults (CallCounts result) (disk_of self.old) (disk_of self.new) }
     {
         match mem::replace(self, ServerNode::Between) {
             ServerNode::Up(server) => {
@@ -169,7 +170,7 @@ impl<D: Disk> ServerNode<D> {
         ensures requests { OnOk result (HasAnswered 0 self.new) }
         ensures step { OnOk result
             (Refines (ServerStands D.reads D.may_leave) (ComesBack server_name) (Down disk) self.new out.old out.new tt) }
-        ensures disk { SameDisk D.arms D.faults (CallCounts result) (Down disk) self.new }
+        ensures disk { SameDisk D.arms D.faults (CallCounts result) (Some disk) (disk_of self.new) }
     {
         disk.restart();
         match Server::start(alloc, disk) {

@@ -1,15 +1,16 @@
 //! The lines that events print.
-ghost use Rattle.std.specs.Prelude.{◌≡◌, ◌++◌, ◌∷◌, [], IfOk, OnOk};
+ghost use Rattle.std.specs.Prelude.{◌≡◌, ◌++◌, ◌∷◌, [], codes, IfOk, OnOk};
 ghost use Rattle.std.specs.FinMap.{entries};
 ghost use Rattle.iot_machine.specs.Texts.{line, client_line, end_line, commit_line, settled_line, transaction_name, output, acts_output};
 ghost use Rattle.iot_machine.specs.Texts.{output_line, row_line, row_text, tree_text};
 ghost use Rattle.iot_machine.specs.Texts.{hoard_line, refresh_line, begin_line, fetch_line, step_line, conflict_line, question_text};
 ghost use Rattle.iot_machine.specs.Texts.{abort_line, pending_line, connect_line, disconnect_line, lose_line, way_text};
-ghost use Rattle.iot_machine.specs.Texts.{manual_line, resolve_line, repair_line, discard_line};
+ghost use Rattle.iot_machine.specs.Texts.{manual_line, resolve_line, repair_line, discard_line, cut_line};
 ghost use Rattle.iot_world.specs.Messages.{verdict_of, name_of, told_text};
 ghost use Rattle.iot_world.specs.Saying.{place_said, resolver_said};
 
 use crate::message::{Handed, Printed};
+use crate::node::CutOff;
 use crate::verdict::{Told, Verdict};
 use iot_link::Loss;
 use iot_resolve::Plan;
@@ -67,6 +68,35 @@ pub(crate) fn say_disconnect(name: &Name, out: &mut Text) -> Result<(), NoMemory
     out.append(b"disconnect ")?;
     out.append(name.as_bytes())?;
     out.push(b'\n')
+}
+
+/// `crash C`
+pub(crate) fn say_crash(name: &Name, out: &mut Text) -> Result<(), NoMemory>
+    ensures { OnOk result (out.new ≡ out.old ++ line (codes "crash " ++ name.now)) }
+{
+    out.append(b"crash ")?;
+    out.append(name.as_bytes())?;
+    out.push(b'\n')
+}
+
+/// `restart C`
+pub(crate) fn say_restart(name: &Name, out: &mut Text) -> Result<(), NoMemory>
+    ensures { OnOk result (out.new ≡ out.old ++ line (codes "restart " ++ name.now)) }
+{
+    out.append(b"restart ")?;
+    out.append(name.as_bytes())?;
+    out.push(b'\n')
+}
+
+/// `cut TID K acts`
+pub(crate) fn say_cut(cut: &CutOff, out: &mut Text) -> Result<(), NoMemory>
+    ensures { OnOk result (out.new ≡ out.old ++ cut_line (name_of cut.now.transaction) cut.now.acts) }
+{
+    out.append(b"cut ")?;
+    cut.transaction.write_to(out)?;
+    out.push(b' ')?;
+    out.append_number(cut.acts)?;
+    out.append(b" acts\n")
 }
 
 /// `lose C request`, or `reply`

@@ -6,7 +6,7 @@ ghost use Rattle.iot_machine.specs.Events.{chosen};
 ghost use Rattle.iot_machine.specs.Events.{BeginsAloud, StepsAloud, Runs, SyncsIf, is_connected, runs_script, begin_text, step_text};
 ghost use Rattle.iot_machine.specs.Texts.{fetch_line};
 ghost use Rattle.iot_machine.specs.Transactions.{Starts, Begins, Steps as SingleStep, StepsAll, Ends};
-ghost use Rattle.iot_world.specs.Faults.{CallCounts};
+ghost use Rattle.iot_world.specs.Faults.{CallCountsAll};
 ghost use Rattle.iot_world.specs.Saying.{SaidIf};
 ghost use Rattle.iot_world.specs.Scripts.{option_named};
 
@@ -25,7 +25,7 @@ use std::alloc::Global;
 const RUN_STEPS: u64 = 100_000;
 
 impl<D: Disk> World<D> {
-    ghost use Rattle.iot_world.specs.World.{Steps, IsReady, SameCounts, SameDisks, IsApart, CanHold, ClientIs, IsIdle};
+    ghost use Rattle.iot_world.specs.World.{Steps, IsReady, SameCounts, SameDisks, CanHold, ClientIs, IsIdle};
     ghost use Rattle.iot_world.specs.World.{declared_in, option_in, stepped_of};
 
     // ---- begin
@@ -44,7 +44,7 @@ impl<D: Disk> World<D> {
         ensures step { OnOk result
             (Steps D.reads D.may_leave (BeginsAloud client script (chosen option)) self.old self.new out.old out.new tt) }
         ensures counts { OnOk result (SameCounts self.old self.new) }
-        ensures disks { SameDisks D.arms D.faults (CallCounts result) self.old self.new }
+        ensures disks { SameDisks D.arms D.faults (CallCountsAll result) self.old self.new }
     {
         if !self.begin(alloc, client, script, option, out)? {
             return Ok(());
@@ -67,7 +67,7 @@ impl<D: Disk> World<D> {
         requires option { ResolverIsDeclared option (length self.old.scripts.items) }
         ensures step { IfOk result (Steps D.reads D.may_leave (Begins client script (chosen option)) self.old self.new out.old out.new) }
         ensures counts { OnOk result (SameCounts self.old self.new) }
-        ensures disks { SameDisks D.arms D.faults (CallCounts result) self.old self.new }
+        ensures disks { SameDisks D.arms D.faults (CallCountsAll result) self.old self.new }
     {
         let laptop = &self.clients[client as usize];
         if laptop.runs() {
@@ -92,7 +92,7 @@ impl<D: Disk> World<D> {
         script: u64,
         option: Choice,
         first: bool,
-    ) -> Result<(), NoMemory>
+    ) -> Result<(), WorldFault>
         requires ready { IsReady D.reads D.may_leave client self.old }
         requires script { script < length self.old.scripts.items }
         requires option { ResolverIsDeclared option (length self.old.scripts.items) }
@@ -101,7 +101,8 @@ impl<D: Disk> World<D> {
         ensures step { OnOk result ((text : List ℕ)
             → Steps D.reads D.may_leave (Starts client (declared_in self.old script) (option_in self.old option) first)
             self.old self.new text text true) }
-        ensures apart { IsApart self.old self.new }
+        ensures counts { OnOk result (SameCounts self.old self.new) }
+        ensures disks { SameDisks D.arms D.faults (CallCountsAll result) self.old self.new }
     {
         let option = self.option_named(option);
         let declared = &self.scripts[script as usize];
@@ -128,7 +129,7 @@ impl<D: Disk> World<D> {
         ensures { OnOk result (Steps D.reads D.may_leave (Says (begin_text client)) self.now self.now out.old out.new tt) }
     {
         let laptop = &self.clients[client as usize];
-        match laptop.client.running() {
+        match laptop.running() {
             Some(running) => {
                 let transaction = laptop.transaction(running.tid);
                 say_begin(&transaction, &running.script, running.first, out)?;
@@ -150,7 +151,7 @@ impl<D: Disk> World<D> {
         requires ready { IsReady D.reads D.may_leave client self.old }
         ensures step { OnOk result (Steps D.reads D.may_leave (StepsAloud client most) self.old self.new out.old out.new tt) }
         ensures counts { OnOk result (SameCounts self.old self.new) }
-        ensures disks { SameDisks D.arms D.faults (CallCounts result) self.old self.new }
+        ensures disks { SameDisks D.arms D.faults (CallCountsAll result) self.old self.new }
     {
         if !self.clients[client as usize].runs() {
             say(b"idle", out)?;
@@ -166,13 +167,13 @@ impl<D: Disk> World<D> {
         ensures { OnOk result (Steps D.reads D.may_leave (Says (step_text client)) self.now self.now out.old out.new tt) }
     {
         let laptop = &self.clients[client as usize];
-        match laptop.client.running() {
+        match laptop.running() {
             Some(running) => {
                 let transaction = laptop.transaction(running.tid);
                 say_step(
                     &transaction,
                     running.acts.len() as u64,
-                    laptop.client.at_end(),
+                    laptop.at_end(),
                     out,
                 )?;
                 Ok(())
@@ -194,7 +195,7 @@ impl<D: Disk> World<D> {
         ensures step { IfOk result (λ stepped.
             Steps D.reads D.may_leave (StepsAll client loud most) self.old self.new out.old out.new (stepped_of stepped)) }
         ensures counts { OnOk result (SameCounts self.old self.new) }
-        ensures disks { SameDisks D.arms D.faults (CallCounts result) self.old self.new }
+        ensures disks { SameDisks D.arms D.faults (CallCountsAll result) self.old self.new }
     {
         'steps: for _ in 0..most {
             let stepped = self.step(alloc, client, loud, out)?;
@@ -217,7 +218,7 @@ impl<D: Disk> World<D> {
         ensures step { IfOk result (λ stepped.
             Steps D.reads D.may_leave (SingleStep client loud) self.old self.new out.old out.new (stepped_of stepped)) }
         ensures counts { OnOk result (SameCounts self.old self.new) }
-        ensures disks { SameDisks D.arms D.faults (CallCounts result) self.old self.new }
+        ensures disks { SameDisks D.arms D.faults (CallCountsAll result) self.old self.new }
     {
         let laptop = &mut self.clients[client as usize];
         if !laptop.runs() {
@@ -251,7 +252,7 @@ impl<D: Disk> World<D> {
         requires ready { IsReady D.reads D.may_leave client self.old }
         ensures step { OnOk result (Steps D.reads D.may_leave (Ends client) self.old self.new out.old out.new tt) }
         ensures counts { OnOk result (SameCounts self.old self.new) }
-        ensures disks { SameDisks D.arms D.faults (CallCounts result) self.old self.new }
+        ensures disks { SameDisks D.arms D.faults (CallCountsAll result) self.old self.new }
     {
         let laptop = &mut self.clients[client as usize];
         if !laptop.runs() {
@@ -291,7 +292,7 @@ impl<D: Disk> World<D> {
         requires option { ResolverIsDeclared option (length self.old.scripts.items) }
         ensures step { OnOk result (Steps D.reads D.may_leave (Runs client script (chosen option)) self.old self.new out.old out.new tt) }
         ensures counts { OnOk result (SameCounts self.old self.new) }
-        ensures disks { SameDisks D.arms D.faults (CallCounts result) self.old self.new }
+        ensures disks { SameDisks D.arms D.faults (CallCountsAll result) self.old self.new }
     {
         if self.clients[client as usize].runs() {
             say(b"busy", out)?;
@@ -308,7 +309,7 @@ impl<D: Disk> World<D> {
         ensures step { OnOk result (Steps D.reads D.may_leave (Then (Asks (is_connected client)) (SyncsIf client))
             self.old self.new out.old out.new tt) }
         ensures counts { OnOk result (SameCounts self.old self.new) }
-        ensures disks { SameDisks D.arms D.faults (CallCounts result) self.old self.new }
+        ensures disks { SameDisks D.arms D.faults (CallCountsAll result) self.old self.new }
     {
         if !self.clients[client as usize].link.is_up() {
             return Ok(());
@@ -332,7 +333,7 @@ impl<D: Disk> World<D> {
         ensures step { OnOk result
             (Steps D.reads D.may_leave (runs_script client script (chosen option)) self.old self.new out.old out.new tt) }
         ensures counts { OnOk result (SameCounts self.old self.new) }
-        ensures disks { SameDisks D.arms D.faults (CallCounts result) self.old self.new }
+        ensures disks { SameDisks D.arms D.faults (CallCountsAll result) self.old self.new }
     {
         if !self.begin(alloc, client, script, option, out)? {
             return Ok(());

@@ -1,27 +1,28 @@
 //! The world: the server and its clients, as they are between two events.
-ghost use Rattle.std.specs.Prelude.{◌≡◌, List, ◌∷◌, ◌++◌, Some, OnOk, IfOk, IfErr, IfSome};
+ghost use Rattle.std.specs.Prelude.{◌≡◌, ◌<◌, List, ◌∷◌, ◌++◌, true, false, codes, Some, OnOk, IfOk, IfErr, IfSome};
 ghost use Rattle.std.specs.Option.{option_copied};
-ghost use Rattle.iot_count.specs.Counts.{IsSteady};
 ghost use Rattle.iot_event.specs.declared.event.Event.TheVariants.{ShowClient};
 ghost use Rattle.iot_machine.specs.Calls.{At};
 ghost use Rattle.iot_machine.specs.Machine.{Machine, server};
-ghost use Rattle.iot_machine.specs.Events.{RestartsServer, event_part};
+ghost use Rattle.iot_machine.specs.Events.{CrashesClient, RestartsClient, RestartsServer, event_part};
 ghost use Rattle.iot_machine.specs.Stops.{Crashes};
 ghost use Rattle.iot_machine.specs.Serving.{server_name};
-ghost use Rattle.iot_machine.specs.Texts.{client_line};
-ghost use Rattle.iot_world.specs.Disks.{AreFresh};
+ghost use Rattle.iot_machine.specs.Texts.{line, client_line};
+ghost use Rattle.iot_world.specs.Disks.{AreFresh, NoneRose};
 ghost use Rattle.iot_server.specs.Servers as servers;
-ghost use Rattle.iot_world.specs.Faults.{CallCounts};
+ghost use Rattle.iot_world.specs.Faults.{CallCountsAll};
 ghost use Rattle.iot_world.specs.Servers.{disk_of};
 
 use crate::disks::{put_first, take_first};
 use crate::fault::WorldFault;
 use crate::laptop::Laptop;
+use crate::node::ClientNode;
 use crate::server::ServerNode;
-use crate::texts::{say_client, say_tree};
+use crate::texts::{say, say_client, say_crash, say_cut, say_restart, say_tree};
 use iot_client::Client;
 use iot_disk::Disk;
 use iot_event::{Event, SharedScript};
+use iot_link::Link;
 use iot_server::Server;
 use iot_text::{Name, NoMemory, Text};
 use std::alloc::Global;
@@ -39,10 +40,10 @@ pub struct World<D: Disk> {
     pub(crate) server: ServerNode<D>,
 
     /// In order of declaration, as the scripts are.
-    pub(crate) clients: Vec<Laptop>,
+    pub(crate) clients: Vec<Laptop<D>>,
     pub(crate) scripts: Vec<DeclaredScript>,
 
-    /// The disks that no node has yet, and room for the server's.
+    /// The disks that no node has yet, and room for those of the nodes.
     pub(crate) spare: Vec<D>,
 }
 
@@ -50,10 +51,13 @@ impl<D: Disk> World<D> {
     ghost use Rattle.iot_world.specs.Allowed.{IsAllowed};
     ghost use Rattle.iot_world.specs.World.{StandsFor, StandsForSome, Steps, EventSteps, DeclaredOn, Opens, HandsAllBack};
     ghost use Rattle.iot_world.specs.World.{HasDisks, SameDisks, disks_of, AddsClient, AddsScript, SetsServer};
+    ghost use Rattle.iot_world.specs.World.{IsInside, ClientIs, IsAlive, IsDown, SameDeclared};
+    ghost use Rattle.iot_world.specs.Nodes.{disk_in};
+    ghost use Rattle.iot_client.specs.Ties.{disk_of as client_disk};
     ghost use Rattle.iot_world.specs.World.{client_count, script_names, IsReady, LendsServer, LendsClient};
     ghost use Rattle.iot_event.specs.declared.event.Event.{Event};
 
-    /// The world before any event, with a server on the first of the disks. The others are not used yet.
+    /// The world before any event, with a server on the first of the disks. Each client that is declared takes the next one.
     ///
     /// # Errors
     ///
@@ -97,8 +101,8 @@ impl<D: Disk> World<D> {
         // nodes that are lent are the machine's, and what is in its list goes together with the queues.
         ensures step { OnOk result (EventSteps D.reads D.may_leave event.now self.old self.new out.old out.new) }
 
-        // The disks are those of before. None was armed, and the faults of the server's say whether it ended this.
-        ensures disks { SameDisks D.arms D.faults (CallCounts result) self.old self.new }
+        // The disks are those of before. None was armed, and their faults say whether one of them ended this.
+        ensures disks { SameDisks D.arms D.faults (CallCountsAll result) self.old self.new }
 
         // For the events after it.
         ensures declared { OnOk result ((later : List Event) → DeclaredOn (event.now ∷ later) self.old → DeclaredOn later self.new) }
@@ -116,13 +120,15 @@ impl<D: Disk> World<D> {
         self.server.lent()
     }
 
-    /// The client at this place, counted from 0 in order of declaration, if it is declared. Does not allocate.
-    pub fn client(&self, place: u64) -> Option<&Client>
+    /// The client at this place, counted from 0 in order of declaration, if it is declared and alive. Its disk is the one after the
+    /// server's and those of the clients before it, of those that `into_disks` gives back. Does not allocate.
+    pub fn client(&self, place: u64) -> Option<&Client<D>>
         // Its tree, its view, its queue and its running transaction are those of each machine for which the world stands.
-        ensures { (m : Machine) → StandsFor D.reads D.may_leave self.now m → LendsClient (option_copied result) place m }
+        ensures lent { (m : Machine) → StandsFor D.reads D.may_leave self.now m → LendsClient (option_copied result) place m }
+        ensures disk { IfSome (option_copied result) (λ it. ClientIs (λ laptop. disk_in laptop ≡ Some (client_disk it)) place self.now) }
     {
         match self.clients.get(place as usize) {
-            Some(laptop) => Some(&laptop.client),
+            Some(laptop) => laptop.lent(),
             None => None,
         }
     }
@@ -134,7 +140,7 @@ impl<D: Disk> World<D> {
         requires allowed { IsAllowed event.now (client_count self.old) (script_names self.old) }
         requires stands { StandsForSome D.reads D.may_leave self.old }
         ensures step { OnOk result (Steps D.reads D.may_leave (event_part event.now) self.old self.new out.old out.new tt) }
-        ensures disks { SameDisks D.arms D.faults (CallCounts result) self.old self.new }
+        ensures disks { SameDisks D.arms D.faults (CallCountsAll result) self.old self.new }
         ensures declared { OnOk result ((later : List Event) → DeclaredOn (event.now ∷ later) self.old → DeclaredOn later self.new) }
     {
         match event {
@@ -144,49 +150,114 @@ impl<D: Disk> World<D> {
                 client,
                 script,
                 option,
-            } => self.run(alloc, *client, *script, *option, out)?,
-            Event::Hoard { client, path } => self.hoard(alloc, *client, path, out)?,
-            Event::Refresh { client } => self.refresh(alloc, *client, out)?,
+            } => {
+                if self.is_up(*client, out)? {
+                    self.run(alloc, *client, *script, *option, out)?;
+                }
+            }
+            Event::Hoard { client, path } => {
+                if self.is_up(*client, out)? {
+                    self.hoard(alloc, *client, path, out)?;
+                }
+            }
+            Event::Refresh { client } => {
+                if self.is_up(*client, out)? {
+                    self.refresh(alloc, *client, out)?;
+                }
+            }
             Event::Begin {
                 client,
                 script,
                 option,
-            } => self.begin_aloud(alloc, *client, *script, *option, out)?,
-            Event::Step { client, count } => self.step_aloud(alloc, *client, *count, out)?,
-            Event::End { client } => self.end(alloc, *client, out)?,
+            } => {
+                if self.is_up(*client, out)? {
+                    self.begin_aloud(alloc, *client, *script, *option, out)?;
+                }
+            }
+            Event::Step { client, count } => {
+                if self.is_up(*client, out)? {
+                    self.step_aloud(alloc, *client, *count, out)?;
+                }
+            }
+            Event::End { client } => {
+                if self.is_up(*client, out)? {
+                    self.end(alloc, *client, out)?;
+                }
+            }
             Event::Connect { client } => self.connect(*client, out)?,
             Event::Disconnect { client } => self.disconnect(*client, out)?,
             Event::Lose { client, loss } => self.lose(*client, *loss, out)?,
-            Event::Sync { client } => self.sync_aloud(alloc, *client, out)?,
-            Event::Drain { client } => self.drain(alloc, *client, out)?,
-            Event::Repair { client, script } => self.repair(alloc, *client, *script, out)?,
-            Event::Discard { client } => self.discard(alloc, *client, out)?,
+            Event::Sync { client } => {
+                if self.is_up(*client, out)? {
+                    self.sync_aloud(alloc, *client, out)?;
+                }
+            }
+            Event::Drain { client } => {
+                if self.is_up(*client, out)? {
+                    self.drain(alloc, *client, out)?;
+                }
+            }
+            Event::Repair { client, script } => {
+                if self.is_up(*client, out)? {
+                    self.repair(alloc, *client, *script, out)?;
+                }
+            }
+            Event::Discard { client } => {
+                if self.is_up(*client, out)? {
+                    self.discard(alloc, *client, out)?;
+                }
+            }
             Event::ShowServer => self.server.show(out)?,
-            Event::ShowClient { client } => self.show_client(*client, out)?,
+            Event::ShowClient { client } => {
+                if self.is_up(*client, out)? {
+                    self.show_client(*client, out)?;
+                }
+            }
             Event::CrashServer => self.crash(out)?,
+            Event::CrashClient { client } => self.crash_client(*client, out)?,
             Event::RestartServer => self.restart(alloc, out)?,
+            Event::RestartClient { client } => self.restart_client(alloc, *client, out)?,
         }
         Ok(())
     }
 
     // ---- declarations
 
-    fn declare_client(&mut self, alloc: Global, name: &Name, out: &mut Text) -> Result<(), NoMemory>
-        ensures world { OnOk result (AddsClient name.now self.old self.new) }
+    /// A client that does not start keeps its disk, and is down.
+    fn declare_client(
+        &mut self,
+        alloc: Global,
+        name: &Name,
+        out: &mut Text,
+    ) -> Result<(), WorldFault>
+        requires stands { StandsForSome D.reads D.may_leave self.old }
+        requires few { client_count self.old < 8 }
+        ensures world { OnOk result (AddsClient D.reads D.may_leave name.now self.old self.new) }
         ensures text { OnOk result (out.new ≡ out.old ++ client_line name.now) }
-        ensures server { self.new.server ≡ self.old.server }
-        ensures spare { self.new.spare ≡ self.old.spare }
+        ensures disks { SameDisks D.arms D.faults (CallCountsAll result) self.old self.new }
     {
+        self.clients.reserve(1)?;
         let place = self.clients.len() as u64;
-        self.clients.push(Laptop::new(alloc, *name, place)?)?;
+        let disk = take_first(&mut self.spare);
+        match Laptop::start(alloc, *name, place, disk) {
+            Ok(laptop) => self.clients.push_reserved(laptop),
+            Err((disk, fault)) => {
+                self.clients.push_reserved(Laptop {
+                    name: *name,
+                    place,
+                    node: ClientNode::Down(disk),
+                    link: Link::new(),
+                });
+                return Err(fault);
+            }
+        }
         say_client(name, out)?;
         Ok(())
     }
 
     fn declare_script(&mut self, name: &Name, script: &SharedScript) -> Result<(), NoMemory>
         ensures world { OnOk result (AddsScript name.now script.now self.old self.new) }
-        ensures server { self.new.server ≡ self.old.server }
-        ensures spare { self.new.spare ≡ self.old.spare }
+        ensures disks { SameDisks D.arms D.faults NoneRose self.old self.new }
     {
         self.scripts.push(DeclaredScript {
             name: *name,
@@ -197,6 +268,19 @@ impl<D: Disk> World<D> {
 
     // ---- looking in, crashes and restarts
 
+    /// Whether the client is alive. If not, that is said.
+    fn is_up(&self, client: u64, out: &mut Text) -> Result<bool, NoMemory>
+        requires inside { IsInside D.reads D.may_leave client self.now }
+        ensures yes { IfOk result (λ up. up ≡ true → (out.new ≡ out.old) × ClientIs IsAlive client self.now) }
+        ensures no { IfOk result (λ up. up ≡ false → (out.new ≡ out.old ++ line (codes "down")) × ClientIs IsDown client self.now) }
+    {
+        if self.clients[client as usize].is_alive() {
+            return Ok(true);
+        }
+        say(b"down", out)?;
+        Ok(false)
+    }
+
     fn show_client(&self, client: u64, out: &mut Text) -> Result<(), NoMemory>
         requires ready { IsReady D.reads D.may_leave client self.now }
         ensures { OnOk result
@@ -206,12 +290,54 @@ impl<D: Disk> World<D> {
         Ok(())
     }
 
+    /// The client loses its memory.
+    fn crash_client(&mut self, client: u64, out: &mut Text) -> Result<(), NoMemory>
+        requires inside { IsInside D.reads D.may_leave client self.old }
+        ensures step { OnOk result (Steps D.reads D.may_leave (CrashesClient client) self.old self.new out.old out.new tt) }
+        ensures counts { OnOk result (SameDeclared self.old self.new) }
+        ensures disks { SameDisks D.arms D.faults NoneRose self.old self.new }
+    {
+        if !self.is_up(client, out)? {
+            return Ok(());
+        }
+        let laptop = &mut self.clients[client as usize];
+        laptop.fall();
+        say_crash(&laptop.name, out)?;
+        Ok(())
+    }
+
+    /// The client comes back. What ran when it lost its memory is cut off.
+    fn restart_client(
+        &mut self,
+        alloc: Global,
+        client: u64,
+        out: &mut Text,
+    ) -> Result<(), WorldFault>
+        requires inside { IsInside D.reads D.may_leave client self.old }
+        ensures step { OnOk result (Steps D.reads D.may_leave (RestartsClient client) self.old self.new out.old out.new tt) }
+        ensures counts { OnOk result (SameDeclared self.old self.new) }
+        ensures disks { SameDisks D.arms D.faults (CallCountsAll result) self.old self.new }
+    {
+        if self.clients[client as usize].is_alive() {
+            say(b"up", out)?;
+            return Ok(());
+        }
+        let laptop = &mut self.clients[client as usize];
+        laptop.come_back(alloc)?;
+        say_restart(&laptop.name, out)?;
+        match laptop.cut_off(alloc)? {
+            Some(cut) => say_cut(&cut, out)?,
+            None => (),
+        }
+        Ok(())
+    }
+
     /// The server stops.
     fn crash(&mut self, out: &mut Text) -> Result<(), NoMemory>
         requires { StandsForSome D.reads D.may_leave self.old }
         ensures world { OnOk result (SetsServer self.old self.new) }
         ensures step { OnOk result (Steps D.reads D.may_leave (At server (Crashes server_name)) self.old self.new out.old out.new tt) }
-        ensures disks { SameDisks D.arms D.faults IsSteady self.old self.new }
+        ensures disks { SameDisks D.arms D.faults NoneRose self.old self.new }
     {
         self.server.crash(out)?;
         Ok(())
@@ -222,13 +348,13 @@ impl<D: Disk> World<D> {
         requires { StandsForSome D.reads D.may_leave self.old }
         ensures world { OnOk result (SetsServer self.old self.new) }
         ensures step { OnOk result (Steps D.reads D.may_leave RestartsServer self.old self.new out.old out.new tt) }
-        ensures disks { SameDisks D.arms D.faults (CallCounts result) self.old self.new }
+        ensures disks { SameDisks D.arms D.faults (CallCountsAll result) self.old self.new }
     {
         self.server.restart(alloc, out)?;
         Ok(())
     }
 
-    /// Gives the disks back, in the order in which they were handed in.
+    /// Gives the disks back, in the order in which they were handed in. Does not allocate.
     pub fn into_disks(self) -> Vec<D>
         requires { HasDisks self }
         ensures { result.items ≡ disks_of self }
@@ -236,9 +362,13 @@ impl<D: Disk> World<D> {
         let World {
             server,
             mut spare,
-            clients: _,
+            mut clients,
             scripts: _,
         } = self;
+        'laptops: while let Some(laptop) = clients.pop() {
+            put_first(&mut spare, laptop.into_disk());
+        }
+        clients.destroy_empty();
         put_first(&mut spare, server.into_disk());
         spare
     }

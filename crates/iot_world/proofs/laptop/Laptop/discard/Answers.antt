@@ -1,8 +1,7 @@
-use Rattle.std.proofs.Common.{refl}
-use Rattle.iot_world.proofs.LaptopCallsLaws.{noted_left}
+use Rattle.iot_world.proofs.LaptopCallsLaws.{leaves}
 use Rattle.iot_world.proofs.laptop.Laptop.discard.Goals as goal
 
-pub returns-in-Ok : goal.returns-in-Ok
-returns-in-Ok c =
-    noted_left c.args.self.now (record c.args.self.now { client = c.discard.new.self }) refl refl c.in-Ok.ensures.tied
+pub returns-in-Ok-clause-does : goal.returns-in-Ok-clause-does
+returns-in-Ok-clause-does g c =
+    leaves g.D.Disk.reads g.D.Disk.may_leave c.args.self.now c.in-Up.client c.discard.new.self c.in-Ok.ensures.tied c.in-Up.is
     c.in-Ok.ensures.notes c.in-Ok.ensures.live

@@ -1,9 +1,13 @@
-use Rattle.std.proofs.Common.{◌∙◌}
-use Rattle.iot_client.specs.Ties.{state_of, live_of}
+use Rattle.std.proofs.Common.{ap, ◌∙◌}
+use Rattle.iot_kept.specs.States.{view}
 use Rattle.iot_world.proofs.LaptopsLaws.{view_is}
+use Rattle.iot_world.proofs.NodesLaws.{own_in}
+use Rattle.iot_world.specs.Nodes.{state_in, live_in}
 use Rattle.iot_world.proofs.laptop.Laptop.view.Goals as goal
 
 pub returns : goal.returns
-returns c = λ scripts m here.
-    let client = c.args.self.now.client in
-    c.view.ensures.view ∙ view_is (state_of client) (live_of client) m.first m.node.durable here.state c.view.ensures.run
+returns g c = λ scripts m here.
+    let laptop = c.args.self.now in
+    c.view.ensures.view ∙ ap view c.client.ensures.state
+    ∙ view_is (state_in laptop) (live_in laptop) m.first m.node.durable here.state
+    (own_in g.D.Disk.reads g.D.Disk.may_leave scripts laptop m here)

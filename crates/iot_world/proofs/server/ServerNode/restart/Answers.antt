@@ -1,6 +1,8 @@
-use Rattle.std.proofs.Common.{refl, sym, ◌∙◌}
+use Rattle.std.proofs.Common.{refl, sym, ap, ◌∙◌}
 use Rattle.std.proofs.lemmas.Result.{err_from_is_err_and}
-use Rattle.iot_world.proofs.ServersLaws.{restart_up, restart_down, untouched, has_disk}
+use Rattle.iot_world.specs.Servers.{disk_of}
+use Rattle.iot_world.proofs.DiskLaws.{untouched}
+use Rattle.iot_world.proofs.ServersLaws.{restart_up, restart_down, has_disk}
 use Rattle.iot_world.proofs.server.ServerNode.restart.Goals as goal
 
 pub returns-in_ok-say-in-Up-clause-step : goal.returns-in_ok-say-in-Up-clause-step
@@ -15,14 +17,14 @@ returns-in_ok-come_back-in-Down-clause-step g c =
 
 pub returns-in_ok-say-in-Up-clause-disk : goal.returns-in_ok-say-in-Up-clause-disk
 returns-in_ok-say-in-Up-clause-disk g c =
-    untouched _ _ c.args.self.now c.settle.new.self _ (λ n. refl)
+    untouched _ _ (disk_of c.args.self.now) (disk_of c.settle.new.self) _ (λ n. refl)
     (has_disk g.D.Disk.reads g.D.Disk.may_leave c.args.self.now _ _ c.requires.stands.keeps)
-    (c.settle.ensures ∙ sym c.in-Up.is ∙ c.replace.ensures.value)
+    (ap disk_of (c.settle.ensures ∙ sym c.in-Up.is ∙ c.replace.ensures.value))
 
 pub returns-in_err-say-in-Up-clause-disk : goal.returns-in_err-say-in-Up-clause-disk
 returns-in_err-say-in-Up-clause-disk g c =
     let p = err_from_is_err_and c.from_residual.result c.from_residual.ensures.1 in
     rw (p.1, p.2)
-    (untouched _ _ c.args.self.now c.settle.new.self _ (λ n. refl)
+    (untouched _ _ (disk_of c.args.self.now) (disk_of c.settle.new.self) _ (λ n. refl)
     (has_disk g.D.Disk.reads g.D.Disk.may_leave c.args.self.now _ _ c.requires.stands.keeps)
-    (c.settle.ensures ∙ sym c.in-Up.is ∙ c.replace.ensures.value))
+    (ap disk_of (c.settle.ensures ∙ sym c.in-Up.is ∙ c.replace.ensures.value)))

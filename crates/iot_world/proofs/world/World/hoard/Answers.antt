@@ -39,5 +39,4 @@ pub returns-in_err-copy-clause-disks : goal.returns-in_err-copy-clause-disks
 returns-in_err-copy-clause-disks g c =
     let p = err_from_is_err_and c.from_residual.result c.from_residual.ensures.1 in
     rw (p.1, p.2)
-    (untouched_disks _ _ g.D.Disk.reads g.D.Disk.may_leave c.args.self.now c.args.self.now c.requires.ready.machine.server _ (λ n. refl)
-    c.requires.ready.stands.server refl refl)
+    (untouched_disks g.D.Disk.arms g.D.Disk.faults c.args.self.now c.args.self.now _ (λ n. refl) refl refl refl)

@@ -1,25 +1,27 @@
 use Rattle.std.proofs.Common.{[], slice_index_or, refl, sym, ap, subst, ◌∙◌, arith}
 use Rattle.iot_tree.specs.declared.want.Want.TheVariants.{Below}
-use Rattle.iot_client.specs.Ties.{state_of, place_of}
+use Rattle.iot_world.specs.Nodes.{state_in}
 use Rattle.iot_machine.specs.Clients.{new_client}
 use Rattle.iot_world.specs.Laptops.{IsHeadPlan}
 use Rattle.iot_world.specs.Messages.{BringsTree, SpellsTree}
-use Rattle.iot_world.specs.declared.laptop.Laptop.{Laptop}
 use Rattle.iot_world.proofs.BringingLaws.{same_clients, there_too, someone}
 use Rattle.iot_world.proofs.QueuesLaws.{first_of, there_is}
 use Rattle.iot_world.proofs.ReadyLaws.{found, found_some}
 use Rattle.iot_world.proofs.ResolvingLaws.{some_whole, below_asked, conflict_asked, ready_whole, whole_brings, is_whole}
 use Rattle.iot_world.proofs.ResolvingLaws.{syncs_resolved, resolves_away}
+use Rattle.std.proofs.lemmas.Result.{err_from_is_err_and}
+use Rattle.iot_world.specs.Disks.{NoneRose}
+use Rattle.iot_world.proofs.DisksLaws.{then_done_disks}
 use Rattle.iot_world.proofs.world.World.resolve.Goals as goal
 
 pub exchange-requires-clause-request : goal.exchange-requires-clause-request
 exchange-requires-clause-request g c =
     let one = someone g.D.Disk.reads g.D.Disk.may_leave c.args.client c.args.self.now c.requires.ready in
-    some_whole one.0 (state_of one.0.client).items c.args.message.now (c.requires.asks one.0 one.1)
+    some_whole one.0 (state_in one.0).items c.args.message.now (c.requires.asks one.0 one.1.get)
 
 pub plan-plan-requires-clause-stands : goal.plan-plan-requires-clause-stands
 plan-plan-requires-clause-stands g c =
-    let now : Laptop = c.index.result.now in
+    let now = c.index.result.now in
     let value = c.index.ensures ∙ ap (λ ls. slice_index_or ls c.args.client now)
     (same_clients g.D.Disk.reads g.D.Disk.may_leave c.args.client c.args.self.now c.exchange.new.self c.args.out.now c.exchange.new.out
     c.in_ok-reply.field-0 c.in-Some.reply c.in-Some.is c.in_ok-reply.ensures.clients) in
@@ -27,30 +29,30 @@ plan-plan-requires-clause-stands g c =
 
 pub plan-plan-requires-clause-conflict : goal.plan-plan-requires-clause-conflict
 plan-plan-requires-clause-conflict g c =
-    let now : Laptop = c.index.result.now in
+    let now = c.index.result.now in
     let value = c.index.ensures ∙ ap (λ ls. slice_index_or ls c.args.client now)
     (same_clients g.D.Disk.reads g.D.Disk.may_leave c.args.client c.args.self.now c.exchange.new.self c.args.out.now c.exchange.new.out
     c.in_ok-reply.field-0 c.in-Some.reply c.in-Some.is c.in_ok-reply.ensures.clients) in
     let before = found _ _ c.args.client c.args.self.now now c.requires.ready value in
-    conflict_asked now (state_of now.client).items c.args.message.now (c.requires.asks now before)
+    conflict_asked now (state_in now).items c.args.message.now (c.requires.asks now before.get)
 
 pub carry_out-requires-clause-ready : goal.carry_out-requires-clause-ready
 carry_out-requires-clause-ready g c =
-    let now : Laptop = c.index.result.now in
+    let now = c.index.result.now in
     let value = c.index.ensures ∙ ap (λ ls. slice_index_or ls c.args.client now)
     (same_clients g.D.Disk.reads g.D.Disk.may_leave c.args.client c.args.self.now c.exchange.new.self c.args.out.now c.exchange.new.out
     c.in_ok-reply.field-0 c.in-Some.reply c.in-Some.is c.in_ok-reply.ensures.clients) in
     let before = found _ _ c.args.client c.args.self.now now c.requires.ready value in
-    let asks = c.requires.asks now before in
+    let asks = c.requires.asks now before.get in
     ready_whole g.D.Disk.reads g.D.Disk.may_leave c.args.client c.args.self.now c.exchange.new.self c.args.out.now c.exchange.new.out
     c.in_ok-reply.field-0
-    (c.in_ok-reply.ensures.lends (place_of now.client) new_client.held (Below [])
-    (below_asked now (state_of now.client).items c.args.message.now asks)) c.in-Some.reply c.in-Some.is c.requires.ready
+    (c.in_ok-reply.ensures.lends (now.place) new_client.held (Below [])
+    (below_asked now (state_in now).items c.args.message.now asks)) c.in-Some.reply c.in-Some.is c.requires.ready
     c.in_ok-reply.ensures.counts
 
 pub carry_out-requires-clause-planned : goal.carry_out-requires-clause-planned
 carry_out-requires-clause-planned g c =
-    let now : Laptop = c.index.result.now in
+    let now = c.index.result.now in
     let keeps = c.in_ok-reply.ensures.clients in
     let value = c.index.ensures ∙ ap (λ ls. slice_index_or ls c.args.client now)
     (same_clients g.D.Disk.reads g.D.Disk.may_leave c.args.client c.args.self.now c.exchange.new.self c.args.out.now c.exchange.new.out
@@ -58,53 +60,53 @@ carry_out-requires-clause-planned g c =
     let before = found _ _ c.args.client c.args.self.now now c.requires.ready value in
     let there = there_too g.D.Disk.reads g.D.Disk.may_leave c.args.client c.args.self.now c.exchange.new.self c.args.out.now
     c.exchange.new.out c.in_ok-reply.field-0 c.in-Some.reply now c.in-Some.is keeps before in
-    there_is (λ laptop. IsHeadPlan (state_of laptop.client).items c.plan-plan.result) c.exchange.new.self c.args.client now there
+    there_is (λ laptop. IsHeadPlan (state_in laptop).items c.plan-plan.result) c.exchange.new.self c.args.client now there
     c.plan-plan.ensures
 
 pub carry_out-requires-clause-brings : goal.carry_out-requires-clause-brings
 carry_out-requires-clause-brings g c =
-    let now : Laptop = c.index.result.now in
+    let now = c.index.result.now in
     let value = c.index.ensures ∙ ap (λ ls. slice_index_or ls c.args.client now)
     (same_clients g.D.Disk.reads g.D.Disk.may_leave c.args.client c.args.self.now c.exchange.new.self c.args.out.now c.exchange.new.out
     c.in_ok-reply.field-0 c.in-Some.reply c.in-Some.is c.in_ok-reply.ensures.clients) in
     let before = found _ _ c.args.client c.args.self.now now c.requires.ready value in
-    let asks = c.requires.asks now before in
+    let asks = c.requires.asks now before.get in
     subst BringsTree (sym c.deref.ensures.value)
     (whole_brings g.D.Disk.reads g.D.Disk.may_leave c.args.client c.args.self.now c.exchange.new.self c.args.out.now c.exchange.new.out
     c.in_ok-reply.field-0
-    (c.in_ok-reply.ensures.lends (place_of now.client) new_client.held (Below [])
-    (below_asked now (state_of now.client).items c.args.message.now asks)) c.in-Some.reply c.in-Some.is)
+    (c.in_ok-reply.ensures.lends (now.place) new_client.held (Below [])
+    (below_asked now (state_in now).items c.args.message.now asks)) c.in-Some.reply c.in-Some.is)
 
 pub carry_out-requires-clause-whole : goal.carry_out-requires-clause-whole
 carry_out-requires-clause-whole g c =
-    let now : Laptop = c.index.result.now in
+    let now = c.index.result.now in
     let value = c.index.ensures ∙ ap (λ ls. slice_index_or ls c.args.client now)
     (same_clients g.D.Disk.reads g.D.Disk.may_leave c.args.client c.args.self.now c.exchange.new.self c.args.out.now c.exchange.new.out
     c.in_ok-reply.field-0 c.in-Some.reply c.in-Some.is c.in_ok-reply.ensures.clients) in
     let before = found _ _ c.args.client c.args.self.now now c.requires.ready value in
-    let asks = c.requires.asks now before in
+    let asks = c.requires.asks now before.get in
     λ t spells.
     is_whole g.D.Disk.reads g.D.Disk.may_leave c.args.client c.args.self.now c.exchange.new.self c.args.out.now c.exchange.new.out
     c.in_ok-reply.field-0
-    (c.in_ok-reply.ensures.lends (place_of now.client) new_client.held (Below [])
-    (below_asked now (state_of now.client).items c.args.message.now asks)) c.in-Some.reply c.in-Some.is
+    (c.in_ok-reply.ensures.lends (now.place) new_client.held (Below [])
+    (below_asked now (state_in now).items c.args.message.now asks)) c.in-Some.reply c.in-Some.is
     (omega arith) t (subst (λ bytes. SpellsTree bytes t) c.deref.ensures.value spells)
 
 pub returns-in_ok-say_resolve-in-Some-clause-step : goal.returns-in_ok-say_resolve-in-Some-clause-step
 returns-in_ok-say_resolve-in-Some-clause-step g c =
-    let now : Laptop = c.index.result.now in
+    let now = c.index.result.now in
     let keeps = c.in_ok-reply.ensures.clients in
     let same = same_clients g.D.Disk.reads g.D.Disk.may_leave c.args.client c.args.self.now c.exchange.new.self c.args.out.now
     c.exchange.new.out c.in_ok-reply.field-0 c.in-Some.reply c.in-Some.is keeps in
     let value = c.index.ensures ∙ ap (λ ls. slice_index_or ls c.args.client now) same in
     let before = found _ _ c.args.client c.args.self.now now c.requires.ready value in
-    let asks = c.requires.asks now before in
-    let first = first_of now c.args.transaction.now _ refl (c.requires.head now before) in
+    let asks = c.requires.asks now before.get in
+    let first = first_of now c.args.transaction.now _ refl (c.requires.head now before.get) in
     syncs_resolved g.D.Disk.reads g.D.Disk.may_leave c.args.client c.args.self.now now c.args.out.now before c.args.transaction.now first
-    c.requires.ready (conflict_asked now (state_of now.client).items c.args.message.now asks) c.exchange.new.self c.exchange.new.out
+    c.requires.ready (conflict_asked now (state_in now).items c.args.message.now asks) c.exchange.new.self c.exchange.new.out
     c.in_ok-reply.field-0
-    (c.in_ok-reply.ensures.lends (place_of now.client) new_client.held (Below [])
-    (below_asked now (state_of now.client).items c.args.message.now asks)) c.in-Some.reply c.in-Some.is c.plan-plan.result
+    (c.in_ok-reply.ensures.lends (now.place) new_client.held (Below [])
+    (below_asked now (state_in now).items c.args.message.now asks)) c.in-Some.reply c.in-Some.is c.plan-plan.result
     c.carry_out.new.self c.say_resolve.new.out c.plan-plan.ensures same c.in_ok-reply.ensures.counts
     (λ t spells. c.in_ok-carry_out-in-Some.ensures.step t (subst (λ bytes. SpellsTree bytes t) (sym c.deref.ensures.value) spells))
     c.in_ok-say_resolve-in-Some.ensures
@@ -112,10 +114,29 @@ returns-in_ok-say_resolve-in-Some-clause-step g c =
 pub returns-in_ok-say-in-None-clause-step : goal.returns-in_ok-say-in-None-clause-step
 returns-in_ok-say-in-None-clause-step g c =
     let one = someone g.D.Disk.reads g.D.Disk.may_leave c.args.client c.args.self.now c.requires.ready in
-    let asks = c.requires.asks one.0 one.1 in
-    let first = first_of one.0 c.args.transaction.now _ refl (c.requires.head one.0 one.1) in
+    let asks = c.requires.asks one.0 one.1.get in
+    let first = first_of one.0 c.args.transaction.now _ refl (c.requires.head one.0 one.1.get) in
     resolves_away g.D.Disk.reads g.D.Disk.may_leave c.args.client c.args.self.now one.0 c.args.out.now one.1 c.args.transaction.now first
-    c.requires.ready (conflict_asked one.0 (state_of one.0.client).items c.args.message.now asks) c.exchange.new.self c.exchange.new.out
+    c.requires.ready (conflict_asked one.0 (state_in one.0).items c.args.message.now asks) c.exchange.new.self c.exchange.new.out
     c.in_ok-reply.field-0
-    (c.in_ok-reply.ensures.lends (place_of one.0.client) new_client.held (Below [])
-    (below_asked one.0 (state_of one.0.client).items c.args.message.now asks)) c.say.new.out c.in-None.is c.in_ok-say-in-None.ensures
+    (c.in_ok-reply.ensures.lends (one.0.place) new_client.held (Below [])
+    (below_asked one.0 (state_in one.0).items c.args.message.now asks)) c.say.new.out c.in-None.is c.in_ok-say-in-None.ensures
+
+pub returns-in_err-carry_out-in-Some-clause-disks : goal.returns-in_err-carry_out-in-Some-clause-disks
+returns-in_err-carry_out-in-Some-clause-disks g c =
+    let p = err_from_is_err_and c.from_residual-in_err-carry_out-in-Some.result c.from_residual-in_err-carry_out-in-Some.ensures.1 in
+    rw (p.1, p.2)
+    (then_done_disks g.D.Disk.arms g.D.Disk.faults c.args.self.now c.exchange.new.self c.carry_out.new.self _
+    c.in_ok-reply.ensures.disks c.in_err-carry_out-in-Some.ensures.disks)
+
+pub returns-in_err-say_resolve-in-Some-clause-disks : goal.returns-in_err-say_resolve-in-Some-clause-disks
+returns-in_err-say_resolve-in-Some-clause-disks g c =
+    let p = err_from_is_err_and c.from_residual-in_err-say_resolve-in-Some.result c.from_residual-in_err-say_resolve-in-Some.ensures.1 in
+    rw (p.1, p.2)
+    (then_done_disks g.D.Disk.arms g.D.Disk.faults c.args.self.now c.exchange.new.self c.carry_out.new.self NoneRose
+    c.in_ok-reply.ensures.disks c.in_ok-carry_out-in-Some.ensures.disks)
+
+pub returns-in_ok-say_resolve-in-Some-clause-disks : goal.returns-in_ok-say_resolve-in-Some-clause-disks
+returns-in_ok-say_resolve-in-Some-clause-disks g c =
+    then_done_disks g.D.Disk.arms g.D.Disk.faults c.args.self.now c.exchange.new.self c.carry_out.new.self NoneRose
+    c.in_ok-reply.ensures.disks c.in_ok-carry_out-in-Some.ensures.disks

@@ -1,9 +1,9 @@
 use Rattle.std.proofs.Common.{false}
 use Rattle.std.proofs.lemmas.Result.{err_from_is_err_and}
-use Rattle.iot_count.specs.Counts.{IsSteady}
 use Rattle.iot_machine.specs.Calls.{Then}
 use Rattle.iot_machine.specs.Events.{run_steps, chosen}
 use Rattle.iot_machine.specs.Transactions.{Begins, Ends, StepsAll}
+use Rattle.iot_world.specs.Disks.{NoneRose}
 use Rattle.iot_world.specs.World.{stepped_of}
 use Rattle.iot_world.proofs.DisksLaws.{then_done_disks}
 use Rattle.iot_world.proofs.EventsLaws.{run_on, stays}
@@ -40,14 +40,22 @@ pub returns-in_err-end-clause-disks : goal.returns-in_err-end-clause-disks
 returns-in_err-end-clause-disks g c =
     let p = err_from_is_err_and c.from_residual-in_err-end.result c.from_residual-in_err-end.ensures.1 in
     rw (p.1, p.2)
-    (then_done_disks _ _ c.args.self.now c.steps.new.self c.end.new.self _
-    (then_done_disks _ _ c.args.self.now c.begin.new.self c.steps.new.self IsSteady c.in_ok-begin.ensures.disks
+    (then_done_disks g.D.Disk.arms g.D.Disk.faults c.args.self.now c.steps.new.self c.end.new.self _
+    (then_done_disks g.D.Disk.arms g.D.Disk.faults c.args.self.now c.begin.new.self c.steps.new.self NoneRose c.in_ok-begin.ensures.disks
     c.in_ok-_stepped.ensures.disks)
     c.in_err-end.ensures.disks)
 
 pub returns-clause-disks : goal.returns-clause-disks
 returns-clause-disks g c =
-    then_done_disks _ _ c.args.self.now c.steps.new.self c.end.new.self IsSteady
-    (then_done_disks _ _ c.args.self.now c.begin.new.self c.steps.new.self IsSteady c.in_ok-begin.ensures.disks
+    then_done_disks g.D.Disk.arms g.D.Disk.faults c.args.self.now c.steps.new.self c.end.new.self NoneRose
+    (then_done_disks g.D.Disk.arms g.D.Disk.faults c.args.self.now c.begin.new.self c.steps.new.self NoneRose c.in_ok-begin.ensures.disks
     c.in_ok-_stepped.ensures.disks)
     c.in_ok-end.ensures.disks
+
+pub steps-requires : goal.steps-requires
+steps-requires g c =
+    record {
+      ready = ready_after g.D.Disk.reads g.D.Disk.may_leave c.args.client c.args.self.now c.begin.new.self c.args.out.now c.begin.new.out
+          c.in_ok-begin.field-0 c.requires.ready
+          c.in_ok-begin.ensures.step c.in_ok-begin.ensures.counts;
+    }

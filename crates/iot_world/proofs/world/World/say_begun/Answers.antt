@@ -1,18 +1,18 @@
 use Rattle.std.proofs.Common.{◌++◌, refl, sym, ap, is_some, ◌∙◌}
 use Rattle.std.specs.Option.{option_copied}
-use Rattle.iot_client.specs.Memory.{transaction_of, class_of}
+use Rattle.iot_kept.specs.Memory.{transaction_of, class_of}
 use Rattle.iot_machine.specs.Texts.{begin_line, transaction_name}
 use Rattle.iot_world.specs.declared.texts.Transaction.{Transaction}
 use Rattle.iot_world.specs.World.{scripts_of}
 use Rattle.iot_world.proofs.EventsLaws.{says_begun, no_begin}
-use Rattle.iot_world.proofs.ReadyLaws.{found, found_stands}
+use Rattle.iot_world.proofs.ReadyLaws.{found, found_some}
 use Rattle.iot_world.proofs.StepsLaws.{none_runs}
 use Rattle.iot_world.proofs.world.World.say_begun.Goals as goal
 
 pub running-requires : goal.running-requires
 running-requires g c =
-    (found_stands g.D.Disk.reads g.D.Disk.may_leave c.args.client c.args.self.now c.index-laptop.result.now c.requires.ready
-    c.index-laptop.ensures).tied
+    found_some g.D.Disk.reads g.D.Disk.may_leave c.args.client c.args.self.now c.index-laptop.result.now c.requires.ready
+    c.index-laptop.ensures
 
 pub returns-in_ok-say_begin-in-Some : goal.returns-in_ok-say_begin-in-Some
 returns-in_ok-say_begin-in-Some g c =

@@ -1,24 +1,24 @@
 use Rattle.std.proofs.Common.{ℕ, Bool, ◌++◌, refl, sym, ap, is_some, length, ◌∙◌}
 use Rattle.std.specs.Option.{option_copied}
-use Rattle.iot_client.specs.Memory.{transaction_of}
+use Rattle.iot_kept.specs.Memory.{transaction_of}
 use Rattle.iot_machine.specs.Texts.{step_line, transaction_name}
 use Rattle.iot_world.specs.Saying.{place_said}
 use Rattle.iot_world.specs.declared.texts.Transaction.{Transaction}
 use Rattle.iot_world.specs.World.{scripts_of}
 use Rattle.iot_world.proofs.EventsLaws.{says_stepped, no_step}
-use Rattle.iot_world.proofs.ReadyLaws.{found, found_stands}
+use Rattle.iot_world.proofs.ReadyLaws.{found, found_some}
 use Rattle.iot_world.proofs.StepsLaws.{none_runs}
 use Rattle.iot_world.proofs.world.World.say_stepped.Goals as goal
 
 pub running-requires : goal.running-requires
 running-requires g c =
-    (found_stands g.D.Disk.reads g.D.Disk.may_leave c.args.client c.args.self.now c.index-laptop.result.now c.requires.ready
-    c.index-laptop.ensures).tied
+    found_some g.D.Disk.reads g.D.Disk.may_leave c.args.client c.args.self.now c.index-laptop.result.now c.requires.ready
+    c.index-laptop.ensures
 
 pub at_end-requires : goal.at_end-requires
 at_end-requires g c =
-    (found_stands g.D.Disk.reads g.D.Disk.may_leave c.args.client c.args.self.now c.index-laptop.result.now c.requires.ready
-    c.index-laptop.ensures).tied
+    found_some g.D.Disk.reads g.D.Disk.may_leave c.args.client c.args.self.now c.index-laptop.result.now c.requires.ready
+    c.index-laptop.ensures
 
 pub returns-in_ok-say_step-in-Some : goal.returns-in_ok-say_step-in-Some
 returns-in_ok-say_step-in-Some g c =

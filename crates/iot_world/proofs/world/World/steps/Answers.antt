@@ -1,5 +1,5 @@
 use Rattle.std.proofs.Common.{refl, sym, ◌∙◌}
-use Rattle.iot_count.specs.Counts.{IsSteady}
+use Rattle.iot_world.specs.Disks.{NoneRose}
 use Rattle.iot_world.specs.World.{stepped_of}
 use Rattle.iot_world.proofs.DisksLaws.{untouched_disks, then_done_disks}
 use Rattle.iot_world.proofs.TransactionsLaws.{steps_start, steps_on, steps_out, steps_end}
@@ -8,8 +8,7 @@ use Rattle.iot_world.proofs.world.World.steps.Goals as goal
 pub steps-init : goal.steps-init
 steps-init g c = (
   steps_start g.D.Disk.reads g.D.Disk.may_leave c.args.client c.args.loud c.args.most c.args.self.now c.args.out.now c.requires.ready,
-  untouched_disks _ _ g.D.Disk.reads g.D.Disk.may_leave c.args.self.now _ c.requires.ready.machine.server IsSteady (λ n. refl)
-      c.requires.ready.stands.server refl refl,
+  untouched_disks g.D.Disk.arms g.D.Disk.faults c.args.self.now _ _ (λ n. refl) refl refl refl,
 )
 
 pub step-requires : goal.step-requires
@@ -26,7 +25,8 @@ steps-preserved g c = (
   steps_on g.D.Disk.reads g.D.Disk.may_leave c.args.client c.args.loud c.args.most c.args.self.now c.args.out.now c.steps.counter
       c.steps.self c.step.new.self c.steps.out c.step.new.out (stepped_of c.in_ok-stepped.stepped) c.steps-test.true c.steps.invariant.0
       c.in_ok-stepped.ensures.step (sym c.ends.ensures ∙ c.if-ends.false) c.in_ok-stepped.ensures.counts,
-  then_done_disks _ _ c.args.self.now c.steps.self c.step.new.self IsSteady c.steps.invariant.1 c.in_ok-stepped.ensures.disks,
+  then_done_disks g.D.Disk.arms g.D.Disk.faults c.args.self.now c.steps.self c.step.new.self NoneRose c.steps.invariant.1
+      c.in_ok-stepped.ensures.disks,
 )
 
 pub returns-clause-step : goal.returns-clause-step

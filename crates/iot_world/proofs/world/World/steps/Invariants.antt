@@ -1,4 +1,4 @@
-use Rattle.iot_count.specs.Counts.{IsSteady}
+use Rattle.iot_world.specs.Disks.{NoneRose}
 use Rattle.iot_world.specs.World.{SameDisks}
 use Rattle.iot_world.proofs.TransactionsLaws.{AfterSteps}
 use Rattle.iot_world.proofs.world.World.steps.Given as goal
@@ -7,4 +7,4 @@ use Rattle.iot_world.proofs.world.World.steps.Given as goal
 abbrev pub invariant-steps : goal.invariant-steps
 invariant-steps g l =
     AfterSteps g.D.Disk.reads g.D.Disk.may_leave l.client l.loud l.most l.initial.self l.initial.out l.counter l.self l.out
-    × SameDisks g.D.Disk.arms g.D.Disk.faults IsSteady l.initial.self l.self
+    × SameDisks g.D.Disk.arms g.D.Disk.faults NoneRose l.initial.self l.self

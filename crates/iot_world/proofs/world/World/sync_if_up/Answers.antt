@@ -13,8 +13,7 @@ returns-then-not-is_up-clause-step g c =
 
 pub returns-then-not-is_up-clause-disks : goal.returns-then-not-is_up-clause-disks
 returns-then-not-is_up-clause-disks g c =
-    untouched_disks _ _ g.D.Disk.reads g.D.Disk.may_leave c.args.self.now c.args.self.now c.requires.ready.machine.server _ (λ n. refl)
-    c.requires.ready.stands.server refl refl
+    untouched_disks g.D.Disk.arms g.D.Disk.faults c.args.self.now c.args.self.now _ (λ n. refl) refl refl refl
 
 pub returns-clause-step : goal.returns-clause-step
 returns-clause-step g c =
