@@ -36,8 +36,8 @@ module _ (asked : Status) (text : List ℕ) (status : Status) (wrote : List ℕ 
   pub line_source : (reads : Counted) → SourceCounts asked reads → IsSteady reads → Line → SourceCounts status reads
   line_source reads one steady line = by_line (λ (s : Status). SourceCounts s reads) line (λ _. one) (λ _. steady)
 
-  pub line_disk : (disk : Counted) → DiskCounts asked disk → IsSteady disk → Line → DiskCounts status disk
-  line_disk disk one steady line = by_line (λ (s : Status). DiskCounts s disk) line (λ _. one) (λ _. steady)
+  pub line_disk : (before after : List ℕ) → DiskCounts asked before after → after ≡ before → Line → DiskCounts status before after
+  line_disk before after one steady line = by_line (λ (s : Status). DiskCounts s before after) line (λ _. one) (λ _. steady)
 
 module _ (it : Effects) where
   pub usage_ends : (status : Status) (f e : Counted) → 0 < it.words → it.took [] → it.untouched

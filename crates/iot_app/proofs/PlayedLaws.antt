@@ -10,20 +10,20 @@ use Rattle.iot_count.specs.Counts.{Counted, IsSteady}
 use Rattle.iot_event.specs.Declarations.{AreDeclared}
 use Rattle.iot_event.specs.declared.event.Event.{Event}
 use Rattle.iot_event.specs.declared.event.Event.TheVariants as events
-use Rattle.iot_machine.specs.Machine.{Machine, Commit, opening}
+use Rattle.iot_machine.specs.Machine.{Machine, opening}
 use Rattle.iot_machine.specs.Events.{event_part}
 use Rattle.iot_machine.specs.Transcript.{InTurn, Transcript}
 use Rattle.iot_world.specs.Allowed.{IsAllowed}
-use Rattle.iot_world.specs.Faults.{FaultCounts}
-use Rattle.iot_world.specs.Records.{FirstHolds}
-use Rattle.iot_world.specs.World.{IsWorldOf, EventSteps, DeclaredOn, IsOpened, client_count, script_names, disks_of}
+use Rattle.iot_world.specs.Faults.{FaultCountsAll}
+use Rattle.iot_world.specs.World.{StandsFor, IsWorldOf, EventSteps, DeclaredOn, IsOpened, client_count, script_names}
 use Rattle.iot_world.specs.declared.fault.WorldFault.{WorldFault}
 use Rattle.iot_world.specs.declared.fault.WorldFault.TheVariants as world
 use Rattle.iot_world.specs.declared.world.World.{World}
-use Rattle.iot_world.proofs.DisksLaws.{first_holds}
 use Rattle.iot_app.specs.Faults.{ended_by}
 use Rattle.iot_app.specs.Played.{WroteAll, WroteFirst, WroteCut, Played}
 use Rattle.iot_app.specs.Status.{SinkCounts, DiskCounts}
+use Rattle.iot_app.specs.declared.status.Status.{Status}
+use Rattle.iot_app.specs.declared.status.Status.TheVariants as statuses
 
 -- one more event in turn
 InTurn-append : (events : List Event) (event : Event) (m n o : Machine) (text more : List ℕ)
@@ -70,7 +70,9 @@ allowed (events.Discard client) later world declared = declared.0
 allowed events.ShowServer later world declared = tt
 allowed (events.ShowClient client) later world declared = declared.0
 allowed events.CrashServer later world declared = tt
+allowed (events.CrashClient client) later world declared = declared.0
 allowed events.RestartServer later world declared = tt
+allowed (events.RestartClient client) later world declared = declared.0
 
 -- the first so many events are done and what they say is written
 pub record PlaysOn {D : Type 0} (reads : D → List ℕ) (may_leave : D → List ℕ → Type 0) (before after : Option (List ℕ))
@@ -150,7 +152,7 @@ module _ {D : Type 0} (reads : D → List ℕ) (may_leave : D → List ℕ → T
 
   -- it is done, and only a front of what it says is written
   pub plays_cut : (after : Option (List ℕ)) (count : ℕ) → count < length out → Appends mid after (take count out)
-      → WroteCut (Appends before after) (FirstHolds may_leave (disks_of new)) events
+      → WroteCut (Appends before after) (StandsFor reads may_leave new) events
   plays_cut after count cut appends = record {
     earlier = take done events;
     event = event;
@@ -165,7 +167,7 @@ module _ {D : Type 0} (reads : D → List ℕ) (may_leave : D → List ℕ → T
     count = count;
     cut = cut;
     written = Appends-trans before mid after plays.text (take count out) plays.written appends;
-    kept = first_holds reads may_leave new next.machine.server next.stands.stands.server;
+    kept = next.stands.stands;
   }
 
 module _ {D : Type 0} (reads : D → List ℕ) (may_leave : D → List ℕ → Type 0) (before after : Option (List ℕ)) (events : List Event)
@@ -182,13 +184,13 @@ module _ {D : Type 0} (reads : D → List ℕ) (may_leave : D → List ℕ → T
 
   -- all are done
   pub plays_all : (done : ℕ) → length events ≤ done → PlaysOn reads may_leave before after events world done
-      → WroteAll (Appends before after) (FirstHolds may_leave (disks_of world)) events
+      → WroteAll (Appends before after) (StandsFor reads may_leave world) events
   plays_all done whole plays = record {
     text = plays.text;
     machine = plays.machine;
     transcript = subst (λ (es : List Event). Transcript es plays.text plays.machine) (take_all done events whole) plays.transcript;
     written = plays.written;
-    kept = first_holds reads may_leave world plays.machine.server plays.stands.stands.server;
+    kept = plays.stands.stands;
   }
 
   -- the next event may come
@@ -203,7 +205,7 @@ module _ {D : Type 0} (reads : D → List ℕ) (may_leave : D → List ℕ → T
 -- ---- how it ends
 
 -- some events were done, and then the world failed
-pub fault_played : (fault : WorldFault) (events : List Event) (wrote : List ℕ → Type 0) (holds : List Commit → Type 0)
+pub fault_played : (fault : WorldFault) (events : List Event) (wrote : List ℕ → Type 0) (holds : Machine → Type 0)
     → WroteFirst wrote events → Played (ended_by fault) wrote holds events
 fault_played world.NoMemory events wrote holds first = first
 fault_played world.DiskFailed events wrote holds first = first
@@ -218,6 +220,39 @@ pub fault_sink : (fault : WorldFault) (faults empties : Counted) → IsSteady fa
 fault_sink world.NoMemory faults empties one other = (one, other)
 fault_sink world.DiskFailed faults empties one other = (one, other)
 
-pub fault_disk : (fault : WorldFault) (faults : Counted) → FaultCounts fault faults → DiskCounts (ended_by fault) faults
-fault_disk world.NoMemory faults counts = counts
-fault_disk world.DiskFailed faults counts = counts
+pub fault_disk : (fault : WorldFault) (before after : List ℕ) → FaultCountsAll fault before after
+    → DiskCounts (ended_by fault) before after
+fault_disk world.NoMemory before after counts = counts
+fault_disk world.DiskFailed before after counts = counts
+
+-- what the disks hold, in other words
+pub holds_as : (status : Status) (wrote : List ℕ → Type 0) (one other : Machine → Type 0) (events : List Event)
+    → ((m : Machine) → one m → other m) → Played status wrote one events → Played status wrote other events
+holds_as statuses.Done wrote one other events means played = record {
+  text = played.text;
+  machine = played.machine;
+  transcript = played.transcript;
+  written = played.written;
+  kept = means played.machine played.kept;
+}
+holds_as statuses.Refused wrote one other events means played = absurd played
+holds_as statuses.Usage wrote one other events means played = absurd played
+holds_as statuses.ReadFailed wrote one other events means played = absurd played
+holds_as statuses.WriteFailed wrote one other events means played = record {
+  earlier = played.earlier;
+  event = played.event;
+  later = played.later;
+  split = played.split;
+  text = played.text;
+  before = played.before;
+  transcript = played.transcript;
+  says = played.says;
+  machine = played.machine;
+  last = played.last;
+  count = played.count;
+  cut = played.cut;
+  written = played.written;
+  kept = means played.machine played.kept;
+}
+holds_as statuses.NoMemory wrote one other events means played = played
+holds_as statuses.DiskFailed wrote one other events means played = played

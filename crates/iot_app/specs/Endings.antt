@@ -2,7 +2,7 @@
 use Rattle.std.specs.Prelude.{◌≡◌, ◌⊎◌, ℕ, ◌<◌, List, [], length, take}
 use Rattle.iot_event.specs.Events.{Events}
 use Rattle.iot_event.specs.declared.event.Event.{Event}
-use Rattle.iot_machine.specs.Machine.{Commit}
+use Rattle.iot_machine.specs.Machine.{Machine}
 use Rattle.iot_app.specs.Input.{TookInput, TookSome, IsRefused}
 use Rattle.iot_app.specs.Played.{WroteAll, WroteFirst, WroteCut}
 use Rattle.iot_app.specs.Refusals.{usage_line}
@@ -10,13 +10,13 @@ use Rattle.iot_app.specs.declared.status.Status.{Status}
 use Rattle.iot_app.specs.declared.status.Status.TheVariants.{Done, Refused, Usage, ReadFailed, WriteFailed, NoMemory, DiskFailed}
 
 -- What can be seen of a run: how many words the command line had; which bytes were taken from the source, and whether nothing is
--- left there; which bytes were written to the sink; which list the server's disk holds; whether the disks are as they were.
+-- left there; which bytes were written to the sink; which machine the disks hold; whether they are as they were.
 pub record Effects : Type 1 where
   pub words : ℕ
   pub took : List ℕ → Type 0
   pub at_end : Type 0
   pub wrote : List ℕ → Type 0
-  pub holds : List Commit → Type 0
+  pub holds : Machine → Type 0
   pub untouched : Type 0
 
 -- only a front of a text was written

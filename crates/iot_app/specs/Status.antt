@@ -1,6 +1,7 @@
 -- The statuses of a run: their numbers, and which counts of faults rise with them.
-use Rattle.std.specs.Prelude.{◌≡◌, ◌⊎◌, ℕ}
+use Rattle.std.specs.Prelude.{◌≡◌, ◌⊎◌, ℕ, List}
 use Rattle.iot_count.specs.Counts.{Counted, HasRisen, IsSteady}
+use Rattle.iot_world.specs.Disks.{NoneRose, SomeRose}
 use Rattle.iot_app.specs.declared.status.Status.{Status}
 use Rattle.iot_app.specs.declared.status.Status.TheVariants.{Done, Refused, Usage, ReadFailed, WriteFailed, NoMemory, DiskFailed}
 
@@ -29,7 +30,7 @@ abbrev pub SinkCounts : Status → (faults empties : Counted) → Type 0
 SinkCounts WriteFailed faults empties = HasRisen faults ⊎ HasRisen empties
 SinkCounts status faults empties = IsSteady faults × IsSteady empties
 
--- the count of faults of the server's disk rises with this status and with no other
-abbrev pub DiskCounts : Status → Counted → Type 0
-DiskCounts DiskFailed faults = HasRisen faults
-DiskCounts status faults = IsSteady faults
+-- the count of faults of some disk rises with this status, and that of none with another
+abbrev pub DiskCounts : Status → (before after : List ℕ) → Type 0
+DiskCounts DiskFailed before after = SomeRose before after
+DiskCounts status before after = NoneRose before after

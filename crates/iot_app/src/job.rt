@@ -1,9 +1,9 @@
 //! The program as one call.
-ghost use Rattle.std.specs.Prelude.{◌≡◌, ◌<◌, [], false, length, IfOk};
+ghost use Rattle.std.specs.Prelude.{◌≡◌, ◌<◌, [], false, length, map, IfOk};
 ghost use Rattle.std.specs.Io.KnownBytes.{Appends, IsAtEnd};
 ghost use Rattle.iot_io.specs.ReadAll.{Took};
-ghost use Rattle.iot_world.specs.Disks.{AreFresh, OnlyFirst, first_count};
-ghost use Rattle.iot_world.specs.Records.{FirstHolds};
+ghost use Rattle.iot_world.specs.Disks.{AreFresh};
+ghost use Rattle.iot_world.specs.Holding.{DisksHold};
 ghost use Rattle.iot_app.specs.Endings.{Ends};
 ghost use Rattle.iot_app.specs.Job.{LineEnds, RefusalEnds};
 ghost use Rattle.iot_app.specs.Refusals.{fault_line, refusal_line};
@@ -33,7 +33,8 @@ pub struct Outcome<D> {
 
 /// Runs the program: reads the source to its end as an event script, does its events, and writes what they say, each
 /// event's text by one `write_all`. `words` are the words of the command line after the program's name; none is known
-/// yet. Of the nine disks, which are empty and come back, the first is the server's; the others are not used yet.
+/// yet. Of the nine disks, which are empty and come back, the first is the server's, and the client at place i, counted from 0 in order
+/// of declaration, has disk i + 1.
 ///
 /// # Statuses
 ///
@@ -45,11 +46,11 @@ pub struct Outcome<D> {
 /// - 4: a write failed, or took nothing. A front of what there was to say was written. If that is a transcript, the input
 ///   was read to its end, and the event whose text was cut is the last that was done.
 /// - 5: memory ran out. Nothing was written; or the input was read to its end, and what its first events say was written.
-/// - 7: the server's disk failed. The input was read to its end, and what its first events say was written.
+/// - 7: a disk failed, the server's or a client's. The input was read to its end, and what its first events say was written.
 ///
-/// After a whole or a cut transcript the first disk holds the commits of the events that were done, whichever of its
-/// images a crash leaves. If no event was done, with the statuses 1 to 5, the disks are as they were. Of a disk after
-/// some events and status 5 or 7 nothing is said.
+/// After a whole or a cut transcript of the events that were done the first disk holds the commits, and the disk of each
+/// client what it keeps, whichever of its images a crash leaves; the disks that no client has are as they were. If no event was
+/// done, with the statuses 1 to 5, all are as they were. Of the disks after some events and status 5 or 7 nothing is said.
 pub fn run<S: Source, K: Sink, D: Disk>(
     alloc: Global,
     words: &[&str],
@@ -65,7 +66,7 @@ pub fn run<S: Source, K: Sink, D: Disk>(
       took = Took S.left S.taken source.old source.new;
       at_end = IsAtEnd (S.left source.new);
       wrote = Appends (K.written sink.old) (K.written sink.new);
-      holds = FirstHolds D.may_leave result.disks.items;
+      holds = DisksHold D.may_leave disks.items result.disks.items;
       untouched = result.disks.items ≡ disks.items;
     })) }
 
@@ -75,13 +76,11 @@ pub fn run<S: Source, K: Sink, D: Disk>(
     ensures sink_faults { HasStatus result.status (λ status. SinkCounts status
         (record { before = K.faults sink.old; after = K.faults sink.new })
         (record { before = K.empties sink.old; after = K.empties sink.new })) }
-    ensures disk_faults { HasStatus result.status (λ status. DiskCounts status (record {
-      before = first_count D.faults disks.items;
-      after = first_count D.faults result.disks.items;
-    })) }
+    ensures disk_faults { HasStatus result.status (λ status.
+        DiskCounts status (map D.faults disks.items) (map D.faults result.disks.items)) }
 
-    // The disks come back. Only the first may have changed, and it was not armed.
-    ensures disks { OnlyFirst D.arms disks.items result.disks.items }
+    // The disks come back, and none was armed.
+    ensures disks { map D.arms result.disks.items ≡ map D.arms disks.items }
 {
     let (status, disks) = status_of(alloc, words, source, sink, disks);
     Outcome {
@@ -104,18 +103,15 @@ fn status_of<S: Source, K: Sink, D: Disk>(
       took = Took S.left S.taken source.old source.new;
       at_end = IsAtEnd (S.left source.new);
       wrote = Appends (K.written sink.old) (K.written sink.new);
-      holds = FirstHolds D.may_leave result.1.items;
+      holds = DisksHold D.may_leave disks.items result.1.items;
       untouched = result.1.items ≡ disks.items;
     }) result.0 }
     ensures source_faults { SourceCounts result.0 (record { before = S.faults source.old; after = S.faults source.new }) }
     ensures sink_faults { SinkCounts result.0
         (record { before = K.faults sink.old; after = K.faults sink.new })
         (record { before = K.empties sink.old; after = K.empties sink.new }) }
-    ensures disk_faults { DiskCounts result.0 (record {
-      before = first_count D.faults disks.items;
-      after = first_count D.faults result.1.items;
-    }) }
-    ensures disks { OnlyFirst D.arms disks.items result.1.items }
+    ensures disk_faults { DiskCounts result.0 (map D.faults disks.items) (map D.faults result.1.items) }
+    ensures disks { map D.arms result.1.items ≡ map D.arms disks.items }
 {
     if !words.is_empty() {
         return (write_line(sink, USAGE, Status::Usage), disks);

@@ -1,10 +1,10 @@
 //! Doing the events, and writing what they say.
-ghost use Rattle.std.specs.Prelude.{◌≡◌, []};
+ghost use Rattle.std.specs.Prelude.{◌≡◌, [], map};
 ghost use Rattle.std.specs.Io.KnownBytes.{Appends};
 ghost use Rattle.iot_event.specs.Declarations.{AreDeclared};
-ghost use Rattle.iot_world.specs.Disks.{AreFresh, OnlyFirst, first_count};
-ghost use Rattle.iot_world.specs.Records.{FirstHolds};
-ghost use Rattle.iot_world.specs.World.{IsOpened, SameDisks, disks_of};
+ghost use Rattle.iot_world.specs.Disks.{AreFresh};
+ghost use Rattle.iot_world.specs.Holding.{DisksHold};
+ghost use Rattle.iot_world.specs.World.{StandsFor, IsOpened, SameDisks};
 ghost use Rattle.iot_app.specs.Played.{Played};
 ghost use Rattle.iot_app.specs.Status.{SinkCounts, DiskCounts};
 
@@ -27,16 +27,13 @@ pub(crate) fn play<K: Sink, D: Disk>(
     requires fresh { AreFresh D.reads D.may_leave disks.items }
     ensures ends { Played result.0
         (Appends (K.written sink.old) (K.written sink.new))
-        (FirstHolds D.may_leave result.1.items)
+        (DisksHold D.may_leave disks.items result.1.items)
         events.now }
     ensures sink_faults { SinkCounts result.0
         (record { before = K.faults sink.old; after = K.faults sink.new })
         (record { before = K.empties sink.old; after = K.empties sink.new }) }
-    ensures disk_faults { DiskCounts result.0 (record {
-      before = first_count D.faults disks.items;
-      after = first_count D.faults result.1.items;
-    }) }
-    ensures disks { OnlyFirst D.arms disks.items result.1.items }
+    ensures disk_faults { DiskCounts result.0 (map D.faults disks.items) (map D.faults result.1.items) }
+    ensures disks { map D.arms result.1.items ≡ map D.arms disks.items }
 {
     let mut opening = Text::new(alloc);
     match World::new(alloc, disks, &mut opening) {
@@ -59,7 +56,7 @@ fn play_on<K: Sink, D: Disk>(
     requires opened { IsOpened D.reads D.may_leave world.old }
     ensures ends { Played result
         (Appends (K.written sink.old) (K.written sink.new))
-        (FirstHolds D.may_leave (disks_of world.new))
+        (StandsFor D.reads D.may_leave world.new)
         events.now }
     ensures sink_faults { SinkCounts result
         (record { before = K.faults sink.old; after = K.faults sink.new })

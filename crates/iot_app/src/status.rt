@@ -26,7 +26,7 @@ pub(crate) enum Status {
     /// There was no memory.
     NoMemory,
 
-    /// The server's disk failed.
+    /// A disk failed: the server's or a client's.
     DiskFailed,
 }
 

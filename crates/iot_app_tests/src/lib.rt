@@ -4,4 +4,8 @@
 #[cfg(test)]
 mod events;
 #[cfg(test)]
+mod fixtures;
+#[cfg(test)]
+mod images;
+#[cfg(test)]
 mod runs;

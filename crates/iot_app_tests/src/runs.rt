@@ -1,14 +1,8 @@
-//! Runs on sources, sinks and disks that fail, and some on which nothing fails; and what a store finds on the disk after one.
-ghost use Rattle.std.specs.Prelude.{IfOk};
-ghost use Rattle.iot_app.specs.Disks.{AreEmptyDisks};
-
-use iot_app::{Outcome, empty_disks, run};
-use iot_disk::{Disk, MemDisk, Pick};
-use iot_io::{MemSink, MemSource};
-use iot_store::Store;
-use iot_text::{NoMemory, Path};
+//! Runs on sources, sinks and disks that fail, and some on which nothing fails; and what nodes find on their disks after one.
+use crate::fixtures::{Failing, NONE, client_on, lines_in, ran, store_on};
+use iot_disk::Pick;
+use iot_text::Path;
 use iot_tree::Kind;
-use std::alloc::Global;
 use std::test::Fail;
 
 /// A transaction, and a server that crashes and comes back. What it is asked while it is down is lost.
@@ -31,6 +25,15 @@ const RECORDED: &[u8] = b"\xa5IOTJRNL1\xa5\0\0\0\0\0\0\0\xae\x01\
     \x02\0\0\0\0\0\0\0\x01\0\0\0\0\0\0\0\x01d\0\0\0\0\0\0\0\0\
     \0\0\0\0\0\0\0\x01\x02\0\0\0\0\0\0\0\x01\0\0\0\0\0\0\0\x01x\x02\
     \0\0\0\0\0\0\0\0\x01\0\0\0\0\0\0\0\x10cat: /x: no file\0";
+
+/// A client that crashes after three acts of a transaction. What they did is committed when it is back.
+const CUT: &[u8] = b"client laptop\nscript five {\necho 1\necho 2\necho 3\necho 4\necho 5\n}\n\
+    begin laptop five abort\nstep laptop 3\ncrash laptop\nrestart laptop\ndrain laptop\n";
+
+/// What it says.
+const CUT_OFF: &[u8] =
+    b"client laptop\nbegin laptop.1 five first\nstep laptop.1 3 acts\ncrash laptop\nrestart laptop\ncut laptop.1 3 acts\n\
+    commit 1 laptop.1 certified\n|1\n|2\n|3\nsettled laptop.1 1\nrefresh laptop\n";
 
 /// Two clients. One of them lists a directory in which the other then makes a file, and its transaction is aborted.
 const CONFLICT: &[u8] = b"client laptop\nclient desk\n\
@@ -77,64 +80,6 @@ const SETTLED: &[u8] =
     connect laptop\nlose laptop reply\ncommit 1 laptop.1 certified\n|1\naway\n\
     connect laptop\nsettled laptop.1 1\nnothing\ndir /\nfile /n \"1\"\n";
 
-/// Which calls of a run's objects fail: of its source and of its sink the ones with this number, and of its first disk
-/// the one with this number. There is no call 0.
-#[derive(Clone, Copy)]
-struct Failing {
-    read: u64,
-    write: u64,
-    device: u64,
-    pick: Pick,
-}
-
-/// None fails.
-const NONE: Failing = Failing {
-    read: 0,
-    write: 0,
-    device: 0,
-    pick: Pick::New,
-};
-
-/// Nine empty disks, of which the first fails.
-fn armed_disks(alloc: Global, failing: Failing) -> Result<Vec<MemDisk>, NoMemory>
-    ensures { IfOk result (λ disks. AreEmptyDisks disks.items) }
-{
-    let mut disks = empty_disks(alloc)?;
-    disks[0].arm(failing.device, failing.pick);
-    Ok(disks)
-}
-
-/// How a run on this input and these words ends, and what it writes.
-fn ran(
-    alloc: Global,
-    input: &[u8],
-    words: &[&str],
-    failing: Failing,
-) -> Result<(Outcome<MemDisk>, Vec<u8>), NoMemory> {
-    let reads = Vec::from_slice(alloc, &[failing.read])?;
-    let mut source = MemSource::new(Vec::from_slice(alloc, input)?, reads);
-    let writes = Vec::from_slice(alloc, &[failing.write])?;
-    let mut sink = MemSink::new(alloc, 4096, writes, Vec::new(alloc))?;
-    let disks = armed_disks(alloc, failing)?;
-    let ended = run(alloc, words, &mut source, &mut sink, disks);
-    Ok((ended, Vec::from_slice(alloc, sink.written())?))
-}
-
-/// The store that starts from the first of the disks after a restart.
-fn store_on(alloc: Global, disks: Vec<MemDisk>) -> Result<Store<MemDisk>, Fail> {
-    let mut disk = disks.into_iter().next().ok_or("a disk")?;
-    disk.restart();
-    match Store::start(alloc, disk) {
-        Ok(store) => Ok(store),
-        Err(_) => Err(Fail::new("a store")),
-    }
-}
-
-/// How many lines were written.
-fn lines_in(written: &[u8]) -> usize {
-    written.iter().filter(|byte| **byte == b'\n').count()
-}
-
 #[test]
 fn a_run_keeps_its_commit(rt: HostRuntime) -> Result<(), Fail> {
     let alloc = rt.alloc();
@@ -142,13 +87,19 @@ fn a_run_keeps_its_commit(rt: HostRuntime) -> Result<(), Fail> {
     assert_eq!(rt; ended.status, 0);
     assert!(rt; written.starts_with(COMMITTED) && written.ends_with(CRASHED));
     assert_eq!(rt; written.len(), COMMITTED.len() + CRASHED.len());
-    let store = store_on(alloc, ended.disks)?;
+    let mut disks = ended.disks.into_iter();
+    let store = store_on(alloc, disks.next())?;
     assert!(rt; store.number() == 1 && store.labels().len() == 1);
     assert_eq!(rt; store.number_of(0, 1), Some(1));
     assert_eq!(rt; store.number_of(1, 1), None);
     let made = Path::parse(alloc, b"/d")?;
     assert!(rt; store.tree().kind(&made) == Kind::IsDir);
     assert_eq!(rt; store.into_disk().bytes(), RECORDED);
+
+    // It held a tree, began a transaction, fetched, did two acts, ended it, and heard that it is in the list.
+    let client = client_on(alloc, disks.next())?;
+    assert_eq!(rt; client.records(), 7);
+    assert!(rt; client.held().kind(&made) == Kind::IsDir);
     Ok(())
 }
 
@@ -193,7 +144,7 @@ fn a_read_or_a_write_that_fails_ends_the_run(rt: HostRuntime) -> Result<(), Fail
 }
 
 #[test]
-fn a_disk_that_fails_ends_the_run(rt: HostRuntime) -> Result<(), Fail> {
+fn a_disk_of_the_server_that_fails_ends_the_run(rt: HostRuntime) -> Result<(), Fail> {
     let alloc = rt.alloc();
     // A start of an empty disk makes six device calls, a commit four, and the start after a crash one.
     for device in 1..12 {
@@ -212,8 +163,48 @@ fn a_disk_that_fails_ends_the_run(rt: HostRuntime) -> Result<(), Fail> {
             };
             assert_eq!(rt; lines_in(&written), lines, "call {device}");
             let kept = device > 10 || device > 8 && pick != Pick::Old;
-            let store = store_on(alloc, ended.disks)?;
+            let store = store_on(alloc, ended.disks.into_iter().next())?;
             assert_eq!(rt; store.number(), u64::from(kept), "call {device}");
+        }
+    }
+    Ok(())
+}
+
+#[test]
+fn a_client_comes_back_from_its_disk(rt: HostRuntime) -> Result<(), Fail> {
+    let (ended, written) = ran(rt.alloc(), CUT, &[], NONE)?;
+    assert_eq!(rt; ended.status, 0);
+    assert_eq!(rt; written.as_slice(), CUT_OFF);
+    Ok(())
+}
+
+#[test]
+fn a_disk_of_a_client_that_fails_ends_the_run(rt: HostRuntime) -> Result<(), Fail> {
+    let alloc = rt.alloc();
+    // A start of an empty disk makes six device calls, a record four, and the start after a crash one.
+    for (device, lines, before, after) in [
+        (6, 0, 0, 0),
+        (8, 1, 0, 0),
+        (10, 1, 0, 1),
+        (14, 1, 1, 2),
+        (26, 2, 4, 5),
+        (27, 4, 5, 5),
+        (31, 4, 5, 6),
+        (35, 6, 6, 7),
+        (39, 6, 7, 8),
+    ] {
+        for (pick, records) in [(Pick::Old, before), (Pick::New, after)] {
+            let failing = Failing {
+                place: 1,
+                device,
+                pick,
+                ..NONE
+            };
+            let (ended, written) = ran(alloc, CUT, &[], failing)?;
+            assert_eq!(rt; ended.status, 7, "call {device}");
+            assert_eq!(rt; lines_in(&written), lines, "call {device}");
+            let client = client_on(alloc, ended.disks.into_iter().nth(1))?;
+            assert_eq!(rt; client.records(), records, "call {device}");
         }
     }
     Ok(())

@@ -5,7 +5,6 @@ use Rattle.iot_io.specs.ReadAll.{Took}
 use Rattle.iot_event.specs.Events.{Events}
 use Rattle.iot_app.specs.Input.{TookInput}
 use Rattle.iot_app.proofs.EndingsLaws.{took_none, usage_ends, events_end, fault_ends}
-use Rattle.iot_world.proofs.DisksLaws.{same_list}
 use Rattle.iot_app.proofs.job.status_of.Goals as goal
 
 pub returns-then-not-is_empty-clause-ends : goal.returns-then-not-is_empty-clause-ends
@@ -26,9 +25,3 @@ pub returns-in-Err-clause-ends : goal.returns-in-Err-clause-ends
 returns-in-Err-clause-ends g c =
     let none : length c.args.words.now ≡ 0 = grind (arith, nat_tests) in
     fault_ends _ c.in-Err.fault c.refuse.result _ _ none c.in-Err.ensures.none (refl {A = List g.row.D.Denot}) c.refuse.ensures
-
-pub returns-then-not-is_empty-clause-disks : goal.returns-then-not-is_empty-clause-disks
-returns-then-not-is_empty-clause-disks g c = same_list _ g.D.Disk.faults g.D.Disk.reads g.D.Disk.may_leave c.args.disks.items c.requires
-
-pub returns-in-Err-clause-disks : goal.returns-in-Err-clause-disks
-returns-in-Err-clause-disks g c = same_list _ g.D.Disk.faults g.D.Disk.reads g.D.Disk.may_leave c.args.disks.items c.requires

@@ -1,10 +1,13 @@
 use Rattle.std.proofs.Common.{ℕ, List, ◌<◌, length, take, refl, ◌∙◌, subst}
 use Rattle.std.specs.Io.KnownBytes.{Appends}
-use Rattle.iot_count.specs.Counts.{IsSteady}
-use Rattle.iot_machine.specs.Machine.{opening}
+use Rattle.iot_world.specs.Disks.{NoneRose}
+use Rattle.iot_world.specs.Faults.{FaultCountsAll}
 use Rattle.iot_world.specs.World.{EventSteps}
-use Rattle.iot_world.proofs.DisksLaws.{untouched_disks, then_done_disks}
-use Rattle.iot_app.proofs.PlayedLaws.{plays_none, plays_more, plays_cut, appends_none}
+use Rattle.iot_world.proofs.DisksLaws.{untouched_disks, then_done_disks, counted_disks}
+use Rattle.iot_app.specs.Faults.{ended_by}
+use Rattle.iot_app.specs.Status.{DiskCounts}
+use Rattle.iot_app.specs.declared.status.Status.TheVariants as statuses
+use Rattle.iot_app.proofs.PlayedLaws.{plays_none, plays_more, plays_cut, appends_none, fault_disk}
 use Rattle.iot_app.proofs.play.play_on.Goals as goal
 
 pub events-init : goal.events-init
@@ -14,10 +17,20 @@ events-init g c = record {
       (appends_none _);
   faults = refl;
   empties = refl;
-  disks =
-      untouched_disks _ _ g.D.Disk.reads g.D.Disk.may_leave c.args.world.now c.args.world.now opening.server IsSteady (λ n. refl)
-      c.requires.opened.stands.stands.server refl refl;
+  disks = untouched_disks _ _ c.args.world.now c.args.world.now NoneRose (λ n. refl) refl refl refl;
 }
+
+pub returns-in-Err-clause-disks : goal.returns-in-Err-clause-disks
+returns-in-Err-clause-disks g c =
+    rw c.of_fault.ensures
+    (then_done_disks _ _ c.args.world.now c.events.world c.apply.new.self (DiskCounts (ended_by c.in-Err.fault)) c.events.invariant.disks
+    (counted_disks _ _ c.events.world c.apply.new.self (FaultCountsAll c.in-Err.fault) (DiskCounts (ended_by c.in-Err.fault))
+    (fault_disk c.in-Err.fault) c.in-Err.ensures.disks))
+
+pub returns-in-Err-write_all-clause-disks : goal.returns-in-Err-write_all-clause-disks
+returns-in-Err-write_all-clause-disks g c =
+    counted_disks _ _ c.args.world.now c.apply.new.self NoneRose (DiskCounts statuses.WriteFailed) (λ before after same. same)
+    (then_done_disks _ _ c.args.world.now c.events.world c.apply.new.self NoneRose c.events.invariant.disks c.in-Ok.ensures.disks)
 
 pub returns-in-Err-write_all-clause-ends : goal.returns-in-Err-write_all-clause-ends
 returns-in-Err-write_all-clause-ends g c =
@@ -49,5 +62,5 @@ events-preserved g c = record {
       c.in-Ok-write_all.ensures.ok);
   faults = c.in-Ok-write_all.ensures.steady ∙ c.events.invariant.faults;
   empties = c.in-Ok-write_all.ensures.none_empty ∙ c.events.invariant.empties;
-  disks = then_done_disks _ _ c.args.world.now c.events.world c.apply.new.self IsSteady c.events.invariant.disks c.in-Ok.ensures.disks;
+  disks = then_done_disks _ _ c.args.world.now c.events.world c.apply.new.self NoneRose c.events.invariant.disks c.in-Ok.ensures.disks;
 }

@@ -1,5 +1,5 @@
 use Rattle.std.proofs.Common.{◌≡◌}
-use Rattle.iot_count.specs.Counts.{IsSteady}
+use Rattle.iot_world.specs.Disks.{NoneRose}
 use Rattle.iot_world.specs.World.{SameDisks}
 use Rattle.iot_app.proofs.PlayedLaws.{PlaysOn}
 use Rattle.iot_app.proofs.play.play_on.Given as goal
@@ -10,5 +10,5 @@ invariant-events g l = record {
       l.event-index;
   faults : g.K.Sink.faults l.sink ≡ g.K.Sink.faults l.initial.sink;
   empties : g.K.Sink.empties l.sink ≡ g.K.Sink.empties l.initial.sink;
-  disks : SameDisks g.D.Disk.arms g.D.Disk.faults IsSteady l.initial.world l.world;
+  disks : SameDisks g.D.Disk.arms g.D.Disk.faults NoneRose l.initial.world l.world;
 }
