@@ -1,0 +1,424 @@
+-- The job: words that spell one use name its job.
+use Rattle.std.proofs.Common.{◌≡◌, ◌∙◌, ◌==◌, ◌+◌, suc, ℕ, Bool, true, false, refl, sym, ap, subst, List, [], ◌∷◌, ◌++◌, map, Option}
+use Rattle.std.proofs.Common.{Some, None, codes, arith, drop, length, is_some}
+use Rattle.std.specs.Prelude.{if◌then◌else◌, nat_eq, nat_le, ◌&&◌, ◌||◌, option_map, ⊤}
+use Rattle.std.specs.List.{starts_with}
+use Rattle.std.specs.Str.{bytes_eq, chars}
+use Rattle.std.specs.Prelude.{slice_get}
+use Rattle.std.proofs.lemmas.Bool.{false_from_ne_true}
+use Rattle.std.proofs.lemmas.Bool.Decides.{Decides-eqb, nat_tests}
+use Rattle.std.proofs.lemmas.Slice.Eq.{bytes_eq-Decides, starts_is}
+use Rattle.clap.specs.Lexer.{long_of, long_of_rest, name_and_value, short_of}
+use Rattle.clap.specs.Walk.{Text, has_row}
+use Rattle.iot_words.specs.Jobs.{chosen, generate_of, job_of, named, without_end}
+use Rattle.iot_words.specs.declared.jobs.Job.{Job}
+use Rattle.iot_words.specs.declared.jobs.Job.TheVariants.{Transcript, Json, Generate, Save}
+use Rattle.iot_words.proofs.Uses.{Kind, Use, Wait, add, bind, by_kind, ends, gen, given, is_last, json, kind, name_kind, names, nothing}
+use Rattle.iot_words.proofs.Uses.{plain, row, save, short_kind}
+use Rattle.iot_words.proofs.Uses.{settle, spelled, unknown, wanting, wants}
+use Rattle.iot_words.proofs.WalksLaws.{Apart}
+use Rattle.iot_words.proofs.MatchesLaws.{gen_in, has}
+
+-- ---- what a kind says of a word
+
+-- what stands before a first `=`, and after it, makes the text
+abbrev tail : Option Text → Text
+tail None = []
+tail (Some v) = 61 ∷ v
+
+one-add : (n : ℕ) → 1 + n ≡ suc n
+one-add n = omega arith
+
+suc-add-one : (n : ℕ) → suc n + 1 ≡ suc (n + 1)
+suc-add-one n = omega arith
+
+joined : (t : Text) → t ≡ (name_and_value t).0 ++ tail (name_and_value t).1
+joined [] = refl
+joined (x ∷ xs) = go (x == 61) refl (ap (λ (t : Text). x ∷ t) (joined xs))
+  where
+    go : (b : Bool) → (x == 61) ≡ b → x ∷ xs ≡ x ∷ ((name_and_value xs).0 ++ tail (name_and_value xs).1)
+        → x ∷ xs ≡ (name_and_value (x ∷ xs)).0 ++ tail (name_and_value (x ∷ xs)).1
+    go true e more = let is : x ≡ 61 = grind (arith, nat_tests) in rw e (ap (λ (n : ℕ). n ∷ xs) is)
+    go false e more = rw (e, one-add, suc-add-one) more
+
+-- the word begins with a hyphen
+abbrev pub Hyphen : Text → Type 0
+Hyphen word = (rest : Text) × (word ≡ 45 ∷ rest)
+
+same : (a b : Text) → bytes_eq a b ≡ true → a ≡ b
+same a b e = (bytes_eq-Decides a b).0 e
+
+of_rest : (t : Text) (p : Text × Option Text) → long_of_rest t ≡ Some p → p ≡ name_and_value t
+of_rest [] p e = absurd cc
+of_rest (x ∷ t) p e = cc
+
+long_word : (word : Text) (p : Text × Option Text) → long_of word ≡ Some p
+    → (t : Text) × (word ≡ 45 ∷ 45 ∷ t) × (p ≡ name_and_value t)
+long_word [] p e = absurd cc
+long_word (x ∷ []) p e = go (x == 45) refl
+  where
+    go : (b : Bool) → (x == 45) ≡ b → (t : Text) × (x ∷ [] ≡ 45 ∷ 45 ∷ t) × (p ≡ name_and_value t)
+    go true h = absurd (let never : None ≡ Some p = rw h at e in cc)
+    go false h = absurd (let never : None ≡ Some p = rw h at e in cc)
+long_word (x ∷ y ∷ t) p e = go (x == 45) refl (y == 45) refl
+  where
+    go : (b : Bool) → (x == 45) ≡ b → (c : Bool) → (y == 45) ≡ c → (t' : Text) × (x ∷ y ∷ t ≡ 45 ∷ 45 ∷ t') × (p ≡ name_and_value t')
+    go false h c k = absurd (let never : None ≡ Some p = rw h at e in cc)
+    go true h false k = absurd (let never : None ≡ Some p = rw (h, k) at e in cc)
+    go true h true k =
+        let first : x ≡ 45 = grind (arith, nat_tests) in
+        let second : y ≡ 45 = grind (arith, nat_tests) in
+        let rest : long_of_rest t ≡ Some p = rw (h, k) at e in
+        (t, ap (λ (n : ℕ). n ∷ y ∷ t) first ∙ ap (λ (n : ℕ). 45 ∷ n ∷ t) second, of_rest t p rest)
+
+short_word : (word flags : Text) → short_of word ≡ Some flags → Hyphen word
+short_word [] flags e = absurd cc
+short_word (x ∷ t) flags e = go (x == 45) refl
+  where
+    go : (b : Bool) → (x == 45) ≡ b → Hyphen (x ∷ t)
+    go false h = absurd (let never : None ≡ Some flags = rw h at e in cc)
+    go true h = let first : x ≡ 45 = grind (arith, nat_tests) in (t, ap (λ (n : ℕ). n ∷ t) first)
+
+abbrev WordIs : Text → Kind → Type 0
+WordIs word ends = word ≡ codes "--"
+WordIs word (names json) = word ≡ codes "--json"
+WordIs word (names save) = word ≡ codes "--save"
+WordIs word (names (gen v)) = word ≡ codes "--gen=" ++ v
+WordIs word wants = word ≡ codes "--gen"
+WordIs word (unknown fault) = Hyphen word
+WordIs word plain = ⊤
+
+name_is : (word name : Text) (v : Option Text) → word ≡ 45 ∷ 45 ∷ (name ++ tail v) → WordIs word (name_kind name v)
+name_is word name None is = go (bytes_eq (codes "json") name) refl (bytes_eq (codes "gen") name) refl (bytes_eq (codes "save") name) refl
+  where
+    go : (j : Bool) → bytes_eq (codes "json") name ≡ j → (g : Bool) → bytes_eq (codes "gen") name ≡ g
+        → (s : Bool) → bytes_eq (codes "save") name ≡ s → WordIs word (name_kind name None)
+    go true ej g eg s es = rw ej (is ∙ ap (λ (n : Text). 45 ∷ 45 ∷ (n ++ [])) (sym (same (codes "json") name ej)))
+    go false ej true eg s es = rw (ej, eg) (is ∙ ap (λ (n : Text). 45 ∷ 45 ∷ (n ++ [])) (sym (same (codes "gen") name eg)))
+    go false ej false eg true es = rw (ej, eg, es) (is ∙ ap (λ (n : Text). 45 ∷ 45 ∷ (n ++ [])) (sym (same (codes "save") name es)))
+    go false ej false eg false es = rw (ej, eg, es) (45 ∷ (name ++ []), is)
+name_is word name (Some v) is = go (bytes_eq (codes "json") name) refl (bytes_eq (codes "gen") name) refl
+    (bytes_eq (codes "save") name) refl
+  where
+    go : (j : Bool) → bytes_eq (codes "json") name ≡ j → (g : Bool) → bytes_eq (codes "gen") name ≡ g
+        → (s : Bool) → bytes_eq (codes "save") name ≡ s → WordIs word (name_kind name (Some v))
+    go true ej g eg s es = rw ej (45 ∷ (name ++ 61 ∷ v), is)
+    go false ej true eg s es = rw (ej, eg) (is ∙ ap (λ (n : Text). 45 ∷ 45 ∷ (n ++ 61 ∷ v)) (sym (same (codes "gen") name eg)))
+    go false ej false eg true es = rw (ej, eg, es) (45 ∷ (name ++ 61 ∷ v), is)
+    go false ej false eg false es = rw (ej, eg, es) (45 ∷ (name ++ 61 ∷ v), is)
+
+short_is : (word : Text) (flags : Option Text) → short_of word ≡ flags → WordIs word (short_kind flags)
+short_is word None e = tt
+short_is word (Some flags) e = go (is_some (slice_get (chars flags) 0)) refl
+  where
+    go : (b : Bool) → is_some (slice_get (chars flags) 0) ≡ b → WordIs word (short_kind (Some flags))
+    go true h = rw h (short_word word flags e)
+    go false h = rw h tt
+
+word_is : (word : Text) → WordIs word (kind word)
+word_is word = go (bytes_eq word (codes "--")) refl (long_of word) refl
+  where
+    go : (b : Bool) → bytes_eq word (codes "--") ≡ b → (p : Option (Text × Option Text)) → long_of word ≡ p → WordIs word (kind word)
+    go true e p long = rw e (same word (codes "--") e)
+    go false e (Some p) long =
+        let found = long_word word p long in
+        let parts : found.0 ≡ p.0 ++ tail p.1 =
+        joined found.0 ∙ ap (λ (q : Text × Option Text). q.0 ++ tail q.1) (sym found.2) in
+        rw (e, long) (name_is word p.0 p.1 (found.1 ∙ ap (λ (t : Text). 45 ∷ 45 ∷ t) parts))
+    go false e None long = rw (e, long) (short_is word (short_of word) refl)
+
+-- ---- words that name nothing
+
+record Unnamed (word : Text) : Type 0 where
+  json : bytes_eq word (codes "--json") ≡ false
+  save : bytes_eq word (codes "--save") ≡ false
+  gen : bytes_eq word (codes "--gen") ≡ false
+  prefix : starts_with nat_eq word (codes "--gen=") ≡ false
+
+from_prefix : (word : Text) → starts_with nat_eq word (codes "--gen=") ≡ true → word ≡ codes "--gen=" ++ drop 6 word
+from_prefix word e = (starts_is Decides-eqb word (codes "--gen=") _ refl).0 e
+
+unnamed : (word : Text) → ((u : Use) → kind word ≡ names u → ⊥) → (kind word ≡ wants → ⊥) → Unnamed word
+unnamed word no_use no_wants = record {
+  json = false_from_ne_true _ (λ e. no_use json (ap kind (same word (codes "--json") e)));
+  save = false_from_ne_true _ (λ e. no_use save (ap kind (same word (codes "--save") e)));
+  gen = false_from_ne_true _ (λ e. no_wants (ap kind (same word (codes "--gen") e)));
+  prefix = false_from_ne_true _ (λ e. no_use (gen (drop 6 word)) (ap kind (from_prefix word e)));
+}
+
+named-Unnamed : (word : Text) (more : List Text) → Unnamed word → named (word ∷ more) ≡ None
+named-Unnamed word [] un = rw (un.json, un.save, un.prefix) refl
+named-Unnamed word (next ∷ []) un = rw un.gen refl
+named-Unnamed word (next ∷ other ∷ more) un = refl
+
+not_ends : (word : Text) → (kind word ≡ ends → ⊥) → bytes_eq word (codes "--") ≡ false
+not_ends word no_end = false_from_ne_true _ (λ e. no_end (ap kind (same word (codes "--") e)))
+
+-- ---- words that name a job
+
+abbrev is_nil : List Text → Bool
+is_nil [] = true
+is_nil (word ∷ more) = false
+
+abbrev use_job : Use → Option Job
+use_job json = Some Json
+use_job save = Some Save
+use_job (gen v) = generate_of v
+
+-- the job of one use, or of none
+abbrev pub pick : Option (List Use) → Option Job
+pick None = None
+pick (Some []) = Some Transcript
+pick (Some (u ∷ [])) = use_job u
+pick (Some (u ∷ v ∷ us)) = None
+
+named_use : (u : Use) (word : Text) (more : List Text) → WordIs word (names u) → named (word ∷ more)
+    ≡ (if is_nil more then use_job u else None)
+named_use json word [] is = subst (λ (w : Text). named (w ∷ []) ≡ Some Json) (sym is) refl
+named_use json word (next ∷ []) is = subst (λ (w : Text). named (w ∷ next ∷ []) ≡ None) (sym is) refl
+named_use json word (next ∷ other ∷ more) is = refl
+named_use save word [] is = subst (λ (w : Text). named (w ∷ []) ≡ Some Save) (sym is) refl
+named_use save word (next ∷ []) is = subst (λ (w : Text). named (w ∷ next ∷ []) ≡ None) (sym is) refl
+named_use save word (next ∷ other ∷ more) is = refl
+named_use (gen v) word [] is = subst (λ (w : Text). named (w ∷ []) ≡ generate_of v) (sym is) refl
+named_use (gen v) word (next ∷ []) is = subst (λ (w : Text). named (w ∷ next ∷ []) ≡ None) (sym is) refl
+named_use (gen v) word (next ∷ other ∷ more) is = refl
+
+named_gen : (value : Text) (more : List Text) → named (codes "--gen" ∷ value ∷ more) ≡ (if is_nil more then generate_of value else None)
+named_gen value [] = refl
+named_gen value (next ∷ more) = refl
+
+refused : (some first small : Bool) (n : ℕ) → option_map Generate (if some && false && first && small then Some n else None) ≡ None
+refused true first small n = refl
+refused false first small n = refl
+
+no_number : (word : Text) → Hyphen word → generate_of word ≡ None
+no_number word is = subst (λ (w : Text). generate_of w ≡ None) (sym is.1)
+    (refused (nat_le 1 (length (45 ∷ is.0))) (nat_eq (length (45 ∷ is.0)) 1 || true) _ _)
+
+-- ---- a last `--`
+
+kept : (word : Text) (rest : List Text) → bytes_eq word (codes "--") ≡ false → without_end (word ∷ rest) ≡ word ∷ without_end rest
+kept word [] e = rw e refl
+kept word (next ∷ rest) e = refl
+
+-- ---- two uses or more name no job
+
+abbrev AreMany : List Use → Type 0
+AreMany [] = ⊥
+AreMany (u ∷ []) = ⊥
+AreMany (u ∷ v ∷ us) = ⊤
+
+abbrev AreSome : List Use → Type 0
+AreSome [] = ⊥
+AreSome (u ∷ us) = ⊤
+
+abbrev Many : Option (List Use) → Type 0
+Many None = ⊤
+Many (Some us) = AreMany us
+
+some_from_many : (us : List Use) → AreMany us → AreSome us
+some_from_many [] many = absurd many
+some_from_many (u ∷ us) many = tt
+
+pick-Many : (r : Option (List Use)) → Many r → pick r ≡ None
+pick-Many None many = refl
+pick-Many (Some []) many = absurd many
+pick-Many (Some (u ∷ [])) many = absurd many
+pick-Many (Some (u ∷ v ∷ us)) many = refl
+
+bind-Many : (r : Option (List Use)) (next : List Use → Option (List Use)) → Many r → ((us : List Use) → AreMany us → Many (next us))
+    → Many (bind r next)
+bind-Many None next many go = tt
+bind-Many (Some us) next many go = go us many
+
+add-Many : (u : Use) (us : List Use) → AreSome us → Many (add u us)
+add-Many u [] are = absurd are
+add-Many u (x ∷ us) are = go (has_row (row u).id (map row (x ∷ us))) us
+  where
+    go : (again : Bool) (us : List Use) → Many (if again then None else Some (x ∷ us ++ u ∷ []))
+    go true us = tt
+    go false [] = tt
+    go false (y ∷ us) = tt
+
+-- enough were used that what follows can't name a job
+abbrev HasMany : List Use → Wait → Type 0
+HasMany us nothing = AreMany us
+HasMany us wanting = AreSome us
+HasMany us (given v) = AreSome us
+
+settle-Many : (us : List Use) (wait : Wait) → HasMany us wait → Many (settle us wait)
+settle-Many us nothing many = many
+settle-Many us wanting many = tt
+settle-Many us (given v) many = add-Many (gen v) us many
+
+word-Many : (us : List Use) (wait : Wait) (word : Text) (last : Bool) (next wanted : List Use → Option (List Use))
+    (value : Option (List Use)) (k : Kind)
+    → HasMany us wait → ((more : List Use) → AreMany more → Many (next more)) → ((more : List Use) → AreMany more → Many (wanted more))
+    → (AreSome us → Many value) → Many (by_kind k us wait last next wanted value)
+word-Many us wait word true next wanted value ends many nexts wanteds values = settle-Many us wait many
+word-Many us wait word false next wanted value ends many nexts wanteds values = tt
+word-Many us wait word last next wanted value (names u) many nexts wanteds values =
+    bind-Many (bind (settle us wait) (add u)) next
+    (bind-Many (settle us wait) (add u) (settle-Many us wait many) (λ more are. add-Many u more (some_from_many more are))) nexts
+word-Many us wait word last next wanted value wants many nexts wanteds values =
+    bind-Many (settle us wait) wanted (settle-Many us wait many) wanteds
+word-Many us wait word last next wanted value (unknown fault) many nexts wanteds values = tt
+word-Many us nothing word last next wanted value plain many nexts wanteds values = tt
+word-Many us wanting word last next wanted value plain many nexts wanteds values = values many
+word-Many us (given v) word last next wanted value plain many nexts wanteds values = tt
+
+spelled-Many : (words : List Text) (us : List Use) (wait : Wait) → HasMany us wait → Many (spelled us wait words)
+spelled-Many [] us wait many = settle-Many us wait many
+spelled-Many (word ∷ rest) us wait many =
+    word-Many us wait word (is_last rest) (λ more. spelled more nothing rest) (λ more. spelled more wanting rest)
+    (spelled us (given word) rest)
+    (kind word) many (λ more are. spelled-Many rest more nothing are)
+    (λ more are. spelled-Many rest more wanting (some_from_many more are)) (λ are. spelled-Many rest us (given word) are)
+
+-- ---- one use
+
+module _ (us : List Use) (wait : Wait) (u : Use) (settles : settle us wait ≡ Some (u ∷ [])) (word : Text) (rest : List Text) where
+  abbrev One : Kind → Type 0
+  One k = pick (by_kind k us wait (is_last rest) (λ more. spelled more nothing rest) (λ more. spelled more wanting rest)
+      (spelled us (given word) rest))
+      ≡ (if is_nil (without_end (word ∷ rest)) then use_job u else None)
+
+  -- a word that ends nothing, after which there is no job
+  none_after : (k : Kind) → kind word ≡ k → (k ≡ ends → ⊥) → pick (by_kind k us wait (is_last rest) (λ more. spelled more nothing rest)
+      (λ more. spelled more wanting rest) (spelled us (given word) rest)) ≡ None → One k
+  none_after k e no_end none = rw (kept word rest (not_ends word (λ h. no_end (sym e ∙ h)))) none
+
+  add_after : (x : Use) → Many (bind (settle us wait) (add x))
+  add_after x = subst (λ (r : Option (List Use)). Many (bind r (add x))) (sym settles) (add-Many x (u ∷ []) tt)
+
+  wanted_after : Many (bind (settle us wait) (λ more. spelled more wanting rest))
+  wanted_after = subst (λ (r : Option (List Use)). Many (bind r (λ more. spelled more wanting rest))) (sym settles)
+      (spelled-Many rest (u ∷ []) wanting tt)
+
+one_end : (us : List Use) (wait : Wait) (u : Use) (settles : settle us wait ≡ Some (u ∷ [])) (word : Text) (rest : List Text)
+    → word ≡ codes "--" → One us wait u settles word rest ends
+one_end us wait u settles word [] is =
+    subst (λ (w : Text). pick (settle us wait) ≡ (if is_nil (without_end (w ∷ [])) then use_job u else None)) (sym is) (ap pick settles)
+one_end us wait u settles word (next ∷ rest) is = refl
+
+one_kind : (us : List Use) (wait : Wait) (u : Use) (settles : settle us wait ≡ Some (u ∷ [])) (word : Text) (rest : List Text)
+    (k : Kind) → kind word ≡ k → WordIs word k → One us wait u settles word rest k
+one_kind us wait u settles word rest ends e is = one_end us wait u settles word rest is
+one_kind us wait u settles word rest (names x) e is = none_after us wait u settles word rest (names x) e (λ h. cc)
+    (pick-Many _ (bind-Many (bind (settle us wait) (add x)) (λ more. spelled more nothing rest) (add_after us wait u settles word rest x)
+    (λ more are. spelled-Many rest more nothing are)))
+one_kind us wait u settles word rest wants e is = none_after us wait u settles word rest wants e (λ h. cc)
+    (pick-Many _ (wanted_after us wait u settles word rest))
+one_kind us wait u settles word rest (unknown fault) e is = none_after us wait u settles word rest (unknown fault) e (λ h. cc) refl
+one_kind us nothing u settles word rest plain e is = none_after us nothing u settles word rest plain e (λ h. cc) refl
+one_kind us wanting u settles word rest plain e is = absurd cc
+one_kind us (given v) u settles word rest plain e is = none_after us (given v) u settles word rest plain e (λ h. cc) refl
+
+-- after one use nothing may follow but a last `--`
+one_use : (us : List Use) (wait : Wait) (u : Use) → settle us wait ≡ Some (u ∷ []) → (rest : List Text)
+    → pick (spelled us wait rest) ≡ (if is_nil (without_end rest) then use_job u else None)
+one_use us wait u settles [] = ap pick settles
+one_use us wait u settles (word ∷ rest) = one_kind us wait u settles word rest (kind word) refl (word_is word)
+
+-- ---- `--gen` and its value
+
+named_hyphen : (word : Text) (more : List Text) → Hyphen word → named (codes "--gen" ∷ word ∷ more) ≡ None
+named_hyphen word [] is = no_number word is
+named_hyphen word (next ∷ more) is = refl
+
+end_hyphen : (word : Text) (rest : List Text) → word ≡ codes "--" → None ≡ named (codes "--gen" ∷ without_end (word ∷ rest))
+end_hyphen word [] is = subst (λ (w : Text). None ≡ named (codes "--gen" ∷ without_end (w ∷ []))) (sym is) refl
+end_hyphen word (next ∷ rest) is = sym (named_hyphen word (without_end (next ∷ rest)) (45 ∷ [], is))
+
+-- a word that `--gen` does not take as its value
+flag_value : (word : Text) (rest : List Text) (k : Kind) → kind word ≡ k → (k ≡ ends → ⊥) → Hyphen word
+    → None ≡ named (codes "--gen" ∷ without_end (word ∷ rest))
+flag_value word rest k e no_end is = rw (kept word rest (not_ends word (λ h. no_end (sym e ∙ h))))
+    (sym (named_hyphen word (without_end rest) is))
+
+value_kind : (word : Text) (rest : List Text) (k : Kind) → kind word ≡ k → WordIs word k
+    → pick (by_kind k [] wanting (is_last rest) (λ more. spelled more nothing rest) (λ more. spelled more wanting rest)
+    (spelled [] (given word) rest))
+    ≡ named (codes "--gen" ∷ without_end (word ∷ rest))
+value_kind word [] ends e is = end_hyphen word [] is
+value_kind word (next ∷ rest) ends e is = end_hyphen word (next ∷ rest) is
+value_kind word rest (names json) e is = flag_value word rest (names json) e (λ h. cc) (codes "-json", is)
+value_kind word rest (names save) e is = flag_value word rest (names save) e (λ h. cc) (codes "-save", is)
+value_kind word rest (names (gen v)) e is = flag_value word rest (names (gen v)) e (λ h. cc) (codes "-gen=" ++ v, is)
+value_kind word rest wants e is = flag_value word rest wants e (λ h. cc) (codes "-gen", is)
+value_kind word rest (unknown fault) e is = flag_value word rest (unknown fault) e (λ h. cc) is
+value_kind word rest plain e is = one_use [] (given word) (gen word) refl rest
+    ∙ rw (kept word rest (not_ends word (λ h. let never : plain ≡ ends = sym e ∙ h in cc))) (sym (named_gen word (without_end rest)))
+
+gen_value : (rest : List Text) → pick (spelled [] wanting rest) ≡ named (codes "--gen" ∷ without_end rest)
+gen_value [] = refl
+gen_value (word ∷ rest) = value_kind word rest (kind word) refl (word_is word)
+
+-- ---- the job of the words
+
+job_kept : (word : Text) (rest : List Text) (k : Kind) → kind word ≡ k → (k ≡ ends → ⊥) → job_of (word ∷ rest)
+    ≡ named (word ∷ without_end rest)
+job_kept word rest k e no_end = ap named (kept word rest (not_ends word (λ h. no_end (sym e ∙ h))))
+
+first_end : (word : Text) (rest : List Text) → word ≡ codes "--" → job_of (word ∷ rest) ≡ pick (if is_last rest then Some [] else None)
+first_end word [] is = subst (λ (w : Text). job_of (w ∷ []) ≡ Some Transcript) (sym is) refl
+first_end word (next ∷ rest) is = subst (λ (w : Text). named (w ∷ without_end (next ∷ rest)) ≡ None) (sym is)
+    (none (without_end (next ∷ rest)))
+  where
+    none : (more : List Text) → named (codes "--" ∷ more) ≡ None
+    none [] = refl
+    none (other ∷ []) = refl
+    none (other ∷ third ∷ more) = refl
+
+first_kind : (word : Text) (rest : List Text) (k : Kind) → kind word ≡ k → WordIs word k → job_of (word ∷ rest)
+    ≡ pick (by_kind k [] nothing (is_last rest) (λ more. spelled more nothing rest) (λ more. spelled more wanting rest)
+    (spelled [] (given word) rest))
+first_kind word rest ends e is = first_end word rest is
+first_kind word rest (names json) e is = job_kept word rest (names json) e (λ h. cc) ∙ named_use json word (without_end rest) is
+    ∙ sym (one_use (json ∷ []) nothing json refl rest)
+first_kind word rest (names save) e is = job_kept word rest (names save) e (λ h. cc) ∙ named_use save word (without_end rest) is
+    ∙ sym (one_use (save ∷ []) nothing save refl rest)
+first_kind word rest (names (gen v)) e is = job_kept word rest (names (gen v)) e (λ h. cc) ∙ named_use (gen v) word (without_end rest) is
+    ∙ sym (one_use (gen v ∷ []) nothing (gen v) refl rest)
+first_kind word rest wants e is = job_kept word rest wants e (λ h. cc)
+    ∙ ap (λ (w : Text). named (w ∷ without_end rest)) is ∙ sym (gen_value rest)
+first_kind word rest (unknown fault) e is = job_kept word rest (unknown fault) e (λ h. cc)
+    ∙ named-Unnamed word (without_end rest)
+    (unnamed word (λ u h. let never : unknown fault ≡ names u = sym e ∙ h in cc) (λ h. let never : unknown fault ≡ wants = sym e ∙ h in cc))
+first_kind word rest plain e is = job_kept word rest plain e (λ h. cc)
+    ∙ named-Unnamed word (without_end rest)
+    (unnamed word (λ u h. let never : plain ≡ names u = sym e ∙ h in cc) (λ h. let never : plain ≡ wants = sym e ∙ h in cc))
+
+pub job_is : (words : List Text) → job_of words ≡ pick (spelled [] nothing words)
+job_is [] = refl
+job_is (word ∷ rest) = first_kind word rest (kind word) refl (word_is word)
+
+-- ---- the job by flags
+
+two_flags : (text : Option Text) → None ≡ chosen true true text
+two_flags None = refl
+two_flags (Some v) = refl
+
+save_and_gen : (j : Bool) (v : Text) → None ≡ chosen j true (Some v)
+save_and_gen true v = refl
+save_and_gen false v = refl
+
+json_and_gen : (s : Bool) (v : Text) → None ≡ chosen true s (Some v)
+json_and_gen true v = refl
+json_and_gen false v = refl
+
+pub chosen_is : (us : List Use) → Apart us → pick (Some us) ≡ chosen (has (codes "json") us) (has (codes "save") us) (gen_in us)
+chosen_is [] apart = refl
+chosen_is (json ∷ []) apart = refl
+chosen_is (save ∷ []) apart = refl
+chosen_is (gen v ∷ []) apart = refl
+chosen_is (json ∷ json ∷ us) apart = absurd cc
+chosen_is (json ∷ save ∷ us) apart = two_flags (gen_in us)
+chosen_is (json ∷ gen v ∷ us) apart = json_and_gen (has (codes "save") us) v
+chosen_is (save ∷ json ∷ us) apart = two_flags (gen_in us)
+chosen_is (save ∷ save ∷ us) apart = absurd cc
+chosen_is (save ∷ gen v ∷ us) apart = save_and_gen (has (codes "json") us) v
+chosen_is (gen v ∷ json ∷ us) apart = json_and_gen (has (codes "save") us) v
+chosen_is (gen v ∷ save ∷ us) apart = save_and_gen (has (codes "json") us) v
+chosen_is (gen v ∷ gen w ∷ us) apart = absurd cc

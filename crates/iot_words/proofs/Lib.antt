@@ -1,0 +1,7 @@
+mod NumbersLaws
+mod Uses
+mod TurnsLaws
+mod WalksLaws
+mod MatchesLaws
+mod JobsLaws
+mod ReadLaws

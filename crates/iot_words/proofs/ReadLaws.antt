@@ -1,0 +1,96 @@
+-- What is read of the words: the job that they name, and a refusal only of words that name none.
+use Rattle.std.proofs.Common.{◌≡◌, ◌∙◌, inl, inr, Bool, true, false, refl, sym, ap, subst, List, [], map, Option, Some, None, codes}
+use Rattle.clap.specs.Words.{App, HasKind, HasMatchesOf, IsAmong, fault_of, first_value, found_of, is_simple_and_free, kind_of}
+use Rattle.clap.specs.Words.{matches_of, rows_of}
+use Rattle.clap.specs.Matches.{one_text}
+use Rattle.clap.specs.Walk.{Text, first_of, one_of}
+use Rattle.clap.specs.declared.error.Error.{Error}
+use Rattle.clap.specs.declared.error.kind.ErrorKind.TheVariants.{OutOfMemory}
+use Rattle.clap.specs.declared.parser.matches.ArgMatches.{ArgMatches}
+use Rattle.clap.proofs.WalkLemmas.{first_value-rows, one_text-rows}
+use Rattle.iot_words.specs.Command.{command}
+use Rattle.iot_words.specs.Jobs.{chosen, job_of}
+use Rattle.iot_words.specs.declared.faults.WordsFault.{WordsFault}
+use Rattle.iot_words.specs.declared.faults.WordsFault.TheVariants.{NoMemory, Refused}
+use Rattle.iot_words.specs.declared.jobs.Job.{Job}
+use Rattle.iot_words.proofs.Uses.{Use, nothing, row, spelled, state}
+use Rattle.iot_words.proofs.WalksLaws.{Apart, WalkAgrees, walk-Agrees}
+use Rattle.iot_words.proofs.MatchesLaws.{fault_is, finally, flag_text, gen_in, gen_of, has, json_of, matches_are, save_of}
+use Rattle.iot_words.proofs.JobsLaws.{chosen_is, job_is, pick}
+
+-- ---- what the parse of the command says
+
+module _ (app : App) (made : app ≡ command) (words : List Text) where
+  pub has_kind : (e : Error) → (is_simple_and_free app ≡ true → HasKind (fault_of app words) e) → HasKind (fault_of command words) e
+  has_kind e kinds = subst (λ (a : App). HasKind (fault_of a words) e) made (kinds (rw made refl))
+
+  pub no_fault : (is_simple_and_free app ≡ true → fault_of app words ≡ []) → fault_of command words ≡ []
+  no_fault kinds = ap (λ (a : App). fault_of a words) (sym made) ∙ kinds (rw made refl)
+
+  pub rows_are : (m : ArgMatches) → HasMatchesOf app words m → rows_of (found_of m) ≡ matches_of command words
+  rows_are m matches = (matches (rw made refl)).0 ∙ ap (λ (a : App). matches_of a words) made
+
+-- ---- the words
+
+-- the uses that the words spell, if the command takes them
+record Taken (words : List Text) : Type 0 where
+  uses : List Use
+  job : job_of words ≡ pick (Some uses)
+  matches : matches_of command words ≡ finally (map row uses)
+  apart : Apart uses
+
+taken : (words : List Text) → fault_of command words ≡ [] → Taken words
+taken words none = go (spelled [] nothing words) refl (walk-Agrees words [] nothing tt)
+  where
+    go : (r : Option (List Use)) → spelled [] nothing words ≡ r → WalkAgrees r (state [] nothing) words → Taken words
+    go None e agrees = absurd (agrees (sym (fault_is words) ∙ none))
+    go (Some us) e agrees = record {
+      uses = us;
+      job = job_is words ∙ ap pick e;
+      matches = matches_are words us agrees.1;
+      apart = agrees.2;
+    }
+
+-- the command takes words that name a job
+free : (words : List Text) (job : Job) → job_of words ≡ Some job → fault_of command words ≡ []
+free words job named = go (spelled [] nothing words) refl (walk-Agrees words [] nothing tt)
+  where
+    go : (r : Option (List Use)) → spelled [] nothing words ≡ r → WalkAgrees r (state [] nothing) words → fault_of command words ≡ []
+    go None e agrees = absurd (let never : None ≡ Some job = ap pick (sym e) ∙ sym (job_is words) ∙ named in cc)
+    go (Some us) e agrees = fault_is words ∙ agrees.0
+
+pub refused_words : (words : List Text) (e : Error) (fault : WordsFault) → HasKind (fault_of command words) e
+    → (kind_of e ≡ OutOfMemory → fault ≡ NoMemory) → fault ≡ Refused → job_of words ≡ None
+refused_words words e fault (inl memory) no_memory refused = absurd
+    (let never : NoMemory ≡ Refused = sym (no_memory memory) ∙ refused in cc)
+refused_words words e fault (inr among) no_memory refused = go (job_of words) refl
+  where
+    go : (job : Option Job) → job_of words ≡ job → job ≡ None
+    go None named = refl
+    go (Some job) named = absurd (subst (IsAmong (kind_of e)) (free words job named) among)
+
+flag_is : (text : Option Text) (given result : Bool) → text ≡ Some (flag_text given) → (text ≡ Some (codes "true") → result ≡ true)
+    → (text ≡ Some (codes "false") → result ≡ false) → result ≡ given
+flag_is text true result is yes' no' = yes' is
+flag_is text false result is yes' no' = no' is
+
+-- what the getters give of the matches names the job of the words
+pub read_job : (app : App) → app ≡ command → (words : List Text) (m : ArgMatches) (json save : Bool) (text : Option Text)
+    → (is_simple_and_free app ≡ true → fault_of app words ≡ []) → HasMatchesOf app words m
+    → (one_text (found_of m) (codes "json") ≡ Some (codes "true") → json ≡ true)
+    → (one_text (found_of m) (codes "json") ≡ Some (codes "false") → json ≡ false)
+    → (one_text (found_of m) (codes "save") ≡ Some (codes "true") → save ≡ true)
+    → (one_text (found_of m) (codes "save") ≡ Some (codes "false") → save ≡ false)
+    → text ≡ first_value (found_of m) (codes "gen") → chosen json save text ≡ job_of words
+read_job app made words m json save text kinds matches json_given json_other save_given save_other text_given =
+    let t = taken words (no_fault app made words kinds) in
+    let rows = rows_are app made words m matches ∙ t.matches in
+    let json_is : json ≡ has (codes "json") t.uses = flag_is (one_text (found_of m) (codes "json")) _ json
+    (one_text-rows (found_of m) (codes "json") ∙ ap (one_of (codes "json")) rows ∙ json_of t.uses) json_given json_other in
+    let save_is : save ≡ has (codes "save") t.uses = flag_is (one_text (found_of m) (codes "save")) _ save
+    (one_text-rows (found_of m) (codes "save") ∙ ap (one_of (codes "save")) rows ∙ save_of t.uses) save_given save_other in
+    let text_is : text ≡ gen_in t.uses =
+    text_given ∙ first_value-rows (found_of m) (codes "gen") ∙ ap (first_of (codes "gen")) rows ∙ gen_of t.uses in
+    ap (λ (b : Bool). chosen b save text) json_is ∙ ap (λ (b : Bool). chosen (has (codes "json") t.uses) b text) save_is
+    ∙ ap (chosen (has (codes "json") t.uses) (has (codes "save") t.uses)) text_is
+    ∙ sym (chosen_is t.uses t.apart) ∙ sym t.job

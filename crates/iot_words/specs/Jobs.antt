@@ -1,0 +1,41 @@
+-- Which job the words of the command name.
+use Rattle.std.specs.Prelude.{ℕ, Bool, true, false, List, [], ◌∷◌, drop, nat_eq, Option, Some, None, option_map, codes, if◌then◌else◌}
+use Rattle.std.specs.List.{starts_with}
+use Rattle.std.specs.Str.{bytes_eq}
+use Rattle.iot_words.specs.Numbers.{number_of}
+use Rattle.iot_words.specs.declared.jobs.Job.{Job}
+use Rattle.iot_words.specs.declared.jobs.Job.TheVariants.{Transcript, Json, Generate, Save}
+
+abbrev pub generate_of : List ℕ → Option Job
+generate_of text = option_map Generate (number_of text)
+
+-- the words name one job or none: `--json`, `--save`, `--gen N` or `--gen=N`, each alone
+abbrev pub named : List (List ℕ) → Option Job
+named [] = Some Transcript
+named (word ∷ []) =
+    if bytes_eq word (codes "--json") then Some Json
+    else if bytes_eq word (codes "--save") then Some Save
+    else if starts_with nat_eq word (codes "--gen=") then generate_of (drop 6 word)
+    else None
+named (word ∷ number ∷ []) = if bytes_eq word (codes "--gen") then generate_of number else None
+named (word ∷ number ∷ more ∷ rest) = None
+
+-- the words, but for a last `--`, which says that no flag follows
+abbrev pub without_end : List (List ℕ) → List (List ℕ)
+without_end [] = []
+without_end (word ∷ []) = if bytes_eq word (codes "--") then [] else word ∷ []
+without_end (word ∷ next ∷ rest) = word ∷ without_end (next ∷ rest)
+
+-- the job that the words name, if the command takes them
+abbrev pub job_of : List (List ℕ) → Option Job
+job_of words = named (without_end words)
+
+-- the job, by which flags were given and the text that `--gen` was given
+abbrev pub chosen : (json save : Bool) → (text : Option (List ℕ)) → Option Job
+chosen false false None = Some Transcript
+chosen true false None = Some Json
+chosen false true None = Some Save
+chosen true true None = None
+chosen false false (Some text) = generate_of text
+chosen false true (Some text) = None
+chosen true save (Some text) = None
