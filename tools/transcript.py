@@ -1,0 +1,347 @@
+"""Which lines the program prints for which event, and what a reader knows of each node by then."""
+
+from dataclasses import dataclass, field
+
+REFUSALS = {'down', 'up', 'busy', 'pending', 'idle', 'nothing', 'not at end', 'not manual'}
+NEVER_REFUSED = {'client', 'connect', 'disconnect', 'lose'}
+
+
+class Strange(Exception):
+    """The lines are not those of these events, or an event is unknown."""
+
+
+@dataclass
+class Item:
+    """A transaction that waits. Its slot is a place beside its client's lane that no other one has meanwhile."""
+
+    number: str
+    option: str
+    slot: int
+    stage: str = 'waiting'
+
+
+@dataclass
+class Node:
+    name: str
+    alive: bool = True
+    up: bool = True
+    loss: str = ''
+    last: int = 0
+    running: str = ''
+    option: str = ''
+    first: bool = False
+    queue: list = field(default_factory=list)
+
+    def snapshot(self):
+        """How the lane looks from here on: its state, what runs on it, and what waits beside it."""
+        state = 'down' if not self.alive else 'up' if self.up else 'away'
+        running = (self.running, 'first' if self.first else 'second') if self.running else None
+        return state, running, {item.number: (item.slot, item.stage) for item in self.queue}
+
+    def begin(self, option):
+        self.last += 1
+        self.running, self.option = str(self.last), option
+
+    def wait(self):
+        """What ran waits."""
+        taken = {item.slot for item in self.queue}
+        slot = next(n for n in range(len(taken) + 1) if n not in taken)
+        self.queue.append(Item(self.running, self.option, slot))
+        self.running = ''
+
+
+@dataclass
+class Row:
+    """One moment of the day: what was asked, what was printed, and what there is to be seen of it."""
+
+    asked: list = field(default_factory=list)
+    said: list = field(default_factory=list)
+    caption: str = ''
+    node: str = ''
+    exchange: tuple = ()
+    marks: list = field(default_factory=list)
+    lanes: dict = field(default_factory=dict)
+
+
+def read_events(text):
+    """The events as lists of lines: a script has several, and so have comments that follow one another."""
+    events, block, depth = [], None, 0
+    for line in text.splitlines():
+        words = line.split()
+        if block is not None:
+            block.append(line)
+            depth += words[:1] == ['if'] or words[:1] == ['for']
+            if words == ['}']:
+                depth -= 1
+                block = block if depth else None
+        elif words[:1] == ['script']:
+            block, depth = [line], 1
+            events.append(block)
+        elif line.strip().startswith('#'):
+            note = line.strip().lstrip('#').strip()
+            if events and events[-1][0].startswith('#'):
+                events[-1].append(note)
+            else:
+                events.append(['#' + note])
+        elif words:
+            events.append([' '.join(words)])
+    return events
+
+
+class Day:
+    """Goes through the events and the lines together."""
+
+    def __init__(self, events, lines):
+        self.lines, self.at = lines, 0
+        self.server, self.clients, self.rows = Node('server'), {}, []
+        for event in events:
+            self.do(event)
+        if self.at < len(lines):
+            raise Strange(f'line {self.at + 1} of the output belongs to no event: {lines[self.at]}')
+
+    # ---- lines and rows
+
+    def next(self):
+        return self.lines[self.at] if self.at < len(self.lines) else ''
+
+    def take(self, front=''):
+        """The next line, which begins in this way, goes into the last row."""
+        line = self.next()
+        if not line.startswith(front) or self.at == len(self.lines):
+            raise Strange(f'line {self.at + 1} of the output should begin with {front or "something"!r}: {line!r}')
+        self.at += 1
+        self.rows[-1].said.append(line)
+        return line
+
+    def row(self, node):
+        """A new row, if the last one has an exchange or lines already."""
+        last = self.rows[-1]
+        if last.exchange or last.said:
+            self.close()
+            self.rows.append(Row(node=node))
+
+    def mark(self, what, node, text=''):
+        self.rows[-1].marks.append((what, node, text))
+
+    def close(self):
+        """The last row is over, and shows the nodes as they are now."""
+        nodes = [self.server, *self.clients.values()]
+        self.rows[-1].lanes = {node.name: node.snapshot() for node in nodes}
+
+    # ---- events
+
+    def do(self, event):
+        words = event[0].split()
+        if event[0].startswith('#'):
+            self.rows.append(Row(caption=' '.join([event[0][1:], *event[1:]])))
+        elif words[0] == 'script':
+            self.rows.append(Row(asked=event))
+        else:
+            node = words[1] if len(words) > 1 and words[0] != 'client' else ''
+            self.rows.append(Row(asked=event, node=node))
+            method = getattr(self, 'on_' + words[0], None)
+            if method is None:
+                raise Strange(f'no such event: {event[0]}')
+            # A `run` that is not at its end has begun all the same.
+            refused = self.next() in REFUSALS and (words[0], self.next()) != ('run', 'not at end')
+            if refused and words[0] not in NEVER_REFUSED:
+                self.take()
+            else:
+                method(self.clients.get(node, self.server), words)
+        self.close()
+
+    def on_client(self, _, words):
+        self.clients[words[1]] = Node(words[1])
+        self.take('client ')
+
+    def on_connect(self, client, _):
+        client.up = True
+        self.take('connect ')
+
+    def on_disconnect(self, client, _):
+        client.up = client.first = False
+        self.take('disconnect ')
+
+    def on_lose(self, client, words):
+        client.loss = words[2]
+        self.take('lose ')
+
+    def on_crash(self, node, _):
+        node.alive = False
+        self.mark('crash', node.name)
+        self.take('crash ')
+
+    def on_restart(self, node, _):
+        node.alive = True
+        self.mark('restart', node.name)
+        self.take('restart ')
+        if node.running:
+            self.take('cut ')
+            node.wait()
+
+    def on_hoard(self, client, words):
+        self.ask(client, words[0], ' '.join(words))
+
+    def on_refresh(self, client, words):
+        self.ask(client, words[0], ' '.join(words))
+
+    def on_begin(self, client, words):
+        client.first = not client.queue and self.exchange(client, 'refresh') == 'both'
+        client.begin(words[3])
+        self.take(f'begin {client.name}.{client.running} {words[2]} {"first" if client.first else "second"}')
+
+    def on_step(self, client, _):
+        while self.next().startswith('fetch '):
+            self.row(client.name)
+            arrived = self.exchange(client, 'fetch') == 'both'
+            line = self.take()
+            if line.endswith(' away') == arrived:
+                raise Strange(f'line {self.at} of the output: the link says otherwise: {line}')
+        self.row(client.name)
+        self.take(f'step {client.name}.{client.running} ')
+
+    def on_end(self, client, _):
+        self.end(client)
+
+    def on_sync(self, client, _):
+        self.sync(client)
+
+    def on_drain(self, client, _):
+        some = self.syncs(client)
+        if not client.queue and not client.running and client.up:
+            self.ask(client, 'refresh', f'refresh {client.name}')
+        elif not some:
+            self.take('nothing')
+
+    def on_run(self, client, words):
+        if client.up:
+            self.syncs(client)
+        self.row(client.name)
+        client.first = not client.queue and self.exchange(client, 'refresh') == 'both'
+        client.begin(words[3])
+        if self.next() == 'not at end':
+            self.take()
+        else:
+            self.end(client)
+
+    def on_repair(self, client, _):
+        client.queue[0].option, client.queue[0].stage = 'resolver', 'conflict'
+        self.take('repair ')
+
+    def on_discard(self, client, _):
+        self.give_up(client)
+        self.take('discard ')
+
+    def on_show(self, _, __):
+        self.take('dir /')
+        while self.next().startswith(('dir /', 'file /')) and self.next().split()[1] != '/':
+            self.take()
+
+    def on_queue(self, client, _):
+        for item in client.queue:
+            self.take(f'item {client.name}.{item.number} ')
+        if client.running:
+            self.take(f'running {client.name}.{client.running} ')
+        elif not client.queue:
+            self.take('empty')
+
+    def on_reads(self, _, __):
+        self.numbered('read')
+
+    def on_log(self, _, __):
+        self.numbered('log')
+
+    def numbered(self, word):
+        """Lines that are counted from 1, or `empty`."""
+        number = 1
+        while self.next().startswith(f'{word} {number} '):
+            self.take()
+            number += 1
+        if number == 1:
+            self.take('empty')
+
+    # ---- what several events do
+
+    def exchange(self, client, what):
+        """A request and its reply, as far as the link lets them."""
+        if not client.up:
+            passage = 'away'
+        elif client.loss == 'request' or not self.server.alive:
+            passage = 'request'
+        else:
+            passage = client.loss or 'both'
+        if passage in ('request', 'reply'):
+            client.up, client.loss = False, ''
+        client.first = client.first and passage == 'both'
+        if passage != 'away':
+            self.rows[-1].exchange = (client.name, what, passage)
+        return passage
+
+    def ask(self, client, what, line):
+        self.row(client.name)
+        self.take(line if self.exchange(client, what) == 'both' else 'away')
+
+    def end(self, client):
+        tid = f'{client.name}.{client.running}'
+        self.take(f'end {tid}')
+        first = client.first
+        client.wait()
+        if not first or self.sync(client) == 'away':
+            self.take(f'pending {tid}')
+            self.output()
+
+    def output(self):
+        while self.next().startswith('|'):
+            self.take()
+
+    def syncs(self, client):
+        """The syncs of a `drain`; whether there were any."""
+        times = 3 * len(client.queue)
+        for _ in range(times):
+            if not client.queue or self.sync(client) != 'on':
+                break
+        return times > 0
+
+    def sync(self, client):
+        self.row(client.name)
+        head = client.queue[0]
+        tid = f'{client.name}.{head.number}'
+        if head.stage == 'manual':
+            self.take(f'manual {tid}')
+            return 'manual'
+        if head.stage == 'conflict':
+            return self.resolve(client, head, tid)
+        return self.submit(client, head, tid)
+
+    def resolve(self, client, head, tid):
+        if self.exchange(client, 'whole tree') != 'both':
+            self.take('away')
+            return 'away'
+        head.stage = 'resolved'
+        self.take(f'resolve {tid} ')
+        return 'on'
+
+    def submit(self, client, head, tid):
+        passage = self.exchange(client, 'submit')
+        if passage in ('both', 'reply') and self.next().startswith('commit '):
+            self.mark('commit', 'server', self.take().split()[1])
+            self.output()
+        if passage != 'both':
+            self.take('away')
+            return 'away'
+        if self.next().startswith('settled '):
+            self.take(f'settled {tid} ')
+            client.queue.pop(0)
+            return 'on'
+        self.mark('conflict', client.name)
+        self.take(f'conflict {tid} ')
+        if head.option == 'abort':
+            self.take(f'abort {tid}')
+            self.give_up(client)
+        elif head.option == 'manual':
+            self.take(f'manual {tid}')
+        head.stage = 'manual' if head.option == 'manual' else 'conflict'
+        return 'manual' if head.option == 'manual' else 'on'
+
+    def give_up(self, client):
+        self.mark('given up', client.name, str(client.queue.pop(0).slot))
