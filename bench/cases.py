@@ -18,6 +18,7 @@ DIRECTORIES = 16
 FILES_IN_EACH = 250
 ROUNDS = 4
 QUEUED_FILES = 250
+RECORDS_OF_A_RUN = 100
 
 
 def script(name, statements):
@@ -131,6 +132,22 @@ def steps(size):
     return Work(lines + ['step laptop'] * acts, 'steps', acts, len(lines))
 
 
+def acts(size):
+    """One transaction of more and more acts, each a single step, on a tree that stays small."""
+    number = 250 * size
+    lines = ['client laptop', *script('init', ['write /f x']), *script('work', ['write /f y'] * number)]
+    lines += [run('init'), 'begin laptop work abort']
+    return Work(lines + ['step laptop'] * number, 'steps', number, len(lines))
+
+
+def restarts(size):
+    """A client that crashes and comes back with more and more records on its disk."""
+    runs = 10 * size
+    # Besides the acts, the refresh, the begin, the end and the verdict of a run are a record each.
+    lines = ['client laptop', *script('work', ['write /f x'] * (RECORDS_OF_A_RUN - 4)), *[run('work')] * runs]
+    return Work(lines + ['crash laptop', 'restart laptop'], 'records', runs * RECORDS_OF_A_RUN, len(lines))
+
+
 def queue(size):
     """More and more transactions that wait at a client without the server, and are then submitted one after the other."""
     items = QUEUED_FILES * size
@@ -143,5 +160,5 @@ def queue(size):
 
 
 # The cases in the order of the table, and those that need no more than `mkdir`, `write` and `cat`.
-CASES = [transactions, tree, loops, moves, text, journal, clients, steps, queue]
+CASES = [transactions, tree, loops, moves, text, journal, clients, steps, acts, queue, restarts]
 FIRST = [transactions, tree]
