@@ -16,7 +16,7 @@ use Rattle.iot_event.specs.declared.event.Choice.{Choice}
 use Rattle.iot_event.specs.declared.event.Choice.TheVariants.{Reexec, Resolver, Abort, Manual}
 use Rattle.iot_event.specs.declared.event.Event.{Event}
 use Rattle.iot_event.specs.declared.event.Event.TheVariants.{Client, Script, Run, Hoard, Refresh, Begin, Step, End, ShowClient}
-use Rattle.iot_event.specs.declared.event.Event.TheVariants.{CrashClient, RestartClient}
+use Rattle.iot_event.specs.declared.event.Event.TheVariants.{CrashClient, RestartClient, Queue, Reads}
 use Rattle.iot_event.specs.declared.event.Event.TheVariants.{Connect, Disconnect, Lose, Sync, Drain, Repair, Discard}
 use Rattle.iot_event.specs.declared.fault.EventFault.TheVariants as faults
 use Rattle.iot_event.specs.declared.form.Form.{Form}
@@ -190,6 +190,10 @@ module _ (scope : Scope) (number : ℕ) where
   form_sound (Some forms.RestartServer) counts later = record { allows = λ events are. are }
   form_sound (Some (forms.RestartClient client)) counts later =
       client_event_sound client (λ c. RestartClient c) (λ c few events are. (few, are))
+  form_sound (Some (forms.Queue client)) counts later = client_event_sound client (λ c. Queue c) (λ c few events are. (few, are))
+  form_sound (Some (forms.Reads client item)) (least, most) later =
+      client_event_sound client (λ c. Reads c item) (λ c few events are. (few, least, most, are))
+  form_sound (Some forms.Log) counts later = record { allows = λ events are. are }
 
 -- ---- each line
 

@@ -1,4 +1,4 @@
--- Laws of the forms of event lines: a form has two to five words, and the number of its steps is within its limits.
+-- Laws of the forms of event lines: a form has one to five words, and its number is within its limits.
 use Rattle.std.proofs.Common.{◌≡◌, ℕ, ◌<◌, ◌≤◌, ◌&&◌, not, nat_le, Bool, true, false, List, [], ◌∷◌, length, map, Option, Some, None}
 use Rattle.std.proofs.Common.{codes, bytes_eq, refl, arith}
 use Rattle.std.specs.Option.{option_map, option_or, option_and_then}
@@ -7,20 +7,19 @@ use Rattle.std.specs.Str.Parse.{digits_value}
 use Rattle.std.proofs.lemmas.Bool.Decides.{nat_tests}
 use Rattle.iot_text.specs.Names.{is_name}
 use Rattle.iot_link.specs.declared.passages.Loss.{Loss}
-use Rattle.iot_event.specs.declared.form.TheConstants.{STEP_LIMIT}
+use Rattle.iot_event.specs.declared.form.TheConstants.{STEP_LIMIT, READS_LIMIT}
 use Rattle.iot_event.specs.declared.form.Form.{Form}
 use Rattle.iot_event.specs.declared.form.Form.TheVariants as forms
 use Rattle.iot_event.specs.declared.form.NamedChoice.{NamedChoice}
 use Rattle.iot_event.specs.Numbers.{is_number, number_of}
-use Rattle.iot_event.specs.Forms.{server_form, client_form, loss_of, three_words, plain_choice, resolver_choice, script_form}
+use Rattle.iot_event.specs.Forms.{one_word, server_form, client_form, loss_of, three_words, plain_choice, resolver_choice, script_form}
 use Rattle.iot_event.specs.Forms.{choosing_form, form_of}
 
 -- ---- how many words a form has
 
-pub too_few : {X : Type 0} (word : X → List ℕ) (found : List X) → length found < 2 → None ≡ form_of (map word found)
+pub too_few : {X : Type 0} (word : X → List ℕ) (found : List X) → length found < 1 → None ≡ form_of (map word found)
 too_few word [] few = refl
-too_few word (a ∷ []) few = refl
-too_few word (a ∷ b ∷ more) few = absurd (omega arith)
+too_few word (a ∷ more) few = absurd (omega arith)
 
 pub too_many : {X : Type 0} (word : X → List ℕ) (found : List X) → 6 ≤ length found → None ≡ form_of (map word found)
 too_many word [] many = absurd (omega arith)
@@ -31,11 +30,12 @@ too_many word (a ∷ b ∷ c ∷ d ∷ []) many = absurd (omega arith)
 too_many word (a ∷ b ∷ c ∷ d ∷ e ∷ []) many = absurd (omega arith)
 too_many word (a ∷ b ∷ c ∷ d ∷ e ∷ f ∷ more) many = refl
 
--- ---- the number of steps in a form
+-- ---- the number in a form
 
--- the number of steps, if the form has one, is within its limits
+-- the number of steps or of an item, if the form has one, is within its limits
 abbrev pub IsCounted : Option Form → Type 0
 IsCounted (Some (forms.Step client count)) = (1 ≤ count) × (count ≤ STEP_LIMIT)
+IsCounted (Some (forms.Reads client item)) = (1 ≤ item) × (item ≤ READS_LIMIT)
 IsCounted _ = Unit {0}
 
 -- the same as a record, which is found by its name
@@ -50,15 +50,17 @@ counted_or : (first second : Option Form) → Counted first → Counted second �
 counted_or None second one two = two
 counted_or (Some form) second one two = one
 
-counted_number : (client word : List ℕ) → Counted (option_map (λ count. forms.Step client count) (number_of word STEP_LIMIT))
-counted_number client word = by (is_number word) (nat_le 1 number) (nat_le number STEP_LIMIT) refl refl
+-- a form with a number, if that is within the limit
+counted_number : (form : ℕ → Form) (word : List ℕ) (limit : ℕ) → ((n : ℕ) → 1 ≤ n → n ≤ limit → IsCounted (Some (form n)))
+    → Counted (option_map form (number_of word limit))
+counted_number form word limit within = by (is_number word) (nat_le 1 number) (nat_le number limit) refl refl
   where
     number : ℕ
     number = digits_value 10 word
 
-    by : (is least most : Bool) → nat_le 1 number ≡ least → nat_le number STEP_LIMIT ≡ most
-        → Counted (option_map (λ count. forms.Step client count) (if is && least && most then Some number else None))
-    by true true true one two = record { counted = (grind (arith, nat_tests, one), grind (arith, nat_tests, two)) }
+    by : (is least most : Bool) → nat_le 1 number ≡ least → nat_le number limit ≡ most
+        → Counted (option_map form (if is && least && most then Some number else None))
+    by true true true one two = record { counted = within number (grind (arith, nat_tests, one)) (grind (arith, nat_tests, two)) }
     by true true false one two = record { counted = tt }
     by true false most one two = record { counted = tt }
     by false least most one two = record { counted = tt }
@@ -90,8 +92,9 @@ counted_client first client =
     (counted_if (bytes_eq first (codes "discard")) (Some (forms.Discard client)) _ (record { counted = tt })
     (counted_if (bytes_eq first (codes "show")) (Some (forms.ShowClient client)) _ (record { counted = tt })
     (counted_if (bytes_eq first (codes "crash")) (Some (forms.CrashClient client)) _ (record { counted = tt })
-    (counted_if (bytes_eq first (codes "restart")) (Some (forms.RestartClient client)) None (record { counted = tt })
-    none_counted)))))))))))
+    (counted_if (bytes_eq first (codes "restart")) (Some (forms.RestartClient client)) _ (record { counted = tt })
+    (counted_if (bytes_eq first (codes "queue")) (Some (forms.Queue client)) None (record { counted = tt })
+    none_counted))))))))))))
 
 counted_script : (first client script : List ℕ) (option : NamedChoice) → Counted (script_form first client script option)
 counted_script first client script option =
@@ -108,10 +111,13 @@ counted_three first second third =
     counted_if (not (is_name second)) None _ none_counted
     (counted_if (bytes_eq first (codes "script") && bytes_eq third (codes "{")) (Some (forms.Script second)) _ (record { counted = tt })
     (counted_if (bytes_eq first (codes "hoard")) (Some (forms.Hoard second third)) _ (record { counted = tt })
-    (counted_if (bytes_eq first (codes "step")) _ _ (counted_number second third)
+    (counted_if (bytes_eq first (codes "step")) _ _
+    (counted_number (λ count. forms.Step second count) third STEP_LIMIT (λ n least most. (least, most)))
+    (counted_if (bytes_eq first (codes "reads")) _ _
+    (counted_number (λ item. forms.Reads second item) third READS_LIMIT (λ n least most. (least, most)))
     (counted_if (bytes_eq first (codes "lose")) _ _ (counted_loss second (loss_of third))
     (counted_if (bytes_eq first (codes "repair")) _ None
-    (counted_if (is_name third) (Some (forms.Repair second third)) None (record { counted = tt }) none_counted) none_counted)))))
+    (counted_if (is_name third) (Some (forms.Repair second third)) None (record { counted = tt }) none_counted) none_counted))))))
 
 counted_choosing : (first client script : List ℕ) (option : Option NamedChoice) → Counted (choosing_form first client script option)
 counted_choosing first client script option =
@@ -119,7 +125,7 @@ counted_choosing first client script option =
 
 pub form_counted : (found : List (List ℕ)) → Counted (form_of found)
 form_counted [] = none_counted
-form_counted (a ∷ []) = none_counted
+form_counted (a ∷ []) = counted_if (bytes_eq a (codes "log")) (Some forms.Log) None (record { counted = tt }) none_counted
 form_counted (a ∷ b ∷ []) =
     counted_or (server_form a b) _ (counted_server a b) (counted_if (is_name b) _ None (counted_client a b) none_counted)
 form_counted (a ∷ b ∷ c ∷ []) = counted_three a b c

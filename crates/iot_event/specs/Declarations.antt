@@ -3,13 +3,14 @@ use Rattle.std.specs.Prelude.{◌≡◌, ℕ, ◌+◌, ◌<◌, ◌≤◌, false
 use Rattle.iot_text.specs.Paths.{IsPath}
 use Rattle.iot_event.specs.Meanings.{is_declared}
 use Rattle.iot_event.specs.declared.declared.TheConstants.{CLIENT_LIMIT, SCRIPT_LIMIT}
-use Rattle.iot_event.specs.declared.form.TheConstants.{STEP_LIMIT}
+use Rattle.iot_event.specs.declared.form.TheConstants.{STEP_LIMIT, READS_LIMIT}
 use Rattle.iot_event.specs.declared.event.Choice.{Choice}
 use Rattle.iot_event.specs.declared.event.Choice.TheVariants.{Reexec, Resolver, Abort, Manual}
 use Rattle.iot_event.specs.declared.event.Event.{Event}
 use Rattle.iot_event.specs.declared.event.Event.TheVariants.{Client, Script, Run, Hoard, Refresh, Begin, Step, End}
 use Rattle.iot_event.specs.declared.event.Event.TheVariants.{Connect, Disconnect, Lose, Sync, Drain, Repair, Discard}
 use Rattle.iot_event.specs.declared.event.Event.TheVariants.{ShowServer, ShowClient, CrashServer, CrashClient, RestartServer, RestartClient}
+use Rattle.iot_event.specs.declared.event.Event.TheVariants.{Queue, Reads, Log}
 
 -- the resolver of an option, if it has one, is one of so many scripts
 abbrev pub ResolverIsDeclared : Choice → (scripts : ℕ) → Type 0
@@ -19,7 +20,7 @@ ResolverIsDeclared Abort scripts = Unit {0}
 ResolverIsDeclared Manual scripts = Unit {0}
 
 -- After so many clients and scripts of these names were declared: no more are declared than there may be, and no script again, each event
--- names only a client, a script and a resolver that were declared, a path is a path, and a number of steps is within its limits.
+-- names only a client, a script and a resolver that were declared, a path is a path, and a number is within its limits.
 abbrev pub AreDeclared : List Event → (clients : ℕ) (scripts : List (List ℕ)) → Type 0
 AreDeclared [] clients scripts = Unit {0}
 AreDeclared (Client name ∷ later) clients scripts = (clients < CLIENT_LIMIT) × AreDeclared later (clients + 1) scripts
@@ -48,3 +49,7 @@ AreDeclared (CrashServer ∷ later) clients scripts = AreDeclared later clients 
 AreDeclared (CrashClient client ∷ later) clients scripts = (client < clients) × AreDeclared later clients scripts
 AreDeclared (RestartServer ∷ later) clients scripts = AreDeclared later clients scripts
 AreDeclared (RestartClient client ∷ later) clients scripts = (client < clients) × AreDeclared later clients scripts
+AreDeclared (Queue client ∷ later) clients scripts = (client < clients) × AreDeclared later clients scripts
+AreDeclared (Reads client item ∷ later) clients scripts =
+    (client < clients) × (1 ≤ item) × (item ≤ READS_LIMIT) × AreDeclared later clients scripts
+AreDeclared (Log ∷ later) clients scripts = AreDeclared later clients scripts

@@ -5,13 +5,18 @@ use Rattle.iot_text.specs.Names.{is_name}
 use Rattle.iot_link.specs.declared.passages.Loss.{Loss}
 use Rattle.iot_link.specs.declared.passages.Loss.TheVariants.{Request, Reply}
 use Rattle.iot_event.specs.Numbers.{number_of}
-use Rattle.iot_event.specs.declared.form.TheConstants.{STEP_LIMIT}
+use Rattle.iot_event.specs.declared.form.TheConstants.{STEP_LIMIT, READS_LIMIT}
 use Rattle.iot_event.specs.declared.form.Form.{Form}
 use Rattle.iot_event.specs.declared.form.Form.TheVariants.{Client, Script, Run, Hoard, Refresh, Begin, Step, End}
 use Rattle.iot_event.specs.declared.form.Form.TheVariants.{Connect, Disconnect, Lose, Sync, Drain, Repair, Discard}
 use Rattle.iot_event.specs.declared.form.Form.TheVariants.{ShowServer, ShowClient, CrashServer, CrashClient, RestartServer, RestartClient}
+use Rattle.iot_event.specs.declared.form.Form.TheVariants.{Queue, Reads, Log}
 use Rattle.iot_event.specs.declared.form.NamedChoice.{NamedChoice}
 use Rattle.iot_event.specs.declared.form.NamedChoice.TheVariants.{Reexec, Resolver, Abort, Manual}
+
+-- `log`
+abbrev pub one_word : List ℕ → Option Form
+one_word word = if bytes_eq word (codes "log") then Some Log else None
 
 -- `show server`, `crash server` or `restart server`
 abbrev pub server_form : List ℕ → List ℕ → Option Form
@@ -22,8 +27,8 @@ server_form first second =
     else if bytes_eq first (codes "restart") then Some RestartServer
     else None
 
--- `client N`, `refresh C`, `step C`, `end C`, `connect C`, `disconnect C`, `sync C`, `drain C`, `discard C`, `show C`, `crash C` or
--- `restart C`
+-- `client N`, `refresh C`, `step C`, `end C`, `connect C`, `disconnect C`, `sync C`, `drain C`, `discard C`, `show C`, `crash C`,
+-- `restart C` or `queue C`
 abbrev pub client_form : List ℕ → (client : List ℕ) → Option Form
 client_form first client =
     if bytes_eq first (codes "client") then Some (Client client)
@@ -38,6 +43,7 @@ client_form first client =
     else if bytes_eq first (codes "show") then Some (ShowClient client)
     else if bytes_eq first (codes "crash") then Some (CrashClient client)
     else if bytes_eq first (codes "restart") then Some (RestartClient client)
+    else if bytes_eq first (codes "queue") then Some (Queue client)
     else None
 
 -- what is done with the server, else what is done with a client
@@ -51,13 +57,14 @@ loss_of word =
     else if bytes_eq word (codes "reply") then Some Reply
     else None
 
--- `script N {`, `hoard C P`, `step C k`, `lose C request`, `lose C reply` or `repair C S`
+-- `script N {`, `hoard C P`, `step C k`, `reads C i`, `lose C request`, `lose C reply` or `repair C S`
 abbrev pub three_words : List ℕ → List ℕ → List ℕ → Option Form
 three_words first second third =
     if not (is_name second) then None
     else if bytes_eq first (codes "script") && bytes_eq third (codes "{") then Some (Script second)
     else if bytes_eq first (codes "hoard") then Some (Hoard second third)
     else if bytes_eq first (codes "step") then option_map (λ count. Step second count) (number_of third STEP_LIMIT)
+    else if bytes_eq first (codes "reads") then option_map (λ item. Reads second item) (number_of third READS_LIMIT)
     else if bytes_eq first (codes "lose") then option_map (λ loss. Lose second loss) (loss_of third)
     else if bytes_eq first (codes "repair") then (if is_name third then Some (Repair second third) else None)
     else None
@@ -96,6 +103,7 @@ five_words first second third fourth fifth = choosing_form first second third (r
 
 -- the form of a line with these words, if it has one
 abbrev pub form_of : List (List ℕ) → Option Form
+form_of (a ∷ []) = one_word a
 form_of (a ∷ b ∷ []) = two_words a b
 form_of (a ∷ b ∷ c ∷ []) = three_words a b c
 form_of (a ∷ b ∷ c ∷ d ∷ []) = four_words a b c d

@@ -20,6 +20,7 @@ use Rattle.iot_event.specs.declared.event.Event.{Event}
 use Rattle.iot_event.specs.declared.event.Event.TheVariants.{Client, Run, Hoard, Refresh, Begin, Step, End}
 use Rattle.iot_event.specs.declared.event.Event.TheVariants.{Connect, Disconnect, Lose, Sync, Drain, Repair, Discard}
 use Rattle.iot_event.specs.declared.event.Event.TheVariants.{ShowServer, ShowClient, CrashServer, CrashClient, RestartServer, RestartClient}
+use Rattle.iot_event.specs.declared.event.Event.TheVariants.{Queue, Reads, Log}
 use Rattle.iot_event.specs.declared.fault.EventFault.{EventFault}
 use Rattle.iot_event.specs.declared.fault.EventFault.TheVariants.{BadLine, UnknownName, Twice, TooMany}
 
@@ -144,6 +145,12 @@ restart_line scope number client = of_client scope number client (λ c. RestartC
 abbrev pub show_line : Scope → (number : ℕ) (client : List ℕ) → Meaning
 show_line scope number client = of_client scope number client (λ c. ShowClient c)
 
+abbrev pub queue_line : Scope → (number : ℕ) (client : List ℕ) → Meaning
+queue_line scope number client = of_client scope number client (λ c. Queue c)
+
+abbrev pub reads_line : Scope → (number : ℕ) (client : List ℕ) (item : ℕ) → Meaning
+reads_line scope number client item = of_client scope number client (λ c. Reads c item)
+
 -- a line of this form, before these lines
 abbrev pub meaning_of_form : Option Form → Scope → (number : ℕ) (later : List (List ℕ)) → Meaning
 meaning_of_form None scope number later = Refused (BadLine number)
@@ -168,6 +175,9 @@ meaning_of_form (Some forms.CrashServer) scope number later = Says CrashServer s
 meaning_of_form (Some (forms.CrashClient client)) scope number later = crash_line scope number client
 meaning_of_form (Some forms.RestartServer) scope number later = Says RestartServer scope
 meaning_of_form (Some (forms.RestartClient client)) scope number later = restart_line scope number client
+meaning_of_form (Some (forms.Queue client)) scope number later = queue_line scope number client
+meaning_of_form (Some (forms.Reads client item)) scope number later = reads_line scope number client item
+meaning_of_form (Some forms.Log) scope number later = Says Log scope
 
 -- the line of this number, before these lines; the rule on bytes and length comes first
 abbrev pub meaning_of : Scope → (number : ℕ) (line : List ℕ) (later : List (List ℕ)) → Meaning

@@ -8,7 +8,7 @@ ghost use Rattle.iot_event.specs.Closing.{closed_by};
 ghost use Rattle.iot_event.specs.Meanings.{Scope, Meaning, nothing_declared, place_of, choice_of, client_line, script_line, run_line};
 ghost use Rattle.iot_event.specs.Meanings.{hoard_line, refresh_line, begin_line, step_line, end_line, show_line, crash_line, restart_line};
 ghost use Rattle.iot_event.specs.Meanings.{connect_line, disconnect_line, lose_line, sync_line, drain_line};
-ghost use Rattle.iot_event.specs.Meanings.{repair_line, discard_line, meaning_of_form};
+ghost use Rattle.iot_event.specs.Meanings.{repair_line, discard_line, queue_line, reads_line, meaning_of_form};
 ghost use Rattle.iot_event.specs.Events.{IsStep, IsStepOf};
 ghost use Rattle.iot_event.specs.Results.{scope_of, AnswersEvent, AnswersKnown, AnswersPath, AnswersScript, Answers};
 
@@ -314,6 +314,22 @@ impl Declared {
         Ok(Event::ShowClient { client })
     }
 
+    /// `queue C`
+    fn queue_line(&self, client: Name, number: u64) -> Result<Event, EventFault>
+        ensures { AnswersEvent (queue_line (scope_of self.now) number client) result self.now }
+    {
+        let client = place_of(&self.clients, client, number)?;
+        Ok(Event::Queue { client })
+    }
+
+    /// `reads C i`
+    fn reads_line(&self, client: Name, item: u64, number: u64) -> Result<Event, EventFault>
+        ensures { AnswersEvent (reads_line (scope_of self.now) number client item) result self.now }
+    {
+        let client = place_of(&self.clients, client, number)?;
+        Ok(Event::Reads { client, item })
+    }
+
     /// A script, from the line after its first on.
     fn script<'a>(
         &mut self,
@@ -414,6 +430,11 @@ impl Declared {
             Form::RestartClient { client } => {
                 after_line(self.restart_line(client, number), later, number)
             }
+            Form::Queue { client } => after_line(self.queue_line(client, number), later, number),
+            Form::Reads { client, item } => {
+                after_line(self.reads_line(client, item, number), later, number)
+            }
+            Form::Log => after_line(Ok(Event::Log), later, number),
         }
     }
 

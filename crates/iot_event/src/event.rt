@@ -128,6 +128,20 @@ pub enum Event {
     RestartClient {
         client: u64,
     },
+
+    /// `queue C`: the transactions of the client that wait, and the one that runs, are printed.
+    Queue {
+        client: u64,
+    },
+
+    /// `reads C i`: what the i-th transaction that waits has read in its first run is printed; `item` is i, from 1.
+    Reads {
+        client: u64,
+        item: u64,
+    },
+
+    /// `log`: what was committed is printed.
+    Log,
 }
 
 /// A script, shared by the event that declares it and all who run it. Contracts see it as its `Code`.

@@ -2,7 +2,7 @@
 ghost use Rattle.std.specs.Prelude.{◌≡◌, map, if◌then◌else◌, Some, None};
 ghost use Rattle.iot_lines.specs.Words.{words};
 ghost use Rattle.iot_text.specs.Names.{is_name};
-ghost use Rattle.iot_event.specs.Forms.{form_of, server_form, client_form, two_words, loss_of, three_words};
+ghost use Rattle.iot_event.specs.Forms.{form_of, one_word, server_form, client_form, two_words, loss_of, three_words};
 ghost use Rattle.iot_event.specs.Forms.{plain_choice, resolver_choice, script_form, four_words, five_words};
 
 use crate::number::number_of;
@@ -13,6 +13,9 @@ use std::marker::Model;
 
 /// How many steps one line asks for at most.
 pub const STEP_LIMIT: u64 = 100_000;
+
+/// The greatest number of a transaction that waits in a line.
+pub const READS_LIMIT: u64 = 1_000_000;
 
 /// How many words the longest form has.
 const WORD_LIMIT: usize = 5;
@@ -168,6 +171,20 @@ pub(crate) enum Form<'a> {
     RestartClient {
         client: Name,
     },
+
+    /// `queue C`
+    Queue {
+        client: Name,
+    },
+
+    /// `reads C i`
+    Reads {
+        client: Name,
+        item: u64,
+    },
+
+    /// `log`
+    Log,
 }
 
 /// A word as a name, if it is one.
@@ -175,6 +192,16 @@ fn name_of(word: &[u8]) -> Option<Name>
     ensures { result ≡ (if is_name word.now then Some word.now else None) }
 {
     Name::parse(word).ok()
+}
+
+/// The form of a line of one word.
+fn one_word(word: &[u8]) -> Option<Form<'static>>
+    ensures { result ≡ one_word word.now }
+{
+    if word == b"log".as_slice() {
+        return Some(Form::Log);
+    }
+    None
 }
 
 /// The form of `show server` and its like, if the second word is `server`.
@@ -236,6 +263,9 @@ fn client_form(first: &[u8], client: Name) -> Option<Form<'static>>
     if first == b"restart".as_slice() {
         return Some(Form::RestartClient { client });
     }
+    if first == b"queue".as_slice() {
+        return Some(Form::Queue { client });
+    }
     None
 }
 
@@ -280,6 +310,12 @@ fn three_words<'a>(first: &[u8], second: &[u8], third: &'a [u8]) -> Option<Form<
         return Some(Form::Step {
             client: name,
             count: number_of(third, STEP_LIMIT)?,
+        });
+    }
+    if first == b"reads".as_slice() {
+        return Some(Form::Reads {
+            client: name,
+            item: number_of(third, READS_LIMIT)?,
         });
     }
     if first == b"lose".as_slice() {
@@ -385,6 +421,7 @@ fn form_of<'a>(found: &[&'a [u8]]) -> Option<Form<'a>>
     ensures { result ≡ form_of (map (λ word. word.now) found.now) }
 {
     match found {
+        [word] => one_word(word),
         [first, second] => two_words(first, second),
         [first, second, third] => three_words(first, second, third),
         [first, second, third, fourth] => four_words(first, second, third, fourth),
