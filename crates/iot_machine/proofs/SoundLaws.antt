@@ -17,6 +17,7 @@ use Rattle.iot_link.specs.declared.passages.Passage.{Passage}
 use Rattle.iot_link.specs.declared.passages.Passage.TheVariants as passages
 use Rattle.iot_event.specs.declared.event.Event.{Event}
 use Rattle.iot_event.specs.declared.event.Event.TheVariants as events
+use Rattle.iot_queue.specs.declared.items.Item as kept
 use Rattle.iot_machine.specs.Calls.{Call, Part, At, either}
 use Rattle.iot_machine.specs.Clients as stages
 use Rattle.iot_machine.specs.Clients.{Declared, Stage, Item, Running, ClientState, Next, AtEnd, AtLimit, Acts, Fetches, Plan, resolution_of}
@@ -42,7 +43,7 @@ use Rattle.iot_machine.specs.Transactions.{Ended, waits_unless, syncs_or_waits, 
 use Rattle.iot_machine.specs.Texts.{fetch_line, conflict_line, tree_text}
 use Rattle.iot_machine.specs.Events.{declare_client, declare_script, Refreshes, run_steps, SyncsIf, runs_script, runs_by, Runs, Drains}
 use Rattle.iot_machine.specs.Events.{Repairs, Discards, IfUp, CrashesClient, cuts_off, comes_back, RestartsClient}
-use Rattle.iot_machine.specs.Events.{counts_anew, RestartsServer, chosen, event_part}
+use Rattle.iot_machine.specs.Events.{counts_anew, RestartsServer, chosen, event_part, ReadsOf, says_reads}
 use Rattle.iot_machine.specs.Sound.{Rise, last_of, IsNewest, AreNumbered, IsNumbered, IsAnother, WaitsFirst, RunsAnother}
 use Rattle.iot_machine.specs.Sound.{IsReady, CanResolve, IsPlanned, HasPlan, HasPlans, IsListed, AreOnce, IsSound}
 use Rattle.iot_machine.proofs.KeepsLaws.{Keeps, Stays, keeps_gets, keeps_asks, keeps_does, stays_answers, stays_says}
@@ -1018,6 +1019,15 @@ module _ (c : ℕ) where
       by_alive true = stays_says
       by_alive false = asks_then (λ name. stays_then (node_stays (back_as name)) (λ _. asks_then by_running))
 
+  -- ---- looking in
+
+  reads_of_sound : (place : ℕ) → StaysSound (ReadsOf c place)
+  reads_of_sound place = asks_then by_item
+    where
+      by_item : (item : Option kept.Item) → StaysSound (says_reads item)
+      by_item None = stays_says
+      by_item (Some item) = stays_says
+
 -- ---- the server's events
 
 -- what leaves its list as it is
@@ -1074,6 +1084,9 @@ event_sound events.CrashServer = crash_sound server_name
 event_sound (events.CrashClient client) = crash_client_sound client
 event_sound events.RestartServer = restart_sound
 event_sound (events.RestartClient client) = restart_client_sound client
+event_sound (events.Queue client) = if_up_sound client stays_says
+event_sound (events.Reads client item) = if_up_sound client (reads_of_sound client item)
+event_sound events.Log = asks_then (keeps_either stays_says stays_says)
 
 pub sound_event : (event : Event) (m n : Machine) (text : List ℕ) → IsSound m → event_part event m text tt n → IsSound n
 sound_event event m n text sound step = (event_sound event).at m n text tt sound step

@@ -1,5 +1,5 @@
 -- What each event does to the plain machine, and what it prints.
-use Rattle.std.specs.Prelude.{ℕ, ◌&&◌, not, Bool, true, false, List, [], ◌∷◌, ◌++◌, Option, None, Some, codes}
+use Rattle.std.specs.Prelude.{ℕ, ◌-◌, ◌&&◌, not, Bool, true, false, List, [], ◌∷◌, ◌++◌, Option, None, Some, codes, map, slice_get}
 use Rattle.iot_tree.specs.declared.want.Want.TheVariants as wanted
 use Rattle.iot_event.specs.declared.event.Choice.{Choice}
 use Rattle.iot_event.specs.declared.event.Choice.TheVariants as choices
@@ -8,6 +8,8 @@ use Rattle.iot_event.specs.declared.event.Event.TheVariants as events
 use Rattle.iot_link.specs.Links as link
 use Rattle.iot_link.specs.Links.{connected, arming}
 use Rattle.iot_link.specs.declared.passages.Loss.{Loss}
+use Rattle.iot_inspect.specs.declared.waiting.RunLine.{RunLine}
+use Rattle.iot_queue.specs.declared.items.Item as kept
 use Rattle.iot_machine.specs.Calls.{Part, Asks, Does, Says, Nothing, Then, At, either, goes_on, OrSays}
 use Rattle.iot_machine.specs.Clients.{Declared, Running, Next, AtEnd, AtLimit, Acts, Fetches, new_client, view, leave, repair, cut}
 use Rattle.iot_machine.specs.Machine.{link_of, set_link, cut_off}
@@ -15,11 +17,12 @@ use Rattle.iot_machine.specs.Machine.{Machine, client_in, node_at, kept_by, scri
 use Rattle.iot_machine.specs.Nodes.{opened}
 use Rattle.iot_machine.specs.Options as options
 use Rattle.iot_machine.specs.Options.{OnConflict}
+use Rattle.iot_machine.specs.Recorded.{queue_kept, labels_of}
 use Rattle.iot_machine.specs.Serving.{server_name}
 use Rattle.iot_machine.specs.Stops.{ComesBack, Crashes, Restarts, Shows}
 use Rattle.iot_machine.specs.Texts.{line, connect_line, disconnect_line, lose_line}
 use Rattle.iot_machine.specs.Texts.{client_line, hoard_line, refresh_line, begin_line, step_line, repair_line, discard_line}
-use Rattle.iot_machine.specs.Texts.{transaction_name, tree_text, cut_line}
+use Rattle.iot_machine.specs.Texts.{transaction_name, tree_text, cut_line, queue_text, reads_text, log_text}
 use Rattle.iot_machine.specs.Transactions.{Notes, IfRuns, runs, pends, says_word, Takes, Begins, StepsAll, next_of, Ends}
 use Rattle.iot_machine.specs.Transactions.{Syncs, SyncsAll, item_name, IfManual}
 
@@ -167,6 +170,42 @@ RestartsServer =
     Then (Asks (λ m. m.server.alive)) (λ alive.
     Then (At server (Restarts server_name)) (λ _. Does (λ _. []) (counts_anew alive)))
 
+-- ---- looking in
+
+-- its running transaction, if one runs, as a line says it
+abbrev pub running_of : (first : Bool) → Option Running → List RunLine
+running_of first None = []
+running_of first (Some it) = record { tid = it.number; script = it.script.name; first = first; acts = it.acts } ∷ []
+
+abbrev pub running_in : ℕ → Machine → List RunLine
+running_in c m = running_of (client_in m c).first (kept_by c m).running
+
+-- its transactions: those that wait, and then the one that runs
+abbrev pub Queues : ℕ → Part Machine
+Queues c = Says (λ m. queue_text (name_of c m) (queue_kept (kept_by c m)) (running_in c m))
+
+-- its transaction at this place of those that wait, from 1
+abbrev pub waiting_at : (c place : ℕ) → Machine → Option kept.Item
+waiting_at c place m = slice_get (queue_kept (kept_by c m)) (place - 1)
+
+abbrev pub says_reads : Option kept.Item → Part Machine
+says_reads None = says_word (codes "nothing")
+says_reads (Some item) = Says (λ _. reads_text item)
+
+-- what that one has read in its own run, if so many wait
+abbrev pub ReadsOf : (c place : ℕ) → Part Machine
+ReadsOf c place = Then (Asks (waiting_at c place)) says_reads
+
+-- the names of its clients
+abbrev pub names_in : Machine → List (List ℕ)
+names_in m = map (λ client. client.name) m.clients
+
+-- what was committed
+abbrev pub Logs : Part Machine
+Logs =
+    Then (Asks (λ m. m.server.alive))
+    (either (Says (λ m. log_text (names_in m) (labels_of m.server.durable))) (says_word (codes "down")))
+
 -- ---- the events
 
 -- what becomes of a transaction that conflicts, as an event says it
@@ -198,3 +237,6 @@ event_part events.CrashServer = At server (Crashes server_name)
 event_part (events.CrashClient client) = CrashesClient client
 event_part events.RestartServer = RestartsServer
 event_part (events.RestartClient client) = RestartsClient client
+event_part (events.Queue client) = IfUp client (Queues client)
+event_part (events.Reads client item) = IfUp client (ReadsOf client item)
+event_part events.Log = Logs

@@ -5,10 +5,12 @@ pub mod Stops
 pub mod Options
 pub mod Clients
 pub mod Machine
+pub mod Recorded
 pub mod Serving
 pub mod Texts
 pub mod Transactions
 pub mod Events
+pub mod Json
 pub mod Transcript
 pub mod Sound
 pub mod Laws

@@ -1,27 +1,15 @@
--- The lines that events print.
+-- The lines that events print. Those that say what nodes hold are of the crate that looks at nodes, and passed on.
 use Rattle.std.specs.Prelude.{ℕ, Bool, true, false, List, [], ◌∷◌, ◌++◌, codes, decimal}
-use Rattle.std.specs.FinMap.{entries}
 use Rattle.std.specs.List.{flat_map}
 use Rattle.iot_text.specs.Paths.{path_text}
-use Rattle.iot_text.specs.Quotes.{quoted}
 use Rattle.iot_link.specs.declared.passages.Loss.{Loss}
 use Rattle.iot_link.specs.declared.passages.Loss.TheVariants.{Request, Reply}
-use Rattle.iot_tree.specs.Tree.{Nodes}
-use Rattle.iot_tree.specs.declared.nodes.Node.{Node}
-use Rattle.iot_tree.specs.declared.nodes.Node.TheVariants.{Dir, File, FarDir, FarFile}
 use Rattle.iot_tree.specs.declared.acts.Act.{Act}
 use Rattle.iot_tree.specs.declared.questions.Question.{Question}
-use Rattle.iot_tree.specs.declared.questions.Question.TheVariants.{Kind, Content, Names}
 use Rattle.iot_tree.specs.declared.labels.Way.{Way}
-use Rattle.iot_tree.specs.declared.labels.Way.TheVariants.{Certified, Reexecuted, Resolved}
-
--- a line ends with a newline
-abbrev pub line : List ℕ → List ℕ
-line text = text ++ 10 ∷ []
-
--- the name of a transaction: its client's name, a dot and its number there
-abbrev pub transaction_name : List ℕ → ℕ → List ℕ
-transaction_name client number = client ++ 46 ∷ decimal number
+pub use Rattle.iot_inspect.specs.Texts.{line, transaction_name, row_text, row_line, rows_text, tree_text}
+pub use Rattle.iot_inspect.specs.Texts.{class_text, question_text, way_text}
+pub use Rattle.iot_inspect.specs.Texts.{queue_text, reads_text, log_text}
 
 -- an output line of a script, after a bar
 abbrev pub output_line : List ℕ → List ℕ
@@ -34,28 +22,6 @@ output lines = flat_map output_line lines
 -- what these acts print
 abbrev pub acts_output : List Act → List ℕ
 acts_output acts = output (flat_map (λ act. act.lines) acts)
-
--- a row of a tree
-abbrev pub row_text : List (List ℕ) → Node → List ℕ
-row_text path Dir = codes "dir " ++ path_text path
-row_text path (File contents) = codes "file " ++ path_text path ++ 32 ∷ quoted contents
-row_text path FarDir = codes "dir " ++ path_text path ++ codes " far"
-row_text path FarFile = codes "file " ++ path_text path ++ codes " far"
-
-abbrev pub row_line : List (List ℕ) → Node → List ℕ
-row_line path node = line (row_text path node)
-
-abbrev pub rows_text : List (List (List ℕ) × Node) → List ℕ
-rows_text rows = flat_map (λ row. row_line row.0 row.1) rows
-
--- all rows in order of their paths
-abbrev pub tree_text : Nodes → List ℕ
-tree_text tree = rows_text (entries tree)
-
-abbrev pub way_text : Way → List ℕ
-way_text Certified = codes "certified"
-way_text Reexecuted = codes "reexecuted"
-way_text Resolved = codes "resolved"
 
 abbrev pub end_line : List ℕ → List ℕ
 end_line tid = line (codes "end " ++ tid)
@@ -75,10 +41,6 @@ hoard_line name path = line (codes "hoard " ++ name ++ 32 ∷ path_text path)
 abbrev pub refresh_line : List ℕ → List ℕ
 refresh_line name = line (codes "refresh " ++ name)
 
-abbrev pub class_text : (first : Bool) → List ℕ
-class_text true = codes "first"
-class_text false = codes "second"
-
 abbrev pub begin_line : List ℕ → List ℕ → (first : Bool) → List ℕ
 begin_line tid script first = line (codes "begin " ++ tid ++ 32 ∷ script ++ 32 ∷ class_text first)
 
@@ -92,11 +54,6 @@ fetch_line path away = line (codes "fetch " ++ path_text path ++ away_text away)
 -- so many acts were done; and this is said of the place
 abbrev pub step_line : List ℕ → ℕ → List ℕ → List ℕ
 step_line tid acts place = line (codes "step " ++ tid ++ 32 ∷ decimal acts ++ codes " acts" ++ place)
-
-abbrev pub question_text : Question → List ℕ
-question_text (Kind p) = codes "kind " ++ path_text p
-question_text (Content p) = codes "content " ++ path_text p
-question_text (Names p) = codes "names " ++ path_text p
 
 abbrev pub conflict_line : List ℕ → ℕ → Question → List ℕ
 conflict_line tid read question = line (codes "conflict " ++ tid ++ codes " read " ++ decimal read ++ 32 ∷ question_text question)
