@@ -100,6 +100,14 @@ one_act : (kept : Kept) (place : Place) (t u : Nodes) (act : Act) (after : Place
 one_act kept Over t u act after next = absurd next
 one_act kept (At code frames env) t u act after next = ap (λ (act : Act). act ∷ []) (sym next.act)
 
+-- it is the act that was done
+pub next_done : (state : State) (class : Option Bool) (i : Interpreter) (act : Act) (after : Place) (u : Nodes) → Facts state class i
+    → IsNextAt (kept_by i.exec) (place i.exec) (view state) act after u → next_acts state i.script.value ≡ act ∷ []
+next_done state class i act after u facts next =
+    next_is state class i facts
+    ∙ one_act empty (place i.exec) (view state) u act after
+    (subst (λ (kept : Kept). IsNextAt kept (place i.exec) (view state) act after u) facts.running.kept_same next)
+
 pub one_miss : (kept : Kept) (place : Place) (t : Nodes) → missed (exec kept 1 place t).acts ≡ next_miss kept place t
 one_miss kept Over t = refl
 one_miss kept (At code frames env) t = refl
@@ -149,10 +157,7 @@ did old new None i j u act acts ended facts can notes next on counted over ends 
 did old new (Some first) i j u act acts ended facts can notes next on counted over ends = record {
   can = can;
   act = act;
-  next =
-      next_is (state_of old) (Some first) i facts
-      ∙ one_act empty (place i.exec) (view (state_of old)) u act (place j.exec)
-      (subst (λ (kept : Kept). IsNextAt kept (place i.exec) (view (state_of old)) act (place j.exec) u) facts.running.kept_same next);
+  next = next_done (state_of old) (Some first) i act (place j.exec) u facts next;
   notes = notes;
   counted =
       counted

@@ -1,7 +1,9 @@
 -- What the calls of a client refuse, change and answer.
-use Rattle.std.specs.Prelude.{◌≡◌, ℕ, ◌+◌, ◌<◌, ◌||◌, Bool, true, false, List, [], ◌∷◌, drop, leb, length, if◌then◌else◌}
+use Rattle.std.specs.Prelude.{◌≡◌, ℕ, ◌+◌, ◌<◌, ◌||◌, Bool, true, false, List, [], ◌∷◌, ◌++◌, drop, leb, length, if◌then◌else◌}
 use Rattle.std.specs.Prelude.{⊤, IsOk, IsSome, Option, Some, None, Result, Ok, Err}
 use Rattle.iot_acts.specs.Traces.{after_acts}
+use Rattle.iot_journal.specs.Decoding.{Encodes}
+use Rattle.iot_journal.specs.Images.{EachDecodesEither}
 use Rattle.iot_tree.specs.Tree.{Path, Nodes, IsWhole}
 use Rattle.iot_tree.specs.declared.acts.Act.{Act}
 use Rattle.iot_tree.specs.declared.limits.TheConstants.{ACT_LIMIT}
@@ -22,10 +24,11 @@ use Rattle.iot_resolve.specs.declared.plan.Plan.{Plan}
 use Rattle.iot_kept.specs.States.{Transaction, State, view}
 use Rattle.iot_kept.specs.Changes.{IsInConflict, CanFollow, after}
 use Rattle.iot_kept.specs.Standing.{EachStandsEither}
+use Rattle.iot_changes.specs.Spelling.{change_spelling}
 use Rattle.iot_changes.specs.declared.changes.Change.{Change}
 use Rattle.iot_changes.specs.declared.changes.Change.TheVariants as changes
 use Rattle.iot_client.specs.Faults.{MayFail}
-use Rattle.iot_client.specs.Messages.{IsRefresh, objects_in, whole_in}
+use Rattle.iot_client.specs.Messages.{IsRefresh, IsToldBy, objects_in, whole_in, noted_in}
 use Rattle.iot_client.specs.Ties.{state_of, place_of, Live, count, run_of}
 use Rattle.iot_client.specs.declared.client.Client.{Client}
 use Rattle.iot_client.specs.declared.fault.ClientFault.{ClientFault}
@@ -134,12 +137,12 @@ pub record Notes {D : Type 0} (change : Change) (old new : Client D) : Type 0 wh
   pub state : state_of new ≡ after (state_of old) change
   pub place : place_of new ≡ place_of old
 
--- a call was stopped while it appended the record of a change that could follow: each image stands for the state before or for the
--- one after it
-pub record StandsEither (images : List ℕ → Type 0) (before : State) : Type 0 where
-  pub change : Change
-  pub follows : CanFollow before change
-  pub either : EachStandsEither images before (after before change)
+-- a call was stopped while it appended the record of this change, which could follow: each image stands for the state before or for the
+-- one after it, and has the records before, or those and the record of the change
+pub record CutsOff (change : Change) (state : State) (bodies : List (List ℕ)) (images : List ℕ → Type 0) : Type 0 where
+  pub follows : CanFollow state change
+  pub either : EachStandsEither images state (after state change)
+  pub one_record : EachDecodesEither images (Encodes bodies) (Encodes (bodies ++ change_spelling change ∷ []))
 
 -- the change is one by the tree that the reply brings
 pub record Brings {D : Type 0} (brought_by : Nodes → Change) (reply : List ℕ) (old new : Client D) : Type 0 where
@@ -147,6 +150,14 @@ pub record Brings {D : Type 0} (brought_by : Nodes → Change) (reply : List ℕ
   pub brought : objects_in reply ≡ Ok tree
   pub spelled : IsMessage IsReply reply_spelling reply (Objects tree)
   pub notes : Notes (brought_by tree) old new
+
+-- it was stopped while it appended that change
+pub record CutsOffByTree (brought_by : Nodes → Change) (reply : List ℕ) (state : State) (bodies : List (List ℕ))
+    (images : List ℕ → Type 0) : Type 0 where
+  pub tree : Nodes
+  pub brought : objects_in reply ≡ Ok tree
+  pub spelled : IsMessage IsReply reply_spelling reply (Objects tree)
+  pub cuts_off : CutsOff (brought_by tree) state bodies images
 
 -- what is so of the first that waits, if there is one
 abbrev pub HeadIsIfAny : (Item → Type 0) → List Item → Type 0
@@ -171,6 +182,13 @@ abbrev pub verdict_change : Noted → Change
 verdict_change (notes.Settled number) = changes.Left
 verdict_change (notes.Conflict read) = changes.Conflicted
 
+-- a call was stopped while it appended the change by what the reply says
+pub record CutsOffByVerdict (reply : List ℕ) (state : State) (bodies : List (List ℕ)) (images : List ℕ → Type 0) : Type 0 where
+  pub said : Noted
+  pub noted : noted_in reply ≡ Ok said
+  pub told : IsToldBy reply said
+  pub cuts_off : CutsOff (verdict_change said) state bodies images
+
 -- what `resolve` needs of the first that waits: it is in conflict, and its option plans a run
 pub record IsPlanned (item : Item) : Type 0 where
   pub stage : IsInConflict item
@@ -192,6 +210,12 @@ pub record Reruns {D : Type 0} (code : Code) (server : Nodes) (old new : Client 
   pub run : IsHeadsRun (state_of old).held (state_of old).items code server done
   pub notes : Notes (changes.Resolved done) old new
 
+-- it was stopped while it appended that change
+pub record CutsOffRerun (code : Code) (server : Nodes) (state : State) (bodies : List (List ℕ)) (images : List ℕ → Type 0) : Type 0 where
+  pub done : Resolution
+  pub run : IsHeadsRun state.held state.items code server done
+  pub cuts_off : CutsOff (changes.Resolved done) state bodies images
+
 -- and the tree is the one that the reply brings
 pub record Resolves {D : Type 0} (reply : List ℕ) (code : Code) (old new : Client D) : Type 0 where
   pub tree : Nodes
@@ -199,6 +223,14 @@ pub record Resolves {D : Type 0} (reply : List ℕ) (code : Code) (old new : Cli
   pub spelled : IsMessage IsReply reply_spelling reply (Objects tree)
   pub whole : IsWhole tree
   pub reruns : Reruns code tree old new
+
+-- so it was if it was stopped while it appended the change
+pub record CutsOffByRun (reply : List ℕ) (code : Code) (state : State) (bodies : List (List ℕ)) (images : List ℕ → Type 0) : Type 0 where
+  pub tree : Nodes
+  pub brought : whole_in reply ≡ Ok tree
+  pub spelled : IsMessage IsReply reply_spelling reply (Objects tree)
+  pub whole : IsWhole tree
+  pub reruns : CutsOffRerun code tree state bodies images
 
 -- if a transaction runs that was begun since the start, it is first class
 abbrev pub IsFirstIfAny : Option Live → Type 0
@@ -245,6 +277,17 @@ pub record DoesNext {D : Type 0} (old : Client D) (live : Live) (acts : ℕ) (en
   pub notes : Notes (changes.Acted act) old new
   pub counted : acts ≡ count (state_of old) + 1
   pub ends : ended ≡ has_ended (state_of new) live.code
+
+-- it was stopped while it appended the record of that act
+pub record CutsOffNext (live : Live) (state : State) (bodies : List (List ℕ)) (images : List ℕ → Type 0) : Type 0 where
+  pub can : CanAct state live
+  pub act : Act
+  pub next : next_acts state live.code ≡ act ∷ []
+  pub cuts_off : CutsOff (changes.Acted act) state bodies images
+
+abbrev pub CutsOffNextIfAny : Option Live → State → List (List ℕ) → (List ℕ → Type 0) → Type 0
+CutsOffNextIfAny None state bodies images = ⊥
+CutsOffNextIfAny (Some live) state bodies images = CutsOffNext live state bodies images
 
 -- the next act of a first-class transaction asks first about this path of those that are away
 pub record Misses {D : Type 0} (old : Client D) (live : Live) (path : Path) (new : Client D) : Type 0 where

@@ -2,7 +2,7 @@
 ghost use Rattle.std.specs.Prelude.{◌≡◌, ◌≤◌, None, IfOk, IfErr, OnOk, IsErrOf};
 ghost use Rattle.iot_codec.specs.Rules.{IsTreeOfRows};
 ghost use Rattle.iot_kept.specs.Changes.{CanFollow};
-ghost use Rattle.iot_client.specs.Calls.{unready, RefusesFor, RefusesReply, Notes, Brings, StandsEither};
+ghost use Rattle.iot_client.specs.Calls.{unready, RefusesFor, RefusesReply, Notes, Brings, CutsOff, CutsOffByTree};
 ghost use Rattle.iot_client.specs.Faults.{CountsFault, MayFail};
 ghost use Rattle.iot_client.specs.Messages.{IsRefresh, objects_in, ReadsObjects};
 
@@ -16,7 +16,7 @@ use iot_tree::{Duplicate, Tree, Want};
 use std::alloc::Global;
 
 impl<D: Disk> Client<D> {
-    ghost use Rattle.iot_client.specs.Ties.{state_of, place_of, disk_of, live_of, IsTied};
+    ghost use Rattle.iot_client.specs.Ties.{state_of, place_of, disk_of, bodies_on, live_of, IsTied};
 
     /// The request for what is wanted, and for what is known of the held tree. It changes nothing.
     ///
@@ -50,7 +50,8 @@ impl<D: Disk> Client<D> {
             self.old self.new result }
         ensures counts { CountsFault result (D.faults (disk_of self.old)) (D.faults (disk_of self.new)) }
         ensures arms { D.arms (disk_of self.new) ≡ D.arms (disk_of self.old) }
-        ensures stopped { IsErrOf result ClientFault.Stopped → StandsEither (D.may_leave (disk_of self.new)) (state_of self.old) }
+        ensures stopped { IsErrOf result ClientFault.Stopped → CutsOffByTree (λ tree. Change.Held tree) reply.now
+            (state_of self.old) (bodies_on D.reads self.old) (D.may_leave (disk_of self.new)) }
     {
         match self.unready() {
             Some(refusal) => Err(refusal),
@@ -71,7 +72,8 @@ impl<D: Disk> Client<D> {
         ensures fails { IfErr result MayFail }
         ensures counts { CountsFault result (D.faults (disk_of self.old)) (D.faults (disk_of self.new)) }
         ensures arms { D.arms (disk_of self.new) ≡ D.arms (disk_of self.old) }
-        ensures stopped { IsErrOf result ClientFault.Stopped → StandsEither (D.may_leave (disk_of self.new)) (state_of self.old) }
+        ensures stopped { IsErrOf result ClientFault.Stopped → CutsOff (Change.Held tree)
+            (state_of self.old) (bodies_on D.reads self.old) (D.may_leave (disk_of self.new)) }
     {
         self.note(alloc, Change::Held(tree))
     }

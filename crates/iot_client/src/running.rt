@@ -5,7 +5,8 @@ ghost use Rattle.iot_text.specs.Names.{IsName};
 ghost use Rattle.iot_exec.specs.Execs.{place, kept_by, next_miss};
 ghost use Rattle.iot_kept.specs.Changes.{CanFollow};
 ghost use Rattle.iot_kept.specs.States.{view};
-ghost use Rattle.iot_client.specs.Calls.{busy, idle, may_end, unended, Refuses, RefusesReply, Notes, Brings, StandsEither};
+ghost use Rattle.iot_client.specs.Calls.{busy, idle, may_end, unended, Refuses, RefusesReply, Notes, Brings};
+ghost use Rattle.iot_client.specs.Calls.{CutsOff, CutsOffByTree, CutsOffNextIfAny};
 ghost use Rattle.iot_client.specs.Calls.{missed_by, second_class, IsFirstIfAny, StepIsIfAny, CanActIfAny, EndsIfAny, CutsIfAny};
 ghost use Rattle.iot_client.specs.Faults.{CountsFault, MayFail};
 ghost use Rattle.iot_client.specs.Messages.{objects_in, ReadsObjects};
@@ -27,7 +28,7 @@ use std::alloc::Global;
 use std::rc::Rc;
 
 impl<D: Disk> Client<D> {
-    ghost use Rattle.iot_client.specs.Ties.{state_of, place_of, disk_of, records_of, live_of, IsTied, IsBegunIfAny};
+    ghost use Rattle.iot_client.specs.Ties.{state_of, place_of, disk_of, bodies_on, records_of, live_of, IsTied, IsBegunIfAny};
 
     /// Begins a transaction of this script, and gives its number. A first-class one needs that none waits.
     ///
@@ -51,7 +52,8 @@ impl<D: Disk> Client<D> {
         ensures refuses { Refuses (busy (state_of self.old).running) self.old self.new result }
         ensures counts { CountsFault result (D.faults (disk_of self.old)) (D.faults (disk_of self.new)) }
         ensures arms { D.arms (disk_of self.new) ≡ D.arms (disk_of self.old) }
-        ensures stopped { IsErrOf result ClientFault.Stopped → StandsEither (D.may_leave (disk_of self.new)) (state_of self.old) }
+        ensures stopped { IsErrOf result ClientFault.Stopped → CutsOff (Change.Begun ((state_of self.old).last + 1) name.now option)
+            (state_of self.old) (bodies_on D.reads self.old) (D.may_leave (disk_of self.new)) }
     {
         match self.busy() {
             Some(fault) => Err(fault),
@@ -76,7 +78,8 @@ impl<D: Disk> Client<D> {
         ensures refuses { Refuses (idle (state_of self.old).running) self.old self.new result }
         ensures counts { CountsFault result (D.faults (disk_of self.old)) (D.faults (disk_of self.new)) }
         ensures arms { D.arms (disk_of self.new) ≡ D.arms (disk_of self.old) }
-        ensures stopped { IsErrOf result ClientFault.Stopped → StandsEither (D.may_leave (disk_of self.new)) (state_of self.old) }
+        ensures stopped { IsErrOf result ClientFault.Stopped → CutsOffNextIfAny (live_of self.old)
+            (state_of self.old) (bodies_on D.reads self.old) (D.may_leave (disk_of self.new)) }
     {
         match self.idle() {
             Some(fault) => Err(fault),
@@ -101,7 +104,8 @@ impl<D: Disk> Client<D> {
         ensures refuses { RefusesReply (idle (state_of self.old).running) (objects_in reply.now) self.old self.new result }
         ensures counts { CountsFault result (D.faults (disk_of self.old)) (D.faults (disk_of self.new)) }
         ensures arms { D.arms (disk_of self.new) ≡ D.arms (disk_of self.old) }
-        ensures stopped { IsErrOf result ClientFault.Stopped → StandsEither (D.may_leave (disk_of self.new)) (state_of self.old) }
+        ensures stopped { IsErrOf result ClientFault.Stopped → CutsOffByTree (λ tree. Change.Fetched tree) reply.now
+            (state_of self.old) (bodies_on D.reads self.old) (D.may_leave (disk_of self.new)) }
     {
         match self.idle() {
             Some(fault) => Err(fault),
@@ -142,7 +146,8 @@ impl<D: Disk> Client<D> {
             self.old self.new result }
         ensures counts { CountsFault result (D.faults (disk_of self.old)) (D.faults (disk_of self.new)) }
         ensures arms { D.arms (disk_of self.new) ≡ D.arms (disk_of self.old) }
-        ensures stopped { IsErrOf result ClientFault.Stopped → StandsEither (D.may_leave (disk_of self.new)) (state_of self.old) }
+        ensures stopped { IsErrOf result ClientFault.Stopped → CutsOff Change.Ended
+            (state_of self.old) (bodies_on D.reads self.old) (D.may_leave (disk_of self.new)) }
     {
         match self.unended() {
             Some(fault) => Err(fault),
@@ -165,7 +170,8 @@ impl<D: Disk> Client<D> {
         ensures refuses { Refuses None self.old self.new result }
         ensures counts { CountsFault result (D.faults (disk_of self.old)) (D.faults (disk_of self.new)) }
         ensures arms { D.arms (disk_of self.new) ≡ D.arms (disk_of self.old) }
-        ensures stopped { IsErrOf result ClientFault.Stopped → StandsEither (D.may_leave (disk_of self.new)) (state_of self.old) }
+        ensures stopped { IsErrOf result ClientFault.Stopped → CutsOff Change.Cut
+            (state_of self.old) (bodies_on D.reads self.old) (D.may_leave (disk_of self.new)) }
     {
         let Some(running) = self.kept.running() else {
             return Ok(None);
@@ -179,7 +185,7 @@ impl<D: Disk> Client<D> {
 
 // What a call does that is not refused.
 impl<D: Disk> Client<D> {
-    ghost use Rattle.iot_client.specs.Ties.{state_of, place_of, disk_of, class_in, live_of, IsTied, IsBegunIfAny};
+    ghost use Rattle.iot_client.specs.Ties.{state_of, place_of, disk_of, bodies_on, class_in, live_of, IsTied, IsBegunIfAny};
 
     fn run(
         &mut self,
@@ -199,7 +205,8 @@ impl<D: Disk> Client<D> {
         ensures fails { IfErr result MayFail }
         ensures counts { CountsFault result (D.faults (disk_of self.old)) (D.faults (disk_of self.new)) }
         ensures arms { D.arms (disk_of self.new) ≡ D.arms (disk_of self.old) }
-        ensures stopped { IsErrOf result ClientFault.Stopped → StandsEither (D.may_leave (disk_of self.new)) (state_of self.old) }
+        ensures stopped { IsErrOf result ClientFault.Stopped → CutsOff (Change.Begun ((state_of self.old).last + 1) script option)
+            (state_of self.old) (bodies_on D.reads self.old) (D.may_leave (disk_of self.new)) }
     {
         names_are_names(&script, &option);
         let interpreter = Interpreter::start(alloc, code)?;
@@ -227,7 +234,8 @@ impl<D: Disk> Client<D> {
         ensures fails { IfErr result MayFail }
         ensures counts { CountsFault result (D.faults (disk_of self.old)) (D.faults (disk_of self.new)) }
         ensures arms { D.arms (disk_of self.new) ≡ D.arms (disk_of self.old) }
-        ensures stopped { IsErrOf result ClientFault.Stopped → StandsEither (D.may_leave (disk_of self.new)) (state_of self.old) }
+        ensures stopped { IsErrOf result ClientFault.Stopped → CutsOff (Change.Fetched tree)
+            (state_of self.old) (bodies_on D.reads self.old) (D.may_leave (disk_of self.new)) }
     {
         let again = again_by(&self.interpreter, alloc)?;
         self.note(alloc, Change::Fetched(tree))?;
@@ -246,7 +254,8 @@ impl<D: Disk> Client<D> {
         ensures fails { IfErr result MayFail }
         ensures counts { CountsFault result (D.faults (disk_of self.old)) (D.faults (disk_of self.new)) }
         ensures arms { D.arms (disk_of self.new) ≡ D.arms (disk_of self.old) }
-        ensures stopped { IsErrOf result ClientFault.Stopped → StandsEither (D.may_leave (disk_of self.new)) (state_of self.old) }
+        ensures stopped { IsErrOf result ClientFault.Stopped → CutsOffNextIfAny (live_of self.old)
+            (state_of self.old) (bodies_on D.reads self.old) (D.may_leave (disk_of self.new)) }
     {
         match self.pause(alloc)? {
             Some(step) => Ok(step),
@@ -303,7 +312,8 @@ impl<D: Disk> Client<D> {
         ensures fails { IfErr result MayFail }
         ensures counts { CountsFault result (D.faults (disk_of self.old)) (D.faults (disk_of self.new)) }
         ensures arms { D.arms (disk_of self.new) ≡ D.arms (disk_of self.old) }
-        ensures stopped { IsErrOf result ClientFault.Stopped → StandsEither (D.may_leave (disk_of self.new)) (state_of self.old) }
+        ensures stopped { IsErrOf result ClientFault.Stopped → CutsOffNextIfAny (live_of self.old)
+            (state_of self.old) (bodies_on D.reads self.old) (D.may_leave (disk_of self.new)) }
     {
         let done = decide_by(&mut self.interpreter, alloc, self.kept.view())?;
         self.note(alloc, Change::Acted(done.act))?;
@@ -325,7 +335,8 @@ impl<D: Disk> Client<D> {
         ensures fails { IfErr result MayFail }
         ensures counts { CountsFault result (D.faults (disk_of self.old)) (D.faults (disk_of self.new)) }
         ensures arms { D.arms (disk_of self.new) ≡ D.arms (disk_of self.old) }
-        ensures stopped { IsErrOf result ClientFault.Stopped → StandsEither (D.may_leave (disk_of self.new)) (state_of self.old) }
+        ensures stopped { IsErrOf result ClientFault.Stopped → CutsOff Change.Ended
+            (state_of self.old) (bodies_on D.reads self.old) (D.may_leave (disk_of self.new)) }
     {
         let Some(running) = self.kept.running() else {
             unreachable!();

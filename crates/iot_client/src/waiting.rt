@@ -4,8 +4,8 @@ ghost use Rattle.iot_changes.specs.Rules.{IsResolution};
 ghost use Rattle.iot_codec.specs.Rules.{IsTreeOfRows};
 ghost use Rattle.iot_kept.specs.Changes.{HeadIs, IsSubmitted};
 ghost use Rattle.iot_kept.specs.States.{view};
-ghost use Rattle.iot_client.specs.Calls.{empty_queue, not_manual, RefusesFor, Refuses, RefusesReply, Notes, StandsEither};
-ghost use Rattle.iot_client.specs.Calls.{HeadIsIfAny, verdict_change, IsPlanned, IsHeadsRun, Reruns, Resolves};
+ghost use Rattle.iot_client.specs.Calls.{empty_queue, not_manual, RefusesFor, Refuses, RefusesReply, Notes, CutsOff, CutsOffByVerdict};
+ghost use Rattle.iot_client.specs.Calls.{HeadIsIfAny, verdict_change, IsPlanned, IsHeadsRun, Reruns, Resolves, CutsOffRerun, CutsOffByRun};
 ghost use Rattle.iot_client.specs.Faults.{CountsFault, MayFail};
 ghost use Rattle.iot_client.specs.Messages.{IsSubmission, whole_in, ReadsObjects, noted_in, ReadsNoted, IsToldBy};
 
@@ -27,7 +27,7 @@ use std::alloc::Global;
 use std::rc::Rc;
 
 impl<D: Disk> Client<D> {
-    ghost use Rattle.iot_client.specs.Ties.{state_of, place_of, disk_of, live_of, IsTied};
+    ghost use Rattle.iot_client.specs.Ties.{state_of, place_of, disk_of, bodies_on, live_of, IsTied};
 
     /// What the first transaction that waits needs of the server: that it be committed with the acts of its run or of its resolution,
     /// or the whole tree on which it is to be resolved, or nothing if it is to be decided by hand. Copies the acts once.
@@ -67,7 +67,8 @@ impl<D: Disk> Client<D> {
         ensures refuses { RefusesReply (empty_queue (state_of self.old).items) (noted_in reply.now) self.old self.new result }
         ensures counts { CountsFault result (D.faults (disk_of self.old)) (D.faults (disk_of self.new)) }
         ensures arms { D.arms (disk_of self.new) ≡ D.arms (disk_of self.old) }
-        ensures stopped { IsErrOf result ClientFault.Stopped → StandsEither (D.may_leave (disk_of self.new)) (state_of self.old) }
+        ensures stopped { IsErrOf result ClientFault.Stopped → CutsOffByVerdict reply.now
+            (state_of self.old) (bodies_on D.reads self.old) (D.may_leave (disk_of self.new)) }
     {
         match self.empty_queue() {
             Some(fault) => Err(fault),
@@ -101,7 +102,8 @@ impl<D: Disk> Client<D> {
         ensures refuses { RefusesReply (empty_queue (state_of self.old).items) (whole_in reply.now) self.old self.new result }
         ensures counts { CountsFault result (D.faults (disk_of self.old)) (D.faults (disk_of self.new)) }
         ensures arms { D.arms (disk_of self.new) ≡ D.arms (disk_of self.old) }
-        ensures stopped { IsErrOf result ClientFault.Stopped → StandsEither (D.may_leave (disk_of self.new)) (state_of self.old) }
+        ensures stopped { IsErrOf result ClientFault.Stopped → CutsOffByRun reply.now script.value
+            (state_of self.old) (bodies_on D.reads self.old) (D.may_leave (disk_of self.new)) }
     {
         match self.empty_queue() {
             Some(fault) => Err(fault),
@@ -126,7 +128,8 @@ impl<D: Disk> Client<D> {
         ensures refuses { Refuses (not_manual (state_of self.old).items) self.old self.new result }
         ensures counts { CountsFault result (D.faults (disk_of self.old)) (D.faults (disk_of self.new)) }
         ensures arms { D.arms (disk_of self.new) ≡ D.arms (disk_of self.old) }
-        ensures stopped { IsErrOf result ClientFault.Stopped → StandsEither (D.may_leave (disk_of self.new)) (state_of self.old) }
+        ensures stopped { IsErrOf result ClientFault.Stopped → CutsOff (Change.Repaired script.now)
+            (state_of self.old) (bodies_on D.reads self.old) (D.may_leave (disk_of self.new)) }
     {
         // A `Name` is always one, as its bytes say.
         let _ = script.as_bytes();
@@ -150,7 +153,8 @@ impl<D: Disk> Client<D> {
         ensures refuses { Refuses (not_manual (state_of self.old).items) self.old self.new result }
         ensures counts { CountsFault result (D.faults (disk_of self.old)) (D.faults (disk_of self.new)) }
         ensures arms { D.arms (disk_of self.new) ≡ D.arms (disk_of self.old) }
-        ensures stopped { IsErrOf result ClientFault.Stopped → StandsEither (D.may_leave (disk_of self.new)) (state_of self.old) }
+        ensures stopped { IsErrOf result ClientFault.Stopped → CutsOff Change.Left
+            (state_of self.old) (bodies_on D.reads self.old) (D.may_leave (disk_of self.new)) }
     {
         match self.not_manual() {
             Some(fault) => Err(fault),
@@ -175,7 +179,8 @@ impl<D: Disk> Client<D> {
         ensures fails { IfErr result MayFail }
         ensures counts { CountsFault result (D.faults (disk_of self.old)) (D.faults (disk_of self.new)) }
         ensures arms { D.arms (disk_of self.new) ≡ D.arms (disk_of self.old) }
-        ensures stopped { IsErrOf result ClientFault.Stopped → StandsEither (D.may_leave (disk_of self.new)) (state_of self.old) }
+        ensures stopped { IsErrOf result ClientFault.Stopped → CutsOffRerun script.value server.now
+            (state_of self.old) (bodies_on D.reads self.old) (D.may_leave (disk_of self.new)) }
     {
         let done = self.resolution(alloc, script, server)?;
         self.settle(alloc, Change::Resolved(done))

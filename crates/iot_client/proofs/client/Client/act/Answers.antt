@@ -5,9 +5,10 @@ use Rattle.iot_kept.specs.Changes.{after}
 use Rattle.iot_kept.specs.States.{view}
 use Rattle.iot_kept.proofs.SyncedLaws.{synced_holds, synced_spelled}
 use Rattle.iot_client.specs.Doing.{DidIfAny}
-use Rattle.iot_client.specs.Ties.{state_of, class_in, live}
+use Rattle.iot_client.specs.Ties.{state_of, bodies_on, disk_of, class_in, live}
+use Rattle.iot_client.specs.declared.fault.ClientFault.TheVariants.{Stopped}
 use Rattle.iot_client.specs.declared.interpreter.Interpreter.{Interpreter}
-use Rattle.iot_client.proofs.DoingLaws.{follows, lives_on, steps_on}
+use Rattle.iot_client.proofs.DoingLaws.{follows, lives_on, next_in_doubt, same_fault, steps_on}
 use Rattle.iot_client.proofs.SpelledLaws.{act_spelled}
 use Rattle.iot_client.proofs.TiesLaws.{RunsIn, carried, runs_acted}
 use Rattle.iot_client.proofs.client.Client.act.Goals as goal
@@ -60,3 +61,14 @@ returns-clause-step g c =
     })
     (subst (λ (i : Option Interpreter). RunsIn (state_of c.note.new.self) (class_in c.note.new.self) i) c.note.ensures.interpreter
     (returns-clause-tied g c).runs)
+
+pub returns-in_err-note-clause-stopped : goal.returns-in_err-note-clause-stopped
+returns-in_err-note-clause-stopped g c =
+    let old = c.args.self.now in
+    λ is.
+    next_in_doubt (state_of old) (class_in old) old.interpreter c.decide_by.new.interpreter c.in_ok-done.done
+    (bodies_on g.D.Disk.reads old) (g.D.Disk.may_leave (disk_of c.note.new.self)) c.requires.tied.runs c.requires.runs c.requires.can
+    (subst (λ (t : Nodes). DidIfAny old.interpreter t c.in_ok-done.done c.decide_by.new.interpreter) c.view.ensures c.in_ok-done.ensures)
+    (c.note.ensures.stopped
+    (same_fault c.note.result c.from_residual-in_err-note.result c.in_err-note.field-0.0 Stopped c.in_err-note.was
+    c.from_residual-in_err-note.ensures.1 is))

@@ -18,3 +18,11 @@ pub returns-in_ok-tree-in-None-clause-brings : goal.returns-in_ok-tree-in-None-c
 returns-in_ok-tree-in-None-clause-brings g c =
     brings c.begin_again.result _ c.args.reply.now c.args.self.now c.begin_again.new.self c.in_ok-tree-in-None.tree
     c.in_ok-tree-in-None.ensures.reads c.in_ok-tree-in-None.ensures.found c.begin_again.ensures.notes
+
+pub returns-in_ok-tree-in-None-clause-stopped : goal.returns-in_ok-tree-in-None-clause-stopped
+returns-in_ok-tree-in-None-clause-stopped g c = λ is. record {
+  tree = c.in_ok-tree-in-None.tree;
+  brought = c.in_ok-tree-in-None.ensures.reads;
+  spelled = c.in_ok-tree-in-None.ensures.found;
+  cuts_off = c.begin_again.ensures.stopped is;
+}

@@ -9,3 +9,11 @@ pub returns-in_ok-tree-in-None-clause-brings : goal.returns-in_ok-tree-in-None-c
 returns-in_ok-tree-in-None-clause-brings g c =
     brings c.hold.result _ c.args.reply.now c.args.self.now c.hold.new.self c.in_ok-tree-in-None.tree c.in_ok-tree-in-None.ensures.reads
     c.in_ok-tree-in-None.ensures.found c.hold.ensures.notes
+
+pub returns-in_ok-tree-in-None-clause-stopped : goal.returns-in_ok-tree-in-None-clause-stopped
+returns-in_ok-tree-in-None-clause-stopped g c = λ is. record {
+  tree = c.in_ok-tree-in-None.tree;
+  brought = c.in_ok-tree-in-None.ensures.reads;
+  spelled = c.in_ok-tree-in-None.ensures.found;
+  cuts_off = c.hold.ensures.stopped is;
+}
