@@ -39,7 +39,7 @@ pub same_declared : {D : Type 0} (world : World D) → SameDeclared world world
 same_declared world = record { clients = refl; scripts = refl }
 
 module _ {D : Type 0} (reads : D → List ℕ) (may_leave : D → List ℕ → Type 0) where
-  name_is : (scripts : List Declared) (laptop : Laptop D) (m : machine.Client) → ClientStands reads may_leave scripts laptop m
+  pub name_is : (scripts : List Declared) (laptop : Laptop D) (m : machine.Client) → ClientStands reads may_leave scripts laptop m
       → laptop.name ≡ m.name
   name_is scripts laptop m (awake here) = here.name
   name_is scripts laptop m (fallen here) = here.name

@@ -6,6 +6,7 @@ pub mod LendingLaws
 pub mod JudgesLaws
 pub mod ScriptsLaws
 pub mod LaptopsLaws
+pub mod ListedLaws
 pub mod LaptopStepsLaws
 pub mod ResolutionLaws
 pub mod BroughtLaws
@@ -30,3 +31,5 @@ pub mod LaptopNodesLaws
 pub mod PassLaws
 pub mod CrashesLaws
 pub mod HoldingLaws
+pub mod LookingLaws
+pub mod ToldLaws

@@ -1,7 +1,9 @@
 -- Lists that are looked up and changed at a place, and lists that go together by place.
 use Rattle.std.proofs.Common.{◌≡◌, ℕ, zero, suc, ◌<◌, List, [], ◌∷◌, ◌++◌, length, refl, ap, subst, arith}
-use Rattle.std.proofs.Common.{slice_get, slice_index_or, slice_set, Some}
-use Rattle.std.proofs.lemmas.Option.{same_Some}
+use Rattle.std.proofs.Common.{slice_get, slice_index_or, slice_set, Option, Some, None, Bor, sym}
+use Rattle.std.proofs.lemmas.Option.{same_Some, slice_get_past, slice_get_read}
+use Rattle.std.specs.Option.{option_copied}
+use Rattle.std.specs.Slice.{IsItemAt}
 use Rattle.iot_world.specs.World.{Each}
 
 -- the element at a place inside does not depend on the default
@@ -107,3 +109,11 @@ each_place_push P [] x all it zero y at = subst (P zero) (same_Some x y at) it
 each_place_push P [] x all it (suc n) y at = absurd cc
 each_place_push P (z ∷ zs) x all it zero y at = all zero y at
 each_place_push P (z ∷ zs) x all it (suc n) y at = each_place_push (λ n. P (suc n)) zs x (λ n y at. all (suc n) y at) it n y at
+
+-- ---- what is lent
+
+-- an element that is lent is the one at its place
+pub lent_element : {A : Type 0} (xs : List A) (place : ℕ) (o : Option (Bor A)) → IsItemAt xs place o
+    → option_copied o ≡ slice_get xs place
+lent_element xs place None it = sym (slice_get_past xs place it.3)
+lent_element xs place (Some x) it = sym (slice_get_read xs (length xs) place x.now refl it.3.0 it.1)

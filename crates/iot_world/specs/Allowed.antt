@@ -1,13 +1,13 @@
 -- Which event may come, if so many clients, and scripts of these names, are declared.
-use Rattle.std.specs.Prelude.{◌≡◌, ℕ, ◌<◌, false, List, length}
+use Rattle.std.specs.Prelude.{◌≡◌, ℕ, ◌<◌, ◌≤◌, false, List, length}
 use Rattle.iot_event.specs.Declarations.{ResolverIsDeclared}
 use Rattle.iot_event.specs.Meanings.{is_declared}
 use Rattle.iot_event.specs.declared.declared.TheConstants.{CLIENT_LIMIT}
 use Rattle.iot_event.specs.declared.event.Event.{Event}
 use Rattle.iot_event.specs.declared.event.Event.TheVariants as events
 
--- there are not too many clients, no script is declared again, and each event is on a client, of a script and with a resolver that are
--- declared
+-- there are not too many clients, no script is declared again, each event is on a client, of a script and with a resolver that are
+-- declared, and those that wait are counted from 1
 abbrev pub IsAllowed : Event → (clients : ℕ) (scripts : List (List ℕ)) → Type 0
 IsAllowed (events.Client name) clients scripts = clients < CLIENT_LIMIT
 IsAllowed (events.Script name code) clients scripts = is_declared name scripts ≡ false
@@ -32,3 +32,6 @@ IsAllowed events.CrashServer clients scripts = Unit {0}
 IsAllowed (events.CrashClient client) clients scripts = client < clients
 IsAllowed events.RestartServer clients scripts = Unit {0}
 IsAllowed (events.RestartClient client) clients scripts = client < clients
+IsAllowed (events.Queue client) clients scripts = client < clients
+IsAllowed (events.Reads client item) clients scripts = (client < clients) × (1 ≤ item)
+IsAllowed events.Log clients scripts = Unit {0}

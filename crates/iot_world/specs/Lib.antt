@@ -8,5 +8,6 @@ pub mod Saying
 pub mod Nodes
 pub mod Laptops
 pub mod World
+pub mod Looks
 pub mod Holding
 pub mod Allowed

@@ -1,26 +1,14 @@
 -- What the server's disk keeps of the machine's list: one record for each commit.
 use Rattle.std.specs.Prelude.{◌≡◌, ℕ, List, [], ◌∷◌, map}
-use Rattle.std.specs.FinMap.{entries}
 use Rattle.iot_tree.specs.Tree.{Nodes, root_alone}
 use Rattle.iot_tree.specs.declared.nodes.Node.TheVariants.{Dir}
-use Rattle.iot_tree.specs.declared.labels.Label.{Label}
 use Rattle.iot_exec.specs.Serial.{run_entry}
 use Rattle.iot_journal.specs.Decoding.{Encodes, decoded}
 use Rattle.iot_store.specs.States.{State, opening}
 use Rattle.iot_store.specs.Records.{record_spelling}
 use Rattle.iot_store.specs.Standing.{Leads}
 use Rattle.iot_machine.specs.Machine.{Commit, tree_after}
-
--- the label of a commit
-abbrev pub label_of : Commit → Label
-label_of commit = record {
-  client = commit.entry.client;
-  tid = commit.entry.number;
-  script = commit.script;
-  budget = commit.entry.budget;
-  way = commit.entry.way;
-  kept = entries commit.entry.kept;
-}
+pub use Rattle.iot_machine.specs.Recorded.{label_of}
 
 -- the records of commits from a tree on: of each its label, and the acts of its script's run
 abbrev pub records_from : List Commit → Nodes → List (List ℕ)

@@ -6,6 +6,7 @@ use Rattle.iot_machine.specs.Clients.{Declared, Item, Running, ClientState}
 use Rattle.iot_machine.specs.Machine.{no_script}
 use Rattle.iot_machine.specs.Options as options
 use Rattle.iot_machine.specs.Options.{OnConflict}
+pub use Rattle.iot_machine.specs.Recorded.{option_named}
 use Rattle.iot_tree.specs.declared.labels.OnConflict as named
 use Rattle.iot_tree.specs.declared.labels.OnConflict.TheVariants as names
 
@@ -52,13 +53,6 @@ pub record AreNamed (scripts : List Declared) (state : ClientState) : Type 0 whe
   pub running : RunIsNamedIfAny scripts state.running
 
 -- ---- options
-
--- an option with its resolver's name alone, as a client keeps it
-abbrev pub option_named : OnConflict Declared → named.OnConflict
-option_named options.Reexec = names.Reexec
-option_named (options.Resolver script) = names.Resolver script.name
-option_named options.Abort = names.Abort
-option_named options.Manual = names.Manual
 
 -- what such an option means among these scripts
 abbrev pub or_none : Option Declared → Declared

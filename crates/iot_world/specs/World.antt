@@ -91,6 +91,10 @@ pub record StandsForSome {D : Type 0} (reads : D → List ℕ) (may_leave : D �
   pub machine : Machine
   pub stands : StandsFor reads may_leave world machine
 
+pub record IsWorldOfSome {D : Type 0} (reads : D → List ℕ) (may_leave : D → List ℕ → Type 0) (world : World D) : Type 0 where
+  pub machine : Machine
+  pub stands : IsWorldOf reads may_leave world machine
+
 -- a change of the world that wrote and answered is a step of the machine by this call
 abbrev pub Steps : {D A : Type 0} → (D → List ℕ) → (D → List ℕ → Type 0) → Call Machine A → (old new : World D)
     → (before after : List ℕ) → A → Type 0

@@ -80,7 +80,7 @@ impl<D: Disk> Laptop<D> {
     }
 
     /// The client, which is alive.
-    fn client(&self) -> &Client<D>
+    pub(crate) fn client(&self) -> &Client<D>
         requires { Stands D.reads D.may_leave self.now }
         ensures { IsLent D.reads D.may_leave self.now result.now }
     {

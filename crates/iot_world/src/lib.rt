@@ -5,6 +5,7 @@ mod answers;
 mod disks;
 mod fault;
 mod laptop;
+mod looking;
 mod message;
 mod node;
 mod objects;

@@ -49,7 +49,7 @@ pub struct World<D: Disk> {
 
 impl<D: Disk> World<D> {
     ghost use Rattle.iot_world.specs.Allowed.{IsAllowed};
-    ghost use Rattle.iot_world.specs.World.{StandsFor, StandsForSome, Steps, EventSteps, DeclaredOn, Opens, HandsAllBack};
+    ghost use Rattle.iot_world.specs.World.{StandsFor, StandsForSome, IsWorldOfSome, Steps, EventSteps, DeclaredOn, Opens, HandsAllBack};
     ghost use Rattle.iot_world.specs.World.{HasDisks, SameDisks, disks_of, AddsClient, AddsScript, SetsServer};
     ghost use Rattle.iot_world.specs.World.{IsInside, ClientIs, IsAlive, IsDown, SameDeclared};
     ghost use Rattle.iot_world.specs.Nodes.{disk_in};
@@ -95,7 +95,7 @@ impl<D: Disk> World<D> {
     /// If memory runs out, or if a disk fails in it.
     pub fn apply(&mut self, alloc: Global, event: &Event, out: &mut Text) -> Result<(), WorldFault>
         requires allowed { IsAllowed event.now (client_count self.old) (script_names self.old) }
-        requires stands { StandsForSome D.reads D.may_leave self.old }
+        requires stands { IsWorldOfSome D.reads D.may_leave self.old }
 
         // Each machine of which this was the world does this event, with the text that was added, and this is its world then: the
         // nodes that are lent are the machine's, and what is in its list goes together with the queues.
@@ -139,6 +139,7 @@ impl<D: Disk> World<D> {
     fn perform(&mut self, alloc: Global, event: &Event, out: &mut Text) -> Result<(), WorldFault>
         requires allowed { IsAllowed event.now (client_count self.old) (script_names self.old) }
         requires stands { StandsForSome D.reads D.may_leave self.old }
+        requires sound { IsWorldOfSome D.reads D.may_leave self.old }
         ensures step { OnOk result (Steps D.reads D.may_leave (event_part event.now) self.old self.new out.old out.new tt) }
         ensures disks { SameDisks D.arms D.faults (CallCountsAll result) self.old self.new }
         ensures declared { OnOk result ((later : List Event) → DeclaredOn (event.now ∷ later) self.old → DeclaredOn later self.new) }
@@ -217,6 +218,17 @@ impl<D: Disk> World<D> {
             Event::CrashClient { client } => self.crash_client(*client, out)?,
             Event::RestartServer => self.restart(alloc, out)?,
             Event::RestartClient { client } => self.restart_client(alloc, *client, out)?,
+            Event::Queue { client } => {
+                if self.is_up(*client, out)? {
+                    self.queue(*client, out)?;
+                }
+            }
+            Event::Reads { client, item } => {
+                if self.is_up(*client, out)? {
+                    self.reads(*client, *item, out)?;
+                }
+            }
+            Event::Log => self.log(alloc, out)?,
         }
         Ok(())
     }

@@ -154,3 +154,33 @@ returns-else-branch-11-clause-step g c =
     (node_down _ _ c.in-ShowClient.client c.args.self.now (rw c.in-ShowClient.is at c.requires.allowed) c.args.out.now
     c.is_up-in-ShowClient.new.out _
     (c.in_ok-is_up-in-ShowClient.ensures.no c.if-branch-11.false))
+
+pub returns-in_ok-queue-in-Queue-clause-step : goal.returns-in_ok-queue-in-Queue-clause-step
+returns-in_ok-queue-in-Queue-clause-step g c =
+    rw c.in-Queue.is
+    (if_up _ _ c.in-Queue.client c.args.self.now (rw c.in-Queue.is at c.requires.allowed) c.args.out.now c.queue.new.out _ c.args.self.now
+    c.is_up-in-Queue.new.out (c.in_ok-is_up-in-Queue.ensures.yes c.if-branch-12.true) c.in_ok-queue-in-Queue.ensures)
+
+pub returns-else-branch-12-clause-step : goal.returns-else-branch-12-clause-step
+returns-else-branch-12-clause-step g c =
+    rw c.in-Queue.is
+    (if_down _ _ c.in-Queue.client c.args.self.now (rw c.in-Queue.is at c.requires.allowed) c.args.out.now c.is_up-in-Queue.new.out _
+    (c.in_ok-is_up-in-Queue.ensures.no c.if-branch-12.false))
+
+pub reads-requires-clause-counts : goal.reads-requires-clause-counts
+reads-requires-clause-counts g c = (rw c.in-Reads.is at c.requires.allowed).1
+
+pub returns-in_ok-reads-in-Reads-clause-step : goal.returns-in_ok-reads-in-Reads-clause-step
+returns-in_ok-reads-in-Reads-clause-step g c =
+    rw c.in-Reads.is
+    (if_up _ _ c.in-Reads.client c.args.self.now (rw c.in-Reads.is at c.requires.allowed).0 c.args.out.now c.reads.new.out _ c.args.self.now
+    c.is_up-in-Reads.new.out (c.in_ok-is_up-in-Reads.ensures.yes c.if-branch-13.true) c.in_ok-reads-in-Reads.ensures)
+
+pub returns-else-branch-13-clause-step : goal.returns-else-branch-13-clause-step
+returns-else-branch-13-clause-step g c =
+    rw c.in-Reads.is
+    (if_down _ _ c.in-Reads.client c.args.self.now (rw c.in-Reads.is at c.requires.allowed).0 c.args.out.now c.is_up-in-Reads.new.out _
+    (c.in_ok-is_up-in-Reads.ensures.no c.if-branch-13.false))
+
+pub returns-in_ok-log-in-Log-clause-step : goal.returns-in_ok-log-in-Log-clause-step
+returns-in_ok-log-in-Log-clause-step g c = rw c.in-Log.is c.in_ok-log-in-Log.ensures
