@@ -1,2 +1,4 @@
 pub mod PlayedLaws
 pub mod EndingsLaws
+pub mod CountingLaws
+pub mod RunningLaws

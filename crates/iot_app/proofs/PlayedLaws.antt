@@ -15,12 +15,12 @@ use Rattle.iot_machine.specs.Events.{event_part}
 use Rattle.iot_machine.specs.Transcript.{InTurn, Transcript}
 use Rattle.iot_world.specs.Allowed.{IsAllowed}
 use Rattle.iot_world.specs.Faults.{FaultCountsAll}
-use Rattle.iot_world.specs.World.{StandsFor, IsWorldOf, EventSteps, DeclaredOn, IsOpened, client_count, script_names}
+use Rattle.iot_world.specs.World.{StandsFor, IsWorldOf, IsWorldOfSome, EventSteps, DeclaredOn, IsOpened, client_count, script_names}
 use Rattle.iot_world.specs.declared.fault.WorldFault.{WorldFault}
 use Rattle.iot_world.specs.declared.fault.WorldFault.TheVariants as world
 use Rattle.iot_world.specs.declared.world.World.{World}
 use Rattle.iot_app.specs.Faults.{ended_by}
-use Rattle.iot_app.specs.Played.{WroteAll, WroteFirst, WroteCut, Played}
+use Rattle.iot_app.specs.Played.{Reported, WroteFirst, WroteCut, Played}
 use Rattle.iot_app.specs.Status.{SinkCounts, DiskCounts}
 use Rattle.iot_app.specs.declared.status.Status.{Status}
 use Rattle.iot_app.specs.declared.status.Status.TheVariants as statuses
@@ -73,43 +73,42 @@ allowed events.CrashServer later world declared = tt
 allowed (events.CrashClient client) later world declared = declared.0
 allowed events.RestartServer later world declared = tt
 allowed (events.RestartClient client) later world declared = declared.0
+allowed (events.Queue client) later world declared = declared.0
+allowed (events.Reads client item) later world declared = (declared.0, declared.1)
+allowed events.Log later world declared = tt
 
--- the first so many events are done and what they say is written
-pub record PlaysOn {D : Type 0} (reads : D → List ℕ) (may_leave : D → List ℕ → Type 0) (before after : Option (List ℕ))
+-- the first so many events are done, and of what they say this holds
+pub record PlaysOn {D : Type 0} (reads : D → List ℕ) (may_leave : D → List ℕ → Type 0) (so : List ℕ → Type 0)
     (events : List Event) (world : World D) (done : ℕ) : Type 0 where
   pub text : List ℕ
   pub machine : Machine
   pub transcript : Transcript (take done events) text machine
   pub stands : IsWorldOf reads may_leave world machine
-  pub written : Appends before after text
+  pub said : so text
   pub declared : DeclaredOn (drop done events) world
 
-pub appends_none : (written : Option (List ℕ)) → Appends written written []
-appends_none None = tt
-appends_none (Some bytes) = sym (append-nil bytes)
-
 -- nothing is done yet
-pub plays_none : {D : Type 0} (reads : D → List ℕ) (may_leave : D → List ℕ → Type 0) (before after : Option (List ℕ)) (events : List Event)
+pub plays_none : {D : Type 0} (reads : D → List ℕ) (may_leave : D → List ℕ → Type 0) (so : List ℕ → Type 0) (events : List Event)
     (world : World D)
-    → IsOpened reads may_leave world → AreDeclared events 0 [] → Appends before after []
-    → PlaysOn reads may_leave before after events world 0
-plays_none reads may_leave before after events world is declared written = record {
+    → IsOpened reads may_leave world → AreDeclared events 0 [] → so []
+    → PlaysOn reads may_leave so events world 0
+plays_none reads may_leave so events world is declared said = record {
   text = [];
   machine = opening;
   transcript = (refl, refl);
   stands = is.stands;
-  written = written;
+  said = said;
   declared =
       subst (λ (n : ℕ). AreDeclared events n (script_names world)) (sym is.no_clients)
       (subst (AreDeclared events 0) (sym is.no_scripts) declared);
 }
 
--- the event that is done next, and its text
-module _ {D : Type 0} (reads : D → List ℕ) (may_leave : D → List ℕ → Type 0) (before mid : Option (List ℕ)) (events : List Event)
-    (old new : World D) (done : ℕ) (event : Event) (out : List ℕ)
-    (plays : PlaysOn reads may_leave before mid events old done) (within : done < length events)
+-- the event that is done next, and the text that it is added to
+module _ {D : Type 0} (reads : D → List ℕ) (may_leave : D → List ℕ → Type 0) (so : List ℕ → Type 0) (events : List Event)
+    (old new : World D) (done : ℕ) (event : Event) (before after : List ℕ)
+    (plays : PlaysOn reads may_leave so events old done) (within : done < length events)
     (here : event ≡ slice_index_or events done event)
-    (refines : EventSteps reads may_leave event old new [] out) where
+    (refines : EventSteps reads may_leave event old new before after) where
   front : take (done + 1) events ≡ take done events ++ event ∷ []
   front =
       ap (λ (k : ℕ). take k events) (add-one done) ∙ take-suc events done event within
@@ -121,39 +120,38 @@ module _ {D : Type 0} (reads : D → List ℕ) (may_leave : D → List ℕ → T
       ∙ ap (λ (k : ℕ). event ∷ drop k events) (sym (add-one done))
 
   record Next : Type 0 where
+    says : List ℕ
     machine : Machine
-    last : event_part event plays.machine out tt machine
+    is : after ≡ before ++ says
+    last : event_part event plays.machine says tt machine
     stands : IsWorldOf reads may_leave new machine
 
   next : Next
   next =
       let step = refines.step plays.machine plays.stands in
-      record {
-        machine = step.1;
-        last = subst (λ (t : List ℕ). event_part event plays.machine t tt step.1) (sym step.2) step.3;
-        stands = step.4;
-      }
+      record { says = step.0; machine = step.1; is = step.2; last = step.3; stands = step.4 }
 
-  -- it is done, and what it says is written
-  pub plays_more : (after : Option (List ℕ))
+  -- it is done, and what it says is added
+  pub plays_more : (so_then : List ℕ → Type 0)
       → ((later : List Event) → DeclaredOn (event ∷ later) old → DeclaredOn later new)
-      → Appends mid after out
-      → PlaysOn reads may_leave before after events new (done + 1)
-  plays_more after declares appends = record {
-    text = plays.text ++ out;
+      → ((text says : List ℕ) → after ≡ before ++ says → so text → so_then (text ++ says))
+      → PlaysOn reads may_leave so_then events new (done + 1)
+  plays_more so_then declares adds = record {
+    text = plays.text ++ next.says;
     machine = next.machine;
     transcript =
-        subst (λ (es : List Event). Transcript es (plays.text ++ out) next.machine) (sym front)
-        (InTurn-append (take done events) event opening plays.machine next.machine plays.text out plays.transcript next.last);
+        subst (λ (es : List Event). Transcript es (plays.text ++ next.says) next.machine) (sym front)
+        (InTurn-append (take done events) event opening plays.machine next.machine plays.text next.says plays.transcript next.last);
     stands = next.stands;
-    written = Appends-trans before mid after plays.text out plays.written appends;
+    said = adds plays.text next.says next.is plays.said;
     declared = declares (drop (done + 1) events) (subst (λ (es : List Event). DeclaredOn es old) rest plays.declared);
   }
 
-  -- it is done, and only a front of what it says is written
-  pub plays_cut : (after : Option (List ℕ)) (count : ℕ) → count < length out → Appends mid after (take count out)
-      → WroteCut (Appends before after) (StandsFor reads may_leave new) events
-  plays_cut after count cut appends = record {
+  -- it is done, and of its text, which is all that there is, only a front is written
+  pub plays_cut : (wrote : List ℕ → Type 0) (count : ℕ) → before ≡ [] → count < length after
+      → ((text : List ℕ) → so text → wrote (text ++ take count after))
+      → WroteCut wrote (StandsFor reads may_leave new) events
+  plays_cut wrote count none cut adds = record {
     earlier = take done events;
     event = event;
     later = drop (done + 1) events;
@@ -161,46 +159,72 @@ module _ {D : Type 0} (reads : D → List ℕ) (may_leave : D → List ℕ → T
     text = plays.text;
     before = plays.machine;
     transcript = plays.transcript;
-    says = out;
+    says = after;
     machine = next.machine;
-    last = next.last;
+    last =
+        subst (λ (t : List ℕ). event_part event plays.machine t tt next.machine)
+        (sym (next.is ∙ ap (λ (t : List ℕ). t ++ next.says) none)) next.last;
     count = count;
     cut = cut;
-    written = Appends-trans before mid after plays.text (take count out) plays.written appends;
+    written = adds plays.text plays.said;
     kept = next.stands.stands;
   }
 
-module _ {D : Type 0} (reads : D → List ℕ) (may_leave : D → List ℕ → Type 0) (before after : Option (List ℕ)) (events : List Event)
+module _ {D : Type 0} (reads : D → List ℕ) (may_leave : D → List ℕ → Type 0) (so : List ℕ → Type 0) (events : List Event)
     (world : World D) where
   -- what was written before an event is a transcript of those before it
-  pub plays_first : (done : ℕ) → PlaysOn reads may_leave before after events world done → WroteFirst (Appends before after) events
+  pub plays_first : (done : ℕ) → PlaysOn reads may_leave so events world done → WroteFirst so events
   plays_first done plays = record {
     done = done;
     text = plays.text;
     machine = plays.machine;
     transcript = plays.transcript;
-    written = plays.written;
+    written = plays.said;
   }
 
   -- all are done
-  pub plays_all : (done : ℕ) → length events ≤ done → PlaysOn reads may_leave before after events world done
-      → WroteAll (Appends before after) (StandsFor reads may_leave world) events
+  pub whole_transcript : (done : ℕ) (plays : PlaysOn reads may_leave so events world done) → length events ≤ done
+      → Transcript events plays.text plays.machine
+  whole_transcript done plays whole =
+      subst (λ (es : List Event). Transcript es plays.text plays.machine) (take_all done events whole) plays.transcript
+
+  pub plays_all : (done : ℕ) → length events ≤ done → PlaysOn reads may_leave so events world done
+      → Reported so (StandsFor reads may_leave world) (λ transcript m. transcript) events
   plays_all done whole plays = record {
-    text = plays.text;
-    machine = plays.machine;
-    transcript = subst (λ (es : List Event). Transcript es plays.text plays.machine) (take_all done events whole) plays.transcript;
-    written = plays.written;
-    kept = plays.stands.stands;
+    ran = record {
+      text = plays.text;
+      machine = plays.machine;
+      transcript = whole_transcript done plays whole;
+      kept = plays.stands.stands;
+    };
+    written = plays.said;
   }
 
   -- the next event may come
-  pub next_allowed : (done : ℕ) (event : Event) → PlaysOn reads may_leave before after events world done → done < length events
+  pub next_allowed : (done : ℕ) (event : Event) → PlaysOn reads may_leave so events world done → done < length events
       → event ≡ slice_index_or events done event
       → IsAllowed event (client_count world) (script_names world)
   next_allowed done event plays within here =
       allowed event (drop (suc done) events) world
       (subst (λ (es : List Event). DeclaredOn es world)
       (drop-cons events done event within ∙ ap (λ (e : Event). e ∷ drop (suc done) events) (sym here)) plays.declared)
+
+  -- in a world that stands for a machine
+  pub plays_some : (done : ℕ) → PlaysOn reads may_leave so events world done → IsWorldOfSome reads may_leave world
+  plays_some done plays = record { machine = plays.machine; stands = plays.stands }
+
+-- ---- what is written
+
+pub appends_none : (written : Option (List ℕ)) → Appends written written []
+appends_none None = tt
+appends_none (Some bytes) = sym (append-nil bytes)
+
+-- what an event says is written behind what those before it said
+pub appends_more : (first mid last : Option (List ℕ)) (before after : List ℕ) → before ≡ [] → Appends mid last after
+    → (text says : List ℕ) → after ≡ before ++ says → Appends first mid text → Appends first last (text ++ says)
+appends_more first mid last before after none written text says is earlier =
+    Appends-trans first mid last text says earlier
+    (subst (Appends mid last) (is ∙ ap (λ (t : List ℕ). t ++ says) none) written)
 
 -- ---- how it ends
 
@@ -226,33 +250,44 @@ fault_disk world.NoMemory before after counts = counts
 fault_disk world.DiskFailed before after counts = counts
 
 -- what the disks hold, in other words
+pub reported_as : (wrote : List ℕ → Type 0) (says : List ℕ → Machine → List ℕ) (one other : Machine → Type 0) (events : List Event)
+    → ((m : Machine) → one m → other m) → Reported wrote one says events → Reported wrote other says events
+reported_as wrote says one other events means reported = record {
+  ran = record {
+    text = reported.ran.text;
+    machine = reported.ran.machine;
+    transcript = reported.ran.transcript;
+    kept = means reported.ran.machine reported.ran.kept;
+  };
+  written = reported.written;
+}
+
+cut_as : (wrote : List ℕ → Type 0) (one other : Machine → Type 0) (events : List Event) → ((m : Machine) → one m → other m)
+    → WroteCut wrote one events → WroteCut wrote other events
+cut_as wrote one other events means cut = record {
+  earlier = cut.earlier;
+  event = cut.event;
+  later = cut.later;
+  split = cut.split;
+  text = cut.text;
+  before = cut.before;
+  transcript = cut.transcript;
+  says = cut.says;
+  machine = cut.machine;
+  last = cut.last;
+  count = cut.count;
+  cut = cut.cut;
+  written = cut.written;
+  kept = means cut.machine cut.kept;
+}
+
 pub holds_as : (status : Status) (wrote : List ℕ → Type 0) (one other : Machine → Type 0) (events : List Event)
     → ((m : Machine) → one m → other m) → Played status wrote one events → Played status wrote other events
-holds_as statuses.Done wrote one other events means played = record {
-  text = played.text;
-  machine = played.machine;
-  transcript = played.transcript;
-  written = played.written;
-  kept = means played.machine played.kept;
-}
+holds_as statuses.Done wrote one other events means played = reported_as wrote (λ transcript m. transcript) one other events means played
 holds_as statuses.Refused wrote one other events means played = absurd played
 holds_as statuses.Usage wrote one other events means played = absurd played
 holds_as statuses.ReadFailed wrote one other events means played = absurd played
-holds_as statuses.WriteFailed wrote one other events means played = record {
-  earlier = played.earlier;
-  event = played.event;
-  later = played.later;
-  split = played.split;
-  text = played.text;
-  before = played.before;
-  transcript = played.transcript;
-  says = played.says;
-  machine = played.machine;
-  last = played.last;
-  count = played.count;
-  cut = played.cut;
-  written = played.written;
-  kept = means played.machine played.kept;
-}
+holds_as statuses.WriteFailed wrote one other events means played = cut_as wrote one other events means played
 holds_as statuses.NoMemory wrote one other events means played = played
+holds_as statuses.SaveFailed wrote one other events means played = absurd played
 holds_as statuses.DiskFailed wrote one other events means played = played

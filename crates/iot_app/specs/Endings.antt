@@ -1,65 +1,77 @@
--- What a run of the program has done, by the status that it ends with.
-use Rattle.std.specs.Prelude.{◌≡◌, ◌⊎◌, ℕ, ◌<◌, List, [], length, take}
-use Rattle.iot_event.specs.Events.{Events}
+-- How a run of the program ends.
+use Rattle.std.specs.Prelude.{◌≡◌, ◌⊎◌, ℕ, false, List, [], Option, None, Some}
 use Rattle.iot_event.specs.declared.event.Event.{Event}
 use Rattle.iot_machine.specs.Machine.{Machine}
-use Rattle.iot_app.specs.Input.{TookInput, TookSome, IsRefused}
-use Rattle.iot_app.specs.Played.{WroteAll, WroteFirst, WroteCut}
+use Rattle.iot_words.specs.Jobs.{job_of}
+use Rattle.iot_words.specs.declared.jobs.Job.{Job}
+use Rattle.iot_app.specs.Doing.{Did}
+use Rattle.iot_app.specs.Input.{TookSome, IsRefused}
+use Rattle.iot_app.specs.Outputs.{is_generated, GivesEvents}
+use Rattle.iot_app.specs.Played.{WroteFront}
 use Rattle.iot_app.specs.Refusals.{usage_line}
 use Rattle.iot_app.specs.declared.status.Status.{Status}
-use Rattle.iot_app.specs.declared.status.Status.TheVariants.{Done, Refused, Usage, ReadFailed, WriteFailed, NoMemory, DiskFailed}
+use Rattle.iot_app.specs.declared.status.Status.TheVariants.{Done, Refused, Usage, ReadFailed, WriteFailed, NoMemory, SaveFailed}
+use Rattle.iot_app.specs.declared.status.Status.TheVariants.{DiskFailed}
 
--- What can be seen of a run: how many words the command line had; which bytes were taken from the source, and whether nothing is
--- left there; which bytes were written to the sink; which machine the disks hold; whether they are as they were.
+-- What can be seen of a run but for its words: which bytes were taken from the source, and whether nothing is left there; which bytes
+-- were written to the sink; which machine the disks hold, and what the first of them reads as; whether they are as they were.
 pub record Effects : Type 1 where
-  pub words : ℕ
   pub took : List ℕ → Type 0
   pub at_end : Type 0
   pub wrote : List ℕ → Type 0
   pub holds : Machine → Type 0
+  pub disk : List ℕ
   pub untouched : Type 0
 
--- only a front of a text was written
-pub record WroteFront (wrote : List ℕ → Type 0) (text : List ℕ) : Type 0 where
-  pub count : ℕ
-  pub cut : count < length text
-  pub written : wrote (take count text)
-
--- there were words: nothing was read, no event was done, and so much was written of the usage line
-pub record OnWords (it : Effects) (wrote : List ℕ → Type 0) : Type 0 where
-  pub some_words : 0 < it.words
+-- nothing was read and no event was done, and this was written
+pub record DidNothing (it : Effects) (written : Type 0) : Type 0 where
   pub unread : it.took []
   pub undone : it.untouched
-  pub written : wrote usage_line
+  pub wrote : written
+
+-- the input was read in part, no event was done, and nothing was written
+pub record ReadInPart (it : Effects) (job : Job) : Type 0 where
+  pub reads : is_generated job ≡ false
+  pub some : TookSome it.took
+  pub undone : it.untouched
+  pub written : it.wrote []
 
 -- the input is refused: no event was done, and so much was written of the line that says why
-pub record OnRefusal (it : Effects) (wrote : List ℕ → Type 0) : Type 0 where
-  pub no_words : it.words ≡ 0
+pub record OnRefusal (it : Effects) (wrote : List ℕ → Type 0) (job : Job) : Type 0 where
+  pub reads : is_generated job ≡ false
   pub text : List ℕ
   pub refused : IsRefused it.took it.at_end text
   pub undone : it.untouched
   pub written : wrote text
 
--- the input was read to its end and is an event script, of whose events so much was written
-pub record OnScript (it : Effects) (wrote : List Event → Type 0) : Type 0 where
-  pub no_words : it.words ≡ 0
+-- the job has these events, and of them and their output that much was done
+pub record OnEvents (it : Effects) (job : Job) (status : Status) : Type 0 where
   pub events : List Event
-  pub given : TookInput it.took it.at_end (Events events)
-  pub written : wrote events
+  pub given : GivesEvents job it.took it.at_end events
+  pub did : Did it.wrote it.holds it.disk job status events
 
--- nothing was written, and no event was done
-pub record WroteNothing (it : Effects) : Type 0 where
-  pub no_words : it.words ≡ 0
-  pub some : TookSome it.took
-  pub undone : it.untouched
-  pub written : it.wrote []
+-- how a run ends whose words name this job
+abbrev pub JobEnds : Effects → Job → Status → Type 0
+JobEnds it job Done = OnEvents it job Done
+JobEnds it job Refused = OnRefusal it it.wrote job
+JobEnds it job Usage = ⊥
+JobEnds it job ReadFailed = ReadInPart it job
+JobEnds it job WriteFailed = OnRefusal it (WroteFront it.wrote) job ⊎ OnEvents it job WriteFailed
+JobEnds it job NoMemory = DidNothing it (it.wrote []) ⊎ ReadInPart it job ⊎ OnEvents it job NoMemory
+JobEnds it job SaveFailed = OnEvents it job SaveFailed
+JobEnds it job DiskFailed = OnEvents it job DiskFailed
 
--- how a run ends with each status
-abbrev pub Ends : Effects → Status → Type 0
-Ends it Done = OnScript it (WroteAll it.wrote it.holds)
-Ends it Refused = OnRefusal it it.wrote
-Ends it Usage = OnWords it it.wrote
-Ends it ReadFailed = WroteNothing it
-Ends it WriteFailed = OnWords it (WroteFront it.wrote) ⊎ OnRefusal it (WroteFront it.wrote) ⊎ OnScript it (WroteCut it.wrote it.holds)
-Ends it NoMemory = WroteNothing it ⊎ OnScript it (WroteFirst it.wrote)
-Ends it DiskFailed = OnScript it (WroteFirst it.wrote)
+-- and one whose words name none
+abbrev pub UsageEnds : Effects → Status → Type 0
+UsageEnds it Usage = DidNothing it (it.wrote usage_line)
+UsageEnds it WriteFailed = DidNothing it (WroteFront it.wrote usage_line)
+UsageEnds it NoMemory = DidNothing it (it.wrote [])
+UsageEnds it status = ⊥
+
+abbrev pub EndsBy : Option Job → Effects → Status → Type 0
+EndsBy None it status = UsageEnds it status
+EndsBy (Some job) it status = JobEnds it job status
+
+-- how a run with these words ends
+abbrev pub Ends : (words : List (List ℕ)) → Effects → Status → Type 0
+Ends words it status = EndsBy (job_of words) it status

@@ -1,18 +1,23 @@
 -- How the steps of a run end, which `Endings` says of the whole.
 use Rattle.std.specs.Prelude.{◌≡◌, ◌⊎◌, ℕ, List, []}
 use Rattle.iot_count.specs.Counts.{Counted, HasRisen, IsSteady}
-use Rattle.iot_app.specs.Endings.{WroteFront}
-use Rattle.iot_app.specs.Refusals.{too_long_line, refusal_line}
+use Rattle.iot_words.specs.declared.faults.WordsFault.{WordsFault}
+use Rattle.iot_words.specs.declared.faults.WordsFault.TheVariants as words
+use Rattle.iot_words.specs.declared.jobs.Job.{Job}
+use Rattle.iot_words.specs.declared.jobs.Job.TheVariants.{Generate}
+use Rattle.iot_app.specs.Input.{TookFor}
+use Rattle.iot_app.specs.Played.{WroteFront}
+use Rattle.iot_app.specs.Refusals.{usage_line, too_long_line, refusal_line}
 use Rattle.iot_app.specs.declared.input.InputFault.{InputFault}
 use Rattle.iot_app.specs.declared.input.InputFault.TheVariants as inputs
 use Rattle.iot_app.specs.declared.status.Status.{Status}
-use Rattle.iot_app.specs.declared.status.Status.TheVariants.{Refused, ReadFailed, WriteFailed, NoMemory}
+use Rattle.iot_app.specs.declared.status.Status.TheVariants.{Refused, Usage, ReadFailed, WriteFailed, NoMemory}
 
--- the line was written and the status is the one that was asked for, or a front of it was and a write failed
-pub data LineEnds (asked : Status) (text : List ℕ) (status : Status) (wrote : List ℕ → Type 0) (faults empties : Counted) : Type 0 where
-  whole : status ≡ asked → wrote text → IsSteady faults → IsSteady empties → LineEnds asked text status wrote faults empties
+-- the text was written and the status is the one that was asked for, or a front of it was and a write failed
+pub data TextEnds (asked : Status) (text : List ℕ) (status : Status) (wrote : List ℕ → Type 0) (faults empties : Counted) : Type 0 where
+  whole : status ≡ asked → wrote text → IsSteady faults → IsSteady empties → TextEnds asked text status wrote faults empties
   front : status ≡ WriteFailed → WroteFront wrote text → HasRisen faults ⊎ HasRisen empties
-      → LineEnds asked text status wrote faults empties
+      → TextEnds asked text status wrote faults empties
 
 -- nothing was written
 pub record NothingEnds (asked status : Status) (wrote : List ℕ → Type 0) (faults empties : Counted) : Type 0 where
@@ -25,6 +30,16 @@ pub record NothingEnds (asked status : Status) (wrote : List ℕ → Type 0) (fa
 abbrev pub RefusalEnds : InputFault → Status → (List ℕ → Type 0) → (faults empties : Counted) → Type 0
 RefusalEnds inputs.NoMemory status wrote faults empties = NothingEnds NoMemory status wrote faults empties
 RefusalEnds inputs.Failed status wrote faults empties = NothingEnds ReadFailed status wrote faults empties
-RefusalEnds inputs.TooLong status wrote faults empties = LineEnds Refused too_long_line status wrote faults empties
+RefusalEnds inputs.TooLong status wrote faults empties = TextEnds Refused too_long_line status wrote faults empties
 RefusalEnds (inputs.NoScript fault) status wrote faults empties =
-    LineEnds Refused (refusal_line fault) status wrote faults empties ⊎ NothingEnds NoMemory status wrote faults empties
+    TextEnds Refused (refusal_line fault) status wrote faults empties ⊎ NothingEnds NoMemory status wrote faults empties
+
+-- how a run ends whose words name no job, or could not be read
+abbrev pub WordsEnd : WordsFault → Status → (List ℕ → Type 0) → (faults empties : Counted) → Type 0
+WordsEnd words.NoMemory status wrote faults empties = NothingEnds NoMemory status wrote faults empties
+WordsEnd words.Refused status wrote faults empties = TextEnds Usage usage_line status wrote faults empties
+
+-- what was read, if a job has no events: a generated text has them unless memory runs out
+abbrev pub GivesNone : Job → InputFault → (List ℕ → Type 0) → Type 0 → Type 0
+GivesNone (Generate n) fault took at_end = (fault ≡ inputs.NoMemory) × took []
+GivesNone other fault took at_end = TookFor fault took at_end

@@ -2,7 +2,13 @@ pub mod Status
 pub mod Refusals
 pub mod InputFaults
 pub mod Input
+pub mod Summary
+pub mod Counting
+pub mod Outputs
 pub mod Played
+pub mod Running
+pub mod Saving
+pub mod Doing
 pub mod Endings
 pub mod Job
 pub mod Faults

@@ -1,5 +1,5 @@
--- What was written of the events of a script. `wrote bytes` says that these bytes were written to the sink, and `holds m`
--- that the disks hold what this machine keeps.
+-- What was done of some events, and what was written of what they say. `wrote bytes` says that these bytes were written to the sink,
+-- and `holds m` that the disks hold what this machine keeps.
 use Rattle.std.specs.Prelude.{◌≡◌, ℕ, ◌<◌, List, ◌∷◌, ◌++◌, length, take}
 use Rattle.iot_event.specs.declared.event.Event.{Event}
 use Rattle.iot_machine.specs.Machine.{Machine}
@@ -8,13 +8,24 @@ use Rattle.iot_machine.specs.Transcript.{Transcript}
 use Rattle.iot_app.specs.declared.status.Status.{Status}
 use Rattle.iot_app.specs.declared.status.Status.TheVariants.{Done, WriteFailed, NoMemory, DiskFailed}
 
--- all events were done, a transcript of them was written, and the disks hold what the machine keeps at its end
-pub record WroteAll (wrote : List ℕ → Type 0) (holds : Machine → Type 0) (events : List Event) : Type 0 where
+-- all events were done: this is a whole transcript of them, written or not, and the disks hold what the machine keeps at its end
+pub record RanAll (holds : Machine → Type 0) (events : List Event) : Type 0 where
   pub text : List ℕ
   pub machine : Machine
   pub transcript : Transcript events text machine
-  pub written : wrote text
   pub kept : holds machine
+
+-- and what is to be said of such a run was written
+pub record Reported (wrote : List ℕ → Type 0) (holds : Machine → Type 0) (says : (transcript : List ℕ) → Machine → List ℕ)
+    (events : List Event) : Type 0 where
+  pub ran : RanAll holds events
+  pub written : wrote (says ran.text ran.machine)
+
+-- only a front of a text was written
+pub record WroteFront (wrote : List ℕ → Type 0) (text : List ℕ) : Type 0 where
+  pub count : ℕ
+  pub cut : count < length text
+  pub written : wrote (take count text)
 
 -- a transcript of the first so many events was written
 pub record WroteFirst (wrote : List ℕ → Type 0) (events : List Event) : Type 0 where
@@ -42,9 +53,9 @@ pub record WroteCut (wrote : List ℕ → Type 0) (holds : Machine → Type 0) (
   pub written : wrote (text ++ take count says)
   pub kept : holds machine
 
--- how doing the events ended
+-- how writing a transcript ended
 abbrev pub Played : Status → (List ℕ → Type 0) → (Machine → Type 0) → List Event → Type 0
-Played Done wrote holds events = WroteAll wrote holds events
+Played Done wrote holds events = Reported wrote holds (λ transcript m. transcript) events
 Played WriteFailed wrote holds events = WroteCut wrote holds events
 Played NoMemory wrote holds events = WroteFirst wrote events
 Played DiskFailed wrote holds events = WroteFirst wrote events

@@ -1,25 +1,21 @@
 //! The program as one call.
-ghost use Rattle.std.specs.Prelude.{◌≡◌, ◌<◌, [], false, length, map, IfOk};
+ghost use Rattle.std.specs.Prelude.{◌≡◌, map};
 ghost use Rattle.std.specs.Io.KnownBytes.{Appends, IsAtEnd};
 ghost use Rattle.iot_io.specs.ReadAll.{Took};
 ghost use Rattle.iot_world.specs.Disks.{AreFresh};
 ghost use Rattle.iot_world.specs.Holding.{DisksHold};
-ghost use Rattle.iot_app.specs.Endings.{Ends};
-ghost use Rattle.iot_app.specs.Job.{LineEnds, RefusalEnds};
-ghost use Rattle.iot_app.specs.Refusals.{fault_line, refusal_line};
+ghost use Rattle.iot_app.specs.Endings.{Ends, JobEnds};
+ghost use Rattle.iot_app.specs.Saving.{first_reads};
 ghost use Rattle.iot_app.specs.Status.{HasStatus, SourceCounts, SinkCounts, DiskCounts};
 
-use crate::input::{InputFault, read_events};
-use crate::play::play;
+use crate::doing::do_events;
+use crate::events::events_of;
+use crate::refusing::{refuse, refuse_words};
 use crate::status::Status;
 use iot_disk::Disk;
-use iot_event::EventFault;
-use iot_io::{Sink, Source, write_all};
-use iot_text::{NoMemory, Text};
+use iot_io::{Sink, Source};
+use iot_words::{Job, read_words};
 use std::alloc::Global;
-
-/// What a faulty command line is answered with.
-const USAGE: &[u8] = b"usage: iot [--json | --gen N | --save | --image]\n";
 
 /// How a run ended: the status of the process, and the disks that were handed in.
 #[derive(Drop)]
@@ -31,24 +27,34 @@ pub struct Outcome<D> {
     pub disks: Vec<D>,
 }
 
-/// Runs the program: reads the source to its end as an event script, does its events, and writes what they say, each
-/// event's text by one `write_all`. `words` are the words of the command line after the program's name; none is known
-/// yet. Of the nine disks, which are empty and come back, the first is the server's, and the client at place i, counted from 0 in order
+/// Runs the program: does the job that `words`, the words of the command line after the program's name, name.
+///
+/// - No word: reads the source to its end as an event script, does its events, and writes what they say, each event's text by one
+///   `write_all`.
+/// - `--json`: does the same events, and writes only what all nodes hold then, as JSON, and a newline.
+/// - `--save`: does the same events, and writes only the bytes that the server's disk reads as then, which it reads by one device call.
+/// - `--gen N`, with a number of at most 1,000,000: reads nothing, does the events of the text that is generated from it, and writes
+///   four lines: how many commits, conflicts and waiting transactions the events said, and how many rows the server's tree has.
+///
+/// Of the nine disks, which are empty and come back, the first is the server's, and the client at place i, counted from 0 in order
 /// of declaration, has disk i + 1.
 ///
 /// # Statuses
 ///
-/// - 0: the input was read to its end and is an event script, and all was written.
+/// - 0: the input was read to its end and is an event script, or none is read; all events were done, and the whole output was written.
 /// - 1: the input has more than 4,194,304 bytes, or was read to its end and is no event script. One line that says so was
 ///   written.
-/// - 2: there are words. Nothing was read, and the usage line was written.
+/// - 2: the words name no job, or two. Nothing was read, and the usage line was written.
 /// - 3: a read failed. Nothing was written.
 /// - 4: a write failed, or took nothing. A front of what there was to say was written. If that is a transcript, the input
-///   was read to its end, and the event whose text was cut is the last that was done.
-/// - 5: memory ran out. Nothing was written; or the input was read to its end, and what its first events say was written.
-/// - 7: a disk failed, the server's or a client's. The input was read to its end, and what its first events say was written.
+///   was read to its end, and the event whose text was cut is the last that was done; another job has done all its events then.
+/// - 5: memory ran out. Nothing was written; or a transcript is wanted, the input was read to its end, and what its first events say was
+///   written.
+/// - 6: the server's disk could not be read to be saved. All events were done, and nothing was written.
+/// - 7: a disk failed at the start or in an event, the server's or a client's. The input was read to its end, or none is read. If a
+///   transcript is wanted, what the first events say was written, and else nothing.
 ///
-/// After a whole or a cut transcript of the events that were done the first disk holds the commits, and the disk of each
+/// After all events, or a cut transcript of those that were done, the first disk holds the commits, and the disk of each
 /// client what it keeps, whichever of its images a crash leaves; the disks that no client has are as they were. If no event was
 /// done, with the statuses 1 to 5, all are as they were. Of the disks after some events and status 5 or 7 nothing is said.
 pub fn run<S: Source, K: Sink, D: Disk>(
@@ -60,13 +66,13 @@ pub fn run<S: Source, K: Sink, D: Disk>(
 ) -> Outcome<D>
     requires { AreFresh D.reads D.may_leave disks.items }
 
-    // What was read and written and what the disks hold, by the status.
-    ensures ends { HasStatus result.status (Ends (record {
-      words = length words.now;
+    // What was read and written and what the disks hold, by the words and the status.
+    ensures ends { HasStatus result.status (Ends (map (λ word. word.now) words.now) (record {
       took = Took S.left S.taken source.old source.new;
       at_end = IsAtEnd (S.left source.new);
       wrote = Appends (K.written sink.old) (K.written sink.new);
       holds = DisksHold D.may_leave disks.items result.disks.items;
+      disk = first_reads D.reads result.disks.items;
       untouched = result.disks.items ≡ disks.items;
     })) }
 
@@ -98,12 +104,12 @@ fn status_of<S: Source, K: Sink, D: Disk>(
     disks: Vec<D>,
 ) -> (Status, Vec<D>)
     requires { AreFresh D.reads D.may_leave disks.items }
-    ensures ends { Ends (record {
-      words = length words.now;
+    ensures ends { Ends (map (λ word. word.now) words.now) (record {
       took = Took S.left S.taken source.old source.new;
       at_end = IsAtEnd (S.left source.new);
       wrote = Appends (K.written sink.old) (K.written sink.new);
       holds = DisksHold D.may_leave disks.items result.1.items;
+      disk = first_reads D.reads result.1.items;
       untouched = result.1.items ≡ disks.items;
     }) result.0 }
     ensures source_faults { SourceCounts result.0 (record { before = S.faults source.old; after = S.faults source.new }) }
@@ -113,70 +119,38 @@ fn status_of<S: Source, K: Sink, D: Disk>(
     ensures disk_faults { DiskCounts result.0 (map D.faults disks.items) (map D.faults result.1.items) }
     ensures disks { map D.arms result.1.items ≡ map D.arms disks.items }
 {
-    if !words.is_empty() {
-        return (write_line(sink, USAGE, Status::Usage), disks);
+    match read_words(alloc, words) {
+        Ok(job) => do_job(alloc, job, source, sink, disks),
+        Err(fault) => (refuse_words(fault, sink), disks),
     }
-    match read_events(alloc, source) {
-        Ok(events) => play(alloc, &events, sink, disks),
+}
+
+/// Does a job.
+fn do_job<S: Source, K: Sink, D: Disk>(
+    alloc: Global,
+    job: Job,
+    source: &mut S,
+    sink: &mut K,
+    disks: Vec<D>,
+) -> (Status, Vec<D>)
+    requires { AreFresh D.reads D.may_leave disks.items }
+    ensures ends { JobEnds (record {
+      took = Took S.left S.taken source.old source.new;
+      at_end = IsAtEnd (S.left source.new);
+      wrote = Appends (K.written sink.old) (K.written sink.new);
+      holds = DisksHold D.may_leave disks.items result.1.items;
+      disk = first_reads D.reads result.1.items;
+      untouched = result.1.items ≡ disks.items;
+    }) job result.0 }
+    ensures source_faults { SourceCounts result.0 (record { before = S.faults source.old; after = S.faults source.new }) }
+    ensures sink_faults { SinkCounts result.0
+        (record { before = K.faults sink.old; after = K.faults sink.new })
+        (record { before = K.empties sink.old; after = K.empties sink.new }) }
+    ensures disk_faults { DiskCounts result.0 (map D.faults disks.items) (map D.faults result.1.items) }
+    ensures disks { map D.arms result.1.items ≡ map D.arms disks.items }
+{
+    match events_of(alloc, job, source) {
+        Ok(events) => do_events(alloc, job, &events, sink, disks),
         Err(fault) => (refuse(alloc, fault, sink), disks),
-    }
-}
-
-/// Writes one line, and ends with this status, or with the sink's fault.
-fn write_line<K: Sink>(sink: &mut K, line: &[u8], status: Status) -> Status
-    ensures { LineEnds status line.now result
-        (Appends (K.written sink.old) (K.written sink.new))
-        (record { before = K.faults sink.old; after = K.faults sink.new })
-        (record { before = K.empties sink.old; after = K.empties sink.new }) }
-{
-    match write_all(sink, line) {
-        Ok(()) => status,
-        Err(_) => Status::WriteFailed,
-    }
-}
-
-/// Says why there are no events.
-fn refuse<K: Sink>(alloc: Global, fault: InputFault, sink: &mut K) -> Status
-    ensures { RefusalEnds fault result
-        (Appends (K.written sink.old) (K.written sink.new))
-        (record { before = K.faults sink.old; after = K.faults sink.new })
-        (record { before = K.empties sink.old; after = K.empties sink.new }) }
-{
-    match fault {
-        InputFault::NoMemory => Status::NoMemory,
-        InputFault::Failed => Status::ReadFailed,
-        InputFault::TooLong => write_line(sink, b"input too long\n", Status::Refused),
-        InputFault::NoScript(fault) => match refusal_line(alloc, &fault) {
-            Ok(text) => write_line(sink, text.as_bytes(), Status::Refused),
-            Err(_) => Status::NoMemory,
-        },
-    }
-}
-
-/// What is wrong in a line.
-fn fault_line(alloc: Global, number: u64, what: &[u8]) -> Result<Text, NoMemory>
-    ensures { IfOk result (λ text. text ≡ fault_line number what.now) }
-{
-    let mut text = Text::new(alloc);
-    text.append(b"line ")?;
-    text.append_number(number)?;
-    text.append(b": ")?;
-    text.append(what)?;
-    text.push(b'\n')?;
-    Ok(text)
-}
-
-/// The line that names the fault of the first bad line.
-fn refusal_line(alloc: Global, fault: &EventFault) -> Result<Text, NoMemory>
-    ensures { IfOk result (λ text. text ≡ refusal_line fault.now) }
-{
-    match fault {
-        EventFault::NoMemory => Ok(Text::new(alloc)),
-        EventFault::BadLine { line } => fault_line(alloc, *line, b"bad line"),
-        EventFault::UnknownName { line } => fault_line(alloc, *line, b"unknown name"),
-        EventFault::Twice { line } => fault_line(alloc, *line, b"named twice"),
-        EventFault::TooMany { line } => fault_line(alloc, *line, b"too many"),
-        EventFault::BadStatement { line } => fault_line(alloc, *line, b"bad statement"),
-        EventFault::TooDeep { line } => fault_line(alloc, *line, b"nested too deep"),
     }
 }

@@ -1,11 +1,20 @@
-//! The program as a function: an event script is read, its events are done one by one, and what they say is written.
+//! The program as a function: the words of the command line name a job, an event script is read, its events are done one by one, and what
+//! the job asks for is written.
 #![tactic(auto)]
 
+mod counts;
 mod disks;
+mod doing;
+mod events;
 mod input;
 mod job;
 mod play;
+mod refusing;
+mod running;
+mod saving;
 mod status;
+mod summary;
+mod writing;
 
 pub use disks::empty_disks;
 pub use input::INPUT_LIMIT;

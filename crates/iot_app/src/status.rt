@@ -1,8 +1,9 @@
 //! How a run of the program ends.
 ghost use Rattle.std.specs.Prelude.{◌≡◌};
-ghost use Rattle.iot_app.specs.Faults.{ended_by};
+ghost use Rattle.iot_app.specs.Faults.{ended_by, ended_by_read};
 ghost use Rattle.iot_app.specs.Status.{code_of};
 
+use iot_disk::DiskFault;
 use iot_world::WorldFault;
 
 /// How a run ends.
@@ -26,6 +27,9 @@ pub(crate) enum Status {
     /// There was no memory.
     NoMemory,
 
+    /// The server's disk could not be read to be saved.
+    SaveFailed,
+
     /// A disk failed: the server's or a client's.
     DiskFailed,
 }
@@ -41,6 +45,16 @@ impl Status {
         }
     }
 
+    /// The status of a run that ends because the server's disk could not be read.
+    pub(crate) fn of_read(fault: DiskFault) -> Status
+        ensures { result ≡ ended_by_read fault }
+    {
+        match fault {
+            DiskFault::NoMemory => Status::NoMemory,
+            DiskFault::Failed => Status::SaveFailed,
+        }
+    }
+
     /// The number that the process ends with.
     pub(crate) fn code(self) -> u8
         ensures { result ≡ code_of self }
@@ -52,6 +66,7 @@ impl Status {
             Status::ReadFailed => 3,
             Status::WriteFailed => 4,
             Status::NoMemory => 5,
+            Status::SaveFailed => 6,
             Status::DiskFailed => 7,
         }
     }

@@ -8,4 +8,6 @@ mod fixtures;
 #[cfg(test)]
 mod images;
 #[cfg(test)]
+mod jobs;
+#[cfg(test)]
 mod runs;

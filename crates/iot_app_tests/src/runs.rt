@@ -6,7 +6,7 @@ use iot_tree::Kind;
 use std::test::Fail;
 
 /// A transaction, and a server that crashes and comes back. What it is asked while it is down is lost.
-const CRASH: &[u8] =
+pub(crate) const CRASH: &[u8] =
     b"client laptop\nscript e {\nmkdir /d\ncat /x\n}\nrun laptop e abort\ncrash server\n\
     refresh laptop\ncrash server\nrestart server\nrestart server\nshow server\n";
 
@@ -18,7 +18,7 @@ const CRASHED: &[u8] = b"crash server\naway\ndown\nrestart server\nup\ndir /\ndi
 
 /// What it leaves on the server's disk: one record, of 174 bytes. It has the label of client 0's transaction 1, of the
 /// script `e`, certified, with nothing kept, and two acts.
-const RECORDED: &[u8] = b"\xa5IOTJRNL1\xa5\0\0\0\0\0\0\0\xae\x01\
+pub(crate) const RECORDED: &[u8] = b"\xa5IOTJRNL1\xa5\0\0\0\0\0\0\0\xae\x01\
     \0\0\0\0\0\0\0\0\0\0\0\0\0\0\0\x01\0\0\0\0\0\0\0\x01e\0\0\0\0\0\0\x10\0\x01\0\0\0\0\0\0\0\0\
     \0\0\0\0\0\0\0\x02\
     \0\0\0\0\0\0\0\x02\x01\0\0\0\0\0\0\0\x01\0\0\0\0\0\0\0\x01d\x02\x01\0\0\0\0\0\0\0\0\x03\
@@ -28,12 +28,12 @@ const RECORDED: &[u8] = b"\xa5IOTJRNL1\xa5\0\0\0\0\0\0\0\xae\x01\
 
 /// A client that crashes after three acts of a transaction. What they did is committed when it is back.
 const CUT: &[u8] = b"client laptop\nscript five {\necho 1\necho 2\necho 3\necho 4\necho 5\n}\n\
-    begin laptop five abort\nstep laptop 3\ncrash laptop\nrestart laptop\ndrain laptop\n";
+    begin laptop five abort\nstep laptop 3\ncrash laptop\nrestart laptop\nqueue laptop\ndrain laptop\n";
 
 /// What it says.
 const CUT_OFF: &[u8] =
     b"client laptop\nbegin laptop.1 five first\nstep laptop.1 3 acts\ncrash laptop\nrestart laptop\ncut laptop.1 3 acts\n\
-    commit 1 laptop.1 certified\n|1\n|2\n|3\nsettled laptop.1 1\nrefresh laptop\n";
+    item laptop.1 five abort waiting 3 acts cut\ncommit 1 laptop.1 certified\n|1\n|2\n|3\nsettled laptop.1 1\nrefresh laptop\n";
 
 /// Two clients. One of them lists a directory in which the other then makes a file, and its transaction is aborted.
 const CONFLICT: &[u8] = b"client laptop\nclient desk\n\
@@ -190,8 +190,8 @@ fn a_disk_of_a_client_that_fails_ends_the_run(rt: HostRuntime) -> Result<(), Fai
         (26, 2, 4, 5),
         (27, 4, 5, 5),
         (31, 4, 5, 6),
-        (35, 6, 6, 7),
-        (39, 6, 7, 8),
+        (35, 7, 6, 7),
+        (39, 7, 7, 8),
     ] {
         for (pick, records) in [(Pick::Old, before), (Pick::New, after)] {
             let failing = Failing {

@@ -1,0 +1,39 @@
+-- What was done of the events of a job, and what was written, by the status that the job ends with. `wrote` and `holds` are as for a
+-- transcript, and `disk` is what the server's disk reads as at the end.
+use Rattle.std.specs.Prelude.{ℕ, List, []}
+use Rattle.iot_event.specs.declared.event.Event.{Event}
+use Rattle.iot_machine.specs.Machine.{Machine}
+use Rattle.iot_words.specs.declared.jobs.Job.{Job}
+use Rattle.iot_words.specs.declared.jobs.Job.TheVariants.{Transcript, Save}
+use Rattle.iot_app.specs.Outputs.{output_of}
+use Rattle.iot_app.specs.Played.{RanAll, Reported, WroteFront, WroteFirst, WroteCut}
+use Rattle.iot_app.specs.declared.status.Status.{Status}
+use Rattle.iot_app.specs.declared.status.Status.TheVariants.{Done, WriteFailed, NoMemory, SaveFailed, DiskFailed}
+
+module _ (wrote : List ℕ → Type 0) (holds : Machine → Type 0) (disk : List ℕ) where
+  -- a write failed: of a transcript in the middle of an event's text, after which no event was done; else after all events
+  abbrev pub CutsOutput : Job → List Event → Type 0
+  CutsOutput Transcript = WroteCut wrote holds
+  CutsOutput job = Reported (WroteFront wrote) holds (output_of job disk)
+
+  -- some events were done, of which only a transcript is written
+  abbrev pub WritesSome : Job → List Event → Type 0
+  WritesSome Transcript = WroteFirst wrote
+  WritesSome job = λ events. wrote []
+
+  -- all events were done, but the server's disk could not be read then, and nothing was written
+  pub record SavesNothing (events : List Event) : Type 0 where
+    pub ran : RanAll holds events
+    pub written : wrote []
+
+  abbrev pub FailsToSave : Job → List Event → Type 0
+  FailsToSave Save = SavesNothing
+  FailsToSave job = λ events. ⊥
+
+  abbrev pub Did : Job → Status → List Event → Type 0
+  Did job Done = Reported wrote holds (output_of job disk)
+  Did job WriteFailed = CutsOutput job
+  Did job NoMemory = WritesSome job
+  Did job SaveFailed = FailsToSave job
+  Did job DiskFailed = WritesSome job
+  Did job status = λ events. ⊥

@@ -1,0 +1,79 @@
+//! Doing the events of a job, and writing its output.
+ghost use Rattle.std.specs.Prelude.{◌≡◌, [], map};
+ghost use Rattle.std.specs.Io.KnownBytes.{Appends};
+ghost use Rattle.iot_event.specs.Declarations.{AreDeclared};
+ghost use Rattle.iot_world.specs.Disks.{AreFresh};
+ghost use Rattle.iot_world.specs.Holding.{DisksHold};
+ghost use Rattle.iot_app.specs.Doing.{Did};
+ghost use Rattle.iot_app.specs.Running.{IsTold};
+ghost use Rattle.iot_app.specs.Saving.{first_reads};
+ghost use Rattle.iot_app.specs.Status.{SinkCounts, DiskCounts};
+
+use crate::play::play;
+use crate::running::run_events;
+use crate::saving::save;
+use crate::status::Status;
+use crate::writing::write_text;
+use iot_disk::Disk;
+use iot_event::Event;
+use iot_io::Sink;
+use iot_words::Job;
+use std::alloc::Global;
+
+/// Does the events on these disks, writes what the job writes of them, and gives the disks back.
+pub(crate) fn do_events<K: Sink, D: Disk>(
+    alloc: Global,
+    job: Job,
+    events: &[Event],
+    sink: &mut K,
+    disks: Vec<D>,
+) -> (Status, Vec<D>)
+    requires declared { AreDeclared events.now 0 [] }
+    requires fresh { AreFresh D.reads D.may_leave disks.items }
+    ensures ends { Did
+        (Appends (K.written sink.old) (K.written sink.new))
+        (DisksHold D.may_leave disks.items result.1.items)
+        (first_reads D.reads result.1.items)
+        job result.0 events.now }
+    ensures sink_faults { SinkCounts result.0
+        (record { before = K.faults sink.old; after = K.faults sink.new })
+        (record { before = K.empties sink.old; after = K.empties sink.new }) }
+    ensures disk_faults { DiskCounts result.0 (map D.faults disks.items) (map D.faults result.1.items) }
+    ensures disks { map D.arms result.1.items ≡ map D.arms disks.items }
+{
+    match job {
+        Job::Transcript => play(alloc, events, sink, disks),
+        Job::Json => report(alloc, job, events, sink, disks),
+        Job::Generate(_) => report(alloc, job, events, sink, disks),
+        Job::Save => save(alloc, events, sink, disks),
+    }
+}
+
+/// Does the events, and then writes what the job has to say of them.
+fn report<K: Sink, D: Disk>(
+    alloc: Global,
+    job: Job,
+    events: &[Event],
+    sink: &mut K,
+    disks: Vec<D>,
+) -> (Status, Vec<D>)
+    requires declared { AreDeclared events.now 0 [] }
+    requires fresh { AreFresh D.reads D.may_leave disks.items }
+    requires told { IsTold job }
+    ensures ends { Did
+        (Appends (K.written sink.old) (K.written sink.new))
+        (DisksHold D.may_leave disks.items result.1.items)
+        (first_reads D.reads result.1.items)
+        job result.0 events.now }
+    ensures sink_faults { SinkCounts result.0
+        (record { before = K.faults sink.old; after = K.faults sink.new })
+        (record { before = K.empties sink.old; after = K.empties sink.new }) }
+    ensures disk_faults { DiskCounts result.0 (map D.faults disks.items) (map D.faults result.1.items) }
+    ensures disks { map D.arms result.1.items ≡ map D.arms disks.items }
+{
+    let (told, disks) = run_events(alloc, job, events, disks);
+    match told {
+        Ok(text) => (write_text(sink, text.as_bytes(), Status::Done), disks),
+        Err(fault) => (Status::of_fault(fault), disks),
+    }
+}

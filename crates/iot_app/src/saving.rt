@@ -1,0 +1,62 @@
+//! Writing what the server's disk reads as.
+ghost use Rattle.std.specs.Prelude.{◌≡◌, [], map, IfOk};
+ghost use Rattle.std.specs.Io.KnownBytes.{Appends};
+ghost use Rattle.iot_disk.specs.Disk.{CountsFault, SameImages};
+ghost use Rattle.iot_event.specs.Declarations.{AreDeclared};
+ghost use Rattle.iot_world.specs.Disks.{AreFresh};
+ghost use Rattle.iot_world.specs.Holding.{DisksHold};
+ghost use Rattle.iot_words.specs.declared.jobs.Job.TheVariants.{Save};
+ghost use Rattle.iot_app.specs.Doing.{Did};
+ghost use Rattle.iot_app.specs.Saving.{first_reads};
+ghost use Rattle.iot_app.specs.Status.{SinkCounts, DiskCounts};
+
+use crate::running::run_events;
+use crate::status::Status;
+use crate::writing::write_text;
+use iot_disk::{Disk, DiskFault};
+use iot_event::Event;
+use iot_io::Sink;
+use iot_words::Job;
+use std::alloc::Global;
+
+/// Does the events, and then writes what the first disk reads as.
+pub(crate) fn save<K: Sink, D: Disk>(
+    alloc: Global,
+    events: &[Event],
+    sink: &mut K,
+    disks: Vec<D>,
+) -> (Status, Vec<D>)
+    requires declared { AreDeclared events.now 0 [] }
+    requires fresh { AreFresh D.reads D.may_leave disks.items }
+    ensures ends { Did
+        (Appends (K.written sink.old) (K.written sink.new))
+        (DisksHold D.may_leave disks.items result.1.items)
+        (first_reads D.reads result.1.items)
+        Save result.0 events.now }
+    ensures sink_faults { SinkCounts result.0
+        (record { before = K.faults sink.old; after = K.faults sink.new })
+        (record { before = K.empties sink.old; after = K.empties sink.new }) }
+    ensures disk_faults { DiskCounts result.0 (map D.faults disks.items) (map D.faults result.1.items) }
+    ensures disks { map D.arms result.1.items ≡ map D.arms disks.items }
+{
+    let (told, mut disks) = run_events(alloc, Job::Save, events, disks);
+    match told {
+        Ok(_) => match read_whole(alloc, &mut disks[0]) {
+            Ok(bytes) => (write_text(sink, &bytes, Status::Done), disks),
+            Err(fault) => (Status::of_read(fault), disks),
+        },
+        Err(fault) => (Status::of_fault(fault), disks),
+    }
+}
+
+/// What a disk reads as, by one device call.
+fn read_whole<D: Disk>(alloc: Global, disk: &mut D) -> Result<Vec<u8>, DiskFault>
+    ensures bytes { IfOk result (λ bytes. bytes.items ≡ D.reads disk.new) }
+    ensures images { SameImages (D.may_leave disk.old) (D.may_leave disk.new) }
+    ensures faults { CountsFault result (D.faults disk.old) (D.faults disk.new) }
+    ensures arms { D.arms disk.new ≡ D.arms disk.old }
+{
+    let mut bytes = vec![in alloc; 0; disk.len() as usize]?;
+    disk.read_at(0, &mut bytes)?;
+    Ok(bytes)
+}

@@ -1,0 +1,84 @@
+//! Runs with words: what each job writes, and how it ends.
+use crate::fixtures::{Failing, NONE, ran};
+use crate::runs::{CRASH, RECORDED};
+use std::test::Fail;
+
+/// What the server's disk has before any commit.
+const STARTED: &[u8] = b"\xa5IOTJRNL1\0";
+
+/// What no events leave.
+const NOTHING: &[u8] = b"{\"clients\":[],\"commits\":[],\"server\":[[\"/\",\"dir\"]]}\n";
+
+const USAGE: &[u8] = b"usage: iot [--json | --gen N | --save | --image]\n";
+
+/// A client that has crashed with a transaction that waits, and a server that is down.
+const DOWN: &[u8] = b"client laptop\nclient desk\nscript s {\necho a\n}\ndisconnect desk\n\
+    run laptop s abort\nrun desk s manual\ncrash laptop\ncrash server\n";
+
+/// What is known of it at its end.
+const ASLEEP: &[u8] =
+    b"{\"clients\":[{\"alive\":false,\"name\":\"laptop\",\"queue\":[],\"view\":null},\
+    {\"alive\":true,\"name\":\"desk\",\
+    \"queue\":[{\"acts\":1,\"option\":\"manual\",\"script\":\"s\",\"stage\":\"waiting\",\"tid\":\"desk.1\"}],\
+    \"view\":[[\"/\",\"far dir\"]]}],\"commits\":[],\"server\":null}\n";
+
+/// What is counted in the run of the text that is generated from 0.
+const COUNTED: &[u8] = b"commits 1405\nconflicts 531\npending 663\nrows 10\n";
+
+#[test]
+fn each_job_writes_its_output(rt: HostRuntime) -> Result<(), Fail> {
+    let jobs: [(&[&str], &[u8], u8, &[u8]); 6] = [
+        (&["--json"], b"", 0, NOTHING),
+        (&["--json"], DOWN, 0, ASLEEP),
+        (&["--save"], b"", 0, STARTED),
+        (&["--save"], CRASH, 0, RECORDED),
+        (&["--json", "--save"], CRASH, 2, USAGE),
+        (&["--gen", "01"], b"", 2, USAGE),
+    ];
+    for (words, input, status, output) in jobs {
+        let (ended, written) = ran(rt.alloc(), input, words, NONE)?;
+        assert_eq!(rt; ended.status, status);
+        assert_eq!(rt; written.as_slice(), output);
+    }
+    Ok(())
+}
+
+#[test]
+fn a_disk_that_cannot_be_read_is_not_saved(rt: HostRuntime) -> Result<(), Fail> {
+    // Its start makes six device calls. The one after them is the read of what is saved.
+    for (device, status) in [(6, 7), (7, 6), (8, 0)] {
+        let failing = Failing { device, ..NONE };
+        let (ended, written) = ran(rt.alloc(), b"", &["--save"], failing)?;
+        assert_eq!(rt; ended.status, status);
+        assert_eq!(rt; written.is_empty(), status != 0);
+    }
+    Ok(())
+}
+
+#[test]
+fn a_generated_run_is_summed_up_and_reads_nothing(rt: HostRuntime) -> Result<(), Fail> {
+    for words in [["--gen", "0"], ["--gen=0", "--"]] {
+        let failing = Failing { read: 1, ..NONE };
+        let (ended, written) = ran(rt.alloc(), b"no event", &words, failing)?;
+        assert_eq!(rt; ended.status, 0);
+        assert_eq!(rt; written.as_slice(), COUNTED);
+    }
+    Ok(())
+}
+
+#[test]
+fn a_job_that_fails_writes_nothing(rt: HostRuntime) -> Result<(), Fail> {
+    let read = Failing { read: 1, ..NONE };
+    let write = Failing { write: 1, ..NONE };
+
+    // A start makes six device calls and a commit four, so the tenth is the last of the first commit.
+    let disk = Failing { device: 10, ..NONE };
+    for words in ["--json", "--save"] {
+        for (failing, status) in [(read, 3), (write, 4), (disk, 7)] {
+            let (ended, written) = ran(rt.alloc(), CRASH, &[words], failing)?;
+            assert_eq!(rt; ended.status, status);
+            assert!(rt; written.is_empty());
+        }
+    }
+    Ok(())
+}
