@@ -159,6 +159,14 @@ def queue(size):
     return Work(lines + work, 'transactions', items, len(lines))
 
 
+def looking(size):
+    """What more and more transactions that wait have read."""
+    items = QUEUED_FILES * size
+    lines = ['client laptop', *script('init', ['write /n one']), *script('look', ['cat /n']), run('init')]
+    lines += ['disconnect laptop'] + ['begin laptop look abort', 'step laptop', 'end laptop'] * items
+    return Work(lines + ['queue laptop'] + [f'reads laptop {i + 1}' for i in range(items)], 'transactions', items, len(lines))
+
+
 # The cases in the order of the table, and those that need no more than `mkdir`, `write` and `cat`.
-CASES = [transactions, tree, loops, moves, text, journal, clients, steps, acts, queue, restarts]
+CASES = [transactions, tree, loops, moves, text, journal, clients, steps, acts, queue, looking, restarts]
 FIRST = [transactions, tree]
