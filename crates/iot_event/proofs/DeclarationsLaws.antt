@@ -16,7 +16,7 @@ use Rattle.iot_event.specs.declared.event.Choice.{Choice}
 use Rattle.iot_event.specs.declared.event.Choice.TheVariants.{Reexec, Resolver, Abort, Manual}
 use Rattle.iot_event.specs.declared.event.Event.{Event}
 use Rattle.iot_event.specs.declared.event.Event.TheVariants.{Client, Script, Run, Hoard, Refresh, Begin, Step, End, ShowClient}
-use Rattle.iot_event.specs.declared.event.Event.TheVariants.{CrashClient, RestartClient, Queue, Reads}
+use Rattle.iot_event.specs.declared.event.Event.TheVariants.{StopClient, CrashClient, RestartClient, Queue, Reads}
 use Rattle.iot_event.specs.declared.event.Event.TheVariants.{Connect, Disconnect, Lose, Sync, Drain, Repair, Discard}
 use Rattle.iot_event.specs.declared.fault.EventFault.TheVariants as faults
 use Rattle.iot_event.specs.declared.form.Form.{Form}
@@ -184,6 +184,9 @@ module _ (scope : Scope) (number : ℕ) where
   form_sound (Some (forms.Discard client)) counts later = client_event_sound client (λ c. Discard c) (λ c few events are. (few, are))
   form_sound (Some forms.ShowServer) counts later = record { allows = λ events are. are }
   form_sound (Some (forms.ShowClient client)) counts later = client_event_sound client (λ c. ShowClient c) (λ c few events are. (few, are))
+  form_sound (Some (forms.StopServer calls pick)) (least, most) later = record { allows = λ events are. (least, most, are) }
+  form_sound (Some (forms.StopClient client calls pick)) (least, most) later =
+      client_event_sound client (λ c. StopClient c calls pick) (λ c few events are. (few, least, most, are))
   form_sound (Some forms.CrashServer) counts later = record { allows = λ events are. are }
   form_sound (Some (forms.CrashClient client)) counts later =
       client_event_sound client (λ c. CrashClient c) (λ c few events are. (few, are))

@@ -6,14 +6,15 @@ use Rattle.std.specs.Prelude.{if◌then◌else◌}
 use Rattle.std.specs.Str.Parse.{digits_value}
 use Rattle.std.proofs.lemmas.Bool.Decides.{nat_tests}
 use Rattle.iot_text.specs.Names.{is_name}
+use Rattle.iot_disk.specs.declared.disk.Pick.{Pick}
 use Rattle.iot_link.specs.declared.passages.Loss.{Loss}
-use Rattle.iot_event.specs.declared.form.TheConstants.{STEP_LIMIT, READS_LIMIT}
+use Rattle.iot_event.specs.declared.form.TheConstants.{STEP_LIMIT, READS_LIMIT, STOP_LIMIT}
 use Rattle.iot_event.specs.declared.form.Form.{Form}
 use Rattle.iot_event.specs.declared.form.Form.TheVariants as forms
 use Rattle.iot_event.specs.declared.form.NamedChoice.{NamedChoice}
 use Rattle.iot_event.specs.Numbers.{is_number, number_of}
-use Rattle.iot_event.specs.Forms.{one_word, server_form, client_form, loss_of, three_words, plain_choice, resolver_choice, script_form}
-use Rattle.iot_event.specs.Forms.{choosing_form, form_of}
+use Rattle.iot_event.specs.Forms.{server_form, client_form, loss_of, three_words, plain_choice, resolver_choice, script_form}
+use Rattle.iot_event.specs.Forms.{choosing_form, pick_of, stop_form, stop_words, form_of}
 
 -- ---- how many words a form has
 
@@ -32,10 +33,12 @@ too_many word (a ∷ b ∷ c ∷ d ∷ e ∷ f ∷ more) many = refl
 
 -- ---- the number in a form
 
--- the number of steps or of an item, if the form has one, is within its limits
+-- the number of steps, of an item or of a device call, if the form has one, is within its limits
 abbrev pub IsCounted : Option Form → Type 0
 IsCounted (Some (forms.Step client count)) = (1 ≤ count) × (count ≤ STEP_LIMIT)
 IsCounted (Some (forms.Reads client item)) = (1 ≤ item) × (item ≤ READS_LIMIT)
+IsCounted (Some (forms.StopServer calls pick)) = (1 ≤ calls) × (calls ≤ STOP_LIMIT)
+IsCounted (Some (forms.StopClient client calls pick)) = (1 ≤ calls) × (calls ≤ STOP_LIMIT)
 IsCounted _ = Unit {0}
 
 -- the same as a record, which is found by its name
@@ -67,6 +70,28 @@ counted_number form word limit within = by (is_number word) (nat_le 1 number) (n
 
 none_counted : Counted None
 none_counted = record { counted = tt }
+
+-- the same of a form that is made of the number
+counted_then : (form : ℕ → Option Form) (word : List ℕ) (limit : ℕ) → ((n : ℕ) → 1 ≤ n → n ≤ limit → Counted (form n))
+    → Counted (option_and_then form (number_of word limit))
+counted_then form word limit within = by (is_number word) (nat_le 1 number) (nat_le number limit) refl refl
+  where
+    number : ℕ
+    number = digits_value 10 word
+
+    by : (is least most : Bool) → nat_le 1 number ≡ least → nat_le number limit ≡ most
+        → Counted (option_and_then form (if is && least && most then Some number else None))
+    by true true true one two = within number (grind (arith, nat_tests, one)) (grind (arith, nat_tests, two))
+    by true true false one two = none_counted
+    by true false most one two = none_counted
+    by false least most one two = none_counted
+
+counted_stop : (node : List ℕ) (calls : ℕ) (pick : Option Pick) → 1 ≤ calls → calls ≤ STOP_LIMIT
+    → Counted (option_and_then (λ p. stop_form node calls p) pick)
+counted_stop node calls None least most = none_counted
+counted_stop node calls (Some pick) least most =
+    counted_if (bytes_eq node (codes "server")) (Some (forms.StopServer calls pick)) _ (record { counted = (least, most) })
+    (counted_if (is_name node) (Some (forms.StopClient node calls pick)) None (record { counted = (least, most) }) none_counted)
 
 counted_loss : (client : List ℕ) (loss : Option Loss) → Counted (option_map (λ l. forms.Lose client l) loss)
 counted_loss client None = none_counted
@@ -129,6 +154,9 @@ form_counted (a ∷ []) = counted_if (bytes_eq a (codes "log")) (Some forms.Log)
 form_counted (a ∷ b ∷ []) =
     counted_or (server_form a b) _ (counted_server a b) (counted_if (is_name b) _ None (counted_client a b) none_counted)
 form_counted (a ∷ b ∷ c ∷ []) = counted_three a b c
-form_counted (a ∷ b ∷ c ∷ d ∷ []) = counted_choosing a b c (plain_choice d)
+form_counted (a ∷ b ∷ c ∷ d ∷ []) =
+    counted_if (bytes_eq a (codes "stop")) (stop_words b c d) _
+    (counted_then (λ k. option_and_then (λ p. stop_form b k p) (pick_of d)) c STOP_LIMIT (λ k. counted_stop b k (pick_of d)))
+    (counted_choosing a b c (plain_choice d))
 form_counted (a ∷ b ∷ c ∷ d ∷ e ∷ []) = counted_choosing a b c (resolver_choice d e)
 form_counted (a ∷ b ∷ c ∷ d ∷ e ∷ f ∷ more) = none_counted

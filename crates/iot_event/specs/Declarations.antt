@@ -3,14 +3,14 @@ use Rattle.std.specs.Prelude.{◌≡◌, ℕ, ◌+◌, ◌<◌, ◌≤◌, false
 use Rattle.iot_text.specs.Paths.{IsPath}
 use Rattle.iot_event.specs.Meanings.{is_declared}
 use Rattle.iot_event.specs.declared.declared.TheConstants.{CLIENT_LIMIT, SCRIPT_LIMIT}
-use Rattle.iot_event.specs.declared.form.TheConstants.{STEP_LIMIT, READS_LIMIT}
+use Rattle.iot_event.specs.declared.form.TheConstants.{STEP_LIMIT, READS_LIMIT, STOP_LIMIT}
 use Rattle.iot_event.specs.declared.event.Choice.{Choice}
 use Rattle.iot_event.specs.declared.event.Choice.TheVariants.{Reexec, Resolver, Abort, Manual}
 use Rattle.iot_event.specs.declared.event.Event.{Event}
 use Rattle.iot_event.specs.declared.event.Event.TheVariants.{Client, Script, Run, Hoard, Refresh, Begin, Step, End}
 use Rattle.iot_event.specs.declared.event.Event.TheVariants.{Connect, Disconnect, Lose, Sync, Drain, Repair, Discard}
 use Rattle.iot_event.specs.declared.event.Event.TheVariants.{ShowServer, ShowClient, CrashServer, CrashClient, RestartServer, RestartClient}
-use Rattle.iot_event.specs.declared.event.Event.TheVariants.{Queue, Reads, Log}
+use Rattle.iot_event.specs.declared.event.Event.TheVariants.{StopServer, StopClient, Queue, Reads, Log}
 
 -- the resolver of an option, if it has one, is one of so many scripts
 abbrev pub ResolverIsDeclared : Choice → (scripts : ℕ) → Type 0
@@ -45,6 +45,9 @@ AreDeclared (Repair client script ∷ later) clients scripts =
 AreDeclared (Discard client ∷ later) clients scripts = (client < clients) × AreDeclared later clients scripts
 AreDeclared (ShowServer ∷ later) clients scripts = AreDeclared later clients scripts
 AreDeclared (ShowClient client ∷ later) clients scripts = (client < clients) × AreDeclared later clients scripts
+AreDeclared (StopServer calls pick ∷ later) clients scripts = (1 ≤ calls) × (calls ≤ STOP_LIMIT) × AreDeclared later clients scripts
+AreDeclared (StopClient client calls pick ∷ later) clients scripts =
+    (client < clients) × (1 ≤ calls) × (calls ≤ STOP_LIMIT) × AreDeclared later clients scripts
 AreDeclared (CrashServer ∷ later) clients scripts = AreDeclared later clients scripts
 AreDeclared (CrashClient client ∷ later) clients scripts = (client < clients) × AreDeclared later clients scripts
 AreDeclared (RestartServer ∷ later) clients scripts = AreDeclared later clients scripts

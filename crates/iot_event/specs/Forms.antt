@@ -4,13 +4,15 @@ use Rattle.std.specs.Option.{option_map, option_or, option_and_then}
 use Rattle.iot_text.specs.Names.{is_name}
 use Rattle.iot_link.specs.declared.passages.Loss.{Loss}
 use Rattle.iot_link.specs.declared.passages.Loss.TheVariants.{Request, Reply}
-use Rattle.iot_event.specs.Numbers.{number_of}
-use Rattle.iot_event.specs.declared.form.TheConstants.{STEP_LIMIT, READS_LIMIT}
+use Rattle.iot_disk.specs.declared.disk.Pick.{Pick}
+use Rattle.iot_disk.specs.declared.disk.Pick.TheVariants.{Old, New, Fill}
+use Rattle.iot_event.specs.Numbers.{number_of, byte_of}
+use Rattle.iot_event.specs.declared.form.TheConstants.{STEP_LIMIT, READS_LIMIT, STOP_LIMIT}
 use Rattle.iot_event.specs.declared.form.Form.{Form}
 use Rattle.iot_event.specs.declared.form.Form.TheVariants.{Client, Script, Run, Hoard, Refresh, Begin, Step, End}
 use Rattle.iot_event.specs.declared.form.Form.TheVariants.{Connect, Disconnect, Lose, Sync, Drain, Repair, Discard}
 use Rattle.iot_event.specs.declared.form.Form.TheVariants.{ShowServer, ShowClient, CrashServer, CrashClient, RestartServer, RestartClient}
-use Rattle.iot_event.specs.declared.form.Form.TheVariants.{Queue, Reads, Log}
+use Rattle.iot_event.specs.declared.form.Form.TheVariants.{StopServer, StopClient, Queue, Reads, Log}
 use Rattle.iot_event.specs.declared.form.NamedChoice.{NamedChoice}
 use Rattle.iot_event.specs.declared.form.NamedChoice.TheVariants.{Reexec, Resolver, Abort, Manual}
 
@@ -93,11 +95,34 @@ abbrev pub choosing_form : List ℕ → (client script : List ℕ) → Option Na
 choosing_form first client script option =
     if is_name client && is_name script then option_and_then (λ choice. script_form first client script choice) option else None
 
--- `run C S OPTION` or `begin C S OPTION`, where the option is one word
-abbrev pub four_words : List ℕ → List ℕ → List ℕ → List ℕ → Option Form
-four_words first second third fourth = choosing_form first second third (plain_choice fourth)
+-- `old`, `new`, or a byte
+abbrev pub pick_of : List ℕ → Option Pick
+pick_of word =
+    if bytes_eq word (codes "old") then Some Old
+    else if bytes_eq word (codes "new") then Some New
+    else option_map (λ byte. Fill byte) (byte_of word)
 
--- the same where the option is two words
+-- `stop server k PICK` or `stop C k PICK`
+abbrev pub stop_form : (node : List ℕ) (calls : ℕ) → Pick → Option Form
+stop_form node calls pick =
+    if bytes_eq node (codes "server") then Some (StopServer calls pick)
+    else if is_name node then Some (StopClient node calls pick)
+    else None
+
+-- the same, if the number is one and the pick is
+abbrev pub stopping_form : (node : List ℕ) → Option ℕ → Option Pick → Option Form
+stopping_form node calls pick = option_and_then (λ k. option_and_then (λ p. stop_form node k p) pick) calls
+
+abbrev pub stop_words : (node calls pick : List ℕ) → Option Form
+stop_words node calls pick = stopping_form node (number_of calls STOP_LIMIT) (pick_of pick)
+
+-- `stop NODE k PICK`, or `run C S OPTION` or `begin C S OPTION`, where the option is one word
+abbrev pub four_words : List ℕ → List ℕ → List ℕ → List ℕ → Option Form
+four_words first second third fourth =
+    if bytes_eq first (codes "stop") then stop_words second third fourth
+    else choosing_form first second third (plain_choice fourth)
+
+-- `run C S OPTION` or `begin C S OPTION`, where the option is two words
 abbrev pub five_words : List ℕ → List ℕ → List ℕ → List ℕ → List ℕ → Option Form
 five_words first second third fourth fifth = choosing_form first second third (resolver_choice fourth fifth)
 

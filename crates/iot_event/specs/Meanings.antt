@@ -5,6 +5,7 @@ use Rattle.std.specs.List.{list_any}
 use Rattle.std.specs.Option.{option_map}
 use Rattle.iot_lines.specs.Words.{words, is_skipped}
 use Rattle.iot_text.specs.Paths.{path_of}
+use Rattle.iot_disk.specs.declared.disk.Pick.{Pick}
 use Rattle.iot_link.specs.declared.passages.Loss.{Loss}
 use Rattle.iot_event.specs.Bytes.{fits_line}
 use Rattle.iot_event.specs.Forms.{form_of}
@@ -20,7 +21,7 @@ use Rattle.iot_event.specs.declared.event.Event.{Event}
 use Rattle.iot_event.specs.declared.event.Event.TheVariants.{Client, Run, Hoard, Refresh, Begin, Step, End}
 use Rattle.iot_event.specs.declared.event.Event.TheVariants.{Connect, Disconnect, Lose, Sync, Drain, Repair, Discard}
 use Rattle.iot_event.specs.declared.event.Event.TheVariants.{ShowServer, ShowClient, CrashServer, CrashClient, RestartServer, RestartClient}
-use Rattle.iot_event.specs.declared.event.Event.TheVariants.{Queue, Reads, Log}
+use Rattle.iot_event.specs.declared.event.Event.TheVariants.{StopServer, StopClient, Queue, Reads, Log}
 use Rattle.iot_event.specs.declared.fault.EventFault.{EventFault}
 use Rattle.iot_event.specs.declared.fault.EventFault.TheVariants.{BadLine, UnknownName, Twice, TooMany}
 
@@ -136,6 +137,9 @@ repair_line scope number client script = of_script scope number client script (�
 abbrev pub discard_line : Scope → (number : ℕ) (client : List ℕ) → Meaning
 discard_line scope number client = of_client scope number client (λ c. Discard c)
 
+abbrev pub stop_line : Scope → (number : ℕ) (client : List ℕ) (calls : ℕ) → Pick → Meaning
+stop_line scope number client calls pick = of_client scope number client (λ c. StopClient c calls pick)
+
 abbrev pub crash_line : Scope → (number : ℕ) (client : List ℕ) → Meaning
 crash_line scope number client = of_client scope number client (λ c. CrashClient c)
 
@@ -171,6 +175,8 @@ meaning_of_form (Some (forms.Repair client script)) scope number later = repair_
 meaning_of_form (Some (forms.Discard client)) scope number later = discard_line scope number client
 meaning_of_form (Some forms.ShowServer) scope number later = Says ShowServer scope
 meaning_of_form (Some (forms.ShowClient client)) scope number later = show_line scope number client
+meaning_of_form (Some (forms.StopServer calls pick)) scope number later = Says (StopServer calls pick) scope
+meaning_of_form (Some (forms.StopClient client calls pick)) scope number later = stop_line scope number client calls pick
 meaning_of_form (Some forms.CrashServer) scope number later = Says CrashServer scope
 meaning_of_form (Some (forms.CrashClient client)) scope number later = crash_line scope number client
 meaning_of_form (Some forms.RestartServer) scope number later = Says RestartServer scope

@@ -6,7 +6,8 @@ ghost use Rattle.iot_text.specs.Paths.{path_of};
 ghost use Rattle.iot_event.specs.Forms.{form_of};
 ghost use Rattle.iot_event.specs.Closing.{closed_by};
 ghost use Rattle.iot_event.specs.Meanings.{Scope, Meaning, nothing_declared, place_of, choice_of, client_line, script_line, run_line};
-ghost use Rattle.iot_event.specs.Meanings.{hoard_line, refresh_line, begin_line, step_line, end_line, show_line, crash_line, restart_line};
+ghost use Rattle.iot_event.specs.Meanings.{hoard_line, refresh_line, begin_line, step_line, end_line, show_line};
+ghost use Rattle.iot_event.specs.Meanings.{stop_line, crash_line, restart_line};
 ghost use Rattle.iot_event.specs.Meanings.{connect_line, disconnect_line, lose_line, sync_line, drain_line};
 ghost use Rattle.iot_event.specs.Meanings.{repair_line, discard_line, queue_line, reads_line, meaning_of_form};
 ghost use Rattle.iot_event.specs.Events.{IsStep, IsStepOf};
@@ -19,6 +20,7 @@ use crate::fault::EventFault;
 use crate::form::{Form, NamedChoice, form_of_line};
 use crate::script::parse_script;
 use indexmap::IndexSet;
+use iot_disk::Pick;
 use iot_lines::is_skipped;
 use iot_link::Loss;
 use iot_text::{Name, Path, TextFault};
@@ -290,6 +292,24 @@ impl Declared {
         Ok(Event::Discard { client })
     }
 
+    /// `stop C k PICK`
+    fn stop_line(
+        &self,
+        client: Name,
+        calls: u64,
+        pick: Pick,
+        number: u64,
+    ) -> Result<Event, EventFault>
+        ensures { AnswersEvent (stop_line (scope_of self.now) number client calls pick) result self.now }
+    {
+        let client = place_of(&self.clients, client, number)?;
+        Ok(Event::StopClient {
+            client,
+            calls,
+            pick,
+        })
+    }
+
     /// `crash C`
     fn crash_line(&self, client: Name, number: u64) -> Result<Event, EventFault>
         ensures { AnswersEvent (crash_line (scope_of self.now) number client) result self.now }
@@ -422,6 +442,14 @@ impl Declared {
             Form::ShowClient { client } => {
                 after_line(self.show_line(client, number), later, number)
             }
+            Form::StopServer { calls, pick } => {
+                after_line(Ok(Event::StopServer { calls, pick }), later, number)
+            }
+            Form::StopClient {
+                client,
+                calls,
+                pick,
+            } => after_line(self.stop_line(client, calls, pick, number), later, number),
             Form::CrashServer => after_line(Ok(Event::CrashServer), later, number),
             Form::CrashClient { client } => {
                 after_line(self.crash_line(client, number), later, number)

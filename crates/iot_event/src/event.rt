@@ -1,4 +1,5 @@
 //! Events: what an event script asks for.
+use iot_disk::Pick;
 use iot_lang::Script;
 use iot_link::Loss;
 use iot_text::{Name, NoMemory, Path};
@@ -111,6 +112,21 @@ pub enum Event {
     /// `show C`: the client's view is printed.
     ShowClient {
         client: u64,
+    },
+
+    /// `stop server k PICK`: the k-th device call of the server's disk from now on fails; `calls` is k, from 1. The pick says which of its
+    /// images the disk has after the next restart.
+    StopServer {
+        calls: u64,
+        pick: Pick,
+    },
+
+    /// `stop C k PICK`: the k-th device call of the client's disk from now on fails; `calls` is k, from 1. The pick says which of its
+    /// images the disk has after the next restart.
+    StopClient {
+        client: u64,
+        calls: u64,
+        pick: Pick,
     },
 
     /// `crash server`: the server stops.

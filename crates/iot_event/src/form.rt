@@ -3,9 +3,10 @@ ghost use Rattle.std.specs.Prelude.{◌≡◌, map, if◌then◌else◌, Some, N
 ghost use Rattle.iot_lines.specs.Words.{words};
 ghost use Rattle.iot_text.specs.Names.{is_name};
 ghost use Rattle.iot_event.specs.Forms.{form_of, one_word, server_form, client_form, two_words, loss_of, three_words};
-ghost use Rattle.iot_event.specs.Forms.{plain_choice, resolver_choice, script_form, four_words, five_words};
+ghost use Rattle.iot_event.specs.Forms.{plain_choice, resolver_choice, script_form, pick_of, stop_form, stop_words, four_words, five_words};
 
-use crate::number::number_of;
+use crate::number::{byte_of, number_of};
+use iot_disk::Pick;
 use iot_lines::split_words;
 use iot_link::Loss;
 use iot_text::Name;
@@ -16,6 +17,9 @@ pub const STEP_LIMIT: u64 = 100_000;
 
 /// The greatest number of a transaction that waits in a line.
 pub const READS_LIMIT: u64 = 1_000_000;
+
+/// The greatest number of a device call that is to fail in a line.
+pub const STOP_LIMIT: u64 = 1_000_000;
 
 /// How many words the longest form has.
 const WORD_LIMIT: usize = 5;
@@ -154,6 +158,19 @@ pub(crate) enum Form<'a> {
     /// `show C`
     ShowClient {
         client: Name,
+    },
+
+    /// `stop server k PICK`
+    StopServer {
+        calls: u64,
+        pick: Pick,
+    },
+
+    /// `stop C k PICK`
+    StopClient {
+        client: Name,
+        calls: u64,
+        pick: Pick,
     },
 
     /// `crash server`
@@ -385,10 +402,47 @@ fn script_form(
     None
 }
 
+/// What a restart is to leave of a disk, if a word says it.
+fn pick_of(word: &[u8]) -> Option<Pick>
+    ensures { result ≡ pick_of word.now }
+{
+    if word == b"old".as_slice() {
+        return Some(Pick::Old);
+    }
+    if word == b"new".as_slice() {
+        return Some(Pick::New);
+    }
+    Some(Pick::Fill(byte_of(word)?))
+}
+
+/// The form of a line that has the disk of this node fail.
+fn stop_form(node: &[u8], calls: u64, pick: Pick) -> Option<Form<'static>>
+    ensures { result ≡ stop_form node.now calls pick }
+{
+    if node == b"server".as_slice() {
+        return Some(Form::StopServer { calls, pick });
+    }
+    Some(Form::StopClient {
+        client: name_of(node)?,
+        calls,
+        pick,
+    })
+}
+
+/// The form of a line with these words after `stop`.
+fn stop_words(node: &[u8], calls: &[u8], pick: &[u8]) -> Option<Form<'static>>
+    ensures { result ≡ stop_words node.now calls.now pick.now }
+{
+    stop_form(node, number_of(calls, STOP_LIMIT)?, pick_of(pick)?)
+}
+
 /// The form of a line of four words.
 fn four_words(first: &[u8], second: &[u8], third: &[u8], fourth: &[u8]) -> Option<Form<'static>>
     ensures { result ≡ four_words first.now second.now third.now fourth.now }
 {
+    if first == b"stop".as_slice() {
+        return stop_words(second, third, fourth);
+    }
     script_form(
         first,
         name_of(second)?,

@@ -2,12 +2,15 @@
 ghost use Rattle.std.specs.Prelude.{◌≡◌};
 ghost use Rattle.std.specs.Char.{is_ascii_digit};
 ghost use Rattle.std.specs.List.{list_all};
-ghost use Rattle.iot_event.specs.Numbers.{is_number, number_of};
+ghost use Rattle.iot_event.specs.Numbers.{is_number, number_of, byte_of};
 
 use std::str;
 
 /// How many digits a number has at most.
 const DIGIT_LIMIT: usize = 7;
+
+/// The greatest byte.
+const BYTE_LIMIT: u64 = 255;
 
 /// Whether each byte is a digit.
 fn are_digits(word: &[u8]) -> bool
@@ -36,4 +39,15 @@ pub(crate) fn number_of(word: &[u8], limit: u64) -> Option<u64>
     } else {
         None
     }
+}
+
+/// The byte that a word is; here `0` is a number.
+pub(crate) fn byte_of(word: &[u8]) -> Option<u8>
+    ensures { result ≡ byte_of word.now }
+{
+    if word == b"0".as_slice() {
+        return Some(0);
+    }
+    let number = number_of(word, BYTE_LIMIT)?;
+    u8::try_from(number).ok()
 }
