@@ -11,6 +11,11 @@ pub record Keeps {S A : Type 0} (P : S → Type 0) (call : Call S A) (Q : A → 
 abbrev pub Stays : {S A : Type 0} → (S → Type 0) → Call S A → Type 0
 Stays P call = Keeps P call (λ _. P)
 
+-- one thing holds after a round that goes on, and another after one that ends with this answer
+abbrev pub AfterRound : {S A : Type 0} → (S → Type 0) → (A → S → Type 0) → Option A → S → Type 0
+AfterRound P Q None = P
+AfterRound P Q (Some a) = Q a
+
 module _ {S : Type 0} {P : S → Type 0} where
   -- ---- one step
 
@@ -34,7 +39,11 @@ module _ {S : Type 0} {P : S → Type 0} where
   pub stays_says : {text : S → List ℕ} → Stays P (Says text)
   stays_says = keeps_does (λ m here. here)
 
-  -- from less
+  -- from less, and to less
+  pub keeps_to : {A : Type 0} {call : Call S A} {Q R : A → S → Type 0} → ((a : A) (m : S) → Q a m → R a m) → Keeps P call Q
+      → Keeps P call R
+  keeps_to less it = record { at = λ m n text a here step. less a n (it.at m n text a here step) }
+
   pub keeps_from : {A : Type 0} {P_ : S → Type 0} {call : Call S A} {Q : A → S → Type 0} → ((m : S) → P m → P_ m) → Keeps P_ call Q
       → Keeps P call Q
   keeps_from less it = record { at = λ m n text a here step. it.at m n text a (less m here) step }
@@ -67,19 +76,21 @@ module _ {S : Type 0} {P : S → Type 0} where
   pub stays_goes_on : {part : Part S} → Stays P part → (on : Bool) → Stays P (goes_on part on)
   stays_goes_on part on = keeps_either part stays_says on
 
-  stays_or_ends : {A : Type 0} {more : Call S A} → Stays P more → (answer : Option A) → Stays P (or_ends more answer)
-  stays_or_ends more None = more
-  stays_or_ends more (Some a) = stays_answers
+  keeps_or_ends : {A : Type 0} {more : Call S A} {Q : A → S → Type 0} → Keeps P more Q → (answer : Option A)
+      → Keeps (AfterRound P Q answer) (or_ends more answer) Q
+  keeps_or_ends more None = more
+  keeps_or_ends more (Some a) = record { at = λ m n text answer here step. rw (step.1, step.2) here }
 
-  -- what stays in each round stays in all
-  pub stays_rounds : {A : Type 0} {round : Call S (Option A)} (last : A) → Stays P round → (n : ℕ) → Stays P (Rounds n last round)
-  stays_rounds last round zero = stays_answers
-  stays_rounds last round (suc n) = keeps_then round (stays_or_ends (stays_rounds last round n))
+  -- what holds as long as the rounds go on, and at their end
+  pub keeps_rounds : {A : Type 0} {round : Call S (Option A)} {Q : A → S → Type 0} (last : A) → ((m : S) → P m → Q last m)
+      → Keeps P round (AfterRound P Q) → (n : ℕ) → Keeps P (Rounds n last round) Q
+  keeps_rounds last done round zero = keeps_gets done
+  keeps_rounds last done round (suc n) = keeps_then round (keeps_or_ends (keeps_rounds last done round n))
 
   -- ---- calls around a call
 
-  pub stays_or_says : {other : List ℕ} {part : Part S} → Stays P part → Stays P (OrSays other part)
-  stays_or_says part = record { at = λ m n text a here step. part.at m n step.said a here step.done }
+  pub keeps_or_says : {other : List ℕ} {part : Part S} {Q : Unit {0} → S → Type 0} → Keeps P part Q → Keeps P (OrSays other part) Q
+  keeps_or_says part = record { at = λ m n text a here step. part.at m n step.said a here step.done }
 
   pub keeps_at : {N A : Type 0} {lens : Lens S N} {call : Call N A} {Q : A → S → Type 0}
       → ((m : S) → P m → Keeps (λ k. k ≡ lens.get m) call (λ a k. Q a (lens.set k m))) → Keeps P (At lens call) Q

@@ -1,4 +1,11 @@
 pub mod KeepsLaws
+pub mod FollowsLaws
+pub mod PossiblyLaws
+pub mod CountingLaws
+pub mod MachinesLaws
+pub mod AwakeLaws
+pub mod CallsLaws
 pub mod SoundLaws
+pub mod KeptLaws
 pub mod WholeLaws
 pub mod CutLaws

@@ -13,4 +13,5 @@ pub mod Events
 pub mod Json
 pub mod Transcript
 pub mod Sound
+pub mod Counting
 pub mod Laws

@@ -1,6 +1,6 @@
 -- The plain machine: the server's list of committed scripts, the clients, and the scripts. The server has no tree of its own: its
 -- tree is what its list gives when it is run from the start. Nor has a client a view: it is what its transactions make of its tree.
-use Rattle.std.specs.Prelude.{ℕ, ◌+◌, Bool, false, List, [], ◌∷◌, ◌++◌, map, slice_index_or, slice_set}
+use Rattle.std.specs.Prelude.{ℕ, ◌+◌, Bool, false, List, [], ◌∷◌, ◌++◌, map, drop, slice_index_or, slice_set}
 use Rattle.iot_tree.specs.Tree.{Nodes}
 use Rattle.iot_tree.specs.declared.labels.Way.{Way}
 use Rattle.iot_lang.specs.Code.{End}
@@ -9,7 +9,7 @@ use Rattle.iot_link.specs.Links.{LinkState, connected}
 use Rattle.iot_exec.specs.Serial.{Entry, serial_tree}
 use Rattle.iot_machine.specs.Calls.{Lens}
 use Rattle.iot_machine.specs.Clients.{Declared, ClientState, new_client}
-use Rattle.iot_machine.specs.Nodes.{Node, opened}
+use Rattle.iot_machine.specs.Nodes.{Node, Counts, unopened, no_counts}
 use Rattle.iot_machine.specs.Options as options
 use Rattle.iot_machine.specs.Options.{OnConflict}
 
@@ -26,15 +26,28 @@ pub record Client : Type 0 where
   pub link : LinkState
   pub first : Bool
 
--- the server, whose durable state is its list, and how many requests it has answered since its start; the clients; the scripts
+-- the server, whose durable state is its list, and how many requests it has answered since its start; the clients; the scripts; and what
+-- is counted of the disks of the clients that are not declared yet
 pub record Machine : Type 0 where
   pub server : Node (List Commit)
   pub requests : ℕ
   pub clients : List Client
   pub scripts : List Declared
+  pub spare : List Counts
 
-abbrev pub opening : Machine
-opening = record { server = opened []; requests = 0; clients = []; scripts = [] }
+-- the first of these counts
+abbrev pub first_of : List Counts → Counts
+first_of counts = slice_index_or counts 0 no_counts
+
+-- before anything has started, over disks with these counts; the first is the server's
+abbrev pub handed : List Counts → Machine
+handed counts = record {
+  server = unopened [] (first_of counts);
+  requests = 0;
+  clients = [];
+  scripts = [];
+  spare = drop 1 counts;
+}
 
 -- ---- a list of commits
 
@@ -52,7 +65,7 @@ add_commit commit commits = commits ++ commit ∷ []
 -- ---- looking up by place
 
 abbrev pub no_client : Client
-no_client = record { name = []; node = opened new_client; link = link.opened; first = false }
+no_client = record { name = []; node = unopened new_client no_counts; link = link.opened; first = false }
 
 abbrev pub no_script : Declared
 no_script = record { name = []; code = End }

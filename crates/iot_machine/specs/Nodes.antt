@@ -1,15 +1,29 @@
 -- A node of the machine, over any durable state.
-use Rattle.std.specs.Prelude.{Bool, true, false}
+use Rattle.std.specs.Prelude.{ℕ, Bool, true, false, Option, None, Some}
+use Rattle.iot_disk.specs.Disk.{Arms, armed_with, never_armed}
+use Rattle.iot_disk.specs.declared.disk.Pick.{Pick}
 
--- Alive or down, and its durable state. Once a node may stop in the middle of a change, the state after that change stands
--- here too, as long as it is in doubt.
+-- what a node's disk counts: how often it has failed, and how it was armed
+pub record Counts : Type 0 where
+  pub faults : ℕ
+  pub arms : Arms
+
+-- Alive or down; its durable state; and the state after the record that is in doubt, if one is. Beside these stand what its disk
+-- counts, and how often it has stopped: no text depends on these two, and nothing else that it keeps.
 pub record Node (S : Type 0) : Type 0 where
   pub alive : Bool
   pub durable : S
+  pub doubt : Option S
+  pub counts : Counts
+  pub stops : ℕ
 
--- a new node
-abbrev pub opened : {S : Type 0} → S → Node S
-opened s = record { alive = true; durable = s }
+-- a node that was never started, over a disk with these counts
+abbrev pub unopened : {S : Type 0} → S → Counts → Node S
+unopened s counts = record { alive = false; durable = s; doubt = None; counts = counts; stops = 0 }
+
+-- it starts
+abbrev pub opened : {S : Type 0} → Node S → Node S
+opened node = record node { alive = true }
 
 abbrev pub changed : {S : Type 0} → (S → S) → Node S → Node S
 changed change node = record node { durable = change node.durable }
@@ -18,6 +32,18 @@ changed change node = record node { durable = change node.durable }
 abbrev pub fallen : {S : Type 0} → Node S → Node S
 fallen node = record node { alive = false }
 
--- alive again, with this state
+-- down, with the record of this change in doubt
+abbrev pub doubting : {S : Type 0} → (S → S) → Node S → Node S
+doubting change node = record node { alive = false; doubt = Some (change node.durable) }
+
+-- alive again, with this state, and nothing in doubt
 abbrev pub back : {S : Type 0} → S → Node S → Node S
-back s node = record { alive = true; durable = s }
+back s node = record node { alive = true; durable = s; doubt = None }
+
+-- its disk is armed
+abbrev pub armed : {S : Type 0} → ℕ → Pick → Node S → Node S
+armed calls pick node = record node { counts = record node.counts { arms = armed_with node.counts.arms calls pick } }
+
+-- the counts of a disk that never failed and was never armed
+abbrev pub no_counts : Counts
+no_counts = record { faults = 0; arms = never_armed }

@@ -1,6 +1,6 @@
 -- What the server does with a request. It answers, or nothing if it stops.
 use Rattle.std.specs.Prelude.{◌≡◌, ℕ, ◌+◌, ◌&&◌, ◌==◌, Bool, true, false, List, [], ◌∷◌, ◌++◌, Option, None, Some}
-use Rattle.std.specs.Prelude.{length, codes, position, option_map}
+use Rattle.std.specs.Prelude.{length, codes, drop, position, option_map, slice_index_or}
 use Rattle.iot_tree.specs.Tree.{Nodes}
 use Rattle.iot_tree.specs.declared.acts.Read.{Read}
 use Rattle.iot_tree.specs.declared.questions.Answer.{Answer}
@@ -14,7 +14,7 @@ use Rattle.iot_machine.specs.Clients.{snapshot}
 use Rattle.iot_machine.specs.Machine.{Commit, add_commit, tree_after}
 use Rattle.iot_machine.specs.Nodes.{Node}
 use Rattle.iot_machine.specs.Stops.{Appends}
-use Rattle.iot_machine.specs.Texts.{commit_line, acts_output}
+use Rattle.iot_machine.specs.Texts.{transaction_name, commit_line, acts_output}
 
 abbrev pub server_name : List ℕ
 server_name = codes "server"
@@ -53,6 +53,15 @@ reads_there commit commits = reads_of (run_entry commit.entry (tree_after commit
 abbrev pub commit_text : List ℕ → Commit → List Commit → List ℕ
 commit_text name commit commits =
     commit_line (length commits + 1) name commit.entry.way ++ acts_output (run_entry commit.entry (tree_after commits)).acts
+
+-- the same of the commit that this list has behind the other one, where the clients have these names
+abbrev pub added_text : List (List ℕ) → List Commit → (added : List Commit) → List ℕ
+added_text names commits [] = []
+added_text names commits (commit ∷ later) =
+    commit_text (transaction_name (slice_index_or names commit.entry.client []) commit.entry.number) commit commits
+
+abbrev pub kept_text : List (List ℕ) → (before after : List Commit) → List ℕ
+kept_text names before after = added_text names before (drop (length before) after)
 
 -- it is appended, and says so, and its number is the answer; a server that stops answers none
 abbrev pub committed : List ℕ → Bool → Call (Node (List Commit)) (Option Verdict)

@@ -1,11 +1,26 @@
 -- What holds of every machine to which events lead: how the list of commits and the clients' transactions go together.
-use Rattle.std.specs.Prelude.{◌≡◌, ◌≢◌, ℕ, ◌<◌, ◌≤◌, List, [], ◌∷◌, length, Option, Some, None}
+use Rattle.std.specs.Prelude.{◌≡◌, ◌≢◌, ℕ, ◌<◌, ◌≤◌, true, List, [], ◌∷◌, length, Option, Some, None, IfSome}
 use Rattle.std.specs.List.{AllByRecursion}
 use Rattle.iot_machine.specs.Clients.{Declared, Stage, Waiting, Conflict, Manual, Resolved, Item, Running, ClientState, attempt_of}
-use Rattle.iot_machine.specs.Machine.{Machine, Client, Commit, kept_by}
+use Rattle.iot_machine.specs.Machine.{Machine, Client, Commit, client_in}
+use Rattle.iot_machine.specs.Nodes.{Node}
 use Rattle.iot_machine.specs.Options as options
 use Rattle.iot_machine.specs.Options.{OnConflict}
 use Rattle.iot_machine.specs.Serving.{number_of}
+
+-- ---- the states that a node may come back with
+
+-- it is so of what is durable, and of the state after the record that is in doubt, if one is
+pub record Possibly {S : Type 0} (P : S → Type 0) (node : Node S) : Type 0 where
+  pub is : P node.durable
+  pub may_be : IfSome node.doubt P
+
+-- a node that is alive has nothing in doubt
+abbrev pub IsSure : {S : Type 0} → Node S → Type 0
+IsSure node = node.alive ≡ true → node.doubt ≡ None
+
+abbrev pub IsSureOf : Client → Type 0
+IsSureOf client = IsSure client.node
 
 -- ---- the numbers of a client's transactions
 
@@ -29,7 +44,7 @@ pub record AreNumbered (state : ClientState) : Type 0 where
   pub newest : IsNewest state state.running
 
 abbrev pub IsNumbered : Client → Type 0
-IsNumbered client = AreNumbered client.node.durable
+IsNumbered client = Possibly AreNumbered client.node
 
 -- ---- the transactions in the list
 
@@ -62,12 +77,16 @@ abbrev pub RunsAnother : Commit → Option Running → Type 0
 RunsAnother commit None = Unit {0}
 RunsAnother commit (Some it) = commit.entry.number < it.number
 
--- its number is one that its client has given
+-- a client that keeps this has given its number
+pub record Knows (commit : Commit) (state : ClientState) : Type 0 where
+  pub given : commit.entry.number ≤ state.last
+  pub waits : WaitsFirst commit state.items
+  pub runs : RunsAnother commit state.running
+
+-- so has its client, whichever state that comes back with
 pub record IsListed (m : Machine) (commit : Commit) : Type 0 where
   pub client : commit.entry.client < length m.clients
-  pub given : commit.entry.number ≤ (kept_by commit.entry.client m).last
-  pub waits : WaitsFirst commit (kept_by commit.entry.client m).items
-  pub runs : RunsAnother commit (kept_by commit.entry.client m).running
+  pub known : Possibly (Knows commit) (client_in m commit.entry.client).node
 
 -- ---- the transactions that conflicted
 
@@ -88,8 +107,11 @@ IsPlanned option (Resolved it) = CanResolve option
 abbrev pub HasPlan : Item → Type 0
 HasPlan item = IsPlanned item.option item.stage
 
+abbrev pub ArePlanned : ClientState → Type 0
+ArePlanned state = AllByRecursion HasPlan state.items
+
 abbrev pub HasPlans : Client → Type 0
-HasPlans client = AllByRecursion HasPlan client.node.durable.items
+HasPlans client = Possibly ArePlanned client.node
 
 -- ---- the machine
 
@@ -98,8 +120,11 @@ abbrev pub AreOnce : List Commit → Type 0
 AreOnce [] = Unit {0}
 AreOnce (commit ∷ commits) = (number_of commit commits ≡ None) × AreOnce commits
 
+-- whichever states its nodes come back with
 pub record IsSound (m : Machine) : Type 0 where
+  pub sure : IsSure m.server
+  pub sure_of : AllByRecursion IsSureOf m.clients
   pub numbered : AllByRecursion IsNumbered m.clients
   pub planned : AllByRecursion HasPlans m.clients
-  pub listed : AllByRecursion (IsListed m) m.server.durable
-  pub once : AreOnce m.server.durable
+  pub listed : Possibly (AllByRecursion (IsListed m)) m.server
+  pub once : Possibly AreOnce m.server

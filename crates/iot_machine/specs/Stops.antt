@@ -1,17 +1,45 @@
--- The calls of a node, by its name, in which it may stop, and those that follow from a stop or a crash. So far no node
--- stops, so `Appends` always answers yes, and `ComesBack` always has what is durable.
-use Rattle.std.specs.Prelude.{◌≡◌, ℕ, Bool, true, List, [], ◌++◌, codes}
-use Rattle.iot_machine.specs.Calls.{Call, Part, Does, Says, Asks, Then, either}
-use Rattle.iot_machine.specs.Nodes.{Node, changed, fallen, back}
-use Rattle.iot_machine.specs.Texts.{line}
+-- The calls of a node, by its name, in which it may stop, and those that follow from a stop or a crash.
+use Rattle.std.specs.Prelude.{◌≡◌, ◌⊎◌, ℕ, ◌+◌, Bool, true, false, List, [], ◌++◌, Option, None, Some, codes}
+use Rattle.iot_count.specs.Counts.{Rose}
+use Rattle.iot_disk.specs.declared.disk.Pick.{Pick}
+use Rattle.iot_machine.specs.Calls.{Call, Part, Does, Says, Nothing, Asks, Then, either}
+use Rattle.iot_machine.specs.Nodes.{Node, opened, changed, fallen, doubting, back, armed}
+use Rattle.iot_machine.specs.Texts.{line, stopped_line, kept_line, lost_line, stop_line}
 
--- One change of the durable state, and whether the node goes on. Each such change is written so.
+-- ---- what may stop
+
+-- A stop: its disk's count of faults rose. It rises here and nowhere else, and `NODE stopped` is printed in such a call alone.
+pub record IsStopped {S : Type 0} (node n : Node S) : Type 0 where
+  pub faults : ℕ
+  pub rose : Rose node.counts.faults faults
+  pub is : n ≡ record node { counts = record node.counts { faults = faults }; stops = node.stops + 1 }
+
+-- a node that was never started starts, on an empty disk, and whether it did: else it has stopped
+abbrev pub OpensNode : {S : Type 0} → List ℕ → Call (Node S) Bool
+OpensNode name node text on n =
+    ((text ≡ []) × (on ≡ true) × (n ≡ opened node))
+    ⊎ ((text ≡ stopped_line name) × (on ≡ false) × IsStopped node n)
+
+-- One change of the durable state, and whether the node goes on: else it has stopped, and the record of the change is in doubt. Each such
+-- change is written so.
 abbrev pub Appends : {S : Type 0} → List ℕ → (S → S) → Call (Node S) Bool
-Appends name change node text on n = (text ≡ []) × (on ≡ true) × (n ≡ changed change node)
+Appends name change node text on n =
+    ((text ≡ []) × (on ≡ true) × (n ≡ changed change node))
+    ⊎ ((text ≡ stopped_line name) × (on ≡ false) × IsStopped (doubting change node) n)
 
--- a node that is down comes back
-abbrev pub ComesBack : {S : Type 0} → List ℕ → Part (Node S)
-ComesBack name node text _ n = (text ≡ line (codes "restart " ++ name)) × (n ≡ back node.durable node)
+-- Its journal was read: it is alive, with what is durable. If a record was in doubt, it was kept or it was lost, and what `says` tells of
+-- the states before and after it follows a kept one.
+abbrev pub Settles : {S : Type 0} → List ℕ → (S → S → List ℕ) → Option S → Node S → List ℕ → Node S → Type 0
+Settles name says None node text n = (text ≡ line (codes "restart " ++ name)) × (n ≡ back node.durable node)
+Settles name says (Some after) node text n =
+    ((text ≡ kept_line name ++ says node.durable after) × (n ≡ back after node))
+    ⊎ ((text ≡ lost_line name) × (n ≡ back node.durable node))
+
+-- a node that is down comes back, and whether it did: else it has stopped again, and what was in doubt still is
+abbrev pub ComesBack : {S : Type 0} → List ℕ → (S → S → List ℕ) → Call (Node S) Bool
+ComesBack name says node text on n =
+    ((on ≡ true) × Settles name says node.doubt node text n)
+    ⊎ ((text ≡ stopped_line name) × (on ≡ false) × IsStopped node n)
 
 -- ---- calls without a choice of their own
 
@@ -20,8 +48,13 @@ Crashes name =
     Then (Asks (λ node. node.alive))
     (either (Does (λ _. line (codes "crash " ++ name)) fallen) (Says (λ _. line (codes "down"))))
 
-abbrev pub Restarts : {S : Type 0} → List ℕ → Part (Node S)
-Restarts name = Then (Asks (λ node. node.alive)) (either (Says (λ _. line (codes "up"))) (ComesBack name))
+abbrev pub Restarts : {S : Type 0} → List ℕ → (S → S → List ℕ) → Part (Node S)
+Restarts name says =
+    Then (Asks (λ node. node.alive)) (either (Says (λ _. line (codes "up"))) (Then (ComesBack name says) (λ _. Nothing)))
+
+-- a later device call of its disk is to fail
+abbrev pub ArmsDisk : {S : Type 0} → List ℕ → ℕ → Pick → Part (Node S)
+ArmsDisk name calls pick = Does (λ _. stop_line name calls pick) (armed calls pick)
 
 -- what it has is printed
 abbrev pub Shows : {S : Type 0} → (S → List ℕ) → Part (Node S)

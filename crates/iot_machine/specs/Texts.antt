@@ -2,6 +2,8 @@
 use Rattle.std.specs.Prelude.{ℕ, Bool, true, false, List, [], ◌∷◌, ◌++◌, codes, decimal}
 use Rattle.std.specs.List.{flat_map}
 use Rattle.iot_text.specs.Paths.{path_text}
+use Rattle.iot_disk.specs.declared.disk.Pick.{Pick}
+use Rattle.iot_disk.specs.declared.disk.Pick.TheVariants.{Old, New, Fill}
 use Rattle.iot_link.specs.declared.passages.Loss.{Loss}
 use Rattle.iot_link.specs.declared.passages.Loss.TheVariants.{Request, Reply}
 use Rattle.iot_tree.specs.declared.acts.Act.{Act}
@@ -93,3 +95,26 @@ loss_text Reply = codes "reply"
 
 abbrev pub lose_line : List ℕ → Loss → List ℕ
 lose_line name loss = line (codes "lose " ++ name ++ 32 ∷ loss_text loss)
+
+-- ---- stops
+
+-- a node has stopped
+abbrev pub stopped_line : List ℕ → List ℕ
+stopped_line name = line (name ++ codes " stopped")
+
+-- a node came back, and the record that was in doubt was kept
+abbrev pub kept_line : List ℕ → List ℕ
+kept_line name = line (codes "restart " ++ name ++ codes " kept")
+
+-- or it was lost
+abbrev pub lost_line : List ℕ → List ℕ
+lost_line name = line (codes "restart " ++ name ++ codes " lost")
+
+abbrev pub pick_text : Pick → List ℕ
+pick_text Old = codes "old"
+pick_text New = codes "new"
+pick_text (Fill byte) = decimal byte
+
+-- its disk is to fail at this device call from now on
+abbrev pub stop_line : List ℕ → (calls : ℕ) → Pick → List ℕ
+stop_line name calls pick = line (codes "stop " ++ name ++ 32 ∷ decimal calls ++ 32 ∷ pick_text pick)
