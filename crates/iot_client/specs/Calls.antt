@@ -24,6 +24,7 @@ use Rattle.iot_resolve.specs.declared.plan.Plan.{Plan}
 use Rattle.iot_kept.specs.States.{Transaction, State, view}
 use Rattle.iot_kept.specs.Changes.{IsInConflict, CanFollow, after}
 use Rattle.iot_kept.specs.Standing.{EachStandsEither}
+use Rattle.iot_changes.specs.Rules.{IsChange}
 use Rattle.iot_changes.specs.Spelling.{change_spelling}
 use Rattle.iot_changes.specs.declared.changes.Change.{Change}
 use Rattle.iot_changes.specs.declared.changes.Change.TheVariants as changes
@@ -137,9 +138,10 @@ pub record Notes {D : Type 0} (change : Change) (old new : Client D) : Type 0 wh
   pub state : state_of new ≡ after (state_of old) change
   pub place : place_of new ≡ place_of old
 
--- a call was stopped while it appended the record of this change, which could follow: each image stands for the state before or for the
--- one after it, and has the records before, or those and the record of the change
+-- a call was stopped while it appended the record of this change, which has a spelling and could follow: each image stands for the state
+-- before or for the one after it, and has the records before, or those and the record of the change
 pub record CutsOff (change : Change) (state : State) (bodies : List (List ℕ)) (images : List ℕ → Type 0) : Type 0 where
+  pub spelled : IsChange change
   pub follows : CanFollow state change
   pub either : EachStandsEither images state (after state change)
   pub one_record : EachDecodesEither images (Encodes bodies) (Encodes (bodies ++ change_spelling change ∷ []))
