@@ -1,6 +1,6 @@
 //! The server itself.
 ghost use Rattle.std.specs.Prelude.{◌≡◌, ℕ, length, IfOk, IfErr, OnOk, IsErrOf, MatchResult};
-ghost use Rattle.iot_disk.specs.Disk.{Only, SameImages};
+ghost use Rattle.iot_disk.specs.Disk.{Only, SameImages, armed_with};
 ghost use Rattle.iot_journal.specs.Decoding.{Encodes, decoded};
 ghost use Rattle.iot_journal.specs.Images.{EachDecodes};
 ghost use Rattle.iot_journal.specs.Start.{ChangesNothing};
@@ -19,7 +19,7 @@ ghost use Rattle.iot_wire.specs.declared.requests.Request.{Request};
 
 use crate::answering::answer;
 use crate::{ServerFault, Traffic};
-use iot_disk::{Disk, StartFault};
+use iot_disk::{Disk, Pick, StartFault};
 use iot_store::Store;
 use iot_wire::read_request;
 use std::alloc::Global;
@@ -136,6 +136,19 @@ impl<D: Disk> Server<D> {
         ensures { result ≡ traffic_of self.now }
     {
         self.traffic
+    }
+
+    /// Makes a later device call of the disk fail, and does nothing else.
+    pub fn arm(&mut self, calls: u64, pick: Pick)
+        ensures arms { D.arms (disk_of self.new) ≡ armed_with (D.arms (disk_of self.old)) calls pick }
+        ensures reads { D.reads (disk_of self.new) ≡ D.reads (disk_of self.old) }
+        ensures images { SameImages (D.may_leave (disk_of self.old)) (D.may_leave (disk_of self.new)) }
+        ensures faults { D.faults (disk_of self.new) ≡ D.faults (disk_of self.old) }
+        ensures state { state_of self.new ≡ state_of self.old }
+        ensures synced { IsSynced D.reads D.may_leave self.old → IsSynced D.reads D.may_leave self.new }
+        ensures traffic { traffic_of self.new ≡ traffic_of self.old }
+    {
+        self.store.arm(calls, pick);
     }
 
     /// Gives the disk back.

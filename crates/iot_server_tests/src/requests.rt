@@ -2,7 +2,7 @@
 ghost use Rattle.std.specs.Prelude.{IfOk};
 ghost use Rattle.iot_server.specs.Servers.{IsSynced};
 
-use iot_disk::{Disk, MemDisk};
+use iot_disk::{Disk, MemDisk, Pick};
 use iot_server::{Server, ServerFault, StartFault, Traffic};
 use std::alloc::Global;
 use std::test::Fail;
@@ -66,5 +66,25 @@ fn each_request_has_its_reply(rt: HostRuntime) -> Result<(), Fail> {
     let server = started(alloc, server.into_disk())?;
     assert_eq!(rt; server.store().number(), 1);
     assert_eq!(rt; server.traffic().requests, 0);
+    Ok(())
+}
+
+#[test]
+fn a_commit_is_kept_or_lost(rt: HostRuntime) -> Result<(), Fail> {
+    let alloc = rt.alloc();
+    for calls in 1..5 {
+        for pick in [Pick::Old, Pick::New, Pick::Fill(165)] {
+            let mut server = started(alloc, MemDisk::new(alloc))?;
+            server.arm(calls, pick);
+            let stopped = server.handle(alloc, COMMIT);
+            assert!(rt; matches!(stopped, Err(ServerFault::Stopped)));
+            let kept = calls > 2 && pick != Pick::Old;
+            let mut server = started(alloc, server.into_disk())?;
+            assert_eq!(rt; server.store().number(), u64::from(kept), "call {calls}");
+            // It is submitted again.
+            let reply = if kept { ALREADY } else { COMMITTED };
+            assert_eq!(rt; server.handle(alloc, COMMIT)?.as_slice(), reply);
+        }
+    }
     Ok(())
 }
