@@ -1,5 +1,6 @@
 -- What a reply brings: a tree, which has a spelling, and no other.
 use Rattle.std.proofs.Common.{◌≡◌, ℕ, Bool, true, List, [], ◌∷◌, length, Some, Result, Ok, Err, if◌then◌else◌, refl, sym, ap, ◌∙◌}
+use Rattle.std.specs.Prelude.{IfErr}
 use Rattle.std.specs.Cmp.Derive.{both_true}
 use Rattle.std.specs.FinMap.{get, entries, get-entries}
 use Rattle.std.specs.List.{AllByRecursion, list_all}
@@ -87,3 +88,11 @@ pub not_bad : {D : Type 0} (old new : Client D) (reply : List ℕ) (Is : Item �
 not_bad old new reply Is items fault some only brings whole refuses =
     may_fail old new (whole_in reply) brings.tree
     (whole_read reply brings.tree only brings.is (whole brings.tree brings.is)) Is items fault some refuses
+
+pub none_bad : {D : Type 0} (old new : Client D) (reply : List ℕ) (Is : Item → Type 0) (items : List Item)
+    (answer : Result (Unit {0}) ClientFault) → HeadIs Is items → ReadsObjects reply → BringsTree reply
+    → ((t : Nodes) → SpellsTree reply t → IsWhole t) → RefusesReply (empty_queue items) (whole_in reply) old new answer
+    → IfErr answer MayFail
+none_bad old new reply Is items (Ok done) some only brings whole refuses = tt
+none_bad old new reply Is items (Err fault) some only brings whole refuses =
+    not_bad old new reply Is items fault some only brings whole refuses

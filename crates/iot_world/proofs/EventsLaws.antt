@@ -1,7 +1,7 @@
 -- The events of a world's clients are those of the machine's.
 use Rattle.std.proofs.Common.{◌≡◌, ℕ, ◌+◌, Bool, true, false, List, [], ◌∷◌, ◌++◌, length, map, Option, Some, None}
 use Rattle.std.proofs.Common.{is_some, append_assoc, refl, sym, ap, subst, ◌∙◌, arith, codes}
-use Rattle.std.proofs.lemmas.List.{append-nil, length-append, map-append}
+use Rattle.std.proofs.lemmas.List.{append-nil, map-append}
 use Rattle.std.proofs.lemmas.Option.{same_Some}
 use Rattle.iot_tree.specs.Tree.{Nodes}
 use Rattle.iot_lang.specs.Code.{Code}
@@ -13,34 +13,35 @@ use Rattle.iot_event.specs.Meanings.{is_declared}
 use Rattle.iot_event.specs.declared.event.Event.{Event}
 use Rattle.iot_event.specs.declared.event.Event.TheVariants as events
 use Rattle.iot_link.specs.Links.{LinkState}
-use Rattle.iot_machine.specs.Calls.{Call, Part, Asks, Says, Then, goes_on}
+use Rattle.iot_machine.specs.Calls.{Call, Part, Asks, Answers, Says, Then, goes_on}
 use Rattle.iot_machine.specs.Refining.{Refines}
 use Rattle.iot_machine.specs.Clients as clients
-use Rattle.iot_machine.specs.Clients.{Declared, ClientState, view, base, next_step}
+use Rattle.iot_machine.specs.Clients.{Declared, view, base, next_step}
 use Rattle.iot_machine.specs.Machine as machine
-use Rattle.iot_machine.specs.Machine.{Machine, Commit, client_in, node_at, kept_by, no_client}
-use Rattle.iot_machine.specs.Events.{StepsAloud, Runs, SyncsIf, is_connected, runs_script, event_part, begin_text, step_text, run_steps}
-use Rattle.iot_machine.specs.Events.{declare_client, declare_script, name_of, said_of, place_text}
+use Rattle.iot_machine.specs.Machine.{Machine, client_in, kept_by, no_client}
+use Rattle.iot_machine.specs.Events.{names_in, StepsAloud, Runs, SyncsIf, is_connected, runs_script, event_part, begin_text, step_text}
+use Rattle.iot_machine.specs.Events.{run_steps}
+use Rattle.iot_machine.specs.Events.{declare_script, name_of, said_of, place_text, steps_on, syncs_on}
 use Rattle.iot_machine.specs.Options.{OnConflict}
-use Rattle.iot_machine.specs.Texts.{line, client_line, begin_line, step_line, transaction_name, tree_text}
+use Rattle.iot_machine.specs.Texts.{line, begin_line, step_line, transaction_name, tree_text}
 use Rattle.iot_machine.specs.Transactions.{Begins, StepsAll, Stepped, Ends, SyncsAll, Synced, runs, next_of}
 use Rattle.std.specs.List.{AllByRecursion}
-use Rattle.iot_world.specs.Disks.{IsEmpty}
-use Rattle.iot_world.specs.Laptops.{LaptopStands, ClientStands, awake, RunningStandsIfAny, IsView, new_laptop}
+use Rattle.iot_world.specs.Disks.{Medium, IsEmpty}
+use Rattle.iot_world.specs.Laptops.{LaptopStands, ClientStands, RunningStandsIfAny, IsView}
 use Rattle.iot_world.specs.Nodes.{state_in, live_in}
 use Rattle.iot_world.specs.Saying.{place_said}
 use Rattle.iot_world.specs.Scripts.{script_named}
 use Rattle.iot_world.specs.Servers.{ServerStands, HasAnswered}
-use Rattle.iot_world.specs.World.{Each, ScriptStands, StandsFor, Steps, AddsClient, AddsScript, SameDeclared, DeclaredOn, scripts_of}
+use Rattle.iot_world.specs.World.{Each, ScriptStands, StandsFor, Steps, DeclaresClient, AddsScript, SameDeclared, DeclaredOn, scripts_of}
 use Rattle.iot_world.specs.World.{ArePlaced, client_count, script_names}
 use Rattle.iot_world.specs.declared.laptop.Laptop.{Laptop}
 use Rattle.iot_world.specs.declared.server.ServerNode.{ServerNode}
 use Rattle.iot_world.specs.declared.world.DeclaredScript.{DeclaredScript}
 use Rattle.iot_world.specs.declared.world.World.{World}
-use Rattle.iot_world.proofs.CallsLaws.{bind, asks, says, says_this, nothing}
+use Rattle.iot_world.proofs.CallsLaws.{bind, asks, answers, says, says_this, nothing}
 use Rattle.iot_world.proofs.LaptopsLaws as laptops
 use Rattle.iot_world.proofs.LaptopsLaws.{Running, place_is}
-use Rattle.iot_world.proofs.ListLaws.{each_push, each_place_push, set_same}
+use Rattle.iot_world.proofs.ListLaws.{each_push, set_same}
 use Rattle.iot_world.proofs.ReadyLaws.{none_stands}
 use Rattle.iot_world.proofs.StepsLaws.{IsAt, running_in, runs_here, laptop_stands, asks_running, asks_runs}
 use Rattle.iot_world.proofs.ScriptsLaws.{scripts_are, clients_more, apart_more, undeclared}
@@ -54,12 +55,10 @@ declared_after old new later same declared =
     (sym (ap (map (λ script. script.name)) same.scripts)) declared)
 
 -- so are they after one that declares what it declares
-pub declared_client : {D : Type 0} (reads : D → List ℕ) (may_leave : D → List ℕ → Type 0) (name : List ℕ) (old new : World D)
-    (later : List Event) → AddsClient reads may_leave name old new
+pub declared_client : {D : Type 0} (name : List ℕ) (old new : World D) (later : List Event) → DeclaresClient old new
     → DeclaredOn (events.Client name ∷ later) old → DeclaredOn later new
-declared_client reads may_leave name old new later adds declared =
-    subst (λ (n : ℕ). AreDeclared later n (script_names new))
-    (sym (ap length adds.clients ∙ length-append old.clients.items (adds.laptop ∷ [])))
+declared_client name old new later adds declared =
+    subst (λ (n : ℕ). AreDeclared later n (script_names new)) (sym adds.clients)
     (subst (λ (names : List (List ℕ)). AreDeclared later (client_count old + 1) names)
     (sym (ap (map (λ script. script.name)) adds.scripts)) declared.1)
 
@@ -98,9 +97,9 @@ regrouped u v w x y z b c two third = record {
 
 -- ---- what is said of a transaction that runs
 
-module _ {D : Type 0} (reads : D → List ℕ) (may_leave : D → List ℕ → Type 0) (scripts : List Declared) (laptop : Laptop D)
+module _ {D : Type 0} (medium : Medium D) (scripts : List Declared) (laptop : Laptop D)
     (m : machine.Client)
-    (r : Transaction) (here : LaptopStands reads may_leave scripts laptop m)
+    (r : Transaction) (here : LaptopStands medium scripts laptop m)
     (is : (state_in laptop).running ≡ Some r) where
   module _ (it : clients.Running) (runs : m.node.durable.running ≡ Some it) where
     known : Running (state_in laptop).running (live_in laptop) m.first it
@@ -154,46 +153,12 @@ module _ {D : Type 0} (reads : D → List ℕ) (may_leave : D → List ℕ → T
       ∙ ap (step_line (transaction_name m.name it.number) it.acts)
       (sym (place_is (state_in laptop) (live_in laptop) m.first m.node.durable here.state it runs r is)))
 
-module _ {D : Type 0} (reads : D → List ℕ) (may_leave : D → List ℕ → Type 0) where
+module _ {D : Type 0} (medium : Medium D) where
   -- ---- declarations
-
-  pub declares_client : (name : List ℕ) (old new : World D) (x y : List ℕ) → AddsClient reads may_leave name old new
-      → y ≡ x ++ client_line name → Steps reads may_leave (event_part (events.Client name)) old new x y tt
-  declares_client name old new x y adds wrote = record {
-    step = λ m here. (
-      client_line name,
-      declare_client name m,
-      wrote,
-      (refl, refl),
-      record {
-        server = subst (λ (s : ServerNode D). ServerStands reads may_leave s m.server) (sym adds.server) here.server;
-        requests = subst (HasAnswered m.requests) (sym adds.server) here.requests;
-        placed =
-            subst ArePlaced (sym adds.clients)
-            (each_place_push (λ n (l : Laptop D). l.place ≡ n) old.clients.items adds.laptop here.placed adds.place);
-        clients =
-            subst (λ (ls : List (Laptop D)). Each (ClientStands reads may_leave m.scripts) ls (m.clients ++ new_laptop name ∷ []))
-            (sym adds.clients)
-            (each_push (ClientStands reads may_leave m.scripts) old.clients.items m.clients adds.laptop (new_laptop name)
-            (awake (adds.stands m.scripts)) here.clients);
-        scripts = subst (λ (ss : List DeclaredScript). Each ScriptStands ss m.scripts) (sym adds.scripts) here.scripts;
-        apart = here.apart;
-        spare = (subst (λ (ds : List D). AllByRecursion (IsEmpty reads may_leave) ds) adds.spare here.spare).1;
-        eight =
-            omega (
-              arith,
-              here.eight,
-              ap length adds.spare,
-              ap length adds.clients,
-              length-append old.clients.items (adds.laptop ∷ []),
-            );
-      },
-    );
-  }
 
   pub declares_script : (name : List ℕ) (code : Code) (old new : World D) (x : List ℕ) → is_declared name (script_names old) ≡ false
       → AddsScript name code old new
-      → Steps reads may_leave (event_part (events.Script name code)) old new x x tt
+      → Steps medium (event_part (events.Script name code)) old new x x tt
   declares_script name code old new x none adds = record {
     step = λ m here. (
       [],
@@ -201,11 +166,11 @@ module _ {D : Type 0} (reads : D → List ℕ) (may_leave : D → List ℕ → T
       sym (append-nil x),
       (refl, refl),
       record {
-        server = subst (λ (s : ServerNode D). ServerStands reads may_leave s m.server) (sym adds.server) here.server;
+        server = subst (λ (s : ServerNode D). ServerStands medium (names_in m) s m.server) (sym adds.server) here.server;
         requests = subst (HasAnswered m.requests) (sym adds.server) here.requests;
         clients =
-            subst (λ (ls : List (Laptop D)). Each (ClientStands reads may_leave (m.scripts ++ one ∷ [])) ls m.clients) (sym adds.clients)
-            (clients_more m.scripts one reads may_leave old.clients.items m.clients here.clients);
+            subst (λ (ls : List (Laptop D)). Each (ClientStands medium (m.scripts ++ one ∷ [])) ls m.clients) (sym adds.clients)
+            (clients_more m.scripts one medium old.clients.items m.clients here.clients);
         placed = subst ArePlaced (sym adds.clients) here.placed;
         scripts =
             subst (λ (ss : List DeclaredScript). Each ScriptStands ss (m.scripts ++ one ∷ [])) (sym adds.scripts)
@@ -213,7 +178,8 @@ module _ {D : Type 0} (reads : D → List ℕ) (may_leave : D → List ℕ → T
         apart =
             apart_more m.scripts one here.apart
             (ap (script_named name) (scripts_are old.scripts.items m.scripts here.scripts) ∙ undeclared old.scripts.items name none);
-        spare = subst (λ (ds : List D). AllByRecursion (IsEmpty reads may_leave) ds) (sym adds.spare) here.spare;
+        spare = subst (λ (ds : List D). AllByRecursion (IsEmpty medium) ds) (sym adds.spare) here.spare;
+        counts = ap (map medium.counts) adds.spare ∙ here.counts;
         eight = omega (arith, here.eight, ap length adds.clients, ap length adds.spare);
       },
     );
@@ -224,41 +190,56 @@ module _ {D : Type 0} (reads : D → List ℕ) (may_leave : D → List ℕ → T
 
   -- ---- a part that is done if the call before it went on
 
+  module _ {A : Type 0} (call : Call Machine A) (on : A → Bool) (part : Part Machine) (old mid : World D) (x y : List ℕ) (a : A)
+      (one : Steps medium call old mid x y a) where
+    -- as its answer tells
+    goes_by : (new : World D) (z : List ℕ) (b : Bool) → on a ≡ b → Steps medium (goes_on part b) mid new y z tt
+        → Steps medium (Then call (λ a. goes_on part (on a))) old new x z tt
+    goes_by new z b is two =
+        bind old mid new x y z a tt one (subst (λ (b : Bool). Steps medium (goes_on part b) mid new y z tt) (sym is) two)
+
+    pub goes_after : (new : World D) (z : List ℕ) → on a ≡ true → Steps medium part mid new y z tt
+        → Steps medium (Then call (λ a. goes_on part (on a))) old new x z tt
+    goes_after new z is two = goes_by new z true is two
+
+    pub stays_after : on a ≡ false → Steps medium (Then call (λ a. goes_on part (on a))) old mid x y tt
+    stays_after is = goes_by mid y false is (nothing mid y)
+
   pub goes : (call : Call Machine Bool) (part : Part Machine) (old mid new : World D) (x y z : List ℕ) (on : Bool) → on ≡ true
-      → Steps reads may_leave call old mid x y on → Steps reads may_leave part mid new y z tt
-      → Steps reads may_leave (Then call (goes_on part)) old new x z tt
+      → Steps medium call old mid x y on → Steps medium part mid new y z tt
+      → Steps medium (Then call (goes_on part)) old new x z tt
   goes call part old mid new x y z on is one two =
-      bind old mid new x y z true tt (subst (λ (b : Bool). Steps reads may_leave call old mid x y b) is one) two
+      bind old mid new x y z true tt (subst (λ (b : Bool). Steps medium call old mid x y b) is one) two
 
   pub stays : (call : Call Machine Bool) (part : Part Machine) (old mid : World D) (x y : List ℕ) (on : Bool) → on ≡ false
-      → Steps reads may_leave call old mid x y on → Steps reads may_leave (Then call (goes_on part)) old mid x y tt
+      → Steps medium call old mid x y on → Steps medium (Then call (goes_on part)) old mid x y tt
   stays call part old mid x y on is one =
-      bind old mid mid x y y false tt (subst (λ (b : Bool). Steps reads may_leave call old mid x y b) is one) (nothing mid y)
+      bind old mid mid x y y false tt (subst (λ (b : Bool). Steps medium call old mid x y b) is one) (nothing mid y)
 
   -- ---- what is said of a client
 
   module _ (c : ℕ) (world : World D) (laptop : Laptop D) (at : IsAt world c laptop) (x y : List ℕ) where
     pub says_name : (text : List ℕ → List ℕ) → y ≡ x ++ text laptop.name
-        → Steps reads may_leave (Says (λ m. text (name_of c m))) world world x y tt
+        → Steps medium (Says (λ m. text (name_of c m))) world world x y tt
     says_name text wrote =
         says world x y
-        (λ m here. wrote ∙ ap (λ (n : List ℕ). x ++ text n) (laptop_stands reads may_leave world m c laptop at here).name)
+        (λ m here. wrote ∙ ap (λ (n : List ℕ). x ++ text n) (laptop_stands medium world m c laptop at here).name)
 
     -- none runs, so nothing is said of it
     module _ (none : running_in (scripts_of world) laptop ≡ None) (same : y ≡ x) where
-      none_said : (m : Machine) (text : clients.Running → List ℕ) → StandsFor reads may_leave world m
+      none_said : (m : Machine) (text : clients.Running → List ℕ) → StandsFor medium world m
           → y ≡ x ++ said_of text (kept_by c m).running
       none_said m text here =
           same ∙ sym (append-nil x)
           ∙ ap (λ (it : Option clients.Running). x ++ said_of text it)
-          (sym (runs_here reads may_leave c world laptop at m here ∙ none))
+          (sym (runs_here medium c world laptop at m here ∙ none))
 
-      pub no_begin : Steps reads may_leave (Says (begin_text c)) world world x y tt
+      pub no_begin : Steps medium (Says (begin_text c)) world world x y tt
       no_begin =
           says world x y
           (λ m. none_said m (λ it. begin_line (transaction_name (name_of c m) it.number) it.script.name (client_in m c).first))
 
-      pub no_step : Steps reads may_leave (Says (step_text c)) world world x y tt
+      pub no_step : Steps medium (Says (step_text c)) world world x y tt
       no_step =
           says world x y
           (λ m. none_said m (λ it. step_line (transaction_name (name_of c m) it.number) it.acts (place_text (next_of c it m))))
@@ -267,30 +248,30 @@ module _ {D : Type 0} (reads : D → List ℕ) (may_leave : D → List ℕ → T
     module _ (r : Transaction) (is : (state_in laptop).running ≡ Some r) where
       pub says_begun : (first : Bool) → class_by (state_in laptop).running (live_in laptop) ≡ Some first
           → y ≡ x ++ begin_line (transaction_name laptop.name r.number) r.script first
-          → Steps reads may_leave (Says (begin_text c)) world world x y tt
+          → Steps medium (Says (begin_text c)) world world x y tt
       says_begun first class wrote =
           says world x y
           (λ m here.
           wrote ∙ ap (λ (t : List ℕ). x ++ t)
-          (begin_said reads may_leave m.scripts laptop (client_in m c) r (laptop_stands reads may_leave world m c laptop at here) is first
+          (begin_said medium m.scripts laptop (client_in m c) r (laptop_stands medium world m c laptop at here) is first
           class))
 
       pub says_stepped : y ≡ x ++ step_line (transaction_name laptop.name r.number) (length r.acts)
           (place_said (is_over_if_any (state_in laptop) (live_in laptop)) (length r.acts))
-          → Steps reads may_leave (Says (step_text c)) world world x y tt
+          → Steps medium (Says (step_text c)) world world x y tt
       says_stepped wrote =
           says world x y
           (λ m here.
           wrote ∙ ap (λ (t : List ℕ). x ++ t)
-          (step_said reads may_leave m.scripts laptop (client_in m c) r (laptop_stands reads may_leave world m c laptop at here) is))
+          (step_said medium m.scripts laptop (client_in m c) r (laptop_stands medium world m c laptop at here) is))
 
     -- what it sees
-    pub shows_view : (t : Nodes) → IsView reads may_leave t laptop → y ≡ x ++ tree_text t
-        → Steps reads may_leave (event_part (events.ShowClient c)) world world x y tt
+    pub shows_view : (t : Nodes) → IsView medium t laptop → y ≡ x ++ tree_text t
+        → Steps medium (event_part (events.ShowClient c)) world world x y tt
     shows_view t is wrote = record {
       step = λ m here.
-          let there : LaptopStands reads may_leave m.scripts laptop (client_in m c) =
-          laptop_stands reads may_leave world m c laptop at here in
+          let there : LaptopStands medium m.scripts laptop (client_in m c) =
+          laptop_stands medium world m c laptop at here in
           let text : List ℕ = tree_text (view (kept_by c m)) in (
             text,
             m,
@@ -314,23 +295,34 @@ module _ {D : Type 0} (reads : D → List ℕ) (may_leave : D → List ℕ → T
 
   -- ---- begin, steps and run
 
-  pub steps_aloud : (c most : ℕ) (old mid : World D) (was : Laptop D) (x y z : List ℕ) (it : clients.Running) (answer : Stepped)
-      → IsAt old c was → running_in (scripts_of old) was ≡ Some it
-      → Steps reads may_leave (StepsAll c true most) old mid x y answer
-      → Steps reads may_leave (Says (step_text c)) mid mid y z tt
-      → Steps reads may_leave (StepsAloud c most) old mid x z tt
-  steps_aloud c most old mid was x y z it answer at is all said =
-      bind old old mid x x z (Some it) tt
-      (subst (λ (it : Option clients.Running). Steps reads may_leave (Asks (λ m. (kept_by c m).running)) old old x x it) is
-      (asks_running reads may_leave c old was x at))
-      (bind old mid mid x y z answer tt all said)
+  module _ (c most : ℕ) (old mid : World D) (was : Laptop D) (x y : List ℕ) (it : clients.Running) (answer : Stepped)
+      (at : IsAt old c was) (is : running_in (scripts_of old) was ≡ Some it) (all : Steps medium (StepsAll c true most) old mid x y answer)
+    where
+      steps_then : (z : List ℕ)
+          → Steps medium (Then (StepsAll c true most) (λ stepped. goes_on (Says (step_text c)) (steps_on stepped))) old mid x z tt
+          → Steps medium (StepsAloud c most) old mid x z tt
+      steps_then z one =
+          bind old old mid x x z (Some it) tt
+          (subst (λ (it : Option clients.Running). Steps medium (Asks (λ m. (kept_by c m).running)) old old x x it) is
+          (asks_running medium c old was x at))
+          one
+
+      -- it goes on, and how far it is is said
+      pub steps_aloud : (z : List ℕ) → steps_on answer ≡ true → Steps medium (Says (step_text c)) mid mid y z tt
+          → Steps medium (StepsAloud c most) old mid x z tt
+      steps_aloud z on said =
+          steps_then z (goes_after (StepsAll c true most) steps_on (Says (step_text c)) old mid x y answer all mid z on said)
+
+      -- it has stopped
+      pub steps_stopped : steps_on answer ≡ false → Steps medium (StepsAloud c most) old mid x y tt
+      steps_stopped off = steps_then y (stays_after (StepsAll c true most) steps_on (Says (step_text c)) old mid x y answer all off)
 
   pub none_to_step : (c most : ℕ) (old : World D) (was : Laptop D) (x y : List ℕ) → IsAt old c was → running_in (scripts_of old) was ≡ None
-      → y ≡ x ++ line (codes "idle") → Steps reads may_leave (StepsAloud c most) old old x y tt
+      → y ≡ x ++ line (codes "idle") → Steps medium (StepsAloud c most) old old x y tt
   none_to_step c most old was x y at none wrote =
       bind old old old x x y None tt
-      (subst (λ (it : Option clients.Running). Steps reads may_leave (Asks (λ m. (kept_by c m).running)) old old x x it) none
-      (asks_running reads may_leave c old was x at))
+      (subst (λ (it : Option clients.Running). Steps medium (Asks (λ m. (kept_by c m).running)) old old x x it) none
+      (asks_running medium c old was x at))
       (says_this (line (codes "idle")) old x y wrote)
 
   -- ---- run
@@ -338,45 +330,74 @@ module _ {D : Type 0} (reads : D → List ℕ) (may_leave : D → List ℕ → T
   module _ (c s : ℕ) (option : OnConflict ℕ) (old : World D) (was : Laptop D) (at : IsAt old c was) where
     -- one runs
     pub run_busy : (x y : List ℕ) → is_some (state_in was).running ≡ true → y ≡ x ++ line (codes "busy")
-        → Steps reads may_leave (Runs c s option) old old x y tt
+        → Steps medium (Runs c s option) old old x y tt
     run_busy x y busy wrote =
         bind old old old x x y true tt
-        (subst (λ (b : Bool). Steps reads may_leave (Asks (runs c)) old old x x b) busy (asks_runs reads may_leave c old was x at))
+        (subst (λ (b : Bool). Steps medium (Asks (runs c)) old old x x b) busy (asks_runs medium c old was x at))
         (says_this (line (codes "busy")) old x y wrote)
 
-    -- none does
-    pub run_idle : (mid new : World D) (x y z : List ℕ) → is_some (state_in was).running ≡ false
-        → Steps reads may_leave (Then (Asks (is_connected c)) (SyncsIf c)) old mid x y tt
-        → Steps reads may_leave (runs_script c s option) mid new y z tt → Steps reads may_leave (Runs c s option) old new x z tt
-    run_idle mid new x y z idle one other =
-        bind old old new x x z false tt
-        (subst (λ (b : Bool). Steps reads may_leave (Asks (runs c)) old old x x b) idle (asks_runs reads may_leave c old was x at))
-        (regrouped old mid new x y z tt tt one other)
+    -- none does, and those that wait were synced
+    module _ (mid : World D) (x y : List ℕ) (on : Bool) (idle : is_some (state_in was).running ≡ false)
+        (one : Steps medium (Then (Asks (is_connected c)) (SyncsIf c)) old mid x y on) where
+      run_by : (new : World D) (z : List ℕ) (b : Bool) → on ≡ b → Steps medium (goes_on (runs_script c s option) b) mid new y z tt
+          → Steps medium (Runs c s option) old new x z tt
+      run_by new z b is other =
+          bind old old new x x z false tt
+          (subst (λ (b : Bool). Steps medium (Asks (runs c)) old old x x b) idle (asks_runs medium c old was x at))
+          (regrouped old mid new x y z b tt
+          (subst (λ (b : Bool). Steps medium (Then (Asks (is_connected c)) (SyncsIf c)) old mid x y b) is one) other)
+
+      pub run_idle : (new : World D) (z : List ℕ) → on ≡ true → Steps medium (runs_script c s option) mid new y z tt
+          → Steps medium (Runs c s option) old new x z tt
+      run_idle new z is other = run_by new z true is other
+
+      -- it stopped in that
+      pub run_stopped : on ≡ false → Steps medium (Runs c s option) old mid x y tt
+      run_stopped is = run_by mid y false is (nothing mid y)
 
   module _ (c : ℕ) (old : World D) (was : Laptop D) (at : IsAt old c was) (x : List ℕ) where
-    asks_connected : Steps reads may_leave (Asks (is_connected c)) old old x x was.link.up
+    asks_connected : Steps medium (Asks (is_connected c)) old old x x was.link.up
     asks_connected =
-        asks old x was.link.up (λ m here. ap (λ (l : LinkState). l.up) (laptop_stands reads may_leave old m c was at here).link)
+        asks old x was.link.up (λ m here. ap (λ (l : LinkState). l.up) (laptop_stands medium old m c was at here).link)
 
-    syncs_by : (new : World D) (y : List ℕ) (up : Bool) → was.link.up ≡ up → Steps reads may_leave (SyncsIf c up) old new x y tt
-        → Steps reads may_leave (Then (Asks (is_connected c)) (SyncsIf c)) old new x y tt
-    syncs_by new y up is one =
-        bind old old new x x y up tt (subst (λ (b : Bool). Steps reads may_leave (Asks (is_connected c)) old old x x b) is asks_connected)
+    syncs_by : (new : World D) (y : List ℕ) (up on : Bool) → was.link.up ≡ up → Steps medium (SyncsIf c up) old new x y on
+        → Steps medium (Then (Asks (is_connected c)) (SyncsIf c)) old new x y on
+    syncs_by new y up on is one =
+        bind old old new x x y up on (subst (λ (b : Bool). Steps medium (Asks (is_connected c)) old old x x b) is asks_connected)
         one
 
     -- over a link that is up
-    pub syncs_up : (new : World D) (y : List ℕ) (how : Synced) → was.link.up ≡ true → Steps reads may_leave (SyncsAll c) old new x y how
-        → Steps reads may_leave (Then (Asks (is_connected c)) (SyncsIf c)) old new x y tt
-    syncs_up new y how is one = syncs_by new y true is (bind old new new x y y how tt one (nothing new y))
+    pub syncs_up : (new : World D) (y : List ℕ) (how : Synced) (on : Bool) → on ≡ syncs_on how → was.link.up ≡ true
+        → Steps medium (SyncsAll c) old new x y how
+        → Steps medium (Then (Asks (is_connected c)) (SyncsIf c)) old new x y on
+    syncs_up new y how on goes is one =
+        syncs_by new y true on is
+        (bind old new new x y y how on one
+        (subst (λ (b : Bool). Steps medium (Answers (syncs_on how)) new new y y b) (sym goes) (answers new y (syncs_on how))))
 
     -- over one that is not
-    pub syncs_down : was.link.up ≡ false → Steps reads may_leave (Then (Asks (is_connected c)) (SyncsIf c)) old old x x tt
-    syncs_down is = syncs_by old x false is (nothing old x)
+    pub syncs_down : was.link.up ≡ false → Steps medium (Then (Asks (is_connected c)) (SyncsIf c)) old old x x true
+    syncs_down is = syncs_by old x false true is (answers old x true)
 
-  pub run_on : (c s : ℕ) (option : OnConflict ℕ) (old mid next new : World D) (w x y z : List ℕ) (on : Bool) (answer : Stepped) → on ≡ true
-      → Steps reads may_leave (Begins c s option) old mid w x on
-      → Steps reads may_leave (StepsAll c false run_steps) mid next x y answer → Steps reads may_leave (Ends c) next new y z tt
-      → Steps reads may_leave (runs_script c s option) old new w z tt
-  run_on c s option old mid next new w x y z on answer is begun all ended =
-      goes (Begins c s option) (Then (StepsAll c false run_steps) (λ _. Ends c)) old mid new w x z on is begun
-      (bind mid next new x y z answer tt all ended)
+  module _ (c s : ℕ) (option : OnConflict ℕ) (old mid : World D) (w x : List ℕ) (on : Bool)
+      (begun : Steps medium (Begins c s option) old mid w x on) where
+    abbrev rest : Part Machine
+    rest = Then (StepsAll c false run_steps) (λ stepped. goes_on (Ends c) (steps_on stepped))
+
+    -- none has begun
+    pub run_none : on ≡ false → Steps medium (runs_script c s option) old mid w x tt
+    run_none is = stays (Begins c s option) rest old mid w x on is begun
+
+    module _ (is : on ≡ true) (next : World D) (y : List ℕ) (answer : Stepped)
+        (all : Steps medium (StepsAll c false run_steps) mid next x y answer) where
+      pub run_on : (new : World D) (z : List ℕ) → steps_on answer ≡ true → Steps medium (Ends c) next new y z tt
+          → Steps medium (runs_script c s option) old new w z tt
+      run_on new z goes_too ended =
+          goes (Begins c s option) rest old mid new w x z on is begun
+          (goes_after (StepsAll c false run_steps) steps_on (Ends c) mid next x y answer all new z goes_too ended)
+
+      -- it has stopped in a step
+      pub run_cut : steps_on answer ≡ false → Steps medium (runs_script c s option) old next w y tt
+      run_cut off =
+          goes (Begins c s option) rest old mid next w x y on is begun
+          (stays_after (StepsAll c false run_steps) steps_on (Ends c) mid next x y answer all off)

@@ -11,6 +11,7 @@ use Rattle.iot_tree.specs.declared.labels.OnConflict.{OnConflict as OnConflictNa
 use Rattle.iot_tree.specs.declared.labels.OnConflict.TheVariants as on
 use Rattle.iot_tree.specs.declared.limits.TheConstants.{ACT_LIMIT}
 use Rattle.iot_lang.specs.Code.{Code}
+use Rattle.iot_lang.specs.Scripts.{IsScript}
 use Rattle.iot_limits.specs.Spelled.{IsSpelledTree}
 use Rattle.iot_acts.specs.Traces.{after_acts}
 use Rattle.iot_exec.specs.Misses.{first_away}
@@ -22,19 +23,19 @@ use Rattle.iot_queue.specs.declared.items.Stage.{Stage}
 use Rattle.iot_queue.specs.declared.items.Stage.TheVariants as stages
 use Rattle.iot_queue.specs.declared.items.Stage.TheVariants.{Waiting}
 use Rattle.iot_kept.specs.States.{Transaction, State, acts_of, after_each, after_items}
-use Rattle.iot_kept.specs.Changes.{CanFollow, HeadIs, MayLeave, with_acts, ended, left, stage_by, stays_in, conflicted, after}
+use Rattle.iot_kept.specs.Changes.{CanFollow, HeadIs, MayLeave, with_acts, ended, left, stage_by, stays_in, conflicted, repaired, after}
 use Rattle.iot_client.specs.Ties.{Live, state_of, live_of, count}
-use Rattle.iot_client.specs.Calls.{has_ended, next_acts, missed, StepIs, Ends, EndsIfAny}
+use Rattle.iot_client.specs.Calls.{CanAct, has_ended, next_acts, missed, StepIs, Ends, EndsIfAny}
 use Rattle.iot_client.specs.declared.client.Client.{Client}
-use Rattle.iot_changes.specs.declared.changes.Change.TheVariants.{Held, Fetched, Acted, Ended, Left}
+use Rattle.iot_changes.specs.declared.changes.Change.TheVariants.{Held, Begun, Fetched, Acted, Ended, Left, Repaired}
 use Rattle.iot_changes.specs.declared.changes.Change.TheVariants.{Conflicted}
 use Rattle.iot_client.specs.declared.ended.Ended as client
 use Rattle.iot_client.specs.declared.steps.Step.{Step}
 use Rattle.iot_client.specs.declared.steps.Step.TheVariants as steps
 use Rattle.iot_machine.specs.Clients as clients
-use Rattle.iot_machine.specs.Clients.{ClientState, local_run, base, plain_run, so_far, hold, anew, fetch, one_more, act_once}
+use Rattle.iot_machine.specs.Clients.{ClientState, local_run, base, plain_run, so_far, begin, hold, anew, fetch, one_more, act_once}
 use Rattle.iot_machine.specs.Clients.{item_of, joined, end, leave, leave_by, Acts, next_away, next_by, next_step}
-use Rattle.iot_machine.specs.Clients.{Declared, with_first, change_first, at_stage, reach}
+use Rattle.iot_machine.specs.Clients.{Declared, with_first, change_first, at_stage, reach, resolved_by, repair}
 use Rattle.iot_machine.specs.Options as options
 use Rattle.iot_machine.specs.Options.{OnConflict}
 use Rattle.iot_machine.specs.Sound.{CanResolve, IsPlanned}
@@ -43,7 +44,7 @@ use Rattle.iot_judging.proofs.SpelledTreesLaws.{run_spelled}
 use Rattle.iot_judging.proofs.NextLaws.{is_at_end, is_at_limit, is_next}
 use Rattle.iot_world.specs.Laptops.{ItemStands, ItemsStand, RunningStands, RunningStandsIfAny, StateStands, waits_of, next_as}
 use Rattle.iot_world.specs.Laptops.{StageStands, head_option}
-use Rattle.iot_world.specs.Scripts.{ItemIsNamed, RunIsNamedIfAny, AreNamed, option_named}
+use Rattle.iot_world.specs.Scripts.{ItemIsNamed, RunIsNamedIfAny, AreNamed, IsNamed, HasNamed, option_named}
 use Rattle.iot_world.proofs.LaptopsLaws.{HeadStands, Running, head_stands, running_is, run_is, counted, ended_is}
 
 -- ---- the running transaction
@@ -243,6 +244,10 @@ module _ (scripts : List Declared) where
       subst (λ (items : List clients.Item). AllByRecursion (ItemIsNamed scripts) items) (sym is) named.items in
       record { items = all.1; running = named.running }
 
+  pub begin_named : (script : Declared) (option : OnConflict Declared) → IsNamed scripts script → HasNamed scripts option
+      → KeepsNamed scripts (begin script option)
+  begin_named script option is has s named = record { items = named.items; running = record { script = is; resolver = has } }
+
   pub hold_named : (t : Nodes) → KeepsNamed scripts (hold t)
   hold_named t s named = record { items = named.items; running = named.running }
 
@@ -264,6 +269,12 @@ module _ (scripts : List Declared) where
     running = named.running;
   }
 
+  pub repair_named : (script : Declared) → IsNamed scripts script → KeepsNamed scripts (repair script)
+  repair_named script by s named = record {
+    items = first_named (resolved_by script) s.items (λ item is. record { script = is.script; resolver = by }) named.items;
+    running = named.running;
+  }
+
 -- ---- a record each
 
 module _ (s : State) (live : Option Live) (first : Bool) (m : ClientState) (here : StateStands s live first m) where
@@ -275,6 +286,27 @@ module _ (s : State) (live : Option Live) (first : Bool) (m : ClientState) (here
     last = here.last;
     tree = tree;
     spelled = spelled;
+  }
+
+  pub begun_stands : (number : ℕ) (script : Declared) (option : OnConflictNamed) (class : Bool) (on_conflict : OnConflict Declared)
+      → CanFollow s (Begun number script.name option) → IsScript script.code → option ≡ option_named on_conflict
+      → StateStands (after s (Begun number script.name option)) (Some (record { first = class; code = script.code })) class
+      (begin script on_conflict m)
+  begun_stands number script option class on_conflict can is option_is = record {
+    held = here.held;
+    items = here.items;
+    running = record {
+      number = can.1 ∙ ap (λ (n : ℕ). n + 1) here.last;
+      name = refl;
+      code = refl;
+      script = is;
+      acts = refl;
+      option = option_is;
+      class = refl;
+    };
+    last = can.1 ∙ ap (λ (n : ℕ). n + 1) here.last;
+    tree = here.tree;
+    spelled = here.spelled;
   }
 
   pub fetched_stands : (t : Nodes) → CanFollow s (Fetched t) → IsTree t → IsSpelledTree t
@@ -354,6 +386,24 @@ module _ (s : State) (live : Option Live) (first : Bool) (m : ClientState) (here
       subst (λ (next : State). StateStands next live first (reach other m)) (sym (conflicted_as s.items option is))
       (reached_by option other is stays)
 
+  -- the first is to be resolved by this script
+  pub repaired_stands : (name : List ℕ) (script : Declared) → script.name ≡ name
+      → StateStands (after s (Repaired name)) live first (repair script m)
+  repaired_stands name script is =
+      changed_stands (repaired name) (resolved_by script) (λ item. refl)
+      (λ item later first after some others stands. record {
+        number = stands.number;
+        name = stands.name;
+        budget = stands.budget;
+        few = stands.few;
+        script = stands.script;
+        acts = stands.acts;
+        tree = stands.tree;
+        option = ap (λ (n : List ℕ). on.Resolver n) (sym is);
+        stage = tt;
+        planned = tt;
+      })
+
   left_head : (item : Item) (items : List Item) → HeadStands s.held item items m.items
       → StateStands (record s { held = after_acts s.held item.acts; items = items }) live first (leave m)
   left_head item items head =
@@ -407,10 +457,13 @@ module _ {D : Type 0} (old new : Client D) (own : Live) (first : Bool) (t : Node
       → next_step first t it ≡ next_by first (next_away t it)
   on_to on within = is_next first t it (sym ends ∙ on) (subst (λ (n : ℕ). n < ACT_LIMIT) counts within)
 
+  -- one that can act does so next
+  acts_by : CanAct (state_of old) own → next_step first t it ≡ Acts
+  acts_by can =
+      on_to can.goes_on can.within ∙ acts_next first (next_away t it) (λ known. sym away ∙ can.known (class ∙ known))
+
   step_by : (step : Step) → StepIs old own step new → next_step first t it ≡ next_as step
-  step_by (steps.Acted acts over) is =
-      on_to is.can.goes_on is.can.within
-      ∙ acts_next first (next_away t it) (λ known. sym away ∙ is.can.known (class ∙ known))
+  step_by (steps.Acted acts over) is = acts_by is.can
   step_by (steps.Fetch request path) is =
       on_to is.1.goes_on is.1.within ∙ ap (λ (f : Bool). next_by f (next_away t it)) (sym class ∙ is.1.first)
       ∙ ap (next_by true) (sym away ∙ is.1.miss)
@@ -435,3 +488,13 @@ next_is old new first m here it runs own lives step is =
     step_by old new known.besides first (base m) it (ended_is (state_of old) (live_of old) first m here it runs)
     (counted (state_of old) (live_of old) first m here it runs) (away_is (state_of old) (live_of old) first m here it runs)
     known.stands.class step (subst (λ (l : Live). StepIs old l step new) same is)
+
+pub acts_is : {D : Type 0} (old : Client D) (first : Bool) (m : ClientState) → StateStands (state_of old) (live_of old) first m
+    → (it : clients.Running) → m.running ≡ Some it → (own : Live) → live_of old ≡ Some own → CanAct (state_of old) own
+    → next_step first (base m) it ≡ Acts
+acts_is old first m here it runs own lives can =
+    let known : Running (state_of old).running (live_of old) first it = running_is (state_of old) (live_of old) first m here it runs in
+    let same : own ≡ known.besides = same_Some _ _ (sym lives ∙ known.lives) in
+    acts_by old old known.besides first (base m) it (ended_is (state_of old) (live_of old) first m here it runs)
+    (counted (state_of old) (live_of old) first m here it runs) (away_is (state_of old) (live_of old) first m here it runs)
+    known.stands.class (subst (CanAct (state_of old)) same can)

@@ -1,5 +1,6 @@
 -- What a laptop's state tells of the client of the machine for which it stands.
-use Rattle.std.proofs.Common.{◌≡◌, ◌||◌, ℕ, Bool, true, false, List, [], ◌∷◌, length, Option, Some, None, refl, sym, ap, subst, ◌∙◌}
+use Rattle.std.proofs.Common.{◌≡◌, ◌≤◌, ◌||◌, ℕ, Bool, true, false, List, [], ◌∷◌, length, Option, Some, None, refl, sym, ap, subst}
+use Rattle.std.proofs.Common.{◌∙◌, arith}
 use Rattle.std.proofs.lemmas.Bool.{leb-true, leb-false}
 use Rattle.std.proofs.lemmas.Option.{same_Some}
 use Rattle.std.specs.Prelude.{is_some, leb, codes, if◌then◌else◌}
@@ -15,10 +16,10 @@ use Rattle.iot_kept.specs.States.{Transaction, State, acts_of, after_each, after
 use Rattle.iot_client.specs.Ties.{Live, IsOwnRunIfAny, count, run_of}
 use Rattle.iot_client.specs.Calls.{has_ended, is_over_if_any, may_end}
 use Rattle.iot_machine.specs.Clients as clients
-use Rattle.iot_machine.specs.Clients.{ClientState, base, plain_run, so_far, view_by, next_away, next_by, next_step}
+use Rattle.iot_machine.specs.Clients.{ClientState, base, local_run, item_of, plain_run, so_far, view_by, next_away, next_by, next_step}
 use Rattle.iot_machine.specs.Events.{place_text}
 use Rattle.iot_machine.specs.Transactions.{is_queued}
-use Rattle.iot_judging.proofs.NextLaws.{is_at_end, is_at_limit, is_next}
+use Rattle.iot_judging.proofs.NextLaws.{is_at_end, is_at_limit, is_next, ended_waits, full_waits}
 use Rattle.iot_world.specs.Laptops.{ItemStands, ItemsStand, RunningStands, RunningStandsIfAny, StateStands, waits_of, IsOver, IsUnended}
 use Rattle.iot_world.specs.Saying.{place_said}
 
@@ -168,6 +169,15 @@ module _ (s : State) (live : Option Live) (first : Bool) (m : ClientState) (here
       (λ may. over_by first (base m) it (has_ended s running_is.besides.code) ended_is (sym may_is ∙ may)),
       (λ may. unended_by first (base m) it (has_ended s running_is.besides.code) ended_is (sym may_is ∙ may)),
     )
+
+    waits_by_end : (ended : Bool) → ended ≡ (so_far (base m) it).ended → (ended || leb ACT_LIMIT it.acts) ≡ true → it.acts ≤ ACT_LIMIT
+        → local_run (base m) (item_of it) ≡ so_far (base m) it
+    waits_by_end true is may few = ended_waits (base m) it (sym is) few
+    waits_by_end false is may few = full_waits (base m) it (omega (arith, few, leb-true ACT_LIMIT it.acts may))
+
+    -- if it may end, it does no more as one that waits
+    pub over_waits : may_end s live ≡ true → it.acts ≤ ACT_LIMIT → local_run (base m) (item_of it) ≡ so_far (base m) it
+    over_waits may few = waits_by_end (has_ended s running_is.besides.code) ended_is (sym may_is ∙ may) few
 
     pub place_is : (running : Transaction) → s.running ≡ Some running
         → place_text (next_step first (base m) it) ≡ place_said (is_over_if_any s live) (length running.acts)

@@ -1,9 +1,10 @@
 -- Lists that are looked up and changed at a place, and lists that go together by place.
-use Rattle.std.proofs.Common.{◌≡◌, ℕ, zero, suc, ◌<◌, List, [], ◌∷◌, ◌++◌, length, refl, ap, subst, arith}
+use Rattle.std.proofs.Common.{◌≡◌, ℕ, zero, suc, ◌<◌, List, [], ◌∷◌, ◌++◌, length, map, refl, ap, subst, arith}
 use Rattle.std.proofs.Common.{slice_get, slice_index_or, slice_set, Option, Some, None, Bor, sym}
 use Rattle.std.proofs.lemmas.Option.{same_Some, slice_get_past, slice_get_read}
 use Rattle.std.specs.Option.{option_copied}
 use Rattle.std.specs.Slice.{IsItemAt}
+use Rattle.iot_machine.specs.Machine.{Client, no_client}
 use Rattle.iot_world.specs.World.{Each}
 
 -- the element at a place inside does not depend on the default
@@ -117,3 +118,10 @@ pub lent_element : {A : Type 0} (xs : List A) (place : ℕ) (o : Option (Bor A))
     → option_copied o ≡ slice_get xs place
 lent_element xs place None it = sym (slice_get_past xs place it.3)
 lent_element xs place (Some x) it = sym (slice_get_read xs (length xs) place x.now refl it.3.0 it.1)
+
+-- another client of the same name leaves the names
+pub names_put : (clients : List Client) (c : ℕ) (client : Client) → client.name ≡ (slice_index_or clients c no_client).name
+    → map (λ (k : Client). k.name) (slice_set clients c client) ≡ map (λ (k : Client). k.name) clients
+names_put [] c client same = refl
+names_put (k ∷ ks) zero client same = ap (λ (n : List ℕ). n ∷ map (λ (k : Client). k.name) ks) same
+names_put (k ∷ ks) (suc c) client same = ap (λ (ns : List (List ℕ)). k.name ∷ ns) (names_put ks c client same)

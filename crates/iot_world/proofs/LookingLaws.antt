@@ -17,12 +17,13 @@ use Rattle.iot_server.specs.Servers.{state_of}
 use Rattle.iot_server.specs.declared.server.Server.{Server}
 use Rattle.iot_machine.specs.Clients as clients
 use Rattle.iot_machine.specs.Clients.{Declared}
-use Rattle.iot_machine.specs.Events.{Queues, ReadsOf, Logs, running_of, waiting_at, says_reads, names_in}
+use Rattle.iot_machine.specs.Events.{Queues, ReadsOf, Logs, running_of, says_reads, names_in}
 use Rattle.iot_machine.specs.Machine as machine
 use Rattle.iot_machine.specs.Machine.{Machine, Commit, client_in}
 use Rattle.iot_machine.specs.Recorded.{items_kept, queue_kept, label_of, labels_of}
-use Rattle.iot_machine.specs.Sound.{IsListed, IsSound}
+use Rattle.iot_machine.specs.Sound.{IsListed}
 use Rattle.iot_machine.specs.Texts.{line, queue_text, reads_text, log_text}
+use Rattle.iot_world.specs.Disks.{Medium}
 use Rattle.iot_world.specs.Laptops.{LaptopStands, ClientStands, RunningStandsIfAny}
 use Rattle.iot_world.specs.Looks.{client_names, SaysQueue}
 use Rattle.iot_world.specs.Nodes.{state_in, live_in}
@@ -58,10 +59,10 @@ no_line None live first None stands is = refl
 no_line None live first (Some it) stands is = absurd stands
 no_line (Some r) live first o stands is = absurd cc
 
-module _ {D : Type 0} (reads : D → List ℕ) (may_leave : D → List ℕ → Type 0) where
+module _ {D : Type 0} (medium : Medium D) where
   -- ---- the transactions that wait
 
-  pub queue_is : (scripts : List Declared) (laptop : Laptop D) (m : machine.Client) → LaptopStands reads may_leave scripts laptop m
+  pub queue_is : (scripts : List Declared) (laptop : Laptop D) (m : machine.Client) → LaptopStands medium scripts laptop m
       → (state_in laptop).items ≡ queue_kept m.node.durable
   queue_is scripts laptop m here =
       items_are (state_in laptop).items (state_in laptop).held m.node.durable.items here.state.items
@@ -71,7 +72,7 @@ module _ {D : Type 0} (reads : D → List ℕ) (may_leave : D → List ℕ → T
     says_lines : (lines : List RunLine)
         → ((m : machine.Client) → RunningStandsIfAny (state_in laptop).running (live_in laptop) m.first m.node.durable.running
         → lines ≡ running_of m.first m.node.durable.running)
-        → y ≡ x ++ queue_text laptop.name items lines → SaysQueue reads may_leave laptop x y
+        → y ≡ x ++ queue_text laptop.name items lines → SaysQueue medium laptop x y
     says_lines lines are wrote = λ scripts m here.
         wrote
         ∙ ap (λ (n : List ℕ). x ++ queue_text n items lines) here.name
@@ -82,14 +83,14 @@ module _ {D : Type 0} (reads : D → List ℕ) (may_leave : D → List ℕ → T
     pub says_running : (t : Transaction) (class : Bool) → (state_in laptop).running ≡ Some t
         → class_by (state_in laptop).running (live_in laptop) ≡ Some class
         → y ≡ x ++ queue_text laptop.name items (line_as t.number t.script class (length t.acts) ∷ [])
-        → SaysQueue reads may_leave laptop x y
+        → SaysQueue medium laptop x y
     says_running t class is its =
         says_lines (line_as t.number t.script class (length t.acts) ∷ [])
         (λ m stands.
         line_is (state_in laptop).running (live_in laptop) m.first m.node.durable.running stands t class is its)
 
     -- none does
-    pub says_waiting : (state_in laptop).running ≡ None → y ≡ x ++ queue_text laptop.name items [] → SaysQueue reads may_leave laptop x y
+    pub says_waiting : (state_in laptop).running ≡ None → y ≡ x ++ queue_text laptop.name items [] → SaysQueue medium laptop x y
     says_waiting none =
         says_lines []
         (λ m stands. no_line (state_in laptop).running (live_in laptop) m.first m.node.durable.running stands none)
@@ -97,56 +98,56 @@ module _ {D : Type 0} (reads : D → List ℕ) (may_leave : D → List ℕ → T
   -- ---- the events of a client
 
   module _ (c : ℕ) (world : World D) (laptop : Laptop D) (at : IsAt world c laptop) (x y : List ℕ) where
-    pub queues : SaysQueue reads may_leave laptop x y → Steps reads may_leave (Queues c) world world x y tt
+    pub queues : SaysQueue medium laptop x y → Steps medium (Queues c) world world x y tt
     queues said =
-        says world x y (λ m here. said m.scripts (client_in m c) (laptop_stands reads may_leave world m c laptop at here))
+        says world x y (λ m here. said m.scripts (client_in m c) (laptop_stands medium world m c laptop at here))
 
     module _ (place : ℕ) where
       reads_by : (o : Option Item) → o ≡ slice_get (state_in laptop).items (place - 1)
-          → Steps reads may_leave (says_reads o) world world x y tt → Steps reads may_leave (ReadsOf c place) world world x y tt
+          → Steps medium (says_reads o) world world x y tt → Steps medium (ReadsOf c place) world world x y tt
       reads_by o is one =
           bind world world world x x y o tt
           (asks world x o
           (λ m here.
           is
           ∙ ap (λ (is : List Item). slice_get is (place - 1))
-          (queue_is m.scripts laptop (client_in m c) (laptop_stands reads may_leave world m c laptop at here))))
+          (queue_is m.scripts laptop (client_in m c) (laptop_stands medium world m c laptop at here))))
           one
 
       pub reads_some : (item : Item) → Some item ≡ slice_get (state_in laptop).items (place - 1) → y ≡ x ++ reads_text item
-          → Steps reads may_leave (ReadsOf c place) world world x y tt
+          → Steps medium (ReadsOf c place) world world x y tt
       reads_some item is wrote = reads_by (Some item) is (says_this (reads_text item) world x y wrote)
 
       pub reads_none : None ≡ slice_get (state_in laptop).items (place - 1) → y ≡ x ++ line (codes "nothing")
-          → Steps reads may_leave (ReadsOf c place) world world x y tt
+          → Steps medium (ReadsOf c place) world world x y tt
       reads_none is wrote = reads_by None is (says_this (line (codes "nothing")) world x y wrote)
 
   -- ---- the names of the clients
 
-  names_by : (scripts : List Declared) (ls : List (Laptop D)) (ms : List machine.Client) → Each (ClientStands reads may_leave scripts) ls ms
+  names_by : (scripts : List Declared) (ls : List (Laptop D)) (ms : List machine.Client) → Each (ClientStands medium scripts) ls ms
       → map (λ (l : Laptop D). l.name) ls ≡ map (λ (m : machine.Client). m.name) ms
   names_by scripts [] [] all = refl
   names_by scripts [] (m ∷ ms) all = absurd all
   names_by scripts (l ∷ ls) [] all = absurd all
   names_by scripts (l ∷ ls) (m ∷ ms) all =
-      ap (λ (n : List ℕ). n ∷ map (λ (l : Laptop D). l.name) ls) (name_is reads may_leave scripts l m all.0)
+      ap (λ (n : List ℕ). n ∷ map (λ (l : Laptop D). l.name) ls) (name_is medium scripts l m all.0)
       ∙ ap (λ (ns : List (List ℕ)). m.name ∷ ns) (names_by scripts ls ms all.1)
 
-  pub names_are : (world : World D) (m : Machine) → StandsFor reads may_leave world m → client_names world ≡ names_in m
+  pub names_are : (world : World D) (m : Machine) → StandsFor medium world m → client_names world ≡ names_in m
   names_are world m here = names_by m.scripts world.clients.items m.clients here.clients
 
   -- ---- the server
 
   -- one that is lent is alive
   pub lent_up : (world : World D) (o : Option (Bor (Server D))) (it : Bor (Server D))
-      → ((m : Machine) → StandsFor reads may_leave world m → LendsServer (option_copied o) m) → o ≡ Some it
-      → (m : Machine) → StandsFor reads may_leave world m → IsServerOf it.now m
+      → ((m : Machine) → StandsFor medium world m → LendsServer (option_copied o) m) → o ≡ Some it
+      → (m : Machine) → StandsFor medium world m → IsServerOf it.now m
   lent_up world o it lent is m here = subst (λ (o : Option (Server D)). LendsServer o m) (ap option_copied is) (lent m here)
 
   -- if none is lent it is down
   pub lent_down : (world : World D) (o : Option (Bor (Server D)))
-      → ((m : Machine) → StandsFor reads may_leave world m → LendsServer (option_copied o) m) → o ≡ None
-      → (m : Machine) → StandsFor reads may_leave world m → m.server.alive ≡ false
+      → ((m : Machine) → StandsFor medium world m → LendsServer (option_copied o) m) → o ≡ None
+      → (m : Machine) → StandsFor medium world m → m.server.alive ≡ false
   lent_down world o lent is m here = subst (λ (o : Option (Server D)). LendsServer o m) (ap option_copied is) (lent m here)
 
   -- ---- the list
@@ -161,18 +162,18 @@ module _ {D : Type 0} (reads : D → List ℕ) (may_leave : D → List ℕ → T
 
   -- each commit is one of a client of these names
   pub are_of : (world : World D) (names : List (List ℕ)) (labels : List Label) (it : Server D)
-      → (world_of : IsWorldOfSome reads may_leave world) → names ≡ names_in world_of.machine → labels ≡ (state_of it).labels
-      → ((m : Machine) → StandsFor reads may_leave world m → IsServerOf it m) → AreOf names labels
+      → (world_of : IsWorldOfSome medium world) → names ≡ names_in world_of.machine → labels ≡ (state_of it).labels
+      → ((m : Machine) → StandsFor medium world m → IsServerOf it m) → AreOf names labels
   are_of world names labels it world_of same are lent =
       let m : Machine = world_of.machine in
       subst (λ (ns : List (List ℕ)). AreOf ns labels) (sym same)
       (subst (AreOf (names_in m)) (sym (are ∙ (lent m world_of.stands.stands).labels))
-      (listed_by m m.server.durable world_of.stands.sound.listed))
+      (listed_by m m.server.durable world_of.stands.sound.listed.is))
 
   module _ (world : World D) (x y : List ℕ) where
     pub logs_up : (names : List (List ℕ)) (labels : List Label) (it : Server D) → names ≡ client_names world
-        → labels ≡ (state_of it).labels → ((m : Machine) → StandsFor reads may_leave world m → IsServerOf it m)
-        → y ≡ x ++ log_text names labels → Steps reads may_leave Logs world world x y tt
+        → labels ≡ (state_of it).labels → ((m : Machine) → StandsFor medium world m → IsServerOf it m)
+        → y ≡ x ++ log_text names labels → Steps medium Logs world world x y tt
     logs_up names labels it same are lent wrote =
         bind world world world x x y true tt (asks world x true (λ m here. sym (lent m here).alive))
         (says world x y
@@ -181,8 +182,8 @@ module _ {D : Type 0} (reads : D → List ℕ) (may_leave : D → List ℕ → T
         ∙ ap (λ (ns : List (List ℕ)). x ++ log_text ns labels) (same ∙ names_are world m here)
         ∙ ap (λ (ls : List Label). x ++ log_text (names_in m) ls) (are ∙ (lent m here).labels)))
 
-    pub logs_down : ((m : Machine) → StandsFor reads may_leave world m → m.server.alive ≡ false) → y ≡ x ++ line (codes "down")
-        → Steps reads may_leave Logs world world x y tt
+    pub logs_down : ((m : Machine) → StandsFor medium world m → m.server.alive ≡ false) → y ≡ x ++ line (codes "down")
+        → Steps medium Logs world world x y tt
     logs_down down wrote =
         bind world world world x x y false tt (asks world x false (λ m here. sym (down m here)))
         (says_this (line (codes "down")) world x y wrote)

@@ -9,13 +9,15 @@ use Rattle.iot_kept.specs.States.{Transaction, State}
 use Rattle.iot_client.specs.Ties.{Live}
 use Rattle.iot_machine.specs.Calls.{Call}
 use Rattle.iot_machine.specs.Clients as clients
-use Rattle.iot_machine.specs.Clients.{Declared, ClientState, hold}
+use Rattle.iot_machine.specs.Clients.{Declared, hold}
 use Rattle.iot_machine.specs.Machine as machine
 use Rattle.iot_machine.specs.Machine.{Machine, client_in}
+use Rattle.iot_world.specs.Disks.{Medium}
 use Rattle.iot_world.specs.Laptops.{LaptopStands, ClientStands, Stands, StandsAnyhow, Fallen, RunningStandsIfAny, ItemsStand, Noted}
 use Rattle.iot_world.specs.Laptops.{waits_of}
 use Rattle.iot_world.specs.Nodes.{is_alive, state_in, live_in}
-use Rattle.iot_world.specs.World.{Steps, IsInside, IsReady, ClientIs, IsAlive, IsIdle, CanHold, SameCounts, KeepsState}
+use Rattle.iot_world.specs.World.{Steps, IsInside, IsReady, ClientIs, IsAlive, IsIdle, CanHold, SameCounts, SameDeclared, SameIf}
+use Rattle.iot_world.specs.World.{KeepsState}
 use Rattle.iot_world.specs.declared.laptop.Laptop.{Laptop}
 use Rattle.iot_world.specs.declared.world.World.{World}
 use Rattle.iot_world.proofs.ListLaws.{get_set}
@@ -43,8 +45,8 @@ pub one_at : {D : Type 0} (world : World D) (c : ℕ) (one other : Laptop D) →
     → slice_get world.clients.items c ≡ Some other → one ≡ other
 one_at world c one other at is = same_Some one other (sym at ∙ is)
 
-module _ {D : Type 0} (reads : D → List ℕ) (may_leave : D → List ℕ → Type 0) where
-  module _ (c : ℕ) (world : World D) (laptop : Laptop D) (ready : IsReady reads may_leave c world)
+module _ {D : Type 0} (medium : Medium D) where
+  module _ (c : ℕ) (world : World D) (laptop : Laptop D) (ready : IsReady medium c world)
       (value : laptop ≡ get_or world.clients.items c laptop) where
     got : slice_get world.clients.items c ≡ Some laptop
     got = slice_get_read world.clients.items (length world.clients.items) c laptop refl ready.inside value
@@ -53,59 +55,59 @@ module _ {D : Type 0} (reads : D → List ℕ) (may_leave : D → List ℕ → T
     pub found : IsAt world c laptop
     found = record { get = got; up = ready.alive laptop got }
 
-    pub found_stands : LaptopStands reads may_leave ready.machine.scripts laptop (client_in ready.machine c)
-    found_stands = laptop_stands reads may_leave world ready.machine c laptop found ready.stands
+    pub found_stands : LaptopStands medium ready.machine.scripts laptop (client_in ready.machine c)
+    found_stands = laptop_stands medium world ready.machine c laptop found ready.stands
 
-    pub found_some : Stands reads may_leave laptop
+    pub found_some : Stands medium laptop
     found_some = record { scripts = ready.machine.scripts; machine = client_in ready.machine c; stands = found_stands }
 
   -- its place is one of eight
-  pub found_low : (c : ℕ) (world : World D) (laptop : Laptop D) (ready : IsReady reads may_leave c world)
+  pub found_low : (c : ℕ) (world : World D) (laptop : Laptop D) (ready : IsReady medium c world)
       → laptop ≡ get_or world.clients.items c laptop → laptop.place ≤ 7
   found_low c world laptop ready value =
       let is : laptop.place ≡ c = ready.stands.placed c laptop (got c world laptop ready value) in
       omega (arith, is, ready.inside, ready.stands.eight)
 
-  module _ (c : ℕ) (world : World D) (laptop : Laptop D) (inside : IsInside reads may_leave c world)
+  module _ (c : ℕ) (world : World D) (laptop : Laptop D) (inside : IsInside medium c world)
       (value : laptop ≡ get_or world.clients.items c laptop) where
     -- alive or down
     pub found_there : slice_get world.clients.items c ≡ Some laptop
     found_there = slice_get_read world.clients.items (length world.clients.items) c laptop refl inside.inside value
 
-    there_stands : ClientStands reads may_leave inside.machine.scripts laptop (client_in inside.machine c)
-    there_stands = client_stands reads may_leave world inside.machine c laptop found_there inside.stands
+    there_stands : ClientStands medium inside.machine.scripts laptop (client_in inside.machine c)
+    there_stands = client_stands medium world inside.machine c laptop found_there inside.stands
 
-    pub found_anyhow : StandsAnyhow reads may_leave laptop
+    pub found_anyhow : StandsAnyhow medium laptop
     found_anyhow = record {
       scripts = inside.machine.scripts;
       machine = client_in inside.machine c;
       stands = there_stands;
     }
 
-    pub found_fallen : is_alive laptop ≡ false → Fallen may_leave laptop
+    pub found_fallen : is_alive laptop ≡ false → Fallen medium laptop
     found_fallen down = record {
       scripts = inside.machine.scripts;
       machine = client_in inside.machine c;
       stands =
-          fallen_stands reads may_leave inside.machine.scripts laptop (client_in inside.machine c) down there_stands;
+          fallen_stands medium inside.machine.scripts laptop (client_in inside.machine c) down there_stands;
     }
 
-    pub found_awake : is_alive laptop ≡ true → Stands reads may_leave laptop
+    pub found_awake : is_alive laptop ≡ true → Stands medium laptop
     found_awake up = record {
       scripts = inside.machine.scripts;
       machine = client_in inside.machine c;
-      stands = awake_stands reads may_leave inside.machine.scripts laptop (client_in inside.machine c) up there_stands;
+      stands = awake_stands medium inside.machine.scripts laptop (client_in inside.machine c) up there_stands;
     }
 
   -- a client that is alive is ready
-  pub ready_if : (c : ℕ) (world : World D) → IsInside reads may_leave c world → ClientIs IsAlive c world → IsReady reads may_leave c world
+  pub ready_if : (c : ℕ) (world : World D) → IsInside medium c world → ClientIs IsAlive c world → IsReady medium c world
   ready_if c world inside alive =
       record { machine = inside.machine; stands = inside.stands; inside = inside.inside; alive = alive }
 
   -- ---- after a step
 
   pub ready_after : {A : Type 0} {call : Call Machine A} (c : ℕ) (old new : World D) (x y : List ℕ) (a : A)
-      → IsReady reads may_leave c old → Steps reads may_leave call old new x y a → SameCounts old new → IsReady reads may_leave c new
+      → IsReady medium c old → Steps medium call old new x y a → SameCounts old new → IsReady medium c new
   ready_after c old new x y a ready one same =
       let s = one.step ready.machine ready.stands in
       record {
@@ -140,6 +142,33 @@ same_counts world = record { clients = refl; scripts = refl; alive = refl }
 pub counts_then : {D : Type 0} (old mid new : World D) → SameCounts old mid → SameCounts mid new → SameCounts old new
 counts_then old mid new one two =
     record { clients = two.clients ∙ one.clients; scripts = two.scripts ∙ one.scripts; alive = two.alive ∙ one.alive }
+
+-- ---- what was declared, whether or not the client goes on
+
+pub declared_then : {D : Type 0} (old mid new : World D) → SameDeclared old mid → SameDeclared mid new → SameDeclared old new
+declared_then old mid new one two = record { clients = two.clients ∙ one.clients; scripts = two.scripts ∙ one.scripts }
+
+pub declared_if : {D : Type 0} (on : Bool) (old new : World D) → SameIf on old new → SameDeclared old new
+declared_if true old new same = record { clients = same.clients; scripts = same.scripts }
+declared_if false old new same = same
+
+-- it goes on
+pub counts_if : {D : Type 0} (on : Bool) (old new : World D) → on ≡ true → SameIf on old new → SameCounts old new
+counts_if on old new is same = subst (λ (b : Bool). SameIf b old new) is same
+
+-- it goes on, and then it does or does not
+pub counts_then_if : {D : Type 0} (on : Bool) (old mid new : World D) → SameCounts old mid → SameIf on mid new → SameIf on old new
+counts_then_if true old mid new one two = counts_then old mid new one two
+counts_then_if false old mid new one two = declared_then old mid new (declared_if true old mid one) two
+
+-- both go on or not, and the whole goes on only if the second does
+pub declared_both : {D : Type 0} (on after : Bool) (old mid new : World D) → SameIf on old mid → SameIf after mid new → SameDeclared old new
+declared_both on after old mid new one two = declared_then old mid new (declared_if on old mid one) (declared_if after mid new two)
+
+-- another client stands at a place
+pub declared_put : {D : Type 0} (c : ℕ) (old new : World D) (laptop : Laptop D) → Puts c laptop old new → SameDeclared old new
+declared_put c old new laptop puts =
+    record { clients = ap length puts.clients ∙ length-set old.clients.items c laptop; scripts = puts.scripts }
 
 -- one that is alive was put in the place of one that was
 alive_set : {D : Type 0} (old : List (Laptop D)) (c : ℕ) (was laptop : Laptop D) → slice_get old c ≡ Some was
@@ -190,10 +219,10 @@ no_machine_items [] t (m ∷ ms) none stands = absurd stands
 no_machine_items (item ∷ items) t ms none stands = absurd cc
 
 -- so if a client holds another tree, still nothing runs or waits
-pub holds_still : {D : Type 0} (reads : D → List ℕ) (may_leave : D → List ℕ → Type 0) (t : Nodes) (was laptop : Laptop D)
-    (scripts : List Declared) (m : machine.Client) → LaptopStands reads may_leave scripts was m
-    → Noted reads may_leave (hold t) was laptop → IsIdle was → (state_in was).items ≡ [] → IsIdle laptop × ((state_in laptop).items ≡ [])
-holds_still reads may_leave t was laptop scripts m here noted idle none =
+pub holds_still : {D : Type 0} (medium : Medium D) (t : Nodes) (was laptop : Laptop D)
+    (scripts : List Declared) (m : machine.Client) → LaptopStands medium scripts was m
+    → Noted medium (hold t) was laptop → IsIdle was → (state_in was).items ≡ [] → IsIdle laptop × ((state_in laptop).items ≡ [])
+holds_still medium t was laptop scripts m here noted idle none =
     let now = (noted.stands scripts m here).state in (
       no_running (state_in laptop).running (live_in laptop) m.first m.node.durable.running
           (no_machine_running (state_in was).running (live_in was) m.first m.node.durable.running idle here.state.running)

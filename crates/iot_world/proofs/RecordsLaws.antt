@@ -1,6 +1,6 @@
 -- One more entry in a list of commits.
-use Rattle.std.proofs.Common.{◌≡◌, ℕ, List, [], ◌∷◌, ◌++◌, refl, sym, ap, ◌∙◌}
-use Rattle.std.proofs.lemmas.List.{map-append}
+use Rattle.std.proofs.Common.{◌≡◌, ◌<◌, ◌+◌, ◌^◌, ℕ, suc, List, [], ◌∷◌, ◌++◌, length, refl, sym, ap, subst, ◌∙◌, arith}
+use Rattle.std.proofs.lemmas.List.{map-append, length-append}
 use Rattle.std.specs.List.{AllByRecursion}
 use Rattle.iot_tree.specs.Tree.{Nodes, root_alone}
 use Rattle.iot_tree.specs.declared.nodes.Node.TheVariants.{Dir}
@@ -8,10 +8,16 @@ use Rattle.iot_tree.specs.declared.labels.Label.{Label}
 use Rattle.iot_tree.specs.declared.labels.Way.{Way}
 use Rattle.iot_acts.specs.Traces.{after_acts}
 use Rattle.iot_exec.specs.Serial.{Entry, run_entry, tree_from}
-use Rattle.iot_store.specs.States.{State, after_commit}
-use Rattle.iot_store.specs.Records.{record_spelling}
+use Rattle.iot_journal.proofs.DecodingLaws.{length-bodies-le}
+use Rattle.iot_journal.proofs.ImagesLaws.{records_fit}
+use Rattle.iot_server.specs.Servers as servers
+use Rattle.iot_server.specs.declared.server.Server.{Server}
+use Rattle.iot_store.specs.States.{State, CanFollow, opening, after_commit}
+use Rattle.iot_store.specs.Records.{IsRecord, record_spelling}
+use Rattle.iot_store.specs.Standing.{Leads}
 use Rattle.iot_judging.specs.Entries.{IsSpelledEntry}
 use Rattle.iot_machine.specs.Machine.{Commit, entries_of, tree_after}
+use Rattle.iot_world.specs.Disks.{Medium}
 use Rattle.iot_world.specs.Records.{label_of, records_from, records_of, state_of}
 use Rattle.iot_world.specs.Servers.{AreOf}
 use Rattle.iot_tree.specs.declared.acts.Act.{Act}
@@ -80,3 +86,38 @@ pub list_spelled_more : (commits : List Commit) (commit : Commit) → AllByRecur
     → AllByRecursion IsSpelledEntry (entries_of (commits ++ commit ∷ []))
 list_spelled_more [] commit all one = (one, tt)
 list_spelled_more (first ∷ later) commit all one = (all.0, list_spelled_more later commit all.1 one)
+
+-- there are as many records as commits
+many_from : (commits : List Commit) (tree : Nodes) → length (records_from commits tree) ≡ length commits
+many_from [] tree = refl
+many_from (commit ∷ commits) tree = ap suc (many_from commits (run_entry commit.entry tree).tree)
+
+pub as_many : (commits : List Commit) → length (records_of commits) ≡ length commits
+as_many commits = many_from commits (root_alone Dir)
+
+-- one record more leads to the state after its commit
+pub leads_more : (front : List (List ℕ)) (before mid : State) (body : List ℕ) (label : Label) (acts : List Act) → Leads front before mid
+    → IsRecord body label acts → CanFollow mid label acts → Leads (front ++ body ∷ []) before (after_commit mid label acts)
+leads_more [] before mid body label acts leads is follows =
+    (label, acts, is, subst (λ (s : State). CanFollow s label acts) leads follows, ap (λ (s : State). after_commit s label acts) leads)
+leads_more (first ∷ front) before mid body label acts leads is follows =
+    (leads.0, leads.1, leads.2, leads.3, leads_more front (after_commit before leads.0 leads.1) mid body label acts leads.4 is follows)
+
+-- and the state has one label more for each record
+leads_count : (bodies : List (List ℕ)) (before after : State) → Leads bodies before after
+    → length after.labels ≡ length before.labels + length bodies
+leads_count [] before after leads = omega (arith, ap (λ (s : State). length s.labels) leads)
+leads_count (body ∷ bodies) before after leads =
+    omega
+    (arith, leads_count bodies (after_commit before leads.0 leads.1) after leads.4, length-append before.labels (leads.0 ∷ []))
+
+-- a server whose disk is within its limit has not as many commits as can be counted
+pub few_commits : {D : Type 0} (medium : Medium D) (it : Server D) → servers.IsSynced medium.reads medium.may_leave it
+    → length (servers.state_of it).labels + 1 < 2 ^ 64
+few_commits medium it synced =
+    omega (
+      arith,
+      records_fit _ _ _ synced.journal.layout synced.journal.limit,
+      length-bodies-le (servers.bodies_on medium.reads it),
+      leads_count (servers.bodies_on medium.reads it) opening (servers.state_of it) synced.leads,
+    )

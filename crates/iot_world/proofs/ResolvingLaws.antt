@@ -38,25 +38,26 @@ use Rattle.iot_machine.specs.Options.{OnConflict}
 use Rattle.iot_machine.specs.Serving.{Lends}
 use Rattle.iot_machine.specs.Sound.{CanResolve, IsPlanned}
 use Rattle.iot_machine.specs.Texts.{line, resolve_line}
-use Rattle.iot_machine.specs.Transactions.{Syncs, sync_at, Exchange, resolves as machine_resolves, Synced, Moved, Unanswered}
-use Rattle.iot_world.specs.Laptops.{LaptopStands, ItemStands, ItemsStand, Resolved, AsksAll, IsHeadPlan, head_plan}
+use Rattle.iot_machine.specs.Transactions.{Notes, Syncs, sync_at, Exchange, resolves as machine_resolves, Synced, Moved, Unanswered, Halted}
+use Rattle.iot_world.specs.Disks.{Medium}
+use Rattle.iot_world.specs.Laptops.{LaptopStands, ItemStands, ItemsStand, ResolvedIf, IsResolution, AsksAll, IsHeadPlan, head_plan}
 use Rattle.iot_world.specs.Laptops.{again, resolver, planned_by, planned_in}
 use Rattle.iot_world.specs.Nodes.{state_in}
 use Rattle.iot_world.specs.Messages.{IsSomeRequest, SpellsTree, SpellsCut, BringsTree, name_of}
 use Rattle.iot_world.specs.Saying.{resolver_said}
 use Rattle.iot_world.specs.Scripts.{script_named, code_named, HasNamed, ItemIsNamed, option_named}
-use Rattle.iot_world.specs.World.{StandsFor, Steps, IsReady, SameCounts, Exchanges, IsPlannedAt, CarriesOut, scripts_of, script_of}
+use Rattle.iot_world.specs.World.{StandsFor, Steps, IsReady, SameCounts, SameIf, Exchanges, IsPlannedAt, CarriesOut, scripts_of, script_of}
 use Rattle.iot_world.specs.declared.laptop.Laptop.{Laptop}
 use Rattle.iot_world.specs.declared.message.Message.{Message}
 use Rattle.iot_world.specs.declared.texts.Transaction.{Transaction}
 use Rattle.iot_world.specs.declared.world.DeclaredScript.{DeclaredScript}
 use Rattle.iot_world.specs.declared.world.World.{World}
 use Rattle.iot_world.proofs.BringingLaws.{came, none_came, ready_came}
-use Rattle.iot_world.proofs.CallsLaws.{bind, asks, answers, says_this}
+use Rattle.iot_world.proofs.CallsLaws.{bind, asks, answers, says_this, nothing}
 use Rattle.iot_world.proofs.QueuesLaws.{notes_by, First, asks_first, name_there, conflict_stage}
-use Rattle.iot_world.proofs.ReadyLaws.{one_at}
+use Rattle.iot_world.proofs.ReadyLaws.{one_at, declared_put}
 use Rattle.iot_world.proofs.ScriptsLaws.{scripts_are}
-use Rattle.iot_world.proofs.StepsLaws.{IsAt, Puts, laptop_stands}
+use Rattle.iot_world.proofs.StepsLaws.{IsAt, Puts, laptop_stands, stops}
 use Rattle.iot_world.proofs.TransactionsLaws.{counts_awake}
 
 -- ---- the whole tree
@@ -214,26 +215,26 @@ some_planned scripts held (item ∷ items) (m ∷ ms) stand named conflicts =
 
 -- ---- carrying it out
 
-module _ {D : Type 0} (reads : D → List ℕ) (may_leave : D → List ℕ → Type 0) (c : ℕ) where
+module _ {D : Type 0} (medium : Medium D) (c : ℕ) where
   module _ (old : World D) (was : Laptop D) (at : IsAt old c was) where
     -- the same is planned in each machine for which the world stands
-    plan_there : (m : Machine) → StandsFor reads may_leave old m
+    plan_there : (m : Machine) → StandsFor medium old m
         → head_plan (kept_by c m).held (kept_by c m).items
         ≡ planned_in (scripts_of old) (state_in was).held (state_in was).items
     plan_there m here =
-        let there : LaptopStands reads may_leave m.scripts was (client_in m c) = laptop_stands reads may_leave old m c was at here in
+        let there : LaptopStands medium m.scripts was (client_in m c) = laptop_stands medium old m c was at here in
         ap (λ (t : Nodes). head_plan t (kept_by c m).items) (sym there.state.held)
         ∙ plans_are m.scripts (state_in was).held (state_in was).items (kept_by c m).items there.state.items
         there.named.items
         ∙ ap (λ (ss : List Declared). planned_in ss (state_in was).held (state_in was).items)
         (scripts_are old.scripts.items m.scripts here.scripts)
 
-    has_plan : IsReady reads may_leave c old → HeadIs (λ item. item.stage ≡ kept.Conflict) (state_in was).items
+    has_plan : IsReady medium c old → HeadIs (λ item. item.stage ≡ kept.Conflict) (state_in was).items
         → (p : Plan) × (planned_in (scripts_of old) (state_in was).held (state_in was).items ≡ Some p)
     has_plan ready conflicts =
         let m : Machine = ready.machine in
-        let there : LaptopStands reads may_leave m.scripts was (client_in m c) =
-        laptop_stands reads may_leave old m c was at ready.stands in
+        let there : LaptopStands medium m.scripts was (client_in m c) =
+        laptop_stands medium old m c was at ready.stands in
         let p = some_planned m.scripts (state_in was).held (state_in was).items (kept_by c m).items there.state.items
         there.named.items conflicts in (
           p.0,
@@ -244,52 +245,69 @@ module _ {D : Type 0} (reads : D → List ℕ) (may_leave : D → List ℕ → T
 
     module _ (plan : plans.Plan) (is : IsHeadPlan (state_in was).items plan) where
       -- its script is declared
-      pub plan_declared : IsReady reads may_leave c old → IsSome (script_named plan.script (scripts_of old))
+      pub plan_declared : IsReady medium c old → IsSome (script_named plan.script (scripts_of old))
       plan_declared ready =
           let p = has_plan ready (head_conflicts (state_in was).items plan is) in
           (agree (scripts_of old) (state_in was).held (state_in was).items plan p.0 is p.1).named
 
-      -- what is planned was carried out
-      pub carries_out : (new : World D) (laptop : Laptop D) (code : Code) (t : Nodes) → code_named plan.script (scripts_of old) ≡ Some code
-          → Resolved reads may_leave code t was laptop → Puts c laptop old new → CarriesOut reads may_leave c t old new
-      carries_out new laptop code t coded resolved puts = λ p text planned.
+      -- what is planned was carried out, or it has stopped in that
+      pub carries_out : (on : Bool) (new : World D) (laptop : Laptop D) (code : Code) (t : Nodes) (x y : List ℕ)
+          → code_named plan.script (scripts_of old) ≡ Some code → ResolvedIf medium on code t was laptop x y → Puts c laptop old new
+          → CarriesOut medium c t on old new x y
+      carries_out true new laptop code t x y coded resolved puts = λ p planned.
           let its = agree (scripts_of old) (state_in was).held (state_in was).items plan p is (planned was at.get) in
           let same : p.script.code ≡ code = same_Some _ _ (sym its.code ∙ coded) in
-          notes_by reads may_leave c old new was laptop (reach (clients.Resolved (resolution_of p t))) text at puts resolved.place
+          let change = reach (clients.Resolved (resolution_of p t)) in
+          subst (λ (z : List ℕ). Steps medium (Notes c change) old new x z true) (sym resolved.1)
+          (notes_by medium c old new was laptop change x at puts resolved.0.place
           (λ m here.
-          resolved.stands m.scripts (client_in m c) p (laptop_stands reads may_leave old m c was at here)
-          (plan_there m here ∙ planned was at.get) same)
+          resolved.0.stands m.scripts (client_in m c) p (laptop_stands medium old m c was at here)
+          (plan_there m here ∙ planned was at.get) same))
+      carries_out false new laptop code t x y coded stopped puts = λ p planned.
+          let its = agree (scripts_of old) (state_in was).held (state_in was).items plan p is (planned was at.get) in
+          let same : p.script.code ≡ code = same_Some _ _ (sym its.code ∙ coded) in
+          let change = reach (clients.Resolved (resolution_of p t)) in
+          stops medium c old new was laptop (IsResolution code t) change x y at puts stopped
+          (λ m here. record { plan = p; planned = plan_there m here ∙ planned was at.get; code_is = same; is = refl })
 
-      -- so as many are alive
-      pub counts_resolved : (new : World D) (laptop : Laptop D) (code : Code) (t : Nodes) → IsReady reads may_leave c old
-          → code_named plan.script (scripts_of old) ≡ Some code → Resolved reads may_leave code t was laptop → Puts c laptop old new
-          → SameCounts old new
-      counts_resolved new laptop code t ready coded resolved puts =
+      -- so as many are alive, if it goes on
+      pub counts_resolved : (on : Bool) (new : World D) (laptop : Laptop D) (code : Code) (t : Nodes) (x y : List ℕ) → IsReady medium c old
+          → code_named plan.script (scripts_of old) ≡ Some code → ResolvedIf medium on code t was laptop x y → Puts c laptop old new
+          → SameIf on old new
+      counts_resolved true new laptop code t x y ready coded resolved puts =
           let m : Machine = ready.machine in
           let p = has_plan ready (head_conflicts (state_in was).items plan is) in
           let its = agree (scripts_of old) (state_in was).held (state_in was).items plan p.0 is p.1 in
           let same : p.0.script.code ≡ code = same_Some _ _ (sym its.code ∙ coded) in
-          counts_awake reads may_leave c old new was laptop at puts _ _
-          (resolved.stands m.scripts (client_in m c) p.0 (laptop_stands reads may_leave old m c was at ready.stands)
+          counts_awake medium c old new was laptop at puts _ _
+          (resolved.0.stands m.scripts (client_in m c) p.0 (laptop_stands medium old m c was at ready.stands)
           (plan_there m ready.stands ∙ p.1) same)
+      counts_resolved false new laptop code t x y ready coded stopped puts = declared_put c old new laptop puts
+
+  -- whether it goes on is known
+  pub carries_as : (reply : List ℕ) (on other : Bool) (old new : World D) (x y : List ℕ) → on ≡ other
+      → ((t : Nodes) → SpellsTree reply t → CarriesOut medium c t on old new x y)
+      → (t : Nodes) → SpellsTree reply t → CarriesOut medium c t other old new x y
+  carries_as reply on other old new x y is carried t spells =
+      subst (λ (b : Bool). CarriesOut medium c t b old new x y) is (carried t spells)
 
   -- ---- the tree that comes
 
   module _ (old mid : World D) (x y : List ℕ) (o : Option (Vec ℕ Global))
-      (exchanged : Exchanges reads may_leave c (Lends new_client.held (wanted.Below [])) (SpellsCut new_client.held (wanted.Below [])) o
+      (exchanged : Exchanges medium c (Lends new_client.held (wanted.Below [])) (SpellsCut new_client.held (wanted.Below [])) o
       old mid x y) (reply : Vec ℕ Global) (is : o ≡ Some reply) where
     tree_came : (t : Nodes) × SpellsCut new_client.held (wanted.Below []) reply.items t
-        × Steps reads may_leave (Exchange c (Lends new_client.held (wanted.Below []))) old mid x y (Some t)
+        × Steps medium (Exchange c (Lends new_client.held (wanted.Below []))) old mid x y (Some t)
     tree_came =
-        came reads may_leave c old mid x y o (Lends new_client.held (wanted.Below []))
+        came medium c old mid x y o (Lends new_client.held (wanted.Below []))
         (SpellsCut new_client.held (wanted.Below [])) exchanged reply is
 
     pub whole_brings : BringsTree reply.items
     whole_brings = record { tree = tree_came.0; is = tree_came.1.spelled }
 
-    pub ready_whole : IsReady reads may_leave c old → SameCounts old mid → IsReady reads may_leave c mid
+    pub ready_whole : IsReady medium c old → SameCounts old mid → IsReady medium c mid
     ready_whole ready counts =
-        ready_came reads may_leave c old mid x y o (Lends new_client.held (wanted.Below []))
+        ready_came medium c old mid x y o (Lends new_client.held (wanted.Below []))
         (SpellsCut new_client.held (wanted.Below [])) exchanged reply is ready counts
 
     -- the tree that came is the server's whole tree
@@ -303,9 +321,9 @@ module _ {D : Type 0} (reads : D → List ℕ) (may_leave : D → List ℕ → T
   -- ---- the first that waits
 
   module _ (old : World D) (was : Laptop D) (x : List ℕ) (at : IsAt old c was) (t : Transaction) (first : First was t)
-      (ready : IsReady reads may_leave c old) (conflicts : HeadIs (λ item. item.stage ≡ kept.Conflict) (state_in was).items)
+      (ready : IsReady medium c old) (conflicts : HeadIs (λ item. item.stage ≡ kept.Conflict) (state_in was).items)
       (mid : World D) (y : List ℕ) (o : Option (Vec ℕ Global))
-      (exchanged : Exchanges reads may_leave c (Lends new_client.held (wanted.Below [])) (SpellsCut new_client.held (wanted.Below [])) o
+      (exchanged : Exchanges medium c (Lends new_client.held (wanted.Below [])) (SpellsCut new_client.held (wanted.Below [])) o
       old mid x y) where
     first_conflicts : first.item.stage ≡ kept.Conflict
     first_conflicts = subst (HeadIs (λ item. item.stage ≡ kept.Conflict)) first.items conflicts
@@ -315,10 +333,10 @@ module _ {D : Type 0} (reads : D → List ℕ) (may_leave : D → List ℕ → T
 
     -- it is resolved by this plan in each machine
     resolves_any : (new : World D) (z : List ℕ) (answer : Synced)
-        → Steps reads may_leave (machine_resolves c (name_of t) (Some plan_here.0)) old new x z answer
-        → Steps reads may_leave (Syncs c) old new x z answer
+        → Steps medium (machine_resolves c (name_of t) (Some plan_here.0)) old new x z answer
+        → Steps medium (Syncs c) old new x z answer
     resolves_any new z answer one =
-        asks_first reads may_leave c old was x at t first (λ mi. plan_of (state_in was).held mi ≡ Some plan_here.0) new z answer
+        asks_first medium c old was x at t first (λ mi. plan_of (state_in was).held mi ≡ Some plan_here.0) new z answer
         (λ m mi here stands named.
         planned_as m.scripts (state_in was).held first.item mi stands named
         ∙ ap (λ (items : List Item). planned_in m.scripts (state_in was).held items) (sym first.items)
@@ -326,49 +344,64 @@ module _ {D : Type 0} (reads : D → List ℕ) (may_leave : D → List ℕ → T
         (scripts_are old.scripts.items m.scripts here.scripts)
         ∙ plan_here.1)
         (λ mi ms stands planned.
-        subst (λ (s : clients.Stage). Steps reads may_leave (sync_at c mi s) old new x z answer)
+        subst (λ (s : clients.Stage). Steps medium (sync_at c mi s) old new x z answer)
         (sym (conflict_stage first.item.stage mi.stage first_conflicts stands.stage))
         (bind old old new x x z (name_of t) answer
-        (asks old x (name_of t) (λ m here. sym (name_there reads may_leave c old was x at t first m mi here stands)))
+        (asks old x (name_of t) (λ m here. sym (name_there medium c old was x at t first m mi here stands)))
         (bind old old new x x z (Some plan_here.0) answer
         (asks old x (Some plan_here.0)
         (λ m here.
         sym planned
-        ∙ ap (λ (u : Nodes). plan_of u mi) (laptop_stands reads may_leave old m c was at here).state.held))
+        ∙ ap (λ (u : Nodes). plan_of u mi) (laptop_stands medium old m c was at here).state.held))
         one)))
 
     -- no reply came
-    pub resolves_away : (z : List ℕ) → o ≡ None → z ≡ y ++ line (codes "away") → Steps reads may_leave (Syncs c) old mid x z Unanswered
+    pub resolves_away : (z : List ℕ) → o ≡ None → z ≡ y ++ line (codes "away") → Steps medium (Syncs c) old mid x z Unanswered
     resolves_away z is wrote =
         resolves_any mid z Unanswered
         (bind old mid mid x y z None Unanswered
-        (none_came reads may_leave c old mid x y o (Lends new_client.held (wanted.Below []))
+        (none_came medium c old mid x y o (Lends new_client.held (wanted.Below []))
         (SpellsCut new_client.held (wanted.Below [])) exchanged is)
         (bind mid mid mid y z z tt Unanswered (says_this (line (codes "away")) mid y z wrote) (answers mid z Unanswered)))
 
     module _ (reply : Vec ℕ Global) (is : o ≡ Some reply) where
-      -- it was resolved on that tree
-      pub syncs_resolved : (plan : plans.Plan) (new : World D) (z : List ℕ) → IsHeadPlan (state_in was).items plan
-          → mid.clients.items ≡ old.clients.items → SameCounts old mid
-          → ((u : Nodes) → SpellsTree reply.items u → CarriesOut reads may_leave c u mid new)
-          → z ≡ y ++ resolve_line (name_of t) (resolver_said plan) → Steps reads may_leave (Syncs c) old new x z Moved
-      syncs_resolved plan new z planned clients_same counts carried wrote =
-          let p : Plan = plan_here.0 in
-          let brought = tree_came old mid x y o exchanged reply is in
-          let its = agree (scripts_of old) (state_in was).held (state_in was).items plan p planned plan_here.1 in
-          let planned_mid : IsPlannedAt p c mid =
-          λ laptop here.
-          let one : laptop ≡ was =
-          one_at old c laptop was (ap (λ ls. slice_get ls c) (sym clients_same) ∙ here) at.get in
+      -- the plan is the same there
+      planned_mid : mid.clients.items ≡ old.clients.items → SameCounts old mid → IsPlannedAt plan_here.0 c mid
+      planned_mid clients_same counts laptop here =
+          let one : laptop ≡ was = one_at old c laptop was (ap (λ ls. slice_get ls c) (sym clients_same) ∙ here) at.get in
           (λ i. planned_in (map script_of (counts.scripts i)) (state_in (one i)).held (state_in (one i)).items)
-          ∙ plan_here.1 in
-          resolves_any new z Moved
-          (bind old mid new x y z (Some brought.0) Moved brought.2
-          (bind mid new new y y z true Moved (carried brought.0 brought.1.spelled p y planned_mid)
-          (bind new new new y z z tt Moved
-          (says_this (resolve_line (name_of t) p.said) new y z
-          (wrote ∙ ap (λ (by : List ℕ). y ++ resolve_line (name_of t) by) its.said))
-          (answers new z Moved))))
+          ∙ plan_here.1
+
+      brought : (u : Nodes) × SpellsCut new_client.held (wanted.Below []) reply.items u
+          × Steps medium (Exchange c (Lends new_client.held (wanted.Below []))) old mid x y (Some u)
+      brought = tree_came old mid x y o exchanged reply is
+
+      -- it was resolved on that tree
+      pub syncs_resolved : (plan : plans.Plan) (new : World D) (z w : List ℕ) → IsHeadPlan (state_in was).items plan
+          → mid.clients.items ≡ old.clients.items → SameCounts old mid
+          → ((u : Nodes) → SpellsTree reply.items u → CarriesOut medium c u true mid new y z)
+          → w ≡ z ++ resolve_line (name_of t) (resolver_said plan) → Steps medium (Syncs c) old new x w Moved
+      syncs_resolved plan new z w planned clients_same counts carried wrote =
+          let p : Plan = plan_here.0 in
+          let its = agree (scripts_of old) (state_in was).held (state_in was).items plan p planned plan_here.1 in
+          resolves_any new w Moved
+          (bind old mid new x y w (Some brought.0) Moved brought.2
+          (bind mid new new y z w true Moved (carried brought.0 brought.1.spelled p (planned_mid clients_same counts))
+          (bind new new new z w w tt Moved
+          (says_this (resolve_line (name_of t) p.said) new z w
+          (wrote ∙ ap (λ (by : List ℕ). z ++ resolve_line (name_of t) by) its.said))
+          (answers new w Moved))))
+
+      -- it stops in that, and no more is said
+      pub syncs_halted_resolving : (new : World D) (z : List ℕ) → mid.clients.items ≡ old.clients.items → SameCounts old mid
+          → ((u : Nodes) → SpellsTree reply.items u → CarriesOut medium c u false mid new y z)
+          → Steps medium (Syncs c) old new x z Halted
+      syncs_halted_resolving new z clients_same counts carried =
+          resolves_any new z Halted
+          (bind old mid new x y z (Some brought.0) Halted brought.2
+          (bind mid new new y z z false Halted
+          (carried brought.0 brought.1.spelled plan_here.0 (planned_mid clients_same counts))
+          (bind new new new z z z tt Halted (nothing new z) (answers new z Halted))))
 
 -- ---- the script in hand
 

@@ -1,5 +1,5 @@
 -- Scripts by their names, as more are declared.
-use Rattle.std.proofs.Common.{◌≡◌, ℕ, ◌<◌, zero, suc, Bool, true, false, List, [], ◌∷◌, ◌++◌, map, length, Option, Some, None, cond}
+use Rattle.std.proofs.Common.{◌≡◌, ℕ, ◌<◌, zero, suc, Bool, true, false, List, [], ◌∷◌, ◌++◌, map, length, Option, Some, None, IfSome, cond}
 use Rattle.std.proofs.Common.{refl, ap, subst, ◌||◌, ◌⊎◌, inl, inr, bytes_eq, slice_get, slice_index_or}
 use Rattle.std.proofs.lemmas.Option.{slice_get-get_or}
 use Rattle.std.proofs.lemmas.Slice.Eq.{bytes_eq-Decides}
@@ -9,6 +9,7 @@ use Rattle.iot_machine.specs.Clients.{Declared, Item, Running, ClientState}
 use Rattle.iot_machine.specs.Machine as machine
 use Rattle.iot_machine.specs.Options as options
 use Rattle.iot_machine.specs.Options.{OnConflict}
+use Rattle.iot_world.specs.Disks.{Medium}
 use Rattle.iot_world.specs.Laptops.{ClientStands, awake, fallen}
 use Rattle.iot_world.specs.Scripts.{script_named, IsNamed, HasNamed, AreApart, ItemIsNamed, RunIsNamedIfAny, AreNamed}
 use Rattle.iot_world.specs.Scripts.{option_named, or_none, meant}
@@ -81,13 +82,19 @@ module _ (scripts : List Declared) (one : Declared) where
   state_more : (m : ClientState) → AreNamed scripts m → AreNamed (scripts ++ one ∷ []) m
   state_more m named = record { items = items_more m.items named.items; running = running_more m.running named.running }
 
-  module _ {D : Type 0} (reads : D → List ℕ) (may_leave : D → List ℕ → Type 0) where
-    client_more : (laptop : Laptop D) (m : machine.Client) → ClientStands reads may_leave scripts laptop m
-        → ClientStands reads may_leave (scripts ++ one ∷ []) laptop m
+  if_more : (o : Option ClientState) → IfSome o (AreNamed scripts) → IfSome o (AreNamed (scripts ++ one ∷ []))
+  if_more None named = tt
+  if_more (Some m) named = state_more m named
+
+  module _ {D : Type 0} (medium : Medium D) where
+    client_more : (laptop : Laptop D) (m : machine.Client) → ClientStands medium scripts laptop m
+        → ClientStands medium (scripts ++ one ∷ []) laptop m
     client_more laptop m (awake here) = awake (record {
       name = here.name;
       link = here.link;
       alive = here.alive;
+      sure = here.sure;
+      counts = here.counts;
       tied = here.tied;
       state = here.state;
       named = state_more m.node.durable here.named;
@@ -97,14 +104,19 @@ module _ (scripts : List Declared) (one : Declared) where
       link = here.link;
       alive = here.alive;
       disk = here.disk;
+      doubt = here.doubt;
       down = here.down;
+      counts = here.counts;
       holds = here.holds;
-      named = state_more m.node.durable here.named;
+      named = record {
+        is = state_more m.node.durable here.named.is;
+        may_be = if_more m.node.doubt here.named.may_be;
+      };
     })
 
     -- each client's transactions still have their scripts
-    pub clients_more : (laptops : List (Laptop D)) (ms : List machine.Client) → Each (ClientStands reads may_leave scripts) laptops ms
-        → Each (ClientStands reads may_leave (scripts ++ one ∷ [])) laptops ms
+    pub clients_more : (laptops : List (Laptop D)) (ms : List machine.Client) → Each (ClientStands medium scripts) laptops ms
+        → Each (ClientStands medium (scripts ++ one ∷ [])) laptops ms
     clients_more [] [] each = tt
     clients_more [] (m ∷ ms) each = absurd each
     clients_more (laptop ∷ laptops) [] each = absurd each

@@ -1,6 +1,6 @@
 -- What a world does to its clients is what the machine does to its own.
 use Rattle.std.proofs.Common.{◌≡◌, ℕ, ◌+◌, ◌<◌, Bool, true, false, List, [], ◌++◌, length, Option, Some, None, is_some}
-use Rattle.std.proofs.Common.{slice_get, slice_set, refl, sym, ap, subst, ◌∙◌, arith, codes}
+use Rattle.std.proofs.Common.{slice_get, slice_set, map, inl, inr, refl, sym, ap, subst, ◌∙◌, arith, codes}
 use Rattle.std.proofs.lemmas.List.{append-nil, length-set}
 use Rattle.iot_tree.specs.Tree.{Nodes}
 use Rattle.iot_tree.specs.declared.labels.OnConflict as labels
@@ -20,22 +20,25 @@ use Rattle.iot_machine.specs.Machine.{Machine, Commit, server, client_in, put_cl
 use Rattle.iot_machine.specs.Machine.{link_of, count_request}
 use Rattle.iot_machine.specs.Options.{OnConflict}
 use Rattle.iot_machine.specs.Serving.{Lends}
-use Rattle.iot_machine.specs.Texts.{line}
-use Rattle.iot_machine.specs.Transactions.{Notes, Handles, Exchange, Refuses, runs, pends, IfIdle, IfNonePends, Held, Missed, Holds, Starts}
+use Rattle.iot_machine.specs.Events.{names_in}
+use Rattle.iot_machine.specs.Texts.{line, stopped_line}
+use Rattle.iot_machine.specs.Transactions.{Notes, Handles, Exchange, Refuses, runs, pends, IfIdle, IfNonePends, Holds, Starts}
+use Rattle.iot_machine.specs.Transactions.{Held, Missed, Stopped}
 use Rattle.std.specs.List.{AllByRecursion}
-use Rattle.iot_world.specs.Disks.{IsEmpty}
-use Rattle.iot_world.specs.Laptops.{LaptopStands, ClientStands, awake, RunningStands, RunningStandsIfAny, SamePlace, Noted, Begun, Relinked}
+use Rattle.iot_world.specs.Disks.{Medium, IsEmpty}
+use Rattle.iot_world.specs.Laptops.{LaptopStands, FallenStands, ClientStands, awake, fallen, RunningStands, RunningStandsIfAny, SamePlace}
+use Rattle.iot_world.specs.Laptops.{Noted, Begun, IsBegin, Relinked, Halted, Stops, Exactly, broken}
 use Rattle.iot_world.specs.Nodes.{is_alive, state_in, live_in}
 use Rattle.iot_world.specs.Laptops.{after_passage, waits_of}
 use Rattle.iot_world.specs.Scripts.{IsNamed, HasNamed, RunIsNamedIfAny, option_named, meant}
-use Rattle.iot_world.specs.Servers.{is_up, ServerStands, HasAnswered}
+use Rattle.iot_world.specs.Servers.{is_up, ServerStands, HasAnswered, answered}
 use Rattle.iot_world.specs.World.{Each, StandsFor, Steps, ScriptStands, ArePlaced, scripts_of}
 use Rattle.iot_world.specs.declared.laptop.Laptop.{Laptop}
 use Rattle.iot_world.specs.declared.server.ServerNode.{ServerNode}
 use Rattle.iot_world.specs.declared.world.DeclaredScript.{DeclaredScript}
 use Rattle.iot_world.specs.declared.world.World.{World}
 use Rattle.iot_world.proofs.CallsLaws.{bind, asks, answers, says_this}
-use Rattle.iot_world.proofs.ListLaws.{each_get, each_set, get_inside, set_at, set_twice, set_same, each_place_set}
+use Rattle.iot_world.proofs.ListLaws.{each_get, each_set, get_inside, set_at, set_twice, set_same, each_place_set, names_put}
 use Rattle.iot_world.proofs.LaptopsLaws.{runs_is, waits_is}
 use Rattle.iot_world.proofs.NodesLaws.{awake_stands}
 use Rattle.iot_world.proofs.ScriptsLaws.{scripts_are, meant_named}
@@ -93,10 +96,10 @@ running_by scripts (Some running) (Some live) first (Some it) stands named =
 abbrev pub running_in : {D : Type 0} → List Declared → Laptop D → Option clients.Running
 running_in scripts laptop = running_of scripts (state_in laptop).running (live_in laptop)
 
-pub running_is : {D : Type 0} (reads : D → List ℕ) (may_leave : D → List ℕ → Type 0) (scripts : List Declared) (laptop : Laptop D)
-    (m : machine.Client) → LaptopStands reads may_leave scripts laptop m
+pub running_is : {D : Type 0} (medium : Medium D) (scripts : List Declared) (laptop : Laptop D)
+    (m : machine.Client) → LaptopStands medium scripts laptop m
     → m.node.durable.running ≡ running_in scripts laptop
-running_is reads may_leave scripts laptop m here =
+running_is medium scripts laptop m here =
     running_by scripts (state_in laptop).running (live_in laptop) m.first m.node.durable.running here.state.running
     here.named.running
 
@@ -113,10 +116,10 @@ runs_by scripts (Some running) None first None is stands = absurd stands
 runs_by scripts (Some running) None first (Some it) is stands = absurd stands
 
 -- if a transaction runs, it is one of the machine's
-pub it_runs : {D : Type 0} (reads : D → List ℕ) (may_leave : D → List ℕ → Type 0) (scripts others : List Declared) (laptop : Laptop D)
-    (m : machine.Client) → LaptopStands reads may_leave others laptop m
+pub it_runs : {D : Type 0} (medium : Medium D) (scripts others : List Declared) (laptop : Laptop D)
+    (m : machine.Client) → LaptopStands medium others laptop m
     → is_some (state_in laptop).running ≡ true → Runs scripts laptop
-it_runs reads may_leave scripts others laptop m here is =
+it_runs medium scripts others laptop m here is =
     let one = runs_by scripts (state_in laptop).running (live_in laptop) m.first m.node.durable.running is
     here.state.running in
     record { it = one.0; is = one.1 }
@@ -130,196 +133,242 @@ pub none_runs : {D : Type 0} (scripts : List Declared) (laptop : Laptop D) → i
     → running_in scripts laptop ≡ None
 none_runs scripts laptop is = none_by scripts (state_in laptop).running (live_in laptop) is
 
-module _ {D : Type 0} (reads : D → List ℕ) (may_leave : D → List ℕ → Type 0) where
+module _ {D : Type 0} (medium : Medium D) where
   -- ---- one client
 
   pub client_stands : (world : World D) (m : Machine) (c : ℕ) (laptop : Laptop D) → slice_get world.clients.items c ≡ Some laptop
-      → StandsFor reads may_leave world m → ClientStands reads may_leave m.scripts laptop (client_in m c)
+      → StandsFor medium world m → ClientStands medium m.scripts laptop (client_in m c)
   client_stands world m c laptop get here =
-      each_get (ClientStands reads may_leave m.scripts) world.clients.items m.clients c laptop no_client get here.clients
+      each_get (ClientStands medium m.scripts) world.clients.items m.clients c laptop no_client get here.clients
 
-  pub laptop_stands : (world : World D) (m : Machine) (c : ℕ) (laptop : Laptop D) → IsAt world c laptop → StandsFor reads may_leave world m
-      → LaptopStands reads may_leave m.scripts laptop (client_in m c)
+  pub laptop_stands : (world : World D) (m : Machine) (c : ℕ) (laptop : Laptop D) → IsAt world c laptop → StandsFor medium world m
+      → LaptopStands medium m.scripts laptop (client_in m c)
   laptop_stands world m c laptop at here =
-      awake_stands reads may_leave m.scripts laptop (client_in m c) at.up (client_stands world m c laptop at.get here)
+      awake_stands medium m.scripts laptop (client_in m c) at.up (client_stands world m c laptop at.get here)
 
-  pub inside : (world : World D) (m : Machine) (c : ℕ) (laptop : Laptop D) → IsAt world c laptop → StandsFor reads may_leave world m
+  pub inside : (world : World D) (m : Machine) (c : ℕ) (laptop : Laptop D) → IsAt world c laptop → StandsFor medium world m
       → c < length m.clients
   inside world m c laptop at here =
-      get_inside (ClientStands reads may_leave m.scripts) world.clients.items m.clients c laptop at.get here.clients
+      get_inside (ClientStands medium m.scripts) world.clients.items m.clients c laptop at.get here.clients
 
   -- what runs in the machine is what runs here
-  pub runs_here : (c : ℕ) (world : World D) (laptop : Laptop D) → IsAt world c laptop → (m : Machine) → StandsFor reads may_leave world m
+  pub runs_here : (c : ℕ) (world : World D) (laptop : Laptop D) → IsAt world c laptop → (m : Machine) → StandsFor medium world m
       → (kept_by c m).running ≡ running_in (scripts_of world) laptop
   runs_here c world laptop at m here =
-      running_is reads may_leave m.scripts laptop (client_in m c) (laptop_stands world m c laptop at here)
+      running_is medium m.scripts laptop (client_in m c) (laptop_stands world m c laptop at here)
       ∙ ap (λ (scripts : List Declared). running_in scripts laptop) (scripts_are world.scripts.items m.scripts here.scripts)
 
-  -- with another client at a place, alive or down
+  -- with another client at a place, alive or down, which has its name
   pub puts_client : (old new : World D) (m : Machine) (c : ℕ) (was laptop : Laptop D) (client : machine.Client)
-      → slice_get old.clients.items c ≡ Some was → SamePlace was laptop → Puts c laptop old new
-      → ClientStands reads may_leave m.scripts laptop client → StandsFor reads may_leave old m
-      → StandsFor reads may_leave new (put_client c client m)
-  puts_client old new m c was laptop client get place puts stands here = record {
-    server = subst (λ (s : ServerNode D). ServerStands reads may_leave s m.server) (sym puts.server) here.server;
+      → slice_get old.clients.items c ≡ Some was → client.name ≡ (client_in m c).name → SamePlace was laptop → Puts c laptop old new
+      → ClientStands medium m.scripts laptop client → StandsFor medium old m
+      → StandsFor medium new (put_client c client m)
+  puts_client old new m c was laptop client get name place puts stands here = record {
+    server =
+        subst (λ (names : List (List ℕ)). ServerStands medium names new.server m.server) (sym (names_put m.clients c client name))
+        (subst (λ (s : ServerNode D). ServerStands medium (names_in m) s m.server) (sym puts.server) here.server);
     requests = subst (HasAnswered m.requests) (sym puts.server) here.requests;
     clients =
-        subst (λ (ls : List (Laptop D)). Each (ClientStands reads may_leave m.scripts) ls (slice_set m.clients c client)) (sym puts.clients)
-        (each_set (ClientStands reads may_leave m.scripts) old.clients.items m.clients c laptop client stands here.clients);
+        subst (λ (ls : List (Laptop D)). Each (ClientStands medium m.scripts) ls (slice_set m.clients c client)) (sym puts.clients)
+        (each_set (ClientStands medium m.scripts) old.clients.items m.clients c laptop client stands here.clients);
     scripts = subst (λ (ss : List DeclaredScript). Each ScriptStands ss m.scripts) (sym puts.scripts) here.scripts;
     apart = here.apart;
     placed =
         subst ArePlaced (sym puts.clients)
         (each_place_set (λ n (l : Laptop D). l.place ≡ n) old.clients.items c laptop here.placed (place ∙ here.placed c was get));
-    spare = subst (λ (ds : List D). AllByRecursion (IsEmpty reads may_leave) ds) (sym puts.spare) here.spare;
+    spare = subst (λ (ds : List D). AllByRecursion (IsEmpty medium) ds) (sym puts.spare) here.spare;
+    counts = ap (map medium.counts) puts.spare ∙ here.counts;
     eight = omega (arith, here.eight, ap length puts.clients, ap length puts.spare, length-set old.clients.items c laptop);
   }
 
   pub puts_stands : (old new : World D) (m : Machine) (c : ℕ) (was laptop : Laptop D) (client : machine.Client) → IsAt old c was
-      → SamePlace was laptop → Puts c laptop old new → LaptopStands reads may_leave m.scripts laptop client
-      → StandsFor reads may_leave old m → StandsFor reads may_leave new (put_client c client m)
-  puts_stands old new m c was laptop client at place puts stands here =
-      puts_client old new m c was laptop client at.get place puts (awake stands) here
+      → client.name ≡ (client_in m c).name → SamePlace was laptop → Puts c laptop old new → LaptopStands medium m.scripts laptop client
+      → StandsFor medium old m → StandsFor medium new (put_client c client m)
+  puts_stands old new m c was laptop client at name place puts stands here =
+      puts_client old new m c was laptop client at.get name place puts (awake stands) here
 
   -- a change of one client
   pub changes : {A : Type 0} (c : ℕ) (old new : World D) (was laptop : Laptop D) (change : machine.Client → machine.Client) (a : A) (x :
       List ℕ)
-      → IsAt old c was → Puts c laptop old new → SamePlace was laptop
-      → ((scripts : List Declared) (m : machine.Client) → LaptopStands reads may_leave scripts was m
-      → LaptopStands reads may_leave scripts laptop (change m))
-      → Steps reads may_leave (Gets (λ _. a) (λ m. put_client c (change (client_in m c)) m)) old new x x a
-  changes c old new was laptop change a x at puts place stands = record {
+      → IsAt old c was → ((m : machine.Client) → (change m).name ≡ m.name) → Puts c laptop old new → SamePlace was laptop
+      → ((scripts : List Declared) (m : machine.Client) → LaptopStands medium scripts was m
+      → LaptopStands medium scripts laptop (change m))
+      → Steps medium (Gets (λ _. a) (λ m. put_client c (change (client_in m c)) m)) old new x x a
+  changes c old new was laptop change a x at name puts place stands = record {
     step = λ m here. (
       [],
       put_client c (change (client_in m c)) m,
       sym (append-nil x),
       (refl, refl, refl),
-      puts_stands old new m c was laptop (change (client_in m c)) at place puts
+      puts_stands old new m c was laptop (change (client_in m c)) at (name (client_in m c)) place puts
           (stands m.scripts (client_in m c) (laptop_stands old m c was at here)) here,
     );
   }
 
   -- a change of what a client keeps
   pub notes : (c : ℕ) (old new : World D) (was laptop : Laptop D) (change : ClientState → ClientState) (x : List ℕ) → IsAt old c was
-      → Puts c laptop old new → Noted reads may_leave change was laptop → Steps reads may_leave (Notes c change) old new x x true
+      → Puts c laptop old new → Noted medium change was laptop → Steps medium (Notes c change) old new x x true
   notes c old new was laptop change x at puts noted = record {
     step = λ m here.
         let node : Node ClientState = changed change (client_in m c).node in (
           [],
           (node_at c).set node m,
           sym (append-nil x),
-          record { inner = node; step = (refl, refl, refl); is = refl },
-          puts_stands old new m c was laptop (record (client_in m c) { node = node }) at noted.place puts
+          record { inner = node; step = inl (refl, refl, refl); is = refl },
+          puts_stands old new m c was laptop (record (client_in m c) { node = node }) at refl noted.place puts
               (noted.stands m.scripts (client_in m c) (laptop_stands old m c was at here)) here,
+        );
+  }
+
+  -- it has stopped in that, which was said
+  pub stops : (c : ℕ) (old new : World D) (was laptop : Laptop D)
+      (Fits : List Declared → machine.Client → (ClientState → ClientState) → Type 0) (change : ClientState → ClientState) (x y : List ℕ)
+      → IsAt old c was → Puts c laptop old new → Stops medium Fits was laptop x y
+      → ((m : Machine) → StandsFor medium old m → Fits m.scripts (client_in m c) change)
+      → Steps medium (Notes c change) old new x y false
+  stops c old new was laptop Fits change x y at puts stopped fits = record {
+    step = λ m here.
+        let there : LaptopStands medium m.scripts was (client_in m c) = laptop_stands old m c was at here in
+        let one : Halted medium m.scripts change laptop (client_in m c) =
+        stopped.stands m.scripts (client_in m c) change there (fits m here) in (
+          stopped_line (client_in m c).name,
+          (node_at c).set one.node m,
+          stopped.text ∙ ap (λ (n : List ℕ). x ++ stopped_line n) there.name,
+          record { inner = one.node; step = inr (refl, refl, one.stopped); is = refl },
+          puts_client old new m c was laptop (record (client_in m c) { node = one.node }) at.get refl stopped.place puts
+              (fallen one.stands) here,
         );
   }
 
   -- a client that was put back as it was
   pub put_back : (old mid : World D) (c : ℕ) (was laptop : Laptop D) (m : Machine) → IsAt old c was → laptop ≡ was → Puts c laptop old mid
-      → StandsFor reads may_leave old m → StandsFor reads may_leave mid m
+      → StandsFor medium old m → StandsFor medium mid m
   put_back old mid c was laptop m at same puts here =
-      subst (StandsFor reads may_leave mid)
+      subst (StandsFor medium mid)
       (ap (λ (cs : List machine.Client). record m { clients = cs }) (set_same m.clients c no_client))
-      (puts_stands old mid m c was laptop (client_in m c) at (ap (λ (l : Laptop D). l.place) same) puts
-      (subst (λ (l : Laptop D). LaptopStands reads may_leave m.scripts l (client_in m c)) (sym same) (laptop_stands old m c was at here))
+      (puts_stands old mid m c was laptop (client_in m c) at refl (ap (λ (l : Laptop D). l.place) same) puts
+      (subst (λ (l : Laptop D). LaptopStands medium m.scripts l (client_in m c)) (sym same) (laptop_stands old m c was at here))
       here)
 
   -- ---- what is asked of a client
 
   module _ (c : ℕ) (world : World D) (laptop : Laptop D) (x : List ℕ) (at : IsAt world c laptop) where
-    pub asks_runs : Steps reads may_leave (Asks (runs c)) world world x x (is_some (state_in laptop).running)
+    pub asks_runs : Steps medium (Asks (runs c)) world world x x (is_some (state_in laptop).running)
     asks_runs =
         asks world x (is_some (state_in laptop).running)
         (λ m here. runs_is _ _ _ _ (laptop_stands world m c laptop at here).state)
 
-    pub asks_pends : Steps reads may_leave (Asks (pends c)) world world x x (waits_of (state_in laptop).items)
+    pub asks_pends : Steps medium (Asks (pends c)) world world x x (waits_of (state_in laptop).items)
     asks_pends =
         asks world x (waits_of (state_in laptop).items)
         (λ m here. waits_is _ _ _ _ (laptop_stands world m c laptop at here).state)
 
-    pub asks_held : Steps reads may_leave (Asks (λ m. (kept_by c m).held)) world world x x (state_in laptop).held
+    pub asks_held : Steps medium (Asks (λ m. (kept_by c m).held)) world world x x (state_in laptop).held
     asks_held = asks world x (state_in laptop).held (λ m here. (laptop_stands world m c laptop at here).state.held)
 
-    pub asks_running : Steps reads may_leave (Asks (λ m. (kept_by c m).running)) world world x x (running_in (scripts_of world) laptop)
+    pub asks_running : Steps medium (Asks (λ m. (kept_by c m).running)) world world x x (running_in (scripts_of world) laptop)
     asks_running =
         asks world x (running_in (scripts_of world) laptop) (λ m here. sym (runs_here c world laptop at m here))
 
     -- ---- refusals
 
-    pub refuses : (word y : List ℕ) → y ≡ x ++ line word → Steps reads may_leave (Refuses word) world world x y false
+    pub refuses : (word y : List ℕ) → y ≡ x ++ line word → Steps medium (Refuses word) world world x y false
     refuses word y wrote = bind world world world x y y tt false (says_this (line word) world x y wrote) (answers world y false)
 
     pub is_busy : {call : Call Machine Bool} (y : List ℕ) → is_some (state_in laptop).running ≡ true
-        → y ≡ x ++ line (codes "busy") → Steps reads may_leave (IfIdle c call) world world x y false
+        → y ≡ x ++ line (codes "busy") → Steps medium (IfIdle c call) world world x y false
     is_busy {call} y is wrote =
         bind world world world x x y true false
-        (subst (λ (b : Bool). Steps reads may_leave (Asks (runs c)) world world x x b) is asks_runs)
+        (subst (λ (b : Bool). Steps medium (Asks (runs c)) world world x x b) is asks_runs)
         (refuses (codes "busy") y wrote)
 
     pub is_idle : {call : Call Machine Bool} (new : World D) (y : List ℕ) (b : Bool) → is_some (state_in laptop).running ≡ false
-        → Steps reads may_leave call world new x y b → Steps reads may_leave (IfIdle c call) world new x y b
+        → Steps medium call world new x y b → Steps medium (IfIdle c call) world new x y b
     is_idle {call} new y b is one =
         bind world world new x x y false b
-        (subst (λ (b : Bool). Steps reads may_leave (Asks (runs c)) world world x x b) is asks_runs)
+        (subst (λ (b : Bool). Steps medium (Asks (runs c)) world world x x b) is asks_runs)
         one
 
     pub is_pending : {call : Call Machine Bool} (y : List ℕ) → waits_of (state_in laptop).items ≡ true
-        → y ≡ x ++ line (codes "pending") → Steps reads may_leave (IfNonePends c call) world world x y false
+        → y ≡ x ++ line (codes "pending") → Steps medium (IfNonePends c call) world world x y false
     is_pending {call} y is wrote =
         bind world world world x x y true false
-        (subst (λ (b : Bool). Steps reads may_leave (Asks (pends c)) world world x x b) is asks_pends)
+        (subst (λ (b : Bool). Steps medium (Asks (pends c)) world world x x b) is asks_pends)
         (refuses (codes "pending") y wrote)
 
     pub none_pends : {call : Call Machine Bool} (new : World D) (y : List ℕ) (b : Bool) → waits_of (state_in laptop).items ≡ false
-        → Steps reads may_leave call world new x y b → Steps reads may_leave (IfNonePends c call) world new x y b
+        → Steps medium call world new x y b → Steps medium (IfNonePends c call) world new x y b
     none_pends {call} new y b is one =
         bind world world new x x y false b
-        (subst (λ (b : Bool). Steps reads may_leave (Asks (pends c)) world world x x b) is asks_pends)
+        (subst (λ (b : Bool). Steps medium (Asks (pends c)) world world x x b) is asks_pends)
         one
 
   -- ---- exchanges
 
-  -- a live server handled a request, and nothing else has changed
-  pub handles : {A : Type 0} {call : Call (Node (List Commit)) (Option A)} (old new : World D) (x y : List ℕ) (answer : A)
-      → new.clients ≡ old.clients → new.scripts ≡ old.scripts → new.spare ≡ old.spare
-      → Refines (ServerStands reads may_leave) call old.server new.server x y (Some answer)
-      → ((n : ℕ) → HasAnswered n old.server → HasAnswered (n + 1) new.server)
-      → Steps reads may_leave (Handles call) old new x y (Some answer)
-  handles old new x y answer same scripts spare one counts = record {
-    step = λ m here.
-        let s = one.step m.server here.server in
-        let mid : Machine = server.set s.1 m in (
-          s.0,
-          count_request mid,
-          s.2,
-          record {
-            mid = mid;
-            front = s.0;
-            rest = [];
-            answer = Some answer;
-            first = record { inner = s.1; step = s.3; is = refl };
-            second = (refl, refl, refl);
-            whole = sym (append-nil s.0);
-          },
-          record {
-            server = s.4;
-            requests = counts m.requests here.requests;
-            clients = subst (λ ls. Each (ClientStands reads may_leave m.scripts) ls.items m.clients) (sym same) here.clients;
-            scripts = subst (λ ss. Each ScriptStands ss.items m.scripts) (sym scripts) here.scripts;
-            apart = here.apart;
-            placed = subst (λ ls. ArePlaced ls.items) (sym same) here.placed;
-            spare = subst (λ ds. AllByRecursion (IsEmpty reads may_leave) ds.items) (sym spare) here.spare;
-            eight =
-                subst (λ ds. length new.clients.items + length ds.items ≡ 8) (sym spare)
-                (subst (λ ls. length ls.items + length old.spare.items ≡ 8) (sym same) here.eight);
-          },
-        );
+  -- only the server and its count of requests have changed
+  pub served : (old new : World D) (m : Machine) (node : Node (List Commit)) (n : ℕ) → new.clients ≡ old.clients
+      → new.scripts ≡ old.scripts → new.spare ≡ old.spare → ServerStands medium (names_in m) new.server node → HasAnswered n new.server
+      → StandsFor medium old m → StandsFor medium new (record m { server = node; requests = n })
+  served old new m node n same scripts spare stands counts here = record {
+    server = stands;
+    requests = counts;
+    clients = subst (λ ls. Each (ClientStands medium m.scripts) ls.items m.clients) (sym same) here.clients;
+    scripts = subst (λ ss. Each ScriptStands ss.items m.scripts) (sym scripts) here.scripts;
+    apart = here.apart;
+    placed = subst (λ ls. ArePlaced ls.items) (sym same) here.placed;
+    spare = subst (λ ds. AllByRecursion (IsEmpty medium) ds.items) (sym spare) here.spare;
+    counts = ap (λ ds. map medium.counts ds.items) spare ∙ here.counts;
+    eight =
+        subst (λ ds. length new.clients.items + length ds.items ≡ 8) (sym spare)
+        (subst (λ ls. length ls.items + length old.spare.items ≡ 8) (sym same) here.eight);
   }
+
+  -- a live server handled a request or stopped in that, and nothing else has changed
+  pub handles : {A : Type 0} {call : Call (Node (List Commit)) (Option A)} (old new : World D) (x y : List ℕ) (answer : Option A)
+      → new.clients ≡ old.clients → new.scripts ≡ old.scripts → new.spare ≡ old.spare
+      → ((m : Machine) → StandsFor medium old m → Refines (ServerStands medium (names_in m)) call old.server new.server x y answer)
+      → ((n : ℕ) → HasAnswered n old.server → HasAnswered (answered answer n) new.server)
+      → Steps medium (Handles call) old new x y answer
+  handles {A = A} {call} old new x y answer same scripts spare one counts = record {
+    step = λ m here.
+        let s = (one m here).step m.server here.server in
+        (s.0, after m s.1 answer, s.2, handled m s.1 s.0 answer s.3, stands m s.1 here s.4 answer (counts m.requests here.requests));
+  }
+    where
+      after : Machine → Node (List Commit) → Option A → Machine
+      after m node None = server.set node m
+      after m node (Some a) = count_request (server.set node m)
+
+      handled : (m : Machine) (node : Node (List Commit)) (text : List ℕ) (o : Option A) → call m.server text o node
+          → Handles call m text o (after m node o)
+      handled m node text None step = record {
+        mid = server.set node m;
+        front = text;
+        rest = [];
+        answer = None;
+        first = record { inner = node; step = step; is = refl };
+        second = (refl, refl, refl);
+        whole = sym (append-nil text);
+      }
+      handled m node text (Some a) step = record {
+        mid = server.set node m;
+        front = text;
+        rest = [];
+        answer = Some a;
+        first = record { inner = node; step = step; is = refl };
+        second = (refl, refl, refl);
+        whole = sym (append-nil text);
+      }
+
+      stands : (m : Machine) (node : Node (List Commit)) → StandsFor medium old m → ServerStands medium (names_in m) new.server node
+          → (o : Option A) → HasAnswered (answered o m.requests) new.server → StandsFor medium new (after m node o)
+      stands m node here there None counted = served old new m node m.requests same scripts spare there counted here
+      stands m node here there (Some a) counted = served old new m node (m.requests + 1) same scripts spare there counted here
 
   module _ {A : Type 0} (call : Call (Node (List Commit)) (Option A)) (c : ℕ) (old new : World D) (was laptop : Laptop D) (x : List ℕ)
       (at : IsAt old c was) where
     asks_passage : (how : Passage) → how ≡ passage was.link (is_up old.server)
-        → Steps reads may_leave (Asks (λ m. passage (link_of c m) m.server.alive)) old old x x how
+        → Steps medium (Asks (λ m. passage (link_of c m) m.server.alive)) old old x x how
     asks_passage how is =
         asks old x how
         (λ m here.
@@ -328,48 +377,49 @@ module _ {D : Type 0} (reads : D → List ℕ) (may_leave : D → List ℕ → T
 
     module _ (how : Passage) (is : how ≡ passage was.link (is_up old.server)) where
       -- no reply, and the request did not get to the server
-      pub no_request : how ≡ passages.Away → Puts c laptop old new → Relinked reads may_leave (after_passage how) was laptop
-          → Steps reads may_leave (Exchange c call) old new x x None
+      pub no_request : how ≡ passages.Away → Puts c laptop old new → Relinked medium (after_passage how) was laptop
+          → Steps medium (Exchange c call) old new x x None
       no_request away puts relinked =
           bind old old new x x x passages.Away None (asks_passage passages.Away (sym away ∙ is))
-          (changes c old new was laptop (after_passage passages.Away) None x at puts relinked.place
+          (changes c old new was laptop (after_passage passages.Away) None x at (λ m. refl) puts relinked.place
           (λ scripts m here.
-          subst (λ (p : Passage). LaptopStands reads may_leave scripts laptop (after_passage p m)) away (relinked.stands scripts m here)))
+          subst (λ (p : Passage). LaptopStands medium scripts laptop (after_passage p m)) away (relinked.stands scripts m here)))
 
-      pub lost_request : how ≡ passages.RequestLost → Puts c laptop old new → Relinked reads may_leave (after_passage how) was laptop
-          → Steps reads may_leave (Exchange c call) old new x x None
+      pub lost_request : how ≡ passages.RequestLost → Puts c laptop old new → Relinked medium (after_passage how) was laptop
+          → Steps medium (Exchange c call) old new x x None
       lost_request lost puts relinked =
           bind old old new x x x passages.RequestLost None (asks_passage passages.RequestLost (sym lost ∙ is))
-          (changes c old new was laptop (after_passage passages.RequestLost) None x at puts relinked.place
+          (changes c old new was laptop (after_passage passages.RequestLost) None x at (λ m. refl) puts relinked.place
           (λ scripts m here.
-          subst (λ (p : Passage). LaptopStands reads may_leave scripts laptop (after_passage p m)) lost (relinked.stands scripts m here)))
+          subst (λ (p : Passage). LaptopStands medium scripts laptop (after_passage p m)) lost (relinked.stands scripts m here)))
 
-      -- the reply is lost
-      pub lost_reply : (y : List ℕ) (answer : A) → how ≡ passages.ReplyLost
+      -- the reply is lost, or the server stopped and gave none
+      pub lost_reply : (y : List ℕ) (answer : Option A) → how ≡ passages.ReplyLost
           → new.clients.items ≡ slice_set old.clients.items c laptop → new.scripts.items ≡ old.scripts.items
-          → new.spare.items ≡ old.spare.items → Relinked reads may_leave (after_passage how) was laptop
-          → Refines (ServerStands reads may_leave) call old.server new.server x y (Some answer)
-          → ((n : ℕ) → HasAnswered n old.server → HasAnswered (n + 1) new.server)
-          → Steps reads may_leave (Exchange c call) old new x y None
+          → new.spare.items ≡ old.spare.items → Relinked medium (after_passage how) was laptop
+          → ((m : Machine) → StandsFor medium old m → Refines (ServerStands medium (names_in m)) call old.server new.server x y answer)
+          → ((n : ℕ) → HasAnswered n old.server → HasAnswered (answered answer n) new.server)
+          → Steps medium (Exchange c call) old new x y None
       lost_reply y answer lost same scripts spare relinked one counts =
           let mid : World D = record old { server = new.server } in
           bind old old new x x y passages.ReplyLost None (asks_passage passages.ReplyLost (sym lost ∙ is))
-          (bind old mid new x y y (Some answer) None (handles old mid x y answer refl refl refl one counts)
-          (changes c mid new was laptop (after_passage passages.ReplyLost) None y (record { get = at.get; up = at.up })
+          (bind old mid new x y y answer None (handles old mid x y answer refl refl refl one counts)
+          (changes c mid new was laptop (after_passage passages.ReplyLost) None y (record { get = at.get; up = at.up }) (λ m. refl)
           (record { server = refl; scripts = scripts; spare = spare; clients = same }) relinked.place
           (λ scripts m here.
-          subst (λ (p : Passage). LaptopStands reads may_leave scripts laptop (after_passage p m)) lost (relinked.stands scripts m here))))
+          subst (λ (p : Passage). LaptopStands medium scripts laptop (after_passage p m)) lost (relinked.stands scripts m here))))
 
       -- it comes
       pub both : (y : List ℕ) (answer : A) → how ≡ passages.Both → new.clients.items ≡ slice_set old.clients.items c laptop
           → new.scripts.items ≡ old.scripts.items → new.spare.items ≡ old.spare.items → laptop ≡ was
-          → Refines (ServerStands reads may_leave) call old.server new.server x y (Some answer)
+          → ((m : Machine) → StandsFor medium old m
+          → Refines (ServerStands medium (names_in m)) call old.server new.server x y (Some answer))
           → ((n : ℕ) → HasAnswered n old.server → HasAnswered (n + 1) new.server)
-          → Steps reads may_leave (Exchange c call) old new x y (Some answer)
+          → Steps medium (Exchange c call) old new x y (Some answer)
       both y answer comes same scripts spare stays one counts =
           let mid : World D = record old { server = new.server } in
           bind old old new x x y passages.Both (Some answer) (asks_passage passages.Both (sym comes ∙ is))
-          (bind old mid new x y y (Some answer) (Some answer) (handles old mid x y answer refl refl refl one counts)
+          (bind old mid new x y y (Some answer) (Some answer) (handles old mid x y (Some answer) refl refl refl one counts)
           (record {
             step = λ m here. (
               [],
@@ -381,6 +431,19 @@ module _ {D : Type 0} (reads : D → List ℕ) (may_leave : D → List ℕ → T
             );
           }))
 
+      -- the server stopped, and none comes
+      pub none_came : (y : List ℕ) → how ≡ passages.Both → new.clients.items ≡ slice_set old.clients.items c laptop
+          → new.scripts.items ≡ old.scripts.items → new.spare.items ≡ old.spare.items → Relinked medium broken was laptop
+          → ((m : Machine) → StandsFor medium old m → Refines (ServerStands medium (names_in m)) call old.server new.server x y None)
+          → ((n : ℕ) → HasAnswered n old.server → HasAnswered n new.server)
+          → Steps medium (Exchange c call) old new x y None
+      none_came y comes same scripts spare relinked one counts =
+          let mid : World D = record old { server = new.server } in
+          bind old old new x x y passages.Both None (asks_passage passages.Both (sym comes ∙ is))
+          (bind old mid new x y y None None (handles old mid x y None refl refl refl one counts)
+          (changes c mid new was laptop broken None y (record { get = at.get; up = at.up }) (λ m. refl)
+          (record { server = refl; scripts = scripts; spare = spare; clients = same }) relinked.place relinked.stands))
+
   -- ---- objects
 
   -- what is wanted is brought and held
@@ -388,18 +451,32 @@ module _ {D : Type 0} (reads : D → List ℕ) (may_leave : D → List ℕ → T
       (t : Nodes)
       (x y : List ℕ)
       → IsAt old c was → IsAt mid c was
-      → Steps reads may_leave (Exchange c (Lends (state_in was).held want)) old mid x y (Some t)
-      → Puts c laptop mid new → Noted reads may_leave (change t) was laptop → Steps reads may_leave (Holds c change want) old new x y Held
+      → Steps medium (Exchange c (Lends (state_in was).held want)) old mid x y (Some t)
+      → Puts c laptop mid new → Noted medium (change t) was laptop → Steps medium (Holds c change want) old new x y Held
   brings c old mid new was laptop change want t x y at there exchanged puts noted =
       bind old mid new x y y (Some t) Held
       (bind old old mid x x y (state_in was).held (Some t) (asks_held c old was x at) exchanged)
       (bind mid new new y y y true Held (notes c mid new was laptop (change t) y there puts noted) (answers new y Held))
 
+  -- the client stops as it holds it
+  pub brings_stopped : (c : ℕ) (old mid new : World D) (was laptop : Laptop D) (change : Nodes → ClientState → ClientState) (want : Want)
+      (t : Nodes)
+      (x y z : List ℕ)
+      → IsAt old c was → IsAt mid c was
+      → Steps medium (Exchange c (Lends (state_in was).held want)) old mid x y (Some t)
+      → Puts c laptop mid new → Stops medium (Exactly (change t)) was laptop y z
+      → Steps medium (Holds c change want) old new x z Stopped
+  brings_stopped c old mid new was laptop change want t x y z at there exchanged puts stopped =
+      bind old mid new x y z (Some t) Stopped
+      (bind old old mid x x y (state_in was).held (Some t) (asks_held c old was x at) exchanged)
+      (bind mid new new y z z false Stopped
+      (stops c mid new was laptop (Exactly (change t)) (change t) y z there puts stopped (λ m here. refl)) (answers new z Stopped))
+
   -- nothing comes
   pub misses : (c : ℕ) (old new : World D) (was : Laptop D) (change : Nodes → ClientState → ClientState) (want : Want) (x y : List ℕ)
       → IsAt old c was
-      → Steps reads may_leave (Exchange c (Lends (state_in was).held want)) old new x y None
-      → Steps reads may_leave (Holds c change want) old new x y Missed
+      → Steps medium (Exchange c (Lends (state_in was).held want)) old new x y None
+      → Steps medium (Holds c change want) old new x y Missed
   misses c old new was change want x y at exchanged =
       bind old new new x y y None Missed
       (bind old old new x x y (state_in was).held None (asks_held c old was x at) exchanged)
@@ -410,9 +487,9 @@ module _ {D : Type 0} (reads : D → List ℕ) (may_leave : D → List ℕ → T
   -- its next transaction has begun
   pub starts : (c : ℕ) (old new : World D) (was laptop : Laptop D) (script : Declared) (option : OnConflict Declared)
       (kept : labels.OnConflict) (first : Bool) (x : List ℕ)
-      → IsAt old c was → Puts c laptop old new → Begun reads may_leave script kept first was laptop → kept ≡ option_named option
+      → IsAt old c was → Puts c laptop old new → Begun medium script kept first was laptop → kept ≡ option_named option
       → IsNamed (scripts_of old) script → HasNamed (scripts_of old) option
-      → Steps reads may_leave (Starts c script option first) old new x x true
+      → Steps medium (Starts c script option first) old new x x true
   starts c old new was laptop script option kept first x at puts begun same_option named has_named = record {
     step = λ m here.
         let node : Node ClientState = changed (begin script option) (client_in m c).node in
@@ -432,14 +509,72 @@ module _ {D : Type 0} (reads : D → List ℕ) (may_leave : D → List ℕ → T
             front = [];
             rest = [];
             answer = true;
-            first = record { inner = node; step = (refl, refl, refl); is = refl };
+            first = record { inner = node; step = inl (refl, refl, refl); is = refl };
             second = (refl, refl, refl);
             whole = refl;
           },
-          subst (StandsFor reads may_leave new) (sym same)
-              (puts_stands old new m c was laptop (record client { first = first }) at begun.place puts
+          subst (StandsFor medium new) (sym same)
+              (puts_stands old new m c was laptop (record client { first = first }) at refl begun.place puts
               (begun.stands m.scripts (client_in m c) option (laptop_stands old m c was at here)
               (subst (λ (ss : List Declared). IsNamed ss script) (sym are) named)
               (subst (λ (ss : List Declared). HasNamed ss option) (sym are) has_named) same_option) here),
         );
   }
+
+  -- it stops in that
+  pub starts_stopped : (c : ℕ) (old new : World D) (was laptop : Laptop D) (script : Declared) (option : OnConflict Declared)
+      (kept : labels.OnConflict) (first : Bool) (x y : List ℕ)
+      → IsAt old c was → Puts c laptop old new → Stops medium (IsBegin script kept) was laptop x y → kept ≡ option_named option
+      → IsNamed (scripts_of old) script → HasNamed (scripts_of old) option
+      → Steps medium (Starts c script option first) old new x y false
+  starts_stopped c old new was laptop script option kept first x y at puts stopped same_option named has_named = record {
+    step = λ m here.
+        let are : m.scripts ≡ scripts_of old = scripts_are old.scripts.items m.scripts here.scripts in
+        let there : LaptopStands medium m.scripts was (client_in m c) = laptop_stands old m c was at here in
+        let one : Halted medium m.scripts (begin script option) laptop (client_in m c) =
+        stopped.stands m.scripts (client_in m c) (begin script option) there (record {
+          on_conflict = option;
+          named = subst (λ (ss : List Declared). IsNamed ss script) (sym are) named;
+          resolver = subst (λ (ss : List Declared). HasNamed ss option) (sym are) has_named;
+          option_is = same_option;
+          is = refl;
+        }) in
+        let mid : Machine = (node_at c).set one.node m in
+        let client : machine.Client = record (client_in m c) { node = one.node } in
+        let same : set_class c first mid ≡ put_client c (record client { first = first }) m =
+        ap (λ (k : machine.Client). put_client c (record k { first = first }) mid)
+        (set_at m.clients c client no_client (inside old m c was at here))
+        ∙ ap (λ (cs : List machine.Client). record m { clients = cs })
+        (set_twice m.clients c client (record client { first = first })) in (
+          stopped_line (client_in m c).name,
+          set_class c first mid,
+          stopped.text ∙ ap (λ (n : List ℕ). x ++ stopped_line n) there.name,
+          record {
+            mid = mid;
+            front = stopped_line (client_in m c).name;
+            rest = [];
+            answer = false;
+            first = record { inner = one.node; step = inr (refl, refl, one.stopped); is = refl };
+            second = (refl, refl, refl);
+            whole = sym (append-nil (stopped_line (client_in m c).name));
+          },
+          subst (StandsFor medium new) (sym same)
+              (puts_client old new m c was laptop (record client { first = first }) at.get refl stopped.place puts
+              (fallen (down_class one.stands)) here),
+        );
+  }
+    where
+      -- of one that is down no class is known
+      down_class : {scripts : List Declared} {m : machine.Client} → FallenStands medium scripts laptop m
+          → FallenStands medium scripts laptop (record m { first = first })
+      down_class down = record {
+        name = down.name;
+        link = down.link;
+        alive = down.alive;
+        disk = down.disk;
+        doubt = down.doubt;
+        down = down.down;
+        counts = down.counts;
+        holds = down.holds;
+        named = down.named;
+      }

@@ -1,9 +1,8 @@
 -- What all nodes hold, as JSON, is what the machine holds.
-use Rattle.std.proofs.Common.{◌≡◌, ℕ, ◌+◌, ◌<◌, ◌≤◌, Bool, true, false, List, [], ◌∷◌, ◌++◌, length, map, take, get_or, Option, Some, None}
-use Rattle.std.proofs.Common.{slice_get, refl, sym, ap, subst, ◌∙◌, arith, add-one}
+use Rattle.std.proofs.Common.{◌≡◌, ℕ, ◌+◌, ◌<◌, ◌≤◌, Bool, true, false, List, [], ◌∷◌, ◌++◌, length, map, take, Option, Some, None}
+use Rattle.std.proofs.Common.{slice_get, sym, ap, subst, ◌∙◌, arith}
 use Rattle.std.proofs.lemmas.List.{take_all, map_more}
-use Rattle.std.proofs.lemmas.Option.{slice_get_read}
-use Rattle.std.specs.Prelude.{slice_index_or, if◌then◌else◌}
+use Rattle.std.specs.Prelude.{if◌then◌else◌}
 use Rattle.serde_json.specs.Data.{Data}
 use Rattle.serde_json.specs.View.{items_of}
 use Rattle.serde_json.specs.Written.{compact_text}
@@ -15,18 +14,19 @@ use Rattle.iot_inspect.specs.Values.{live_data, down_data, whole_data}
 use Rattle.iot_inspect.specs.declared.snapshot.Json.{Json}
 use Rattle.iot_server.specs.Servers.{state_of}
 use Rattle.iot_server.specs.declared.server.Server.{Server}
-use Rattle.iot_machine.specs.Clients.{Declared, view}
+use Rattle.iot_machine.specs.Clients.{view}
 use Rattle.iot_machine.specs.Events.{names_in}
 use Rattle.iot_machine.specs.Json.{client_data, server_tree, json_text}
 use Rattle.iot_machine.specs.Machine.{Machine, Client, client_in, tree_after, no_client}
 use Rattle.iot_machine.specs.Recorded.{queue_kept, labels_of}
+use Rattle.iot_world.specs.Disks.{Medium}
 use Rattle.iot_world.specs.Laptops.{LaptopStands, ClientStands, StandsAnyhow, Stands, IsView}
 use Rattle.iot_world.specs.Looks.{HasTold, AddsTold, Tells}
 use Rattle.iot_world.specs.Nodes.{is_alive, state_in}
 use Rattle.iot_world.specs.World.{StandsFor, StandsForSome, IsServerOf}
 use Rattle.iot_world.specs.declared.laptop.Laptop.{Laptop}
 use Rattle.iot_world.specs.declared.world.World.{World}
-use Rattle.iot_world.proofs.ListLaws.{any_default, each_length, get_inside}
+use Rattle.iot_world.proofs.ListLaws.{each_length, get_inside}
 use Rattle.iot_world.proofs.LookingLaws.{queue_is}
 use Rattle.iot_world.proofs.NodesLaws.{awake_stands, fallen_stands}
 use Rattle.iot_world.proofs.StepsLaws.{client_stands}
@@ -43,13 +43,13 @@ down_is : (m : Client) → m.node.alive ≡ false → down_data m.name ≡ clien
 down_is m down =
     ap (λ (b : Bool). if b then live_data m.name (queue_kept m.node.durable) (view m.node.durable) else down_data m.name) (sym down)
 
-module _ {D : Type 0} (reads : D → List ℕ) (may_leave : D → List ℕ → Type 0) where
+module _ {D : Type 0} (medium : Medium D) where
   -- one that is alive or down, and is alive
-  pub awake_some : (laptop : Laptop D) → StandsAnyhow reads may_leave laptop → is_alive laptop ≡ true → Stands reads may_leave laptop
+  pub awake_some : (laptop : Laptop D) → StandsAnyhow medium laptop → is_alive laptop ≡ true → Stands medium laptop
   awake_some laptop stands up = record {
     scripts = stands.scripts;
     machine = stands.machine;
-    stands = awake_stands reads may_leave stands.scripts laptop stands.machine up stands.stands;
+    stands = awake_stands medium stands.scripts laptop stands.machine up stands.stands;
   }
 
   module _ (laptop : Laptop D) (old new : Json) (names : named new ≡ named old ++ laptop.name ∷ []) where
@@ -61,48 +61,48 @@ module _ {D : Type 0} (reads : D → List ℕ) (may_leave : D → List ℕ → T
     }
 
     pub tells_live : (items : List Item) (t : Nodes) → is_alive laptop ≡ true → items ≡ (state_in laptop).items
-        → IsView reads may_leave t laptop
-        → shown new ≡ shown old ++ live_data laptop.name items t ∷ [] → Tells reads may_leave laptop old new
+        → IsView medium t laptop
+        → shown new ≡ shown old ++ live_data laptop.name items t ∷ [] → Tells medium laptop old new
     tells_live items t up same sees told = λ scripts m here.
-        let there : LaptopStands reads may_leave scripts laptop m = awake_stands reads may_leave scripts laptop m up here in
+        let there : LaptopStands medium scripts laptop m = awake_stands medium scripts laptop m up here in
         adds m (live_data laptop.name items t) there.name
         (ap (λ (n : List ℕ). live_data n items t) there.name
-        ∙ ap (λ (is : List Item). live_data m.name is t) (same ∙ queue_is reads may_leave scripts laptop m there)
+        ∙ ap (λ (is : List Item). live_data m.name is t) (same ∙ queue_is medium scripts laptop m there)
         ∙ ap (live_data m.name (queue_kept m.node.durable)) (sees scripts m there)
         ∙ live_is m there.alive)
         told
 
-    pub tells_down : is_alive laptop ≡ false → shown new ≡ shown old ++ down_data laptop.name ∷ [] → Tells reads may_leave laptop old new
+    pub tells_down : is_alive laptop ≡ false → shown new ≡ shown old ++ down_data laptop.name ∷ [] → Tells medium laptop old new
     tells_down down told = λ scripts m here.
-        let there = fallen_stands reads may_leave scripts laptop m down here in
+        let there = fallen_stands medium scripts laptop m down here in
         adds m (down_data laptop.name) there.name (ap down_data there.name ∙ down_is m there.alive) told
 
   -- ---- all clients
 
   -- so many clients of each machine for which the world stands were told
   abbrev pub TellsFirst : World D → (n : ℕ) → Json → Type 0
-  TellsFirst world n json = (m : Machine) → StandsFor reads may_leave world m → HasTold (take n m.clients) json
+  TellsFirst world n json = (m : Machine) → StandsFor medium world m → HasTold (take n m.clients) json
 
   pub tells_none : (world : World D) (json : Json) → shown json ≡ [] → named json ≡ [] → TellsFirst world 0 json
   tells_none world json none nameless = λ m here. record { clients = none; names = nameless }
 
   module _ (world : World D) (n : ℕ) (laptop : Laptop D) (get : slice_get world.clients.items n ≡ Some laptop) where
     -- it stands for a client
-    pub stands_at : StandsForSome reads may_leave world → StandsAnyhow reads may_leave laptop
+    pub stands_at : StandsForSome medium world → StandsAnyhow medium laptop
     stands_at some = record {
       scripts = some.machine.scripts;
       machine = client_in some.machine n;
-      stands = client_stands reads may_leave world some.machine n laptop get some.stands;
+      stands = client_stands medium world some.machine n laptop get some.stands;
     }
 
     -- one more
-    pub tells_more : (old new : Json) → TellsFirst world n old → Tells reads may_leave laptop old new → TellsFirst world (n + 1) new
+    pub tells_more : (old new : Json) → TellsFirst world n old → Tells medium laptop old new → TellsFirst world (n + 1) new
     tells_more old new so_far one = λ m here.
         let front : HasTold (take n m.clients) old = so_far m here in
         let added : AddsTold (client_in m n) old new =
-        one m.scripts (client_in m n) (client_stands reads may_leave world m n laptop get here) in
+        one m.scripts (client_in m n) (client_stands medium world m n laptop get here) in
         let within : n < length m.clients =
-        get_inside (ClientStands reads may_leave m.scripts) world.clients.items m.clients n laptop get here.clients in
+        get_inside (ClientStands medium m.scripts) world.clients.items m.clients n laptop get here.clients in
         record {
           clients =
               added.clients ∙ ap (λ (ds : List Data). ds ++ client_data (client_in m n) ∷ []) front.clients
@@ -113,10 +113,10 @@ module _ {D : Type 0} (reads : D → List ℕ) (may_leave : D → List ℕ → T
         }
 
   pub tells_all : (world : World D) (n : ℕ) (json : Json) → length world.clients.items ≤ n → TellsFirst world n json → (m : Machine)
-      → StandsFor reads may_leave world m → HasTold m.clients json
+      → StandsFor medium world m → HasTold m.clients json
   tells_all world n json all so_far m here =
       let long : length world.clients.items ≡ length m.clients =
-      each_length (ClientStands reads may_leave m.scripts) world.clients.items m.clients here.clients in
+      each_length (ClientStands medium m.scripts) world.clients.items m.clients here.clients in
       subst (λ (ms : List Client). HasTold ms json) (take_all n m.clients (omega (arith, all, long))) (so_far m here)
 
 -- ---- the server

@@ -1,6 +1,6 @@
 -- The server's events, the nodes that a world lends, and events as steps of the machine whose world it is.
 use Rattle.std.proofs.Common.{◌≡◌, ℕ, ◌<◌, ◌≤◌, Bool, true, false, List, [], length, Option, Some, refl, sym, ap, subst, arith}
-use Rattle.std.proofs.Common.{slice_get, None, inl, inr, ◌∙◌}
+use Rattle.std.proofs.Common.{slice_get, map, None, inl, inr, ◌∙◌}
 use Rattle.std.proofs.Common.{get_or}
 use Rattle.std.proofs.lemmas.List.{append-nil}
 use Rattle.std.proofs.lemmas.Option.{slice_get_read}
@@ -15,13 +15,13 @@ use Rattle.iot_client.specs.declared.client.Client.{Client}
 use Rattle.iot_kept.specs.States as kept
 use Rattle.iot_kept.specs.States.{view}
 use Rattle.iot_machine.specs.Machine.{Machine, Commit, server, client_in, kept_by}
-use Rattle.iot_machine.specs.Events.{counts_anew, RestartsServer, event_part}
-use Rattle.iot_machine.specs.Serving.{server_name}
+use Rattle.iot_machine.specs.Events.{counts_anew, names_in, RestartsServer, event_part}
+use Rattle.iot_machine.specs.Serving.{server_name, kept_text}
 use Rattle.iot_machine.specs.Stops.{Restarts}
 use Rattle.iot_machine.proofs.SoundLaws.{sound_event}
 use Rattle.iot_server.specs.declared.server.Server.{Server}
 use Rattle.std.specs.List.{AllByRecursion}
-use Rattle.iot_world.specs.Disks.{IsEmpty}
+use Rattle.iot_world.specs.Disks.{Medium, IsEmpty}
 use Rattle.iot_world.specs.Laptops.{LaptopStands, ClientStands, awake, fallen, ItemsStand, RunningStandsIfAny}
 use Rattle.iot_world.specs.Nodes.{state_by, live_by, disk_by, lent_by, state_in, live_in, disk_in}
 use Rattle.iot_world.specs.Servers.{is_up, lent_of, ServerStands, HasAnswered, answered_since}
@@ -40,7 +40,7 @@ use Rattle.iot_world.proofs.StepsLaws.{IsAt, inside, client_stands, laptop_stand
 -- one that is down counts no requests
 pub down_answered : {D : Type 0} (n : ℕ) (server : ServerNode D) → is_up server ≡ false → HasAnswered n server
 down_answered n (Up it) down = absurd cc
-down_answered n (Down disk) down = tt
+down_answered n (Down disk doubt) down = tt
 down_answered n Between down = tt
 
 -- what was looked up is there
@@ -49,31 +49,32 @@ pub looked_up : {A : Type 0} (xs ys : List A) (place : ℕ) (x : A) → ys ≡ x
 looked_up xs ys place x same within value =
     ap (λ l. slice_get l place) (sym same) ∙ slice_get_read ys (length ys) place x refl within value
 
-module _ {D : Type 0} (reads : D → List ℕ) (may_leave : D → List ℕ → Type 0) where
+module _ {D : Type 0} (medium : Medium D) where
   -- only the server has changed
   module _ (old new : World D) (same : new.clients.items ≡ old.clients.items) (scripts : new.scripts.items ≡ old.scripts.items)
       (spare : new.spare.items ≡ old.spare.items) where
-    served : (m : Machine) (node : Node (List Commit)) (n : ℕ) → StandsFor reads may_leave old m → ServerStands reads may_leave
-        new.server node
-        → HasAnswered n new.server → StandsFor reads may_leave new (record m { server = node; requests = n })
+    served : (m : Machine) (node : Node (List Commit)) (n : ℕ) → StandsFor medium old m
+        → ServerStands medium (names_in m) new.server node → HasAnswered n new.server
+        → StandsFor medium new (record m { server = node; requests = n })
     served m node n here stands counts = record {
       server = stands;
       requests = counts;
-      clients = subst (λ (ls : List (Laptop D)). Each (ClientStands reads may_leave m.scripts) ls m.clients) (sym same) here.clients;
+      clients = subst (λ (ls : List (Laptop D)). Each (ClientStands medium m.scripts) ls m.clients) (sym same) here.clients;
       apart = here.apart;
       scripts = subst (λ (ss : List DeclaredScript). Each ScriptStands ss m.scripts) (sym scripts) here.scripts;
       placed = subst ArePlaced (sym same) here.placed;
-      spare = subst (λ (ds : List D). AllByRecursion (IsEmpty reads may_leave) ds) (sym spare) here.spare;
+      spare = subst (λ (ds : List D). AllByRecursion (IsEmpty medium) ds) (sym spare) here.spare;
+      counts = ap (map medium.counts) spare ∙ here.counts;
       eight = omega (arith, here.eight, ap length same, ap length spare);
     }
 
     pub at_server : {A : Type 0} {call : Call (Node (List Commit)) A} (x y : List ℕ) (a : A)
         → ((n : ℕ) → HasAnswered n old.server → HasAnswered n new.server)
-        → Refines (ServerStands reads may_leave) call old.server new.server x y a
-        → Steps reads may_leave (At server call) old new x y a
+        → ((names : List (List ℕ)) → Refines (ServerStands medium names) call old.server new.server x y a)
+        → Steps medium (At server call) old new x y a
     at_server x y a counts one = record {
       step = λ m here.
-          let s = one.step m.server here.server in (
+          let s = (one (names_in m)).step m.server here.server in (
             s.0,
             server.set s.1 m,
             s.2,
@@ -84,11 +85,12 @@ module _ {D : Type 0} (reads : D → List ℕ) (may_leave : D → List ℕ → T
 
     -- it comes back, and counts anew unless it was alive
     pub restarts : (x y : List ℕ) → ((n : ℕ) → HasAnswered n old.server → HasAnswered (answered_since (is_up old.server) n) new.server)
-        → Refines (ServerStands reads may_leave) (Restarts server_name) old.server new.server x y tt
-        → Steps reads may_leave RestartsServer old new x y tt
+        → ((names : List (List ℕ))
+        → Refines (ServerStands medium names) (Restarts server_name (kept_text names)) old.server new.server x y tt)
+        → Steps medium RestartsServer old new x y tt
     restarts x y counts one = record {
       step = λ m here.
-          let s = one.step m.server here.server in
+          let s = (one (names_in m)).step m.server here.server in
           let mid : Machine = server.set s.1 m in (
             s.0,
             counts_anew m.server.alive mid,
@@ -100,13 +102,21 @@ module _ {D : Type 0} (reads : D → List ℕ) (may_leave : D → List ℕ → T
               answer = m.server.alive;
               first = (refl, refl, refl);
               second = record {
-                mid = mid;
-                front = s.0;
-                rest = [];
-                answer = tt;
-                first = record { inner = s.1; step = s.3; is = refl };
-                second = (refl, refl);
-                whole = sym (append-nil s.0);
+                mid = m;
+                front = [];
+                rest = s.0;
+                answer = names_in m;
+                first = (refl, refl, refl);
+                second = record {
+                  mid = mid;
+                  front = s.0;
+                  rest = [];
+                  answer = tt;
+                  first = record { inner = s.1; step = s.3; is = refl };
+                  second = (refl, refl);
+                  whole = sym (append-nil s.0);
+                };
+                whole = refl;
               };
               whole = refl;
             },
@@ -116,26 +126,26 @@ module _ {D : Type 0} (reads : D → List ℕ) (may_leave : D → List ℕ → T
           );
     }
       where
-        anew : (m : Machine) (node : Node (List Commit)) → StandsFor reads may_leave old m → ServerStands reads may_leave new.server node
-            → (alive : Bool) → HasAnswered (answered_since alive m.requests) new.server
-            → StandsFor reads may_leave new (counts_anew alive (server.set node m))
+        anew : (m : Machine) (node : Node (List Commit)) → StandsFor medium old m
+            → ServerStands medium (names_in m) new.server node → (alive : Bool) → HasAnswered (answered_since alive m.requests) new.server
+            → StandsFor medium new (counts_anew alive (server.set node m))
         anew m node here stands true counted = served m node m.requests here stands counted
         anew m node here stands false counted = served m node 0 here stands counted
 
   -- ---- nodes that are lent
 
-  lends_by : (it : ServerNode D) (m : Machine) → ServerStands reads may_leave it m.server → HasAnswered m.requests it → LendsServer
+  lends_by : (it : ServerNode D) (m : Machine) → ServerStands medium (names_in m) it m.server → HasAnswered m.requests it → LendsServer
       (lent_of it) m
   lends_by (Up it) m stands counts = record {
     alive = sym stands.alive;
-    tree = ap (λ (s : State). s.tree) stands.keeps.has_state;
-    labels = ap (λ (s : State). s.labels) stands.keeps.has_state;
+    tree = ap (λ (s : State). s.tree) stands.keeps.store.has_state;
+    labels = ap (λ (s : State). s.labels) stands.keeps.store.has_state;
     requests = counts;
   }
-  lends_by (Down disk) m stands counts = sym stands.alive
+  lends_by (Down disk doubt) m stands counts = sym stands.alive
   lends_by Between m stands counts = absurd stands.keeps
 
-  pub lends_server : (world : World D) (o : Option (Server D)) → o ≡ lent_of world.server → (m : Machine) → StandsFor reads may_leave
+  pub lends_server : (world : World D) (o : Option (Server D)) → o ≡ lent_of world.server → (m : Machine) → StandsFor medium
       world m
       → LendsServer o m
   lends_server world o is m here =
@@ -143,22 +153,22 @@ module _ {D : Type 0} (reads : D → List ℕ) (may_leave : D → List ℕ → T
 
   -- the client at a place is the machine's there
   module _ (world : World D) (place : ℕ) (laptop : Laptop D) (get : slice_get world.clients.items place ≡ Some laptop) where
-    pub lends_client : (it : Client D) → Some it ≡ lent_by laptop.node → (m : Machine) → StandsFor reads may_leave world m
+    pub lends_client : (it : Client D) → Some it ≡ lent_by laptop.node → (m : Machine) → StandsFor medium world m
         → LendsClient (Some it) place m
     lends_client it is m here =
         let at : IsAt world place laptop = record { get = get; up = lent_alive laptop.node it (sym is) } in
-        let there : LaptopStands reads may_leave m.scripts laptop (client_in m place) =
-        laptop_stands reads may_leave world m place laptop at here in
+        let there : LaptopStands medium m.scripts laptop (client_in m place) =
+        laptop_stands medium world m place laptop at here in
         let same : state_in laptop ≡ state_of it = ap state_by (lent_up laptop.node it (sym is)) in
         let same_live : live_in laptop ≡ live_of it = ap live_by (lent_up laptop.node it (sym is)) in (
-          inside reads may_leave world m place laptop at here,
+          inside medium world m place laptop at here,
           record {
             alive = there.alive;
             held = ap (λ (s : kept.State). s.held) (sym same) ∙ there.state.held;
             view =
                 ap view (sym same)
                 ∙ view_is (state_in laptop) (live_in laptop) (client_in m place).first (kept_by place m) there.state
-                (own_in reads may_leave m.scripts laptop (client_in m place) there);
+                (own_in medium m.scripts laptop (client_in m place) there);
             queue = subst (λ (s : kept.State). ItemsStand s.items s.held (kept_by place m).items) same there.state.items;
             running =
                 subst (λ (s : kept.State). RunningStandsIfAny s.running (live_of it) (client_in m place).first (kept_by place m).running)
@@ -169,16 +179,16 @@ module _ {D : Type 0} (reads : D → List ℕ) (may_leave : D → List ℕ → T
           },
         )
 
-    pub lends_fallen : None ≡ lent_by laptop.node → (m : Machine) → StandsFor reads may_leave world m
+    pub lends_fallen : None ≡ lent_by laptop.node → (m : Machine) → StandsFor medium world m
         → LendsClient {D = D} None place m
-    lends_fallen is m here = inr (by (client_stands reads may_leave world m place laptop get here))
+    lends_fallen is m here = inr (by (client_stands medium world m place laptop get here))
       where
-        by : ClientStands reads may_leave m.scripts laptop (client_in m place) → (client_in m place).node.alive ≡ false
-        by (awake there) = absurd (lent_none laptop.node (sym is) (is_awake reads may_leave m.scripts laptop (client_in m place) there))
+        by : ClientStands medium m.scripts laptop (client_in m place) → (client_in m place).node.alive ≡ false
+        by (awake there) = absurd (lent_none laptop.node (sym is) (is_awake medium m.scripts laptop (client_in m place) there))
         by (fallen there) = there.alive
 
     -- whether it is alive or down
-    pub lends_any : (o : Option (Client D)) → o ≡ lent_by laptop.node → (m : Machine) → StandsFor reads may_leave world m
+    pub lends_any : (o : Option (Client D)) → o ≡ lent_by laptop.node → (m : Machine) → StandsFor medium world m
         → LendsClient o place m
     lends_any None is = lends_fallen is
     lends_any (Some it) is = lends_client it is
@@ -193,16 +203,16 @@ module _ {D : Type 0} (reads : D → List ℕ) (may_leave : D → List ℕ → T
         ∙ ap disk_by (lent_up laptop.node it (sym is))
 
   pub lends_none : (world : World D) (place : ℕ) → length world.clients.items ≤ place → (m : Machine)
-      → StandsFor reads may_leave world m → LendsClient {D = D} None place m
+      → StandsFor medium world m → LendsClient {D = D} None place m
   lends_none world place without m here =
-      let e = each_length (ClientStands reads may_leave m.scripts) world.clients.items m.clients here.clients in
+      let e = each_length (ClientStands medium m.scripts) world.clients.items m.clients here.clients in
       inl (omega (arith, without, e))
 
   -- ---- events
 
   -- what the event does with the nodes, it does with the machine whose world this is
-  pub event_steps : (event : Event) (old new : World D) (x y : List ℕ) → Steps reads may_leave (event_part event) old new x y tt
-      → EventSteps reads may_leave event old new x y
+  pub event_steps : (event : Event) (old new : World D) (x y : List ℕ) → Steps medium (event_part event) old new x y tt
+      → EventSteps medium event old new x y
   event_steps event old new x y one = record {
     step = λ m here.
         let s = one.step m here.stands in

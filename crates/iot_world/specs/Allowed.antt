@@ -1,5 +1,5 @@
 -- Which event may come, if so many clients, and scripts of these names, are declared.
-use Rattle.std.specs.Prelude.{◌≡◌, ℕ, ◌<◌, ◌≤◌, false, List, length}
+use Rattle.std.specs.Prelude.{◌≡◌, ℕ, ◌<◌, ◌≤◌, Bool, true, false, List, length}
 use Rattle.iot_event.specs.Declarations.{ResolverIsDeclared}
 use Rattle.iot_event.specs.Meanings.{is_declared}
 use Rattle.iot_event.specs.declared.declared.TheConstants.{CLIENT_LIMIT}
@@ -28,6 +28,8 @@ IsAllowed (events.Repair client script) clients scripts = (client < clients) × 
 IsAllowed (events.Discard client) clients scripts = client < clients
 IsAllowed events.ShowServer clients scripts = Unit {0}
 IsAllowed (events.ShowClient client) clients scripts = client < clients
+IsAllowed (events.StopServer calls pick) clients scripts = Unit {0}
+IsAllowed (events.StopClient client calls pick) clients scripts = client < clients
 IsAllowed events.CrashServer clients scripts = Unit {0}
 IsAllowed (events.CrashClient client) clients scripts = client < clients
 IsAllowed events.RestartServer clients scripts = Unit {0}
@@ -35,3 +37,11 @@ IsAllowed (events.RestartClient client) clients scripts = client < clients
 IsAllowed (events.Queue client) clients scripts = client < clients
 IsAllowed (events.Reads client item) clients scripts = (client < clients) × (1 ≤ item)
 IsAllowed events.Log clients scripts = Unit {0}
+
+-- it makes a later call of a disk fail, or starts a node again from its disk
+abbrev pub is_of_disks : Event → Bool
+is_of_disks (events.StopServer calls pick) = true
+is_of_disks (events.StopClient client calls pick) = true
+is_of_disks events.RestartServer = true
+is_of_disks (events.RestartClient client) = true
+is_of_disks other = false

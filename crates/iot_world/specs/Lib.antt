@@ -1,11 +1,11 @@
 pub mod Disks
-pub mod Faults
 pub mod Scripts
 pub mod Records
 pub mod Messages
 pub mod Servers
 pub mod Saying
 pub mod Nodes
+pub mod Deciding
 pub mod Laptops
 pub mod World
 pub mod Looks

@@ -8,6 +8,7 @@ use Rattle.iot_machine.specs.Json.{client_data}
 use Rattle.iot_machine.specs.Machine.{Client}
 use Rattle.iot_machine.specs.Recorded.{queue_kept}
 use Rattle.iot_machine.specs.Texts.{queue_text}
+use Rattle.iot_world.specs.Disks.{Medium}
 use Rattle.iot_world.specs.Laptops.{LaptopStands, ClientStands}
 use Rattle.iot_world.specs.declared.laptop.Laptop.{Laptop}
 use Rattle.iot_world.specs.declared.world.World.{World}
@@ -17,9 +18,9 @@ abbrev pub client_names : {D : Type 0} → World D → List (List ℕ)
 client_names world = map (λ laptop. laptop.name) world.clients.items
 
 -- the transactions of each client for which it stands were said
-abbrev pub SaysQueue : {D : Type 0} → (D → List ℕ) → (D → List ℕ → Type 0) → Laptop D → (before after : List ℕ) → Type 0
-SaysQueue reads may_leave laptop before after =
-    (scripts : List Declared) (m : Client) → LaptopStands reads may_leave scripts laptop m
+abbrev pub SaysQueue : {D : Type 0} → Medium D → Laptop D → (before after : List ℕ) → Type 0
+SaysQueue medium laptop before after =
+    (scripts : List Declared) (m : Client) → LaptopStands medium scripts laptop m
     → after ≡ before ++ queue_text m.name (queue_kept m.node.durable) (running_of m.first m.node.durable.running)
 
 -- ---- as JSON
@@ -35,6 +36,6 @@ pub record AddsTold (m : Client) (old new : Json) : Type 0 where
   pub names : named new ≡ named old ++ m.name ∷ []
 
 -- each client for which it stands, alive or down, was told
-abbrev pub Tells : {D : Type 0} → (D → List ℕ) → (D → List ℕ → Type 0) → Laptop D → (old new : Json) → Type 0
-Tells reads may_leave laptop old new =
-    (scripts : List Declared) (m : Client) → ClientStands reads may_leave scripts laptop m → AddsTold m old new
+abbrev pub Tells : {D : Type 0} → Medium D → Laptop D → (old new : Json) → Type 0
+Tells medium laptop old new =
+    (scripts : List Declared) (m : Client) → ClientStands medium scripts laptop m → AddsTold m old new

@@ -1,5 +1,5 @@
 -- Which plain machine a world stands for, node by node, and how a world changes.
-use Rattle.std.specs.Prelude.{◌≡◌, ◌⊎◌, ℕ, ◌+◌, ◌%◌, ◌^◌, ◌≤◌, ◌<◌, true, false, List, [], ◌∷◌, ◌++◌, length, map, Option, Some, None}
+use Rattle.std.specs.Prelude.{◌≡◌, ◌⊎◌, ℕ, ◌+◌, ◌%◌, ◌^◌, ◌≤◌, ◌<◌, Bool, true, false, List, [], ◌∷◌, ◌++◌, length, map, Option, Some, None}
 use Rattle.std.specs.Prelude.{IsSome}
 use Rattle.std.specs.Prelude.{Vec, slice_get, slice_index_or}
 use Rattle.std.specs.List.{AllByRecursion}
@@ -23,17 +23,19 @@ use Rattle.iot_machine.specs.Nodes.{Node}
 use Rattle.iot_machine.specs.Clients as clients
 use Rattle.iot_machine.specs.Clients.{Declared, Plan, reach, resolution_of}
 use Rattle.iot_machine.specs.Machine as machines
-use Rattle.iot_machine.specs.Machine.{Machine, Commit, opening, tree_after, client_in}
-use Rattle.iot_machine.specs.Events.{event_part}
+use Rattle.iot_machine.specs.Machine.{Machine, Commit, handed, tree_after, client_in}
+use Rattle.iot_machine.specs.Events.{event_part, names_in}
 use Rattle.iot_machine.specs.Options as options
 use Rattle.iot_machine.specs.Options.{OnConflict}
 use Rattle.iot_machine.specs.Sound.{IsSound}
+use Rattle.iot_machine.specs.Serving.{Submission}
+use Rattle.iot_machine.specs.Texts.{transaction_name}
 use Rattle.iot_machine.specs.Transactions as machine
+use Rattle.iot_machine.specs.Transcript.{Opening}
 use Rattle.iot_server.specs.Servers as servers
 use Rattle.iot_server.specs.declared.server.Server.{Server}
-use Rattle.iot_world.specs.Disks.{IsEmpty}
-use Rattle.iot_world.specs.Faults.{FaultCountsAll}
-use Rattle.iot_world.specs.Laptops.{LaptopStands, ClientStands, ItemsStand, RunningStandsIfAny, new_laptop, planned_in}
+use Rattle.iot_world.specs.Disks.{Medium, IsEmpty}
+use Rattle.iot_world.specs.Laptops.{ClientStands, ItemsStand, RunningStandsIfAny, planned_in}
 use Rattle.iot_world.specs.Nodes.{is_alive, state_in, disk_in}
 use Rattle.iot_world.specs.Records.{label_of}
 use Rattle.iot_world.specs.Scripts.{AreApart}
@@ -44,7 +46,6 @@ use Rattle.iot_world.specs.declared.answers.Stepped.{Stepped}
 use Rattle.iot_world.specs.declared.answers.Stepped.TheVariants as steps
 use Rattle.iot_world.specs.declared.answers.Synced.{Synced}
 use Rattle.iot_world.specs.declared.answers.Synced.TheVariants as syncs
-use Rattle.iot_world.specs.declared.fault.WorldFault.{WorldFault}
 use Rattle.iot_world.specs.declared.laptop.Laptop.{Laptop}
 use Rattle.iot_world.specs.declared.world.World.{World}
 use Rattle.iot_world.specs.declared.world.DeclaredScript.{DeclaredScript}
@@ -71,39 +72,40 @@ ArePlaced {D = D} laptops = (place : ℕ) (laptop : Laptop D) → slice_get lapt
 
 -- its nodes, with their links, are those of the machine, no two of its scripts have the same name, and there is an empty disk for each
 -- client that may still be declared
-pub record StandsFor {D : Type 0} (reads : D → List ℕ) (may_leave : D → List ℕ → Type 0) (world : World D) (m : Machine) : Type 0 where
-  pub server : ServerStands reads may_leave world.server m.server
+pub record StandsFor {D : Type 0} (medium : Medium D) (world : World D) (m : Machine) : Type 0 where
+  pub server : ServerStands medium (names_in m) world.server m.server
   pub requests : HasAnswered m.requests world.server
-  pub clients : Each (ClientStands reads may_leave m.scripts) world.clients.items m.clients
+  pub clients : Each (ClientStands medium m.scripts) world.clients.items m.clients
   pub scripts : Each ScriptStands world.scripts.items m.scripts
   pub apart : AreApart m.scripts
   pub placed : ArePlaced world.clients.items
-  pub spare : AllByRecursion (IsEmpty reads may_leave) world.spare.items
+  pub spare : AllByRecursion (IsEmpty medium) world.spare.items
+  pub counts : map medium.counts world.spare.items ≡ m.spare
   pub eight : length world.clients.items + length world.spare.items ≡ 8
 
 -- and its list of commits goes together with the queues of its clients
-pub record IsWorldOf {D : Type 0} (reads : D → List ℕ) (may_leave : D → List ℕ → Type 0) (world : World D) (m : Machine) : Type 0 where
-  pub stands : StandsFor reads may_leave world m
+pub record IsWorldOf {D : Type 0} (medium : Medium D) (world : World D) (m : Machine) : Type 0 where
+  pub stands : StandsFor medium world m
   pub sound : IsSound m
 
 -- it stands for some machine
-pub record StandsForSome {D : Type 0} (reads : D → List ℕ) (may_leave : D → List ℕ → Type 0) (world : World D) : Type 0 where
+pub record StandsForSome {D : Type 0} (medium : Medium D) (world : World D) : Type 0 where
   pub machine : Machine
-  pub stands : StandsFor reads may_leave world machine
+  pub stands : StandsFor medium world machine
 
-pub record IsWorldOfSome {D : Type 0} (reads : D → List ℕ) (may_leave : D → List ℕ → Type 0) (world : World D) : Type 0 where
+pub record IsWorldOfSome {D : Type 0} (medium : Medium D) (world : World D) : Type 0 where
   pub machine : Machine
-  pub stands : IsWorldOf reads may_leave world machine
+  pub stands : IsWorldOf medium world machine
 
 -- a change of the world that wrote and answered is a step of the machine by this call
-abbrev pub Steps : {D A : Type 0} → (D → List ℕ) → (D → List ℕ → Type 0) → Call Machine A → (old new : World D)
+abbrev pub Steps : {D A : Type 0} → Medium D → Call Machine A → (old new : World D)
     → (before after : List ℕ) → A → Type 0
-Steps reads may_leave call old new before after a = Refines (StandsFor reads may_leave) call old new before after a
+Steps medium call old new before after a = Refines (StandsFor medium) call old new before after a
 
 -- an event is a step of the machine whose world it is
-abbrev pub EventSteps : {D : Type 0} → (D → List ℕ) → (D → List ℕ → Type 0) → Event → (old new : World D) → (before after : List ℕ) → Type 0
-EventSteps reads may_leave event old new before after =
-    Refines (IsWorldOf reads may_leave) (event_part event) old new before after tt
+abbrev pub EventSteps : {D : Type 0} → Medium D → Event → (old new : World D) → (before after : List ℕ) → Type 0
+EventSteps medium event old new before after =
+    Refines (IsWorldOf medium) (event_part event) old new before after tt
 
 -- ---- what a world has
 
@@ -153,15 +155,15 @@ option_in world choices.Abort = options.Abort
 option_in world choices.Manual = options.Manual
 
 -- it stands for some machine, and there is a client at this place
-pub record IsInside {D : Type 0} (reads : D → List ℕ) (may_leave : D → List ℕ → Type 0) (place : ℕ) (world : World D) : Type 0 where
+pub record IsInside {D : Type 0} (medium : Medium D) (place : ℕ) (world : World D) : Type 0 where
   pub machine : Machine
-  pub stands : StandsFor reads may_leave world machine
+  pub stands : StandsFor medium world machine
   pub inside : place < length world.clients.items
 
 -- and it is alive
-pub record IsReady {D : Type 0} (reads : D → List ℕ) (may_leave : D → List ℕ → Type 0) (place : ℕ) (world : World D) : Type 0 where
+pub record IsReady {D : Type 0} (medium : Medium D) (place : ℕ) (world : World D) : Type 0 where
   pub machine : Machine
-  pub stands : StandsFor reads may_leave world machine
+  pub stands : StandsFor medium world machine
   pub inside : place < length world.clients.items
   pub alive : ClientIs IsAlive place world
 
@@ -170,11 +172,19 @@ pub record IsReady {D : Type 0} (reads : D → List ℕ) (may_leave : D → List
 abbrev pub brought_of : Brought → machine.Brought
 brought_of brings.Held = machine.Held
 brought_of brings.Missed = machine.Missed
+brought_of brings.Stopped = machine.Stopped
+
+-- whether the client goes on after it
+abbrev pub brought_on : machine.Brought → Bool
+brought_on machine.Held = true
+brought_on machine.Missed = true
+brought_on machine.Stopped = false
 
 abbrev pub stepped_of : Stepped → machine.Stepped
 stepped_of steps.Went = machine.Went
 stepped_of steps.Over = machine.Over
 stepped_of steps.Away = machine.Away
+stepped_of steps.Stops = machine.Stops
 
 abbrev pub synced_of : Synced → machine.Synced
 synced_of syncs.Empty = machine.Empty
@@ -182,6 +192,7 @@ synced_of syncs.Left = machine.Left
 synced_of syncs.Moved = machine.Moved
 synced_of syncs.ByHand = machine.ByHand
 synced_of syncs.Unanswered = machine.Unanswered
+synced_of syncs.Halted = machine.Halted
 
 -- ---- exchanges
 
@@ -190,14 +201,19 @@ pub record IsAsked {D : Type 0} (place : ℕ) (request : List ℕ) (world : Worl
   pub want : Want
   pub is : ClientIs (λ was. IsRefresh (was.place) (state_in was).held want request) place world
 
+-- the client at this place hands in this transaction, which is its own
+pub record IsOwn {D : Type 0} (place : ℕ) (it : Submission) (world : World D) : Type 0 where
+  pub client : it.commit.entry.client ≡ place
+  pub name : ClientIs (λ laptop. it.name ≡ transaction_name laptop.name it.commit.entry.number) place world
+
 -- an exchange of this request, and what the bytes of the reply spell, if one came
-abbrev pub Exchanges : {D A : Type 0} → (D → List ℕ) → (D → List ℕ → Type 0) → (client : ℕ)
+abbrev pub Exchanges : {D A : Type 0} → Medium D → (client : ℕ)
     → Call (Node (List Commit)) (Option A) → (List ℕ → A → Type 0) → Option (Vec ℕ Global) → (old new : World D) → (before after : List ℕ)
     → Type 0
-Exchanges reads may_leave client call Spelled None old new before after =
-    Steps reads may_leave (machine.Exchange client call) old new before after None
-Exchanges {A = A} reads may_leave client call Spelled (Some reply) old new before after =
-    (answer : A) × Spelled reply.items answer × Steps reads may_leave (machine.Exchange client call) old new before after (Some answer)
+Exchanges medium client call Spelled None old new before after =
+    Steps medium (machine.Exchange client call) old new before after None
+Exchanges {A = A} medium client call Spelled (Some reply) old new before after =
+    (answer : A) × Spelled reply.items answer × Steps medium (machine.Exchange client call) old new before after (Some answer)
 
 -- the client at this place is as before, but for its link and the class of what runs
 abbrev pub KeepsState : {D : Type 0} → ℕ → (old new : World D) → Type 0
@@ -216,11 +232,12 @@ abbrev pub IsPlannedAt : {D : Type 0} → Plan → ℕ → World D → Type 0
 IsPlannedAt plan place world =
     ClientIs (λ laptop. planned_in (scripts_of world) (state_in laptop).held (state_in laptop).items ≡ Some plan) place world
 
--- what is planned there was carried out on this tree
-abbrev pub CarriesOut : {D : Type 0} → (D → List ℕ) → (D → List ℕ → Type 0) → (client : ℕ) → Nodes → (old new : World D) → Type 0
-CarriesOut reads may_leave client t old new =
-    (plan : Plan) (text : List ℕ) → IsPlannedAt plan client old
-    → Steps reads may_leave (machine.Notes client (reach (clients.Resolved (resolution_of plan t)))) old new text text true
+-- what is planned there was carried out on this tree, or the client stopped in that
+abbrev pub CarriesOut : {D : Type 0} → Medium D → (client : ℕ) → Nodes → (on : Bool) → (old new : World D) → (before after : List ℕ)
+    → Type 0
+CarriesOut medium client t on old new before after =
+    (plan : Plan) → IsPlannedAt plan client old
+    → Steps medium (machine.Notes client (reach (clients.Resolved (resolution_of plan t)))) old new before after on
 
 -- ---- its disks
 
@@ -251,50 +268,41 @@ pub record AreLast {D : Type 0} (disks all : List D) : Type 0 where
   pub front : List D
   pub split : all ≡ front ++ disks
 
--- The disks are those of before. None was armed, and their faults are counted so. What is still spare was spare before.
-pub record SameDisks {D : Type 0} (arms_of : D → Arms) (faults_of : D → ℕ) (counts : (before after : List ℕ) → Type 0) (old new : World D)
-    : Type 0 where
+-- They are those of before, and what is still spare was spare before.
+pub record KeepsDisks {D : Type 0} (old new : World D) : Type 0 where
+  pub has : HasDisks old → HasDisks new
+  pub spare : AreLast new.spare.items old.spare.items
+
+-- none was armed
+pub record SameArms {D : Type 0} (arms_of : D → Arms) (old new : World D) : Type 0 where
+  pub same : map arms_of (disks_of new) ≡ map arms_of (disks_of old)
+
+-- both
+pub record SameDisks {D : Type 0} (arms_of : D → Arms) (old new : World D) : Type 0 where
   pub arms : map arms_of (disks_of new) ≡ map arms_of (disks_of old)
-  pub faults : counts (map faults_of (disks_of old)) (map faults_of (disks_of new))
   pub has : HasDisks old → HasDisks new
   pub spare : AreLast new.spare.items old.spare.items
 
 -- ---- how a world begins
 
--- a new world
-pub record IsOpened {D : Type 0} (reads : D → List ℕ) (may_leave : D → List ℕ → Type 0) (world : World D) : Type 0 where
-  pub stands : IsWorldOf reads may_leave world opening
+-- A new world on these disks stands for a machine that has opened over what they count, with the text that was added.
+pub record Opens {D : Type 0} (medium : Medium D) (disks : List D) (before after : List ℕ) (world : World D) : Type 0 where
+  pub machine : Machine
+  pub text : List ℕ
+  pub wrote : after ≡ before ++ text
+  pub step : Opening (handed (map medium.counts disks)) text tt machine
+  pub stands : IsWorldOf medium world machine
   pub no_clients : client_count world ≡ 0
   pub no_scripts : script_names world ≡ []
-
--- with the disks that were handed in, of which none was armed and none has failed
-pub record Opens {D : Type 0} (reads : D → List ℕ) (may_leave : D → List ℕ → Type 0) (arms_of : D → Arms) (faults_of : D → ℕ)
-    (disks : List D) (world : World D) : Type 0 where
-  pub opened : IsOpened reads may_leave world
   pub has : HasDisks world
-  pub arms : map arms_of (disks_of world) ≡ map arms_of disks
-  pub faults : map faults_of (disks_of world) ≡ map faults_of disks
   pub first : D
   pub were : disks ≡ first ∷ world.spare.items
 
--- the disks come back with this fault, and none was armed
-pub record HandsAllBack {D : Type 0} (arms_of : D → Arms) (faults_of : D → ℕ) (disks back : List D)
-    (fault : WorldFault) : Type 0 where
-  pub arms : map arms_of back ≡ map arms_of disks
-  pub faults : FaultCountsAll fault (map faults_of disks) (map faults_of back)
-
 -- ---- how a world changes
 
--- a client joins
-pub record AddsClient {D : Type 0} (reads : D → List ℕ) (may_leave : D → List ℕ → Type 0) (name : List ℕ) (old new : World D) : Type
-    0 where
-  pub server : new.server ≡ old.server
-  pub laptop : Laptop D
-  pub stands : (scripts : List Declared) → LaptopStands reads may_leave scripts laptop (new_laptop name)
-  pub place : laptop.place ≡ client_count old
-  pub disk : D
-  pub spare : old.spare.items ≡ disk ∷ new.spare.items
-  pub clients : new.clients.items ≡ old.clients.items ++ laptop ∷ []
+-- one more client is declared
+pub record DeclaresClient {D : Type 0} (old new : World D) : Type 0 where
+  pub clients : client_count new ≡ client_count old + 1
   pub scripts : new.scripts.items ≡ old.scripts.items
 
 -- a script joins
@@ -320,6 +328,11 @@ pub record SameCounts {D : Type 0} (old new : World D) : Type 0 where
   pub clients : client_count new ≡ client_count old
   pub scripts : new.scripts.items ≡ old.scripts.items
   pub alive : map is_alive new.clients.items ≡ map is_alive old.clients.items
+
+-- nothing was declared, and if the event goes on, none of its clients has gone down or come back
+abbrev pub SameIf : {D : Type 0} → (on : Bool) → (old new : World D) → Type 0
+SameIf true old new = SameCounts old new
+SameIf false old new = SameDeclared old new
 
 -- ---- nodes that are lent
 

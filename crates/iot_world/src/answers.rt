@@ -8,6 +8,9 @@ pub(crate) enum Brought {
 
     /// No reply came.
     Missed,
+
+    /// The client stopped.
+    Stopped,
 }
 
 /// How a single step went.
@@ -21,10 +24,14 @@ pub(crate) enum Stepped {
 
     /// It had to fetch, and no reply came.
     Away,
+
+    /// The client stopped.
+    Stops,
 }
 
 impl Stepped {
     ghost use Rattle.std.specs.Prelude.{◌≡◌, is_some};
+    ghost use Rattle.iot_machine.specs.Events.{steps_on};
     ghost use Rattle.iot_machine.specs.Transactions.{unless_went};
     ghost use Rattle.iot_world.specs.World.{stepped_of};
 
@@ -34,8 +41,18 @@ impl Stepped {
     {
         match self {
             Stepped::Went => false,
-            Stepped::Over => true,
+            Stepped::Over | Stepped::Stops => true,
             Stepped::Away => loud,
+        }
+    }
+
+    /// Whether the client goes on after it.
+    pub(crate) fn goes_on(self) -> bool
+        ensures { result ≡ steps_on (stepped_of self) }
+    {
+        match self {
+            Stepped::Went | Stepped::Over | Stepped::Away => true,
+            Stepped::Stops => false,
         }
     }
 }
@@ -57,10 +74,14 @@ pub(crate) enum Synced {
 
     /// No reply came.
     Unanswered,
+
+    /// The client stopped.
+    Halted,
 }
 
 impl Synced {
     ghost use Rattle.std.specs.Prelude.{◌≡◌, is_some};
+    ghost use Rattle.iot_machine.specs.Events.{syncs_on};
     ghost use Rattle.iot_machine.specs.Transactions.{unless_ends};
     ghost use Rattle.iot_world.specs.World.{synced_of};
 
@@ -70,7 +91,18 @@ impl Synced {
     {
         match self {
             Synced::Left | Synced::Moved => false,
-            Synced::Empty | Synced::ByHand | Synced::Unanswered => true,
+            Synced::Empty | Synced::ByHand | Synced::Unanswered | Synced::Halted => true,
+        }
+    }
+
+    /// Whether the client goes on after it.
+    pub(crate) fn goes_on(self) -> bool
+        ensures { result ≡ syncs_on (synced_of self) }
+    {
+        match self {
+            Synced::Empty | Synced::Left | Synced::Moved | Synced::ByHand | Synced::Unanswered =>
+                true,
+            Synced::Halted => false,
         }
     }
 }

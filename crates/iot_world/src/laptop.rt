@@ -1,6 +1,6 @@
 //! A client that was declared, by its name and its place, and its link with the server. Most of its calls are those of the client, where
 //! they cannot be refused; it is alive then.
-ghost use Rattle.std.specs.Prelude.{◌≡◌, ◌≤◌, ◌*◌, ◌&&◌, ℕ, not, true, [], Some, None, IfOk, OnOk, is_some, length};
+ghost use Rattle.std.specs.Prelude.{◌≡◌, ◌≤◌, ◌*◌, ◌&&◌, ℕ, not, true, [], Some, None, IfOk, OnOk, is_some, length, IfSome};
 ghost use Rattle.std.specs.Option.{option_copied};
 ghost use Rattle.iot_tree.specs.Tree.{Nodes, IsWhole};
 ghost use Rattle.iot_lang.specs.Scripts.{IsScript};
@@ -17,13 +17,11 @@ ghost use Rattle.iot_machine.specs.Clients.{hold, fetch, leave};
 ghost use Rattle.iot_machine.specs.Serving as serving;
 ghost use Rattle.iot_machine.specs.Texts.{acts_output};
 ghost use Rattle.iot_queue.specs.declared.items.Stage.TheVariants.{Conflict as in_conflict};
-ghost use Rattle.iot_world.specs.Disks.{SameDisk};
-ghost use Rattle.iot_world.specs.Faults.{CallCounts};
+ghost use Rattle.iot_world.specs.Disks.{medium, SameDisk};
 ghost use Rattle.iot_world.specs.Laptops.{label_in, acts_in};
 ghost use Rattle.iot_world.specs.Messages.{BringsTree, SpellsTree, IsVerdict, SpellsVerdict, verdict_of, told_change};
 
 use crate::answers::Undecided;
-use crate::fault::WorldFault;
 use crate::message::{Handed, Message, Need, Printed};
 use crate::node::ClientNode;
 use crate::texts::{Transaction, output_of};
@@ -56,11 +54,11 @@ pub(crate) struct Gone {
 }
 
 impl<D: Disk> Laptop<D> {
-    ghost use Rattle.iot_world.specs.Nodes.{is_alive, state_in, live_in, disk_in, lent_by};
-    ghost use Rattle.iot_world.specs.Laptops.{Stands, StandsAnyhow, IsLent, Noted, Begun, Stepped, Ended};
+    ghost use Rattle.iot_world.specs.Nodes.{is_alive, state_in, live_in, disk_in, lent_by, records_in};
+    ghost use Rattle.iot_world.specs.Laptops.{Stands, StandsAnyhow, IsLent, NotedIf, BegunIf, SteppedIf, EndedIf, Stops, Exactly};
     ghost use Rattle.iot_world.specs.Laptops.{Relinked, RelinkedAnyhow, IsSecondNow, after_passage, linked, cut_off};
     ghost use Rattle.iot_world.specs.Laptops.{waits_of, IsView, IsFirst, head_name, head_option, head_reads, decision, decision_on};
-    ghost use Rattle.iot_world.specs.Laptops.{IsHeadPlan, IsNeed, Repaired, Resolved};
+    ghost use Rattle.iot_world.specs.Laptops.{IsHeadPlan, IsNeed, RepairedIf, ResolvedIf, Settles, broken};
 
     /// Whether it is alive.
     pub(crate) fn is_alive(&self) -> bool
@@ -75,24 +73,24 @@ impl<D: Disk> Laptop<D> {
     {
         match &self.node {
             ClientNode::Up(client) => Some(client),
-            ClientNode::Down(_) | ClientNode::Between => None,
+            ClientNode::Down { .. } | ClientNode::Between => None,
         }
     }
 
     /// The client, which is alive.
     pub(crate) fn client(&self) -> &Client<D>
-        requires { Stands D.reads D.may_leave self.now }
-        ensures { IsLent D.reads D.may_leave self.now result.now }
+        requires { Stands (medium D.reads D.may_leave D.faults D.arms) self.now }
+        ensures { IsLent (medium D.reads D.may_leave D.faults D.arms) self.now result.now }
     {
         match &self.node {
             ClientNode::Up(client) => client,
-            ClientNode::Down(_) | ClientNode::Between => unreachable!(),
+            ClientNode::Down { .. } | ClientNode::Between => unreachable!(),
         }
     }
 
     /// Whether a transaction runs.
     pub(crate) fn runs(&self) -> bool
-        requires { Stands D.reads D.may_leave self.now }
+        requires { Stands (medium D.reads D.may_leave D.faults D.arms) self.now }
         ensures { result ≡ is_some (state_in self.now).running }
     {
         self.running().is_some()
@@ -100,7 +98,7 @@ impl<D: Disk> Laptop<D> {
 
     /// Whether transactions wait.
     pub(crate) fn waits(&self) -> bool
-        requires { Stands D.reads D.may_leave self.now }
+        requires { Stands (medium D.reads D.may_leave D.faults D.arms) self.now }
         ensures { result ≡ waits_of (state_in self.now).items }
     {
         self.client().queue().head().is_some()
@@ -108,7 +106,7 @@ impl<D: Disk> Laptop<D> {
 
     /// Whether the transaction that runs may end.
     pub(crate) fn may_end(&self) -> bool
-        requires { Stands D.reads D.may_leave self.now }
+        requires { Stands (medium D.reads D.may_leave D.faults D.arms) self.now }
         ensures { result ≡ may_end (state_in self.now) (live_in self.now) }
     {
         if self.at_end() {
@@ -122,7 +120,7 @@ impl<D: Disk> Laptop<D> {
 
     /// The transaction that runs, if one does.
     pub(crate) fn running(&self) -> Option<&Running>
-        requires { Stands D.reads D.may_leave self.now }
+        requires { Stands (medium D.reads D.may_leave D.faults D.arms) self.now }
         ensures running { transaction_of (option_copied result) ≡ (state_in self.now).running }
         ensures class { class_of (option_copied result) ≡ class_by (state_in self.now).running (live_in self.now) }
     {
@@ -131,7 +129,7 @@ impl<D: Disk> Laptop<D> {
 
     /// Whether a transaction runs whose script has ended.
     pub(crate) fn at_end(&self) -> bool
-        requires { Stands D.reads D.may_leave self.now }
+        requires { Stands (medium D.reads D.may_leave D.faults D.arms) self.now }
         ensures { result ≡ is_over_if_any (state_in self.now) (live_in self.now) }
     {
         self.client().at_end()
@@ -149,8 +147,8 @@ impl<D: Disk> Laptop<D> {
 
     /// The tree that it sees.
     pub(crate) fn view(&self) -> &Tree
-        requires { Stands D.reads D.may_leave self.now }
-        ensures { IsView D.reads D.may_leave result.now self.now }
+        requires { Stands (medium D.reads D.may_leave D.faults D.arms) self.now }
+        ensures { IsView (medium D.reads D.may_leave D.faults D.arms) result.now self.now }
     {
         self.client().view()
     }
@@ -159,15 +157,15 @@ impl<D: Disk> Laptop<D> {
 
     /// Makes its link up.
     pub(crate) fn connect(&mut self)
-        ensures { RelinkedAnyhow D.reads D.may_leave (linked (connected true self.old.link)) self.old self.new }
+        ensures { RelinkedAnyhow (medium D.reads D.may_leave D.faults D.arms) (linked (connected true self.old.link)) self.old self.new }
     {
         self.link.connect();
     }
 
     /// Makes its link not up. What runs is second class from then on.
     pub(crate) fn disconnect(&mut self)
-        requires { StandsAnyhow D.reads D.may_leave self.old }
-        ensures { RelinkedAnyhow D.reads D.may_leave cut_off self.old self.new }
+        requires { StandsAnyhow (medium D.reads D.may_leave D.faults D.arms) self.old }
+        ensures { RelinkedAnyhow (medium D.reads D.may_leave D.faults D.arms) cut_off self.old self.new }
     {
         self.link.disconnect();
         if let ClientNode::Up(client) = &mut self.node {
@@ -177,7 +175,7 @@ impl<D: Disk> Laptop<D> {
 
     /// Arms its link to lose a message.
     pub(crate) fn lose(&mut self, loss: Loss)
-        ensures { RelinkedAnyhow D.reads D.may_leave (linked (arming loss self.old.link)) self.old self.new }
+        ensures { RelinkedAnyhow (medium D.reads D.may_leave D.faults D.arms) (linked (arming loss self.old.link)) self.old self.new }
     {
         self.link.arm(loss);
     }
@@ -185,9 +183,9 @@ impl<D: Disk> Laptop<D> {
     /// Takes one exchange with a server that is alive or not, and tells how far it gets. What runs is second class after one that
     /// did not get through.
     pub(crate) fn pass(&mut self, server_up: bool) -> Passage
-        requires { Stands D.reads D.may_leave self.old }
+        requires { Stands (medium D.reads D.may_leave D.faults D.arms) self.old }
         ensures passage { result ≡ passage self.old.link server_up }
-        ensures after { Relinked D.reads D.may_leave (after_passage result) self.old self.new }
+        ensures after { Relinked (medium D.reads D.may_leave D.faults D.arms) (after_passage result) self.old self.new }
         ensures both { result ≡ Both → self.new ≡ self.old }
         ensures disk { disk_in self.new ≡ disk_in self.old }
     {
@@ -199,31 +197,51 @@ impl<D: Disk> Laptop<D> {
         passage
     }
 
+    /// Its link is broken, since the server stopped in an exchange. What runs is second class from then on.
+    pub(crate) fn broke(&mut self)
+        requires { Stands (medium D.reads D.may_leave D.faults D.arms) self.old }
+        ensures after { Relinked (medium D.reads D.may_leave D.faults D.arms) broken self.old self.new }
+        ensures disk { disk_in self.new ≡ disk_in self.old }
+    {
+        self.link.broke();
+        self.second();
+    }
+
     /// What runs is second class from now on.
     fn second(&mut self)
-        requires { Stands D.reads D.may_leave self.old }
-        ensures { IsSecondNow D.reads D.may_leave self.old self.new }
+        requires { Stands (medium D.reads D.may_leave D.faults D.arms) self.old }
+        ensures { IsSecondNow (medium D.reads D.may_leave D.faults D.arms) self.old self.new }
     {
         match &mut self.node {
             ClientNode::Up(client) => client.second(),
-            ClientNode::Down(_) | ClientNode::Between => unreachable!(),
+            ClientNode::Down { .. } | ClientNode::Between => unreachable!(),
         }
     }
 
-    /// Whether its link is up, and nothing waits or runs.
+    /// Whether it is alive, its link is up, and nothing waits or runs.
     pub(crate) fn is_drained(&self) -> bool
-        requires { Stands D.reads D.may_leave self.now }
-        ensures { result ≡ not (waits_of (state_in self.now).items) && not (is_some (state_in self.now).running)
+        requires { StandsAnyhow (medium D.reads D.may_leave D.faults D.arms) self.now }
+        ensures { result ≡ is_alive self.now && not (waits_of (state_in self.now).items) && not (is_some (state_in self.now).running)
             && self.now.link.up }
     {
-        !self.waits() && !self.runs() && self.link.is_up()
+        self.is_alive() && !self.waits() && !self.runs() && self.link.is_up()
+    }
+
+    /// How many records it has appended, if it is alive.
+    pub(crate) fn records(&self) -> u64
+        ensures { result ≡ records_in self.now }
+    {
+        match &self.node {
+            ClientNode::Up(client) => client.records(),
+            ClientNode::Down { .. } | ClientNode::Between => 0,
+        }
     }
 
     // ---- objects
 
     /// Asks for what is wanted.
     pub(crate) fn ask(&self, alloc: Global, want: &Want) -> Result<Message, NoMemory>
-        requires stands { Stands D.reads D.may_leave self.now }
+        requires stands { Stands (medium D.reads D.may_leave D.faults D.arms) self.now }
         requires place { self.now.place ≤ 7 }
         requires idle { (state_in self.now).running ≡ None }
         requires none { (state_in self.now).items ≡ [] }
@@ -236,27 +254,32 @@ impl<D: Disk> Laptop<D> {
         }
     }
 
-    /// Holds what the reply brings.
-    pub(crate) fn take(&mut self, alloc: Global, reply: &[u8]) -> Result<(), WorldFault>
-        requires stands { Stands D.reads D.may_leave self.old }
+    /// Holds what the reply brings, and whether it did: else it has stopped, which is said.
+    pub(crate) fn take(
+        &mut self,
+        alloc: Global,
+        reply: &[u8],
+        out: &mut Text,
+    ) -> Result<bool, NoMemory>
+        requires stands { Stands (medium D.reads D.may_leave D.faults D.arms) self.old }
         requires idle { (state_in self.old).running ≡ None }
         requires none { (state_in self.old).items ≡ [] }
         requires brings { BringsTree reply.now }
-        ensures does { OnOk result ((t : Nodes) → SpellsTree reply.now t → Noted D.reads D.may_leave (hold t) self.old self.new) }
-        ensures disk { SameDisk D.arms D.faults (CallCounts result) (disk_in self.old) (disk_in self.new) }
+        ensures does { IfOk result (λ on. (t : Nodes) → SpellsTree reply.now t
+            → NotedIf (medium D.reads D.may_leave D.faults D.arms) on (hold t) self.old self.new out.old out.new) }
+        ensures disk { SameDisk D.arms (disk_in self.old) (disk_in self.new) }
     {
-        match &mut self.node {
-            ClientNode::Up(client) => match client.take_objects(alloc, reply) {
-                Ok(()) => Ok(()),
-                Err(fault) => Err(WorldFault::of_client(fault)),
-            },
-            ClientNode::Down(_) | ClientNode::Between => unreachable!(),
-        }
+        let count = self.records();
+        let answer = match &mut self.node {
+            ClientNode::Up(client) => client.take_objects(alloc, reply),
+            ClientNode::Down { .. } | ClientNode::Between => unreachable!(),
+        };
+        Ok(self.goes_on(answer, count, out)?.is_some())
     }
 
     // ---- the transaction that runs
 
-    /// Begins its next transaction, which does this if it conflicts.
+    /// Begins its next transaction, which does this if it conflicts, and whether it did: else it has stopped, which is said.
     pub(crate) fn begin(
         &mut self,
         alloc: Global,
@@ -264,88 +287,92 @@ impl<D: Disk> Laptop<D> {
         script: Rc<Script>,
         option: OnConflict,
         first: bool,
-    ) -> Result<(), WorldFault>
-        requires stands { Stands D.reads D.may_leave self.old }
+        out: &mut Text,
+    ) -> Result<bool, NoMemory>
+        requires stands { Stands (medium D.reads D.may_leave D.faults D.arms) self.old }
         requires idle { (state_in self.old).running ≡ None }
         requires alone { first ≡ true → (state_in self.old).items ≡ [] }
         requires script { IsScript script.value }
-        ensures does { OnOk result
-            (Begun D.reads D.may_leave (record { name = name.now; code = script.value }) option first self.old self.new) }
-        ensures disk { SameDisk D.arms D.faults (CallCounts result) (disk_in self.old) (disk_in self.new) }
+        ensures does { IfOk result (λ on. BegunIf (medium D.reads D.may_leave D.faults D.arms) on
+            (record { name = name.now; code = script.value }) option first self.old self.new out.old out.new) }
+        ensures disk { SameDisk D.arms (disk_in self.old) (disk_in self.new) }
     {
-        match &mut self.node {
-            ClientNode::Up(client) => match client.begin(alloc, name, script, option, first) {
-                Ok(_number) => Ok(()),
-                Err(fault) => Err(WorldFault::of_client(fault)),
-            },
-            ClientNode::Down(_) | ClientNode::Between => unreachable!(),
-        }
+        let count = self.records();
+        let answer = match &mut self.node {
+            ClientNode::Up(client) => client.begin(alloc, name, script, option, first),
+            ClientNode::Down { .. } | ClientNode::Between => unreachable!(),
+        };
+        Ok(self.goes_on(answer, count, out)?.is_some())
     }
 
-    /// Does the next act of the transaction that runs, or says why none is done.
-    pub(crate) fn step(&mut self, alloc: Global) -> Result<Step, WorldFault>
-        requires stands { Stands D.reads D.may_leave self.old }
+    /// Does the next act of the transaction that runs, or gives why none is done; and nothing if it stops in that, which is said.
+    pub(crate) fn step(&mut self, alloc: Global, out: &mut Text) -> Result<Option<Step>, NoMemory>
+        requires stands { Stands (medium D.reads D.may_leave D.faults D.arms) self.old }
         requires place { self.old.place ≤ 7 }
         requires runs { is_some (state_in self.old).running ≡ true }
-        ensures does { IfOk result (λ step. Stepped D.reads D.may_leave step self.old self.new) }
-        ensures disk { SameDisk D.arms D.faults (CallCounts result) (disk_in self.old) (disk_in self.new) }
+        ensures does { IfOk result (λ step. SteppedIf (medium D.reads D.may_leave D.faults D.arms) step self.old self.new out.old out.new) }
+        ensures disk { SameDisk D.arms (disk_in self.old) (disk_in self.new) }
     {
-        match &mut self.node {
-            ClientNode::Up(client) => match client.step(alloc) {
-                Ok(step) => Ok(step),
-                Err(fault) => Err(WorldFault::of_client(fault)),
-            },
-            ClientNode::Down(_) | ClientNode::Between => unreachable!(),
-        }
+        let count = self.records();
+        let answer = match &mut self.node {
+            ClientNode::Up(client) => client.step(alloc),
+            ClientNode::Down { .. } | ClientNode::Between => unreachable!(),
+        };
+        self.goes_on(answer, count, out)
     }
 
-    /// Holds what the reply brings for the transaction that runs, which begins anew.
-    pub(crate) fn fetched(&mut self, alloc: Global, reply: &[u8]) -> Result<(), WorldFault>
-        requires stands { Stands D.reads D.may_leave self.old }
+    /// Holds what the reply brings for the transaction that runs, which begins anew, and whether it did: else it has stopped, which is
+    /// said.
+    pub(crate) fn fetched(
+        &mut self,
+        alloc: Global,
+        reply: &[u8],
+        out: &mut Text,
+    ) -> Result<bool, NoMemory>
+        requires stands { Stands (medium D.reads D.may_leave D.faults D.arms) self.old }
         requires first { IsFirst self.old }
         requires brings { BringsTree reply.now }
-        ensures does { OnOk result ((t : Nodes) → SpellsTree reply.now t → Noted D.reads D.may_leave (fetch t) self.old self.new) }
-        ensures disk { SameDisk D.arms D.faults (CallCounts result) (disk_in self.old) (disk_in self.new) }
+        ensures does { IfOk result (λ on. (t : Nodes) → SpellsTree reply.now t
+            → NotedIf (medium D.reads D.may_leave D.faults D.arms) on (fetch t) self.old self.new out.old out.new) }
+        ensures disk { SameDisk D.arms (disk_in self.old) (disk_in self.new) }
     {
-        match &mut self.node {
-            ClientNode::Up(client) => match client.fetched(alloc, reply) {
-                Ok(()) => Ok(()),
-                Err(fault) => Err(WorldFault::of_client(fault)),
-            },
-            ClientNode::Down(_) | ClientNode::Between => unreachable!(),
-        }
+        let count = self.records();
+        let answer = match &mut self.node {
+            ClientNode::Up(client) => client.fetched(alloc, reply),
+            ClientNode::Down { .. } | ClientNode::Between => unreachable!(),
+        };
+        Ok(self.goes_on(answer, count, out)?.is_some())
     }
 
-    /// Lets the transaction that runs wait, if its script has ended or may do no more acts.
-    pub(crate) fn end(&mut self, alloc: Global) -> Result<Gone, WorldFault>
-        requires stands { Stands D.reads D.may_leave self.old }
+    /// Lets the transaction that runs wait, if its script has ended or may do no more acts. Gives nothing if it stops in that, which is
+    /// said.
+    pub(crate) fn end(&mut self, alloc: Global, out: &mut Text) -> Result<Option<Gone>, NoMemory>
+        requires stands { Stands (medium D.reads D.may_leave D.faults D.arms) self.old }
         requires over { may_end (state_in self.old) (live_in self.old) ≡ true }
-        ensures does { IfOk result (λ gone. Ended D.reads D.may_leave gone self.old self.new) }
-        ensures disk { SameDisk D.arms D.faults (CallCounts result) (disk_in self.old) (disk_in self.new) }
+        ensures does { IfOk result (λ gone. EndedIf (medium D.reads D.may_leave D.faults D.arms) gone self.old self.new out.old out.new) }
+        ensures disk { SameDisk D.arms (disk_in self.old) (disk_in self.new) }
     {
         let output = self.output(alloc)?;
-        let client_name = self.name;
-        match &mut self.node {
-            ClientNode::Up(client) => match client.end(alloc) {
-                Ok(ended) => Ok(Gone {
-                    printed: Printed {
-                        transaction: Transaction {
-                            client: client_name,
-                            number: ended.tid,
-                        },
-                        output,
-                    },
-                    first: ended.first,
-                }),
-                Err(fault) => Err(WorldFault::of_client(fault)),
+        let count = self.records();
+        let answer = match &mut self.node {
+            ClientNode::Up(client) => client.end(alloc),
+            ClientNode::Down { .. } | ClientNode::Between => unreachable!(),
+        };
+        let Some(ended) = self.goes_on(answer, count, out)? else {
+            return Ok(None);
+        };
+        Ok(Some(Gone {
+            printed: Printed {
+                transaction: self.transaction(ended.tid),
+                output,
             },
-            ClientNode::Down(_) | ClientNode::Between => unreachable!(),
-        }
+            first: ended.first,
+        }))
     }
 
     /// What the transaction that runs has printed.
     fn output(&self, alloc: Global) -> Result<Text, NoMemory>
-        requires { Stands D.reads D.may_leave self.now }
+        requires { Stands (medium D.reads D.may_leave D.faults D.arms) self.now }
         ensures { IfOk result (λ output. output ≡ acts_output (acts_of (state_in self.now).running)) }
     {
         match self.running() {
@@ -358,7 +385,7 @@ impl<D: Disk> Laptop<D> {
 
     /// How often one drain syncs at most.
     pub(crate) fn most_syncs(&self) -> Result<u64, NoMemory>
-        requires { Stands D.reads D.may_leave self.now }
+        requires { Stands (medium D.reads D.may_leave D.faults D.arms) self.now }
         ensures { IfOk result (λ most. most ≡ 3 * length (state_in self.now).items) }
     {
         let waiting = self.client().queue().items().len() as u64;
@@ -370,7 +397,7 @@ impl<D: Disk> Laptop<D> {
 
     /// The name of the first that waits.
     pub(crate) fn head(&self) -> Option<Transaction>
-        requires { Stands D.reads D.may_leave self.now }
+        requires { Stands (medium D.reads D.may_leave D.faults D.arms) self.now }
         ensures { result ≡ head_name self.now (state_in self.now).items }
     {
         match self.client().queue().head() {
@@ -381,7 +408,7 @@ impl<D: Disk> Laptop<D> {
 
     /// The first that waits, if it is to be decided by hand.
     pub(crate) fn decision(&self) -> Result<Transaction, Undecided>
-        requires { Stands D.reads D.may_leave self.now }
+        requires { Stands (medium D.reads D.may_leave D.faults D.arms) self.now }
         ensures { result ≡ decision self.now (state_in self.now).items }
     {
         match self.client().queue().head() {
@@ -401,7 +428,7 @@ impl<D: Disk> Laptop<D> {
 
     /// What the first that waits needs of the server.
     pub(crate) fn need(&self, alloc: Global) -> Result<Need, NoMemory>
-        requires stands { Stands D.reads D.may_leave self.now }
+        requires stands { Stands (medium D.reads D.may_leave D.faults D.arms) self.now }
         requires place { self.now.place ≤ 7 }
         requires waits { waits_of (state_in self.now).items ≡ true }
         ensures { IfOk result (λ need. HeadIs (λ item. IsNeed self.now item need) (state_in self.now).items) }
@@ -440,31 +467,40 @@ impl<D: Disk> Laptop<D> {
         })
     }
 
-    /// Takes the reply to the submission of the first that waits, and tells what that says of it.
-    pub(crate) fn settle(&mut self, alloc: Global, reply: &[u8]) -> Result<Told, WorldFault>
-        requires stands { Stands D.reads D.may_leave self.old }
+    /// Takes the reply to the submission of the first that waits, and tells what that says of it. Gives nothing if it stops in that,
+    /// which is said.
+    pub(crate) fn settle(
+        &mut self,
+        alloc: Global,
+        reply: &[u8],
+        out: &mut Text,
+    ) -> Result<Option<Told>, NoMemory>
+        requires stands { Stands (medium D.reads D.may_leave D.faults D.arms) self.old }
         requires submitted { HeadIs IsSubmitted (state_in self.old).items }
         requires told { IsVerdict (head_reads (state_in self.old).items) reply.now }
-        ensures verdict { IfOk result (λ said. (told : serving.Verdict)
-            → SpellsVerdict (head_reads (state_in self.old).items) reply.now told → verdict_of said.verdict ≡ told) }
-        ensures option { IfOk result (λ said. head_option (state_in self.old).items ≡ Some said.option) }
-        ensures notes { IfOk result (λ said.
-            Noted D.reads D.may_leave (told_change (verdict_of said.verdict) said.option) self.old self.new) }
-        ensures disk { SameDisk D.arms D.faults (CallCounts result) (disk_in self.old) (disk_in self.new) }
+        ensures settles { IfOk result (λ said. IfSome said
+            (Settles (medium D.reads D.may_leave D.faults D.arms) reply.now self.old self.new)) }
+        ensures silent { IfOk result (λ said. IfSome said (λ _. out.new ≡ out.old)) }
+        ensures stops { IfOk result (λ said. said ≡ None → (told : serving.Verdict) (option : OnConflict)
+            → SpellsVerdict (head_reads (state_in self.old).items) reply.now told → head_option (state_in self.old).items ≡ Some option
+            → Stops (medium D.reads D.may_leave D.faults D.arms) (Exactly (told_change told option)) self.old self.new out.old out.new) }
+        ensures disk { SameDisk D.arms (disk_in self.old) (disk_in self.new) }
     {
         let told = self.told(alloc, reply)?;
-        match &mut self.node {
-            ClientNode::Up(client) => match client.take_verdict(alloc, reply) {
-                Ok(_noted) => Ok(told),
-                Err(fault) => Err(WorldFault::of_client(fault)),
-            },
-            ClientNode::Down(_) | ClientNode::Between => unreachable!(),
+        let count = self.records();
+        let answer = match &mut self.node {
+            ClientNode::Up(client) => client.take_verdict(alloc, reply),
+            ClientNode::Down { .. } | ClientNode::Between => unreachable!(),
+        };
+        match self.goes_on(answer, count, out)? {
+            Some(_noted) => Ok(Some(told)),
+            None => Ok(None),
         }
     }
 
     /// What the reply to the submission of the first that waits says of it.
     fn told(&self, alloc: Global, reply: &[u8]) -> Result<Told, NoMemory>
-        requires stands { Stands D.reads D.may_leave self.now }
+        requires stands { Stands (medium D.reads D.may_leave D.faults D.arms) self.now }
         requires submitted { HeadIs IsSubmitted (state_in self.now).items }
         requires told { IsVerdict (head_reads (state_in self.now).items) reply.now }
         ensures verdict { IfOk result (λ said. (told : serving.Verdict)
@@ -482,7 +518,7 @@ impl<D: Disk> Laptop<D> {
 
     /// What is planned for the first that waits, which conflicts.
     pub(crate) fn plan(&self) -> Plan
-        requires stands { Stands D.reads D.may_leave self.now }
+        requires stands { Stands (medium D.reads D.may_leave D.faults D.arms) self.now }
         requires conflict { HeadIs (λ item. item.stage ≡ in_conflict) (state_in self.now).items }
         ensures { IsHeadPlan (state_in self.now).items result }
     {
@@ -495,60 +531,67 @@ impl<D: Disk> Laptop<D> {
         }
     }
 
-    /// Resolves the first that waits by the script that is planned for it, on the whole tree that the reply brings.
+    /// Resolves the first that waits by the script that is planned for it, on the whole tree that the reply brings, and whether it did:
+    /// else it has stopped, which is said.
     pub(crate) fn resolve(
         &mut self,
         alloc: Global,
         reply: &[u8],
         script: Rc<Script>,
-    ) -> Result<(), WorldFault>
-        requires stands { Stands D.reads D.may_leave self.old }
+        out: &mut Text,
+    ) -> Result<bool, NoMemory>
+        requires stands { Stands (medium D.reads D.may_leave D.faults D.arms) self.old }
         requires conflict { HeadIs (λ item. item.stage ≡ in_conflict) (state_in self.old).items }
         requires brings { BringsTree reply.now }
         requires whole { (t : Nodes) → SpellsTree reply.now t → IsWhole t }
         requires script { IsScript script.value }
-        ensures does { OnOk result ((t : Nodes) → SpellsTree reply.now t → Resolved D.reads D.may_leave script.value t self.old self.new) }
-        ensures disk { SameDisk D.arms D.faults (CallCounts result) (disk_in self.old) (disk_in self.new) }
+        ensures does { IfOk result (λ on. (t : Nodes) → SpellsTree reply.now t
+            → ResolvedIf (medium D.reads D.may_leave D.faults D.arms) on script.value t self.old self.new out.old out.new) }
+        ensures disk { SameDisk D.arms (disk_in self.old) (disk_in self.new) }
     {
-        match &mut self.node {
-            ClientNode::Up(client) => match client.resolve(alloc, reply, script) {
-                Ok(()) => Ok(()),
-                Err(fault) => Err(WorldFault::of_client(fault)),
-            },
-            ClientNode::Down(_) | ClientNode::Between => unreachable!(),
-        }
+        let count = self.records();
+        let answer = match &mut self.node {
+            ClientNode::Up(client) => client.resolve(alloc, reply, script),
+            ClientNode::Down { .. } | ClientNode::Between => unreachable!(),
+        };
+        Ok(self.goes_on(answer, count, out)?.is_some())
     }
 
-    /// Has the first that waits, which is to be decided by hand, resolved by the script of this name.
-    pub(crate) fn repair(&mut self, alloc: Global, script: &Name) -> Result<(), WorldFault>
-        requires stands { Stands D.reads D.may_leave self.old }
+    /// Has the first that waits, which is to be decided by hand, resolved by the script of this name, and whether it did: else it has
+    /// stopped, which is said.
+    pub(crate) fn repair(
+        &mut self,
+        alloc: Global,
+        script: &Name,
+        out: &mut Text,
+    ) -> Result<bool, NoMemory>
+        requires stands { Stands (medium D.reads D.may_leave D.faults D.arms) self.old }
         requires manual { HeadIs IsByHand (state_in self.old).items }
-        ensures does { OnOk result (Repaired D.reads D.may_leave script.now self.old self.new) }
-        ensures disk { SameDisk D.arms D.faults (CallCounts result) (disk_in self.old) (disk_in self.new) }
+        ensures does { IfOk result (λ on.
+            RepairedIf (medium D.reads D.may_leave D.faults D.arms) on script.now self.old self.new out.old out.new) }
+        ensures disk { SameDisk D.arms (disk_in self.old) (disk_in self.new) }
     {
-        match &mut self.node {
-            ClientNode::Up(client) => match client.repair(alloc, script) {
-                Ok(()) => Ok(()),
-                Err(fault) => Err(WorldFault::of_client(fault)),
-            },
-            ClientNode::Down(_) | ClientNode::Between => unreachable!(),
-        }
+        let count = self.records();
+        let answer = match &mut self.node {
+            ClientNode::Up(client) => client.repair(alloc, script),
+            ClientNode::Down { .. } | ClientNode::Between => unreachable!(),
+        };
+        Ok(self.goes_on(answer, count, out)?.is_some())
     }
 
-    /// Lets the first that waits, which is to be decided by hand, leave.
-    pub(crate) fn discard(&mut self, alloc: Global) -> Result<(), WorldFault>
-        requires stands { Stands D.reads D.may_leave self.old }
+    /// Lets the first that waits, which is to be decided by hand, leave, and whether it did: else it has stopped, which is said.
+    pub(crate) fn discard(&mut self, alloc: Global, out: &mut Text) -> Result<bool, NoMemory>
+        requires stands { Stands (medium D.reads D.may_leave D.faults D.arms) self.old }
         requires manual { HeadIs IsByHand (state_in self.old).items }
-        ensures does { OnOk result (Noted D.reads D.may_leave leave self.old self.new) }
-        ensures disk { SameDisk D.arms D.faults (CallCounts result) (disk_in self.old) (disk_in self.new) }
+        ensures does { IfOk result (λ on. NotedIf (medium D.reads D.may_leave D.faults D.arms) on leave self.old self.new out.old out.new) }
+        ensures disk { SameDisk D.arms (disk_in self.old) (disk_in self.new) }
     {
-        match &mut self.node {
-            ClientNode::Up(client) => match client.discard(alloc) {
-                Ok(()) => Ok(()),
-                Err(fault) => Err(WorldFault::of_client(fault)),
-            },
-            ClientNode::Down(_) | ClientNode::Between => unreachable!(),
-        }
+        let count = self.records();
+        let answer = match &mut self.node {
+            ClientNode::Up(client) => client.discard(alloc),
+            ClientNode::Down { .. } | ClientNode::Between => unreachable!(),
+        };
+        Ok(self.goes_on(answer, count, out)?.is_some())
     }
 }
 

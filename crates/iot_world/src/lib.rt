@@ -3,7 +3,6 @@
 
 mod answers;
 mod disks;
-mod fault;
 mod laptop;
 mod looking;
 mod message;
@@ -16,5 +15,4 @@ mod transactions;
 mod verdict;
 mod world;
 
-pub use fault::WorldFault;
 pub use world::World;

@@ -1,6 +1,6 @@
 //! What a client sends to the server.
 ghost use Rattle.std.specs.Prelude.{◌≡◌, ◌++◌, None, OnOk};
-ghost use Rattle.iot_world.specs.Messages.{commit_said};
+ghost use Rattle.iot_world.specs.Messages.{commit_said, printed_under};
 
 use crate::texts::{Transaction, say_commit};
 use iot_text::{NoMemory, Text};
@@ -41,16 +41,22 @@ impl Message {
         }
     }
 
-    /// What the server says if it had so many commits before the request, and has so many now: the line of the commit, and what
-    /// its script printed.
+    /// What the server says if it had so many commits before the request, and has so many now.
     pub(crate) fn say_commit(&self, before: u64, now: u64, out: &mut Text) -> Result<(), NoMemory>
         ensures { OnOk result (out.new ≡ out.old ++ commit_said before now self.now) }
     {
         if now <= before {
             return Ok(());
         }
+        self.say_under(now, out)
+    }
+
+    /// What a commit of it says under this number: its line, and what its script printed.
+    pub(crate) fn say_under(&self, number: u64, out: &mut Text) -> Result<(), NoMemory>
+        ensures { OnOk result (out.new ≡ out.old ++ printed_under number self.now.handed) }
+    {
         match &self.handed {
-            Some(handed) => say_commit(now, handed, out),
+            Some(handed) => say_commit(number, handed, out),
             None => Ok(()),
         }
     }

@@ -1,4 +1,5 @@
 //! What a client asks of the server: objects, over its link.
+ghost use Rattle.iot_world.specs.Disks.{medium};
 ghost use Rattle.std.specs.Prelude.{◌≡◌, ℕ, OnOk, IfOk, true};
 ghost use Rattle.iot_client.specs.Messages.{IsRefresh};
 ghost use Rattle.iot_client.specs.Ties.{state_of, place_of};
@@ -8,26 +9,24 @@ ghost use Rattle.iot_machine.specs.Clients.{hold, fetch};
 ghost use Rattle.iot_machine.specs.Events.{Hoards, Refreshes};
 ghost use Rattle.iot_machine.specs.Serving.{Submission, Lends, Judges};
 ghost use Rattle.iot_machine.specs.Transactions.{Holds, Takes};
-ghost use Rattle.iot_world.specs.Faults.{CallCountsAll};
 ghost use Rattle.iot_world.specs.Laptops.{IsFirst};
 ghost use Rattle.iot_world.specs.Messages.{IsSomeRequest, SpellsCut, SpellsVerdict};
 ghost use Rattle.iot_world.specs.Servers.{IsHanded};
 
 use crate::answers::Brought;
-use crate::fault::WorldFault;
 use crate::message::Message;
 use crate::texts::{say, say_hoard, say_refresh};
 use crate::world::World;
 use iot_disk::Disk;
 use iot_link::Passage;
-use iot_text::{Path, Text};
+use iot_text::{NoMemory, Path, Text};
 use iot_tree::{Duplicate, Want};
 use std::alloc::Global;
 
 impl<D: Disk> World<D> {
     ghost use Rattle.iot_world.specs.Nodes.{state_in};
-    ghost use Rattle.iot_world.specs.World.{Steps, IsReady, SameCounts, SameDisks, CanHold, ClientIs, IsAsked};
-    ghost use Rattle.iot_world.specs.World.{Exchanges, KeepsState, KeepsClients, brought_of};
+    ghost use Rattle.iot_world.specs.World.{Steps, IsReady, SameCounts, SameDeclared, SameIf, SameDisks, CanHold, ClientIs, IsAsked};
+    ghost use Rattle.iot_world.specs.World.{Exchanges, KeepsState, KeepsClients, brought_of, brought_on, IsOwn};
 
     pub(crate) fn hoard(
         &mut self,
@@ -35,11 +34,12 @@ impl<D: Disk> World<D> {
         client: u64,
         path: &Path,
         out: &mut Text,
-    ) -> Result<(), WorldFault>
-        requires ready { IsReady D.reads D.may_leave client self.old }
-        ensures step { OnOk result (Steps D.reads D.may_leave (Hoards client path.now) self.old self.new out.old out.new tt) }
-        ensures counts { OnOk result (SameCounts self.old self.new) }
-        ensures disks { SameDisks D.arms D.faults (CallCountsAll result) self.old self.new }
+    ) -> Result<(), NoMemory>
+        requires ready { IsReady (medium D.reads D.may_leave D.faults D.arms) client self.old }
+        ensures step { OnOk result
+            (Steps (medium D.reads D.may_leave D.faults D.arms) (Hoards client path.now) self.old self.new out.old out.new tt) }
+        ensures counts { OnOk result (SameDeclared self.old self.new) }
+        ensures disks { SameDisks D.arms self.old self.new }
     {
         let want = Want::Below(path.copy(alloc)?);
         if !self.take(alloc, client, &want, out)? {
@@ -54,11 +54,12 @@ impl<D: Disk> World<D> {
         alloc: Global,
         client: u64,
         out: &mut Text,
-    ) -> Result<(), WorldFault>
-        requires ready { IsReady D.reads D.may_leave client self.old }
-        ensures step { OnOk result (Steps D.reads D.may_leave (Refreshes client) self.old self.new out.old out.new tt) }
-        ensures counts { OnOk result (SameCounts self.old self.new) }
-        ensures disks { SameDisks D.arms D.faults (CallCountsAll result) self.old self.new }
+    ) -> Result<(), NoMemory>
+        requires ready { IsReady (medium D.reads D.may_leave D.faults D.arms) client self.old }
+        ensures step { OnOk result
+            (Steps (medium D.reads D.may_leave D.faults D.arms) (Refreshes client) self.old self.new out.old out.new tt) }
+        ensures counts { OnOk result (SameDeclared self.old self.new) }
+        ensures disks { SameDisks D.arms self.old self.new }
     {
         if !self.take(alloc, client, &Want::Nothing, out)? {
             return Ok(());
@@ -74,11 +75,12 @@ impl<D: Disk> World<D> {
         client: u64,
         want: &Want,
         out: &mut Text,
-    ) -> Result<bool, WorldFault>
-        requires ready { IsReady D.reads D.may_leave client self.old }
-        ensures step { IfOk result (Steps D.reads D.may_leave (Takes client want.now) self.old self.new out.old out.new) }
-        ensures counts { OnOk result (SameCounts self.old self.new) }
-        ensures disks { SameDisks D.arms D.faults (CallCountsAll result) self.old self.new }
+    ) -> Result<bool, NoMemory>
+        requires ready { IsReady (medium D.reads D.may_leave D.faults D.arms) client self.old }
+        ensures step { IfOk result
+            (Steps (medium D.reads D.may_leave D.faults D.arms) (Takes client want.now) self.old self.new out.old out.new) }
+        ensures counts { IfOk result (λ on. SameIf on self.old self.new) }
+        ensures disks { SameDisks D.arms self.old self.new }
     {
         if self.clients[client as usize].runs() {
             say(b"busy", out)?;
@@ -94,6 +96,7 @@ impl<D: Disk> World<D> {
                 say(b"away", out)?;
                 Ok(false)
             }
+            Brought::Stopped => Ok(false),
         }
     }
 
@@ -104,19 +107,22 @@ impl<D: Disk> World<D> {
         client: u64,
         want: &Want,
         out: &mut Text,
-    ) -> Result<Brought, WorldFault>
-        requires ready { IsReady D.reads D.may_leave client self.old }
+    ) -> Result<Brought, NoMemory>
+        requires ready { IsReady (medium D.reads D.may_leave D.faults D.arms) client self.old }
         requires can { CanHold client self.old }
         ensures step { IfOk result (λ brought.
-            Steps D.reads D.may_leave (Holds client hold want.now) self.old self.new out.old out.new (brought_of brought)) }
-        ensures can { OnOk result (CanHold client self.new) }
-        ensures counts { OnOk result (SameCounts self.old self.new) }
-        ensures disks { SameDisks D.arms D.faults (CallCountsAll result) self.old self.new }
+            Steps (medium D.reads D.may_leave D.faults D.arms) (Holds client hold want.now)
+            self.old self.new out.old out.new (brought_of brought)) }
+        ensures can { IfOk result (λ brought. brought_on (brought_of brought) ≡ true → CanHold client self.new) }
+        ensures counts { IfOk result (λ brought. SameIf (brought_on (brought_of brought)) self.old self.new) }
+        ensures disks { SameDisks D.arms self.old self.new }
     {
         let message = self.clients[client as usize].ask(alloc, want)?;
         match self.exchange(alloc, client, &message, out)? {
             Some(reply) => {
-                self.clients[client as usize].take(alloc, &reply)?;
+                if !self.clients[client as usize].take(alloc, &reply, out)? {
+                    return Ok(Brought::Stopped);
+                }
                 Ok(Brought::Held)
             }
             None => Ok(Brought::Missed),
@@ -130,20 +136,23 @@ impl<D: Disk> World<D> {
         client: u64,
         request: Text,
         out: &mut Text,
-    ) -> Result<Brought, WorldFault>
-        requires ready { IsReady D.reads D.may_leave client self.old }
+    ) -> Result<Brought, NoMemory>
+        requires ready { IsReady (medium D.reads D.may_leave D.faults D.arms) client self.old }
         requires first { ClientIs IsFirst client self.old }
         requires asked { IsAsked client request self.old }
         ensures step { IfOk result (λ brought. (want : Want)
             → ClientIs (λ was. IsRefresh (was.place) (state_in was).held want request) client self.old
-            → Steps D.reads D.may_leave (Holds client fetch want) self.old self.new out.old out.new (brought_of brought)) }
-        ensures counts { OnOk result (SameCounts self.old self.new) }
-        ensures disks { SameDisks D.arms D.faults (CallCountsAll result) self.old self.new }
+            → Steps (medium D.reads D.may_leave D.faults D.arms) (Holds client fetch want)
+            self.old self.new out.old out.new (brought_of brought)) }
+        ensures counts { IfOk result (λ brought. SameIf (brought_on (brought_of brought)) self.old self.new) }
+        ensures disks { SameDisks D.arms self.old self.new }
     {
         let message = Message::asking(request.into_bytes());
         match self.exchange(alloc, client, &message, out)? {
             Some(reply) => {
-                self.clients[client as usize].fetched(alloc, &reply)?;
+                if !self.clients[client as usize].fetched(alloc, &reply, out)? {
+                    return Ok(Brought::Stopped);
+                }
                 Ok(Brought::Held)
             }
             None => Ok(Brought::Missed),
@@ -157,17 +166,19 @@ impl<D: Disk> World<D> {
         client: u64,
         message: &Message,
         out: &mut Text,
-    ) -> Result<Option<Vec<u8>>, WorldFault>
-        requires ready { IsReady D.reads D.may_leave client self.old }
+    ) -> Result<Option<Vec<u8>>, NoMemory>
+        requires ready { IsReady (medium D.reads D.may_leave D.faults D.arms) client self.old }
         requires request { IsSomeRequest message.now.request.items }
         ensures lends { IfOk result (λ reply. (place : ℕ) (held : Nodes) (want : Want) → IsRefresh place held want message.now.request.items
-            → Exchanges D.reads D.may_leave client (Lends held want) (SpellsCut held want) reply self.old self.new out.old out.new) }
-        ensures judges { IfOk result (λ reply. (it : Submission) → IsHanded message.now it
-            → Exchanges D.reads D.may_leave client (Judges it) (SpellsVerdict it.reads) reply self.old self.new out.old out.new) }
+            → Exchanges (medium D.reads D.may_leave D.faults D.arms) client (Lends held want) (SpellsCut held want) reply
+            self.old self.new out.old out.new) }
+        ensures judges { IfOk result (λ reply. (it : Submission) → IsHanded message.now it → IsOwn client it self.old
+            → Exchanges (medium D.reads D.may_leave D.faults D.arms) client (Judges it) (SpellsVerdict it.reads) reply
+            self.old self.new out.old out.new) }
         ensures clients { IfOk result (λ reply. KeepsClients client reply self.old self.new) }
         ensures state { OnOk result (KeepsState client self.old self.new) }
         ensures counts { OnOk result (SameCounts self.old self.new) }
-        ensures disks { SameDisks D.arms D.faults (CallCountsAll result) self.old self.new }
+        ensures disks { SameDisks D.arms self.old self.new }
     {
         let up = self.server.is_up();
         match self.clients[client as usize].pass(up) {
@@ -177,10 +188,13 @@ impl<D: Disk> World<D> {
                 let _lost = self.server.serve(alloc, message, out)?;
                 Ok(None)
             }
-            Passage::Both => {
-                let reply = self.server.serve(alloc, message, out)?;
-                Ok(Some(reply))
-            }
+            Passage::Both => match self.server.serve(alloc, message, out)? {
+                Some(reply) => Ok(Some(reply)),
+                None => {
+                    self.clients[client as usize].broke();
+                    Ok(None)
+                }
+            },
         }
     }
 }

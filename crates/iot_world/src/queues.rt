@@ -1,19 +1,18 @@
 //! A client's link, and the transactions that wait there for the server.
+ghost use Rattle.iot_world.specs.Disks.{medium};
 ghost use Rattle.std.specs.Prelude.{◌≡◌, ◌<◌, ℕ, List, Some, length, OnOk, IfOk, IsSome};
 ghost use Rattle.iot_kept.specs.Changes.{HeadIs};
 ghost use Rattle.iot_lang.specs.Scripts.{IsScript};
 ghost use Rattle.iot_machine.specs.Calls.{Nothing, Asks, Then, either};
-ghost use Rattle.iot_machine.specs.Events.{Refreshes, Connects, Disconnects, Loses, SyncsAloud, Drains, is_drained, Repairs, Discards};
+ghost use Rattle.iot_machine.specs.Events.{syncs_on, Refreshes, Connects, Disconnects, Loses, SyncsAloud, Drains, is_drained, Repairs};
+ghost use Rattle.iot_machine.specs.Events.{Discards};
 ghost use Rattle.iot_machine.specs.Transactions.{Syncs, SyncsAll};
 ghost use Rattle.iot_tree.specs.Tree.{Nodes, IsWhole};
-ghost use Rattle.iot_world.specs.Disks.{NoneRose};
-ghost use Rattle.iot_world.specs.Faults.{CallCountsAll};
 ghost use Rattle.iot_world.specs.Laptops.{head_name, HandsIn, AsksAll, IsHeadPlan};
 ghost use Rattle.iot_world.specs.Messages.{BringsTree, SpellsTree};
 ghost use Rattle.iot_world.specs.Scripts.{script_named, code_named};
 
 use crate::answers::Synced;
-use crate::fault::WorldFault;
 use crate::message::{Message, Need};
 use crate::texts::{
     Transaction, say, say_connect, say_discard, say_disconnect, say_lose, say_manual, say_repair,
@@ -30,16 +29,17 @@ use std::rc::Rc;
 
 impl<D: Disk> World<D> {
     ghost use Rattle.iot_world.specs.Nodes.{state_in};
-    ghost use Rattle.iot_world.specs.World.{Steps, IsInside, IsReady, SameCounts, SameDisks, ClientIs, synced_of};
+    ghost use Rattle.iot_world.specs.World.{Steps, IsInside, IsReady, SameCounts, SameDeclared, SameIf, SameDisks, ClientIs, synced_of};
     ghost use Rattle.iot_world.specs.World.{scripts_of, CarriesOut};
 
     // ---- the link
 
     pub(crate) fn connect(&mut self, client: u64, out: &mut Text) -> Result<(), NoMemory>
-        requires inside { IsInside D.reads D.may_leave client self.old }
-        ensures step { OnOk result (Steps D.reads D.may_leave (Connects client) self.old self.new out.old out.new tt) }
+        requires inside { IsInside (medium D.reads D.may_leave D.faults D.arms) client self.old }
+        ensures step { OnOk result
+            (Steps (medium D.reads D.may_leave D.faults D.arms) (Connects client) self.old self.new out.old out.new tt) }
         ensures counts { OnOk result (SameCounts self.old self.new) }
-        ensures disks { SameDisks D.arms D.faults NoneRose self.old self.new }
+        ensures disks { SameDisks D.arms self.old self.new }
     {
         let laptop = &mut self.clients[client as usize];
         laptop.connect();
@@ -48,10 +48,11 @@ impl<D: Disk> World<D> {
     }
 
     pub(crate) fn disconnect(&mut self, client: u64, out: &mut Text) -> Result<(), NoMemory>
-        requires inside { IsInside D.reads D.may_leave client self.old }
-        ensures step { OnOk result (Steps D.reads D.may_leave (Disconnects client) self.old self.new out.old out.new tt) }
+        requires inside { IsInside (medium D.reads D.may_leave D.faults D.arms) client self.old }
+        ensures step { OnOk result
+            (Steps (medium D.reads D.may_leave D.faults D.arms) (Disconnects client) self.old self.new out.old out.new tt) }
         ensures counts { OnOk result (SameCounts self.old self.new) }
-        ensures disks { SameDisks D.arms D.faults NoneRose self.old self.new }
+        ensures disks { SameDisks D.arms self.old self.new }
     {
         let laptop = &mut self.clients[client as usize];
         laptop.disconnect();
@@ -60,10 +61,11 @@ impl<D: Disk> World<D> {
     }
 
     pub(crate) fn lose(&mut self, client: u64, loss: Loss, out: &mut Text) -> Result<(), NoMemory>
-        requires inside { IsInside D.reads D.may_leave client self.old }
-        ensures step { OnOk result (Steps D.reads D.may_leave (Loses client loss) self.old self.new out.old out.new tt) }
+        requires inside { IsInside (medium D.reads D.may_leave D.faults D.arms) client self.old }
+        ensures step { OnOk result
+            (Steps (medium D.reads D.may_leave D.faults D.arms) (Loses client loss) self.old self.new out.old out.new tt) }
         ensures counts { OnOk result (SameCounts self.old self.new) }
-        ensures disks { SameDisks D.arms D.faults NoneRose self.old self.new }
+        ensures disks { SameDisks D.arms self.old self.new }
     {
         let laptop = &mut self.clients[client as usize];
         laptop.lose(loss);
@@ -78,11 +80,12 @@ impl<D: Disk> World<D> {
         alloc: Global,
         client: u64,
         out: &mut Text,
-    ) -> Result<(), WorldFault>
-        requires ready { IsReady D.reads D.may_leave client self.old }
-        ensures step { OnOk result (Steps D.reads D.may_leave (SyncsAloud client) self.old self.new out.old out.new tt) }
-        ensures counts { OnOk result (SameCounts self.old self.new) }
-        ensures disks { SameDisks D.arms D.faults (CallCountsAll result) self.old self.new }
+    ) -> Result<(), NoMemory>
+        requires ready { IsReady (medium D.reads D.may_leave D.faults D.arms) client self.old }
+        ensures step { OnOk result
+            (Steps (medium D.reads D.may_leave D.faults D.arms) (SyncsAloud client) self.old self.new out.old out.new tt) }
+        ensures counts { OnOk result (SameDeclared self.old self.new) }
+        ensures disks { SameDisks D.arms self.old self.new }
     {
         let _synced = self.sync(alloc, client, out)?;
         Ok(())
@@ -94,12 +97,12 @@ impl<D: Disk> World<D> {
         alloc: Global,
         client: u64,
         out: &mut Text,
-    ) -> Result<Synced, WorldFault>
-        requires ready { IsReady D.reads D.may_leave client self.old }
+    ) -> Result<Synced, NoMemory>
+        requires ready { IsReady (medium D.reads D.may_leave D.faults D.arms) client self.old }
         ensures step { IfOk result (λ synced.
-            Steps D.reads D.may_leave (Syncs client) self.old self.new out.old out.new (synced_of synced)) }
-        ensures counts { OnOk result (SameCounts self.old self.new) }
-        ensures disks { SameDisks D.arms D.faults (CallCountsAll result) self.old self.new }
+            Steps (medium D.reads D.may_leave D.faults D.arms) (Syncs client) self.old self.new out.old out.new (synced_of synced)) }
+        ensures counts { IfOk result (λ synced. SameIf (syncs_on (synced_of synced)) self.old self.new) }
+        ensures disks { SameDisks D.arms self.old self.new }
     {
         let laptop = &self.clients[client as usize];
         let Some(transaction) = laptop.head() else {
@@ -124,19 +127,22 @@ impl<D: Disk> World<D> {
         transaction: &Transaction,
         message: &Message,
         out: &mut Text,
-    ) -> Result<Synced, WorldFault>
-        requires ready { IsReady D.reads D.may_leave client self.old }
+    ) -> Result<Synced, NoMemory>
+        requires ready { IsReady (medium D.reads D.may_leave D.faults D.arms) client self.old }
         requires head { ClientIs (λ laptop. head_name laptop (state_in laptop).items ≡ Some transaction.now) client self.old }
         requires hands { ClientIs (λ laptop. HeadIs (λ item. HandsIn laptop item message.now) (state_in laptop).items)
             client self.old }
         ensures step { IfOk result (λ synced.
-            Steps D.reads D.may_leave (Syncs client) self.old self.new out.old out.new (synced_of synced)) }
-        ensures counts { OnOk result (SameCounts self.old self.new) }
-        ensures disks { SameDisks D.arms D.faults (CallCountsAll result) self.old self.new }
+            Steps (medium D.reads D.may_leave D.faults D.arms) (Syncs client) self.old self.new out.old out.new (synced_of synced)) }
+        ensures counts { IfOk result (λ synced. SameIf (syncs_on (synced_of synced)) self.old self.new) }
+        ensures disks { SameDisks D.arms self.old self.new }
     {
         match self.exchange(alloc, client, message, out)? {
             Some(reply) => {
-                let told = self.clients[client as usize].settle(alloc, &reply)?;
+                let settled = self.clients[client as usize].settle(alloc, &reply, out)?;
+                let Some(told) = settled else {
+                    return Ok(Synced::Halted);
+                };
                 say_told(transaction, &told, out)?;
                 Ok(told.synced())
             }
@@ -155,20 +161,22 @@ impl<D: Disk> World<D> {
         transaction: &Transaction,
         message: &Message,
         out: &mut Text,
-    ) -> Result<Synced, WorldFault>
-        requires ready { IsReady D.reads D.may_leave client self.old }
+    ) -> Result<Synced, NoMemory>
+        requires ready { IsReady (medium D.reads D.may_leave D.faults D.arms) client self.old }
         requires head { ClientIs (λ laptop. head_name laptop (state_in laptop).items ≡ Some transaction.now) client self.old }
         requires asks { ClientIs (λ laptop. HeadIs (λ item. AsksAll laptop item message.now) (state_in laptop).items)
             client self.old }
         ensures step { IfOk result (λ synced.
-            Steps D.reads D.may_leave (Syncs client) self.old self.new out.old out.new (synced_of synced)) }
-        ensures counts { OnOk result (SameCounts self.old self.new) }
-        ensures disks { SameDisks D.arms D.faults (CallCountsAll result) self.old self.new }
+            Steps (medium D.reads D.may_leave D.faults D.arms) (Syncs client) self.old self.new out.old out.new (synced_of synced)) }
+        ensures counts { IfOk result (λ synced. SameIf (syncs_on (synced_of synced)) self.old self.new) }
+        ensures disks { SameDisks D.arms self.old self.new }
     {
         match self.exchange(alloc, client, message, out)? {
             Some(reply) => {
                 let plan = self.clients[client as usize].plan();
-                self.carry_out(alloc, client, &plan, &reply)?;
+                if !self.carry_out(alloc, client, &plan, &reply, out)? {
+                    return Ok(Synced::Halted);
+                }
                 say_resolve(transaction, &plan, out)?;
                 Ok(Synced::Moved)
             }
@@ -179,25 +187,26 @@ impl<D: Disk> World<D> {
         }
     }
 
-    /// Runs what is planned for the first transaction that waits, on the whole tree that the reply brings.
+    /// Runs what is planned for the first transaction that waits, on the whole tree that the reply brings; and whether the client goes on.
     fn carry_out(
         &mut self,
         alloc: Global,
         client: u64,
         plan: &Plan,
         reply: &[u8],
-    ) -> Result<(), WorldFault>
-        requires ready { IsReady D.reads D.may_leave client self.old }
+        out: &mut Text,
+    ) -> Result<bool, NoMemory>
+        requires ready { IsReady (medium D.reads D.may_leave D.faults D.arms) client self.old }
         requires planned { ClientIs (λ laptop. IsHeadPlan (state_in laptop).items plan.now) client self.old }
         requires brings { BringsTree reply.now }
         requires whole { (t : Nodes) → SpellsTree reply.now t → IsWhole t }
-        ensures step { OnOk result ((t : Nodes) → SpellsTree reply.now t → CarriesOut D.reads D.may_leave client t self.old self.new) }
-        ensures counts { OnOk result (SameCounts self.old self.new) }
-        ensures disks { SameDisks D.arms D.faults (CallCountsAll result) self.old self.new }
+        ensures step { IfOk result (λ on. (t : Nodes) → SpellsTree reply.now t
+            → CarriesOut (medium D.reads D.may_leave D.faults D.arms) client t on self.old self.new out.old out.new) }
+        ensures counts { IfOk result (λ on. SameIf on self.old self.new) }
+        ensures disks { SameDisks D.arms self.old self.new }
     {
         let code = self.script_named(&plan.script)?;
-        self.clients[client as usize].resolve(alloc, reply, code)?;
-        Ok(())
+        self.clients[client as usize].resolve(alloc, reply, code, out)
     }
 
     /// The script of this name, which is declared.
@@ -218,12 +227,12 @@ impl<D: Disk> World<D> {
         alloc: Global,
         client: u64,
         out: &mut Text,
-    ) -> Result<Synced, WorldFault>
-        requires ready { IsReady D.reads D.may_leave client self.old }
+    ) -> Result<Synced, NoMemory>
+        requires ready { IsReady (medium D.reads D.may_leave D.faults D.arms) client self.old }
         ensures step { IfOk result (λ synced.
-            Steps D.reads D.may_leave (SyncsAll client) self.old self.new out.old out.new (synced_of synced)) }
-        ensures counts { OnOk result (SameCounts self.old self.new) }
-        ensures disks { SameDisks D.arms D.faults (CallCountsAll result) self.old self.new }
+            Steps (medium D.reads D.may_leave D.faults D.arms) (SyncsAll client) self.old self.new out.old out.new (synced_of synced)) }
+        ensures counts { IfOk result (λ synced. SameIf (syncs_on (synced_of synced)) self.old self.new) }
+        ensures disks { SameDisks D.arms self.old self.new }
     {
         let most = self.clients[client as usize].most_syncs()?;
         'syncs: for _ in 0..most {
@@ -244,11 +253,12 @@ impl<D: Disk> World<D> {
         alloc: Global,
         client: u64,
         out: &mut Text,
-    ) -> Result<(), WorldFault>
-        requires ready { IsReady D.reads D.may_leave client self.old }
-        ensures step { OnOk result (Steps D.reads D.may_leave (Drains client) self.old self.new out.old out.new tt) }
-        ensures counts { OnOk result (SameCounts self.old self.new) }
-        ensures disks { SameDisks D.arms D.faults (CallCountsAll result) self.old self.new }
+    ) -> Result<(), NoMemory>
+        requires ready { IsReady (medium D.reads D.may_leave D.faults D.arms) client self.old }
+        ensures step { OnOk result
+            (Steps (medium D.reads D.may_leave D.faults D.arms) (Drains client) self.old self.new out.old out.new tt) }
+        ensures counts { OnOk result (SameDeclared self.old self.new) }
+        ensures disks { SameDisks D.arms self.old self.new }
     {
         let before = out.len();
         let _synced = self.sync_all(alloc, client, out)?;
@@ -266,12 +276,12 @@ impl<D: Disk> World<D> {
         alloc: Global,
         client: u64,
         out: &mut Text,
-    ) -> Result<(), WorldFault>
-        requires ready { IsReady D.reads D.may_leave client self.old }
-        ensures step { OnOk result (Steps D.reads D.may_leave
+    ) -> Result<(), NoMemory>
+        requires inside { IsInside (medium D.reads D.may_leave D.faults D.arms) client self.old }
+        ensures step { OnOk result (Steps (medium D.reads D.may_leave D.faults D.arms)
             (Then (Asks (is_drained client)) (either (Refreshes client) Nothing)) self.old self.new out.old out.new tt) }
-        ensures counts { OnOk result (SameCounts self.old self.new) }
-        ensures disks { SameDisks D.arms D.faults (CallCountsAll result) self.old self.new }
+        ensures counts { OnOk result (SameDeclared self.old self.new) }
+        ensures disks { SameDisks D.arms self.old self.new }
     {
         if !self.clients[client as usize].is_drained() {
             return Ok(());
@@ -289,12 +299,13 @@ impl<D: Disk> World<D> {
         client: u64,
         script: u64,
         out: &mut Text,
-    ) -> Result<(), WorldFault>
-        requires ready { IsReady D.reads D.may_leave client self.old }
+    ) -> Result<(), NoMemory>
+        requires ready { IsReady (medium D.reads D.may_leave D.faults D.arms) client self.old }
         requires script { script < length self.old.scripts.items }
-        ensures step { OnOk result (Steps D.reads D.may_leave (Repairs client script) self.old self.new out.old out.new tt) }
-        ensures counts { OnOk result (SameCounts self.old self.new) }
-        ensures disks { SameDisks D.arms D.faults (CallCountsAll result) self.old self.new }
+        ensures step { OnOk result
+            (Steps (medium D.reads D.may_leave D.faults D.arms) (Repairs client script) self.old self.new out.old out.new tt) }
+        ensures counts { OnOk result (SameDeclared self.old self.new) }
+        ensures disks { SameDisks D.arms self.old self.new }
     {
         let transaction = match self.clients[client as usize].decision() {
             Ok(transaction) => transaction,
@@ -304,8 +315,9 @@ impl<D: Disk> World<D> {
             }
         };
         let name = self.scripts[script as usize].name;
-        self.clients[client as usize].repair(alloc, &name)?;
-        say_repair(&transaction, &name, out)?;
+        if self.clients[client as usize].repair(alloc, &name, out)? {
+            say_repair(&transaction, &name, out)?;
+        }
         Ok(())
     }
 
@@ -315,11 +327,12 @@ impl<D: Disk> World<D> {
         alloc: Global,
         client: u64,
         out: &mut Text,
-    ) -> Result<(), WorldFault>
-        requires ready { IsReady D.reads D.may_leave client self.old }
-        ensures step { OnOk result (Steps D.reads D.may_leave (Discards client) self.old self.new out.old out.new tt) }
-        ensures counts { OnOk result (SameCounts self.old self.new) }
-        ensures disks { SameDisks D.arms D.faults (CallCountsAll result) self.old self.new }
+    ) -> Result<(), NoMemory>
+        requires ready { IsReady (medium D.reads D.may_leave D.faults D.arms) client self.old }
+        ensures step { OnOk result
+            (Steps (medium D.reads D.may_leave D.faults D.arms) (Discards client) self.old self.new out.old out.new tt) }
+        ensures counts { OnOk result (SameDeclared self.old self.new) }
+        ensures disks { SameDisks D.arms self.old self.new }
     {
         let transaction = match self.clients[client as usize].decision() {
             Ok(transaction) => transaction,
@@ -328,8 +341,9 @@ impl<D: Disk> World<D> {
                 return Ok(());
             }
         };
-        self.clients[client as usize].discard(alloc)?;
-        say_discard(&transaction, out)?;
+        if self.clients[client as usize].discard(alloc, out)? {
+            say_discard(&transaction, out)?;
+        }
         Ok(())
     }
 }

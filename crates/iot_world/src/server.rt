@@ -1,22 +1,23 @@
-//! The server as a node: alive, or down with its disk.
-ghost use Rattle.std.specs.Prelude.{◌≡◌, ◌+◌, [], ℕ, true, false, Some, IfOk, IfErr, OnOk};
+//! The server as a node: alive, or down with its disk. Here alone a disk that fails becomes a stop of the server.
+ghost use Rattle.std.specs.Prelude.{◌≡◌, ◌+◌, ◌++◌, [], ℕ, List, true, false, Some, IfOk, IfErr, OnOk, is_some};
 ghost use Rattle.std.specs.Option.{option_copied};
 ghost use Rattle.iot_client.specs.Messages.{IsRefresh};
-ghost use Rattle.iot_disk.specs.Disk.{Only};
 ghost use Rattle.iot_tree.specs.Tree.{Nodes};
 ghost use Rattle.iot_tree.specs.declared.want.Want.{Want};
 ghost use Rattle.iot_machine.specs.Refining.{Refines};
-ghost use Rattle.iot_machine.specs.Nodes.{opened};
-ghost use Rattle.iot_machine.specs.Stops.{ComesBack, Crashes, Restarts, Shows};
+ghost use Rattle.iot_machine.specs.Nodes.{unopened};
+ghost use Rattle.iot_machine.specs.Stops.{OpensNode, Crashes, Restarts, ArmsDisk, Shows};
 ghost use Rattle.iot_machine.specs.Machine.{tree_after};
-ghost use Rattle.iot_machine.specs.Serving.{Submission, Lends, Judges, server_name};
+ghost use Rattle.iot_machine.specs.Serving.{Submission, Lends, Judges, server_name, kept_text};
 ghost use Rattle.iot_machine.specs.Texts.{tree_text};
+ghost use Rattle.iot_world.specs.Deciding.{DecidesServer};
+ghost use Rattle.iot_world.specs.Disks.{medium, IsEmpty, SameDisk};
+ghost use Rattle.iot_world.specs.Servers.{back_said};
 
-use crate::fault::WorldFault;
 use crate::message::Message;
-use crate::texts::{say, say_tree};
-use iot_disk::Disk;
-use iot_server::Server;
+use crate::texts::{say, say_failed_start, say_stop, say_tree};
+use iot_disk::{Disk, Pick};
+use iot_server::{Server, ServerFault};
 use iot_text::{NoMemory, Text};
 use iot_tree::Tree;
 use std::alloc::Global;
@@ -28,105 +29,157 @@ pub(crate) enum ServerNode<D: Disk> {
     /// Alive.
     Up(Server<D>),
 
-    /// Down: of all that it had only its disk is left.
-    Down(D),
+    /// Down: of all that it had only its disk is left. If it stopped in a commit, that is in doubt.
+    Down { disk: D, doubt: Option<Doubt> },
 
     /// Inside a call that starts or stops it.
     Between,
 }
 
+/// A commit that is in doubt.
+#[derive(Drop)]
+pub(crate) struct Doubt {
+    /// How many there are before it.
+    pub(crate) count: u64,
+
+    /// What it says if it was kept: its line, and what its script printed.
+    pub(crate) lines: Text,
+}
+
 impl<D: Disk> ServerNode<D> {
-    ghost use Rattle.iot_world.specs.Servers.{is_up, disk_of, count_of, tree_of, lent_of, ServerStands, ServerIsSound, Falls};
-    ghost use Rattle.iot_world.specs.Servers.{IsHanded, Serves, IsLive, Handled, HasAnswered, answered_since};
-    ghost use Rattle.iot_world.specs.Disks.{SameDisk};
-    ghost use Rattle.iot_world.specs.Servers.{HasDisk, Starts, HandsBack};
+    ghost use Rattle.iot_world.specs.Servers.{is_up, disk_of, count_of, tree_of, lent_of, ServerStands, ServerIsSound, IsUnopened};
+    ghost use Rattle.iot_world.specs.Servers.{IsHanded, IsNamedIn, Serves, IsLive, Handled, FallsWith, HasAnswered, answered};
+    ghost use Rattle.iot_world.specs.Servers.{answered_since, HasDisk, StopsHandling, ComesBackAloud};
     ghost use Rattle.iot_world.specs.Messages.{IsSomeRequest, SpellsCut, SpellsVerdict};
-    ghost use Rattle.iot_world.specs.Faults.{CallCounts};
-    ghost use Rattle.iot_count.specs.Counts.{IsSteady};
     ghost use Rattle.iot_world.specs.declared.server.ServerNode.TheVariants.{Down, Between};
 
-    /// A server on an empty disk.
-    pub(crate) fn start(alloc: Global, disk: D) -> Result<ServerNode<D>, (D, WorldFault)>
-        requires empty { D.reads disk ≡ [] }
-        requires only { Only (D.reads disk) (D.may_leave disk) }
-        ensures stands { IfOk result (λ server. ServerStands D.reads D.may_leave server (opened [])) }
-        ensures requests { IfOk result (λ server. HasAnswered 0 server) }
-        ensures disk { IfOk result (Starts D.arms D.faults disk) }
-        ensures refused { IfErr result (HandsBack D.arms D.faults disk) }
+    /// A server on an empty disk, which was never started.
+    pub(crate) fn unopened(disk: D) -> ServerNode<D>
+        requires { IsEmpty (medium D.reads D.may_leave D.faults D.arms) disk }
+        ensures stands { (names : List (List ℕ)) → ServerStands (medium D.reads D.may_leave D.faults D.arms) names result
+            (unopened [] ((medium D.reads D.may_leave D.faults D.arms).counts disk)) }
+        ensures unopened { IsUnopened (medium D.reads D.may_leave D.faults D.arms) result }
+        ensures disk { disk_of result ≡ Some disk }
     {
-        match Server::start(alloc, disk) {
-            Ok(server) => Ok(ServerNode::Up(server)),
-            Err((disk, fault)) => Err((disk, WorldFault::of_start(fault))),
+        ServerNode::Down { disk, doubt: None }
+    }
+
+    /// Starts for the first time, and whether it did. Else it has stopped, which is said.
+    pub(crate) fn open(&mut self, alloc: Global, out: &mut Text) -> Result<bool, NoMemory>
+        requires { IsUnopened (medium D.reads D.may_leave D.faults D.arms) self.old }
+        ensures step { IfOk result (λ on. (names : List (List ℕ))
+            → Refines (ServerStands (medium D.reads D.may_leave D.faults D.arms) names)
+            (OpensNode server_name) self.old self.new out.old out.new on) }
+        ensures requests { OnOk result (HasAnswered 0 self.new) }
+        ensures disk { SameDisk D.arms (disk_of self.old) (disk_of self.new) }
+    {
+        match mem::replace(self, ServerNode::Between) {
+            ServerNode::Down { disk, doubt } => match Server::start(alloc, disk) {
+                Ok(server) => {
+                    self.settle(ServerNode::Up(server));
+                    Ok(true)
+                }
+                Err((disk, fault)) => {
+                    self.settle(ServerNode::Down { disk, doubt });
+                    say_failed_start(fault, b"server", out)?;
+                    Ok(false)
+                }
+            },
+            _alive => unreachable!(),
         }
     }
 
-    /// Answers a request. If that commits the transaction that it hands in, its line and what it printed are said.
+    // ---- requests
+
+    /// Answers a request. If that commits the transaction that it hands in, its line and what it printed are said. If the disk fails in
+    /// the commit, the server has stopped: it is down, with the commit in doubt, that is said, and no reply comes.
     pub(crate) fn serve(
         &mut self,
         alloc: Global,
         message: &Message,
         out: &mut Text,
-    ) -> Result<Vec<u8>, WorldFault>
+    ) -> Result<Option<Vec<u8>>, NoMemory>
         requires up { is_up self.old ≡ true }
-        requires sound { ServerIsSound D.reads D.may_leave self.old }
+        requires sound { ServerIsSound (medium D.reads D.may_leave D.faults D.arms) self.old }
         requires request { IsSomeRequest message.now.request.items }
-        ensures up { OnOk result (is_up self.new ≡ true) }
-        ensures lends { IfOk result (λ reply. (client : ℕ) (held : Nodes) (want : Want)
+        ensures up { IfOk result (λ reply. is_up self.new ≡ is_some reply) }
+        ensures lends { IfOk result (λ reply. (client : ℕ) (held : Nodes) (want : Want) (names : List (List ℕ))
             → IsRefresh client held want message.now.request.items
-            → Serves D.reads D.may_leave (Lends held want) (SpellsCut held want) reply.items self.old self.new out.old out.new) }
-        ensures judges { IfOk result (λ reply. (it : Submission) → IsHanded message.now it
-            → Serves D.reads D.may_leave (Judges it) (SpellsVerdict it.reads) reply.items self.old self.new out.old out.new) }
-        ensures requests { OnOk result ((n : ℕ) → HasAnswered n self.old → HasAnswered (n + 1) self.new) }
-        ensures disk { SameDisk D.arms D.faults (CallCounts result) (disk_of self.old) (disk_of self.new) }
+            → Serves (medium D.reads D.may_leave D.faults D.arms) names (Lends held want) (SpellsCut held want) reply
+            self.old self.new out.old out.new) }
+        ensures judges { IfOk result (λ reply. (it : Submission) (names : List (List ℕ)) → IsHanded message.now it → IsNamedIn names it
+            → Serves (medium D.reads D.may_leave D.faults D.arms) names (Judges it) (SpellsVerdict it.reads) reply
+            self.old self.new out.old out.new) }
+        ensures requests { IfOk result (λ reply. (n : ℕ) → HasAnswered n self.old → HasAnswered (answered reply n) self.new) }
+        ensures disk { SameDisk D.arms (disk_of self.old) (disk_of self.new) }
     {
         let before = self.number();
-        let reply = self.handle(alloc, message)?;
-        message.say_commit(before, self.number(), out)?;
-        Ok(reply)
+        match self.handle(alloc, message) {
+            Ok(reply) => {
+                message.say_commit(before, self.number(), out)?;
+                Ok(Some(reply))
+            }
+            Err(ServerFault::NoMemory) => Err(NoMemory),
+            Err(ServerFault::Stopped) => {
+                let mut lines = Text::new(alloc);
+                message.say_under(before + 1, &mut lines)?;
+                self.fall_with(Some(Doubt {
+                    count: before,
+                    lines,
+                }));
+                say(b"server stopped", out)?;
+                Ok(None)
+            }
+            Err(ServerFault::Malformed { .. }) => unreachable!(),
+        }
     }
 
     /// What the server replies to the request.
-    fn handle(&mut self, alloc: Global, message: &Message) -> Result<Vec<u8>, WorldFault>
-        requires synced { IsLive D.reads D.may_leave self.old }
+    fn handle(&mut self, alloc: Global, message: &Message) -> Result<Vec<u8>, ServerFault>
+        requires synced { IsLive (medium D.reads D.may_leave D.faults D.arms) self.old }
         requires request { IsSomeRequest message.now.request.items }
-        ensures handled { IfOk result (λ reply. Handled D.reads D.may_leave message.now.request.items reply.items self.old self.new) }
+        ensures handled { IfOk result (λ reply.
+            Handled (medium D.reads D.may_leave D.faults D.arms) message.now.request.items reply.items self.old self.new) }
+        ensures stopped { StopsHandling (medium D.reads D.may_leave D.faults D.arms) message.now.request.items result self.old self.new }
         ensures requests { OnOk result ((n : ℕ) → HasAnswered n self.old → HasAnswered (n + 1) self.new) }
-        ensures disk { SameDisk D.arms D.faults (CallCounts result) (disk_of self.old) (disk_of self.new) }
+        ensures disk { SameDisk D.arms (disk_of self.old) (disk_of self.new) }
     {
         match self {
-            ServerNode::Up(server) => match server.handle(alloc, &message.request) {
-                Ok(reply) => Ok(reply),
-                Err(fault) => Err(WorldFault::of_handle(fault)),
-            },
-            ServerNode::Down(_) | ServerNode::Between => unreachable!(),
+            ServerNode::Up(server) => server.handle(alloc, &message.request),
+            ServerNode::Down { .. } | ServerNode::Between => unreachable!(),
         }
     }
+
+    // ---- crashes, restarts, and its disk
 
     /// Loses its memory.
     pub(crate) fn crash(&mut self, out: &mut Text) -> Result<(), NoMemory>
         requires { HasDisk self.old }
         ensures down { OnOk result (is_up self.new ≡ false) }
-        ensures step { OnOk result
-            (Refines (ServerStands D.reads D.may_leave) (Crashes server_name) self.old self.new out.old out.new tt) }
-        ensures disk { SameDisk D.arms D.faults IsSteady (disk_of self.old) (disk_of self.new) }
+        ensures step { OnOk result ((names : List (List ℕ)) → Refines (ServerStands (medium D.reads D.may_leave D.faults D.arms) names)
+            (Crashes server_name) self.old self.new out.old out.new tt) }
+        ensures disk { SameDisk D.arms (disk_of self.old) (disk_of self.new) }
     {
         if !self.is_up() {
             say(b"down", out)?;
             return Ok(());
         }
-        self.fall();
+        self.fall_with(None);
         say(b"crash server", out)?;
         Ok(())
     }
 
-    /// Is down from now on. What is not on the disk is lost.
-    fn fall(&mut self)
+    /// Is down from now on, with this in doubt. What is not on the disk is lost.
+    fn fall_with(&mut self, doubt: Option<Doubt>)
         requires { is_up self.old ≡ true }
-        ensures falls { Falls self.old self.new }
-        ensures disk { SameDisk D.arms D.faults IsSteady (disk_of self.old) (disk_of self.new) }
+        ensures falls { FallsWith doubt self.old self.new }
+        ensures disk { SameDisk D.arms (disk_of self.old) (disk_of self.new) }
     {
         match mem::replace(self, ServerNode::Between) {
-            ServerNode::Up(server) => self.settle(ServerNode::Down(server.into_disk())),
+            ServerNode::Up(server) => self.settle(ServerNode::Down {
+                disk: server.into_disk(),
+                doubt,
+            }),
             _down => unreachable!(),
         }
     }
@@ -142,54 +195,85 @@ impl<D: Disk> ServerNode<D> {
         }
     }
 
-    /// Comes back from one of the images that its crash left.
-    pub(crate) fn restart(&mut self, alloc: Global, out: &mut Text) -> Result<(), WorldFault>
-        requires { ServerIsSound D.reads D.may_leave self.old }
-        ensures up { OnOk result (is_up self.new ≡ true) }
+    /// Comes back from one of the images that its disk may have. A commit that was in doubt is printed if it was kept. If the disk fails
+    /// in that, the server has stopped again, and what was in doubt still is.
+    pub(crate) fn restart(&mut self, alloc: Global, out: &mut Text) -> Result<(), NoMemory>
+        requires { ServerIsSound (medium D.reads D.may_leave D.faults D.arms) self.old }
         ensures requests { OnOk result ((n : ℕ) → HasAnswered n self.old → HasAnswered (answered_since (is_up self.old) n) self.new) }
-        ensures step { OnOk result
-            (Refines (ServerStands D.reads D.may_leave) (Restarts server_name) self.old self.new out.old out.new tt) }
-        ensures disk { SameDisk D.arms D.faults (CallCounts result) (disk_of self.old) (disk_of self.new) }
+        ensures step { OnOk result ((names : List (List ℕ)) → Refines (ServerStands (medium D.reads D.may_leave D.faults D.arms) names)
+            (Restarts server_name (kept_text names)) self.old self.new out.old out.new tt) }
+
+        // If all images of its disk have the commit that is in doubt, or none has it, that decides whether it is kept.
+        ensures decided { OnOk result (DecidesServer D.may_leave self.old out.old out.new) }
+        ensures disk { SameDisk D.arms (disk_of self.old) (disk_of self.new) }
     {
         match mem::replace(self, ServerNode::Between) {
             ServerNode::Up(server) => {
                 self.settle(ServerNode::Up(server));
                 say(b"up", out)?;
             }
-            ServerNode::Down(disk) => self.come_back(alloc, disk, out)?,
+            ServerNode::Down { disk, doubt } => self.come_back(alloc, disk, doubt, out)?,
             ServerNode::Between => unreachable!(),
         }
         Ok(())
     }
 
-    /// Starts again from its disk.
-    fn come_back(&mut self, alloc: Global, mut disk: D, out: &mut Text) -> Result<(), WorldFault>
+    /// Starts again from its disk, and says so.
+    fn come_back(
+        &mut self,
+        alloc: Global,
+        mut disk: D,
+        doubt: Option<Doubt>,
+        out: &mut Text,
+    ) -> Result<(), NoMemory>
         requires between { self.old ≡ Between }
-        requires sound { ServerIsSound D.reads D.may_leave (Down disk) }
-        ensures up { OnOk result (is_up self.new ≡ true) }
+        requires sound { ServerIsSound (medium D.reads D.may_leave D.faults D.arms) (Down disk doubt) }
         ensures requests { OnOk result (HasAnswered 0 self.new) }
-        ensures step { OnOk result
-            (Refines (ServerStands D.reads D.may_leave) (ComesBack server_name) (Down disk) self.new out.old out.new tt) }
-        ensures disk { SameDisk D.arms D.faults (CallCounts result) (Some disk) (disk_of self.new) }
+        ensures step { OnOk result ((names : List (List ℕ)) → Refines (ServerStands (medium D.reads D.may_leave D.faults D.arms) names)
+            (ComesBackAloud names) (Down disk doubt) self.new out.old out.new tt) }
+        ensures decided { OnOk result (DecidesServer D.may_leave (Down disk doubt) out.old out.new) }
+        ensures disk { SameDisk D.arms (Some disk) (disk_of self.new) }
     {
         disk.restart();
         match Server::start(alloc, disk) {
             Ok(server) => {
+                let number = server.store().number();
                 self.settle(ServerNode::Up(server));
-                say(b"restart server", out)?;
+                say_back(&doubt, number, out)?;
                 Ok(())
             }
             Err((disk, fault)) => {
-                self.settle(ServerNode::Down(disk));
-                Err(WorldFault::of_start(fault))
+                self.settle(ServerNode::Down { disk, doubt });
+                say_failed_start(fault, b"server", out)?;
+                Ok(())
             }
         }
     }
 
+    /// Makes a later call of its disk fail, and says so.
+    pub(crate) fn arm(&mut self, calls: u64, pick: Pick, out: &mut Text) -> Result<(), NoMemory>
+        requires { HasDisk self.old }
+        ensures step { OnOk result ((names : List (List ℕ)) → Refines (ServerStands (medium D.reads D.may_leave D.faults D.arms) names)
+            (ArmsDisk server_name calls pick) self.old self.new out.old out.new tt) }
+        ensures requests { OnOk result ((n : ℕ) → HasAnswered n self.old → HasAnswered n self.new) }
+        ensures has { HasDisk self.new }
+        ensures disk { IfErr result (λ _. SameDisk D.arms (disk_of self.old) (disk_of self.new)) }
+    {
+        say_stop(b"server", calls, pick, out)?;
+        match self {
+            ServerNode::Up(server) => server.arm(calls, pick),
+            ServerNode::Down { disk, .. } => disk.arm(calls, pick),
+            ServerNode::Between => unreachable!(),
+        }
+        Ok(())
+    }
+
+    // ---- looking in
+
     /// Prints its tree, if it is alive; else `down`.
     pub(crate) fn show(&self, out: &mut Text) -> Result<(), NoMemory>
-        ensures { OnOk result (Refines (ServerStands D.reads D.may_leave) (Shows (λ commits. tree_text (tree_after commits)))
-            self.now self.now out.old out.new tt) }
+        ensures { OnOk result ((names : List (List ℕ)) → Refines (ServerStands (medium D.reads D.may_leave D.faults D.arms) names)
+            (Shows (λ commits. tree_text (tree_after commits))) self.now self.now out.old out.new tt) }
     {
         match self.tree() {
             Some(tree) => say_tree(tree, out)?,
@@ -211,7 +295,7 @@ impl<D: Disk> ServerNode<D> {
     {
         match self {
             ServerNode::Up(server) => Some(server),
-            ServerNode::Down(_) | ServerNode::Between => None,
+            ServerNode::Down { .. } | ServerNode::Between => None,
         }
     }
 
@@ -221,7 +305,7 @@ impl<D: Disk> ServerNode<D> {
     {
         match self {
             ServerNode::Up(server) => Some(server.store().tree()),
-            ServerNode::Down(_) | ServerNode::Between => None,
+            ServerNode::Down { .. } | ServerNode::Between => None,
         }
     }
 
@@ -231,7 +315,7 @@ impl<D: Disk> ServerNode<D> {
     {
         match self {
             ServerNode::Up(server) => server.store().number(),
-            ServerNode::Down(_) | ServerNode::Between => 0,
+            ServerNode::Down { .. } | ServerNode::Between => 0,
         }
     }
 
@@ -242,8 +326,24 @@ impl<D: Disk> ServerNode<D> {
     {
         match self {
             ServerNode::Up(server) => server.into_disk(),
-            ServerNode::Down(disk) => disk,
+            ServerNode::Down { disk, .. } => disk,
             ServerNode::Between => unreachable!(),
         }
     }
+}
+
+/// Says that the server is back with so many commits, and whether the one that was in doubt was kept: that is printed then.
+fn say_back(doubt: &Option<Doubt>, number: u64, out: &mut Text) -> Result<(), NoMemory>
+    ensures { OnOk result (out.new ≡ out.old ++ back_said doubt.now number) }
+{
+    let Some(doubt) = doubt else {
+        say(b"restart server", out)?;
+        return Ok(());
+    };
+    if number <= doubt.count {
+        say(b"restart server lost", out)?;
+        return Ok(());
+    }
+    say(b"restart server kept", out)?;
+    out.append(doubt.lines.as_bytes())
 }

@@ -6,12 +6,16 @@ ghost use Rattle.iot_machine.specs.Texts.{output_line, row_line, row_text, tree_
 ghost use Rattle.iot_machine.specs.Texts.{hoard_line, refresh_line, begin_line, fetch_line, step_line, conflict_line, question_text};
 ghost use Rattle.iot_machine.specs.Texts.{abort_line, pending_line, connect_line, disconnect_line, lose_line, way_text};
 ghost use Rattle.iot_machine.specs.Texts.{manual_line, resolve_line, repair_line, discard_line, cut_line};
+ghost use Rattle.iot_machine.specs.Texts.{stopped_line, kept_line, lost_line, stop_line, pick_text};
+ghost use Rattle.iot_disk.specs.declared.faults.StartFault.TheVariants.{Stopped};
+ghost use Rattle.iot_store.specs.Causes.{TakesBytes};
 ghost use Rattle.iot_world.specs.Messages.{verdict_of, name_of, told_text};
 ghost use Rattle.iot_world.specs.Saying.{place_said, resolver_said};
 
 use crate::message::{Handed, Printed};
 use crate::node::CutOff;
 use crate::verdict::{Told, Verdict};
+use iot_disk::{Pick, StartFault};
 use iot_link::Loss;
 use iot_resolve::Plan;
 use iot_text::{Name, NoMemory, Path, Text, quote};
@@ -86,6 +90,75 @@ pub(crate) fn say_restart(name: &Name, out: &mut Text) -> Result<(), NoMemory>
     out.append(b"restart ")?;
     out.append(name.as_bytes())?;
     out.push(b'\n')
+}
+
+/// `restart C kept`
+pub(crate) fn say_kept(name: &Name, out: &mut Text) -> Result<(), NoMemory>
+    ensures { OnOk result (out.new ≡ out.old ++ kept_line name.now) }
+{
+    out.append(b"restart ")?;
+    out.append(name.as_bytes())?;
+    out.append(b" kept\n")
+}
+
+/// `restart C lost`
+pub(crate) fn say_lost(name: &Name, out: &mut Text) -> Result<(), NoMemory>
+    ensures { OnOk result (out.new ≡ out.old ++ lost_line name.now) }
+{
+    out.append(b"restart ")?;
+    out.append(name.as_bytes())?;
+    out.append(b" lost\n")
+}
+
+/// `C stopped`
+pub(crate) fn say_stopped(name: &Name, out: &mut Text) -> Result<(), NoMemory>
+    ensures { OnOk result (out.new ≡ out.old ++ stopped_line name.now) }
+{
+    out.append(name.as_bytes())?;
+    out.append(b" stopped\n")
+}
+
+/// What is said of a node of this name that did not start: `C stopped`, if its disk failed.
+pub(crate) fn say_failed_start(
+    fault: StartFault,
+    name: &[u8],
+    out: &mut Text,
+) -> Result<(), NoMemory>
+    requires { TakesBytes fault }
+    ensures stopped { OnOk result (fault ≡ Stopped) }
+    ensures says { OnOk result (out.new ≡ out.old ++ stopped_line name.now) }
+{
+    match fault {
+        StartFault::Stopped => {
+            out.append(name)?;
+            out.append(b" stopped\n")
+        }
+        StartFault::NoMemory => Err(NoMemory),
+        StartFault::Foreign | StartFault::Damaged { .. } => unreachable!(),
+    }
+}
+
+/// `stop C K PICK`, or `stop server K PICK`
+pub(crate) fn say_stop(name: &[u8], calls: u64, pick: Pick, out: &mut Text) -> Result<(), NoMemory>
+    ensures { OnOk result (out.new ≡ out.old ++ stop_line name.now calls pick) }
+{
+    out.append(b"stop ")?;
+    out.append(name)?;
+    out.push(b' ')?;
+    out.append_number(calls)?;
+    out.push(b' ')?;
+    say_pick(pick, out)?;
+    out.push(b'\n')
+}
+
+fn say_pick(pick: Pick, out: &mut Text) -> Result<(), NoMemory>
+    ensures { OnOk result (out.new ≡ out.old ++ pick_text pick) }
+{
+    match pick {
+        Pick::Old => out.append(b"old"),
+        Pick::New => out.append(b"new"),
+        Pick::Fill(byte) => out.append_number(byte as u64),
+    }
 }
 
 /// `cut TID K acts`

@@ -1,17 +1,16 @@
 //! What a client does with its transactions: they begin, are stepped and end.
+ghost use Rattle.iot_world.specs.Disks.{medium};
 ghost use Rattle.std.specs.Prelude.{◌≡◌, ◌<◌, ℕ, List, OnOk, IfOk, true, length};
 ghost use Rattle.iot_machine.specs.Calls.{Asks, Says, Then};
 ghost use Rattle.iot_event.specs.Declarations.{ResolverIsDeclared};
-ghost use Rattle.iot_machine.specs.Events.{chosen};
+ghost use Rattle.iot_machine.specs.Events.{chosen, steps_on};
 ghost use Rattle.iot_machine.specs.Events.{BeginsAloud, StepsAloud, Runs, SyncsIf, is_connected, runs_script, begin_text, step_text};
 ghost use Rattle.iot_machine.specs.Texts.{fetch_line};
 ghost use Rattle.iot_machine.specs.Transactions.{Starts, Begins, Steps as SingleStep, StepsAll, Ends};
-ghost use Rattle.iot_world.specs.Faults.{CallCountsAll};
 ghost use Rattle.iot_world.specs.Saying.{SaidIf};
 ghost use Rattle.iot_world.specs.Scripts.{option_named};
 
 use crate::answers::{Brought, Stepped, Synced};
-use crate::fault::WorldFault;
 use crate::texts::{say, say_begin, say_end, say_fetch, say_pending, say_step};
 use crate::world::World;
 use iot_client::Step;
@@ -25,7 +24,7 @@ use std::alloc::Global;
 const RUN_STEPS: u64 = 100_000;
 
 impl<D: Disk> World<D> {
-    ghost use Rattle.iot_world.specs.World.{Steps, IsReady, SameCounts, SameDisks, CanHold, ClientIs, IsIdle};
+    ghost use Rattle.iot_world.specs.World.{Steps, IsReady, SameDeclared, SameIf, SameDisks, CanHold, ClientIs, IsIdle};
     ghost use Rattle.iot_world.specs.World.{declared_in, option_in, stepped_of};
 
     // ---- begin
@@ -37,14 +36,15 @@ impl<D: Disk> World<D> {
         script: u64,
         option: Choice,
         out: &mut Text,
-    ) -> Result<(), WorldFault>
-        requires ready { IsReady D.reads D.may_leave client self.old }
+    ) -> Result<(), NoMemory>
+        requires ready { IsReady (medium D.reads D.may_leave D.faults D.arms) client self.old }
         requires script { script < length self.old.scripts.items }
         requires option { ResolverIsDeclared option (length self.old.scripts.items) }
         ensures step { OnOk result
-            (Steps D.reads D.may_leave (BeginsAloud client script (chosen option)) self.old self.new out.old out.new tt) }
-        ensures counts { OnOk result (SameCounts self.old self.new) }
-        ensures disks { SameDisks D.arms D.faults (CallCountsAll result) self.old self.new }
+            (Steps (medium D.reads D.may_leave D.faults D.arms) (BeginsAloud client script (chosen option))
+            self.old self.new out.old out.new tt) }
+        ensures counts { OnOk result (SameDeclared self.old self.new) }
+        ensures disks { SameDisks D.arms self.old self.new }
     {
         if !self.begin(alloc, client, script, option, out)? {
             return Ok(());
@@ -61,13 +61,14 @@ impl<D: Disk> World<D> {
         script: u64,
         option: Choice,
         out: &mut Text,
-    ) -> Result<bool, WorldFault>
-        requires ready { IsReady D.reads D.may_leave client self.old }
+    ) -> Result<bool, NoMemory>
+        requires ready { IsReady (medium D.reads D.may_leave D.faults D.arms) client self.old }
         requires script { script < length self.old.scripts.items }
         requires option { ResolverIsDeclared option (length self.old.scripts.items) }
-        ensures step { IfOk result (Steps D.reads D.may_leave (Begins client script (chosen option)) self.old self.new out.old out.new) }
-        ensures counts { OnOk result (SameCounts self.old self.new) }
-        ensures disks { SameDisks D.arms D.faults (CallCountsAll result) self.old self.new }
+        ensures step { IfOk result
+            (Steps (medium D.reads D.may_leave D.faults D.arms) (Begins client script (chosen option)) self.old self.new out.old out.new) }
+        ensures counts { IfOk result (λ on. SameIf on self.old self.new) }
+        ensures disks { SameDisks D.arms self.old self.new }
     {
         let laptop = &self.clients[client as usize];
         if laptop.runs() {
@@ -75,14 +76,13 @@ impl<D: Disk> World<D> {
             return Ok(false);
         }
         if laptop.waits() {
-            self.start(alloc, client, script, option, false)?;
-            return Ok(true);
+            return self.start(alloc, client, script, option, false, out);
         }
         match self.bring(alloc, client, &Want::Nothing, out)? {
-            Brought::Held => self.start(alloc, client, script, option, true)?,
-            Brought::Missed => self.start(alloc, client, script, option, false)?,
+            Brought::Held => self.start(alloc, client, script, option, true, out),
+            Brought::Missed => self.start(alloc, client, script, option, false, out),
+            Brought::Stopped => Ok(false),
         }
-        Ok(true)
     }
 
     fn start(
@@ -92,23 +92,22 @@ impl<D: Disk> World<D> {
         script: u64,
         option: Choice,
         first: bool,
-    ) -> Result<(), WorldFault>
-        requires ready { IsReady D.reads D.may_leave client self.old }
+        out: &mut Text,
+    ) -> Result<bool, NoMemory>
+        requires ready { IsReady (medium D.reads D.may_leave D.faults D.arms) client self.old }
         requires script { script < length self.old.scripts.items }
         requires option { ResolverIsDeclared option (length self.old.scripts.items) }
         requires idle { ClientIs IsIdle client self.old }
         requires alone { first ≡ true → CanHold client self.old }
-        ensures step { OnOk result ((text : List ℕ)
-            → Steps D.reads D.may_leave (Starts client (declared_in self.old script) (option_in self.old option) first)
-            self.old self.new text text true) }
-        ensures counts { OnOk result (SameCounts self.old self.new) }
-        ensures disks { SameDisks D.arms D.faults (CallCountsAll result) self.old self.new }
+        ensures step { IfOk result (Steps (medium D.reads D.may_leave D.faults D.arms)
+            (Starts client (declared_in self.old script) (option_in self.old option) first) self.old self.new out.old out.new) }
+        ensures counts { IfOk result (λ on. SameIf on self.old self.new) }
+        ensures disks { SameDisks D.arms self.old self.new }
     {
         let option = self.option_named(option);
         let declared = &self.scripts[script as usize];
         let code = declared.script.shared()?;
-        self.clients[client as usize].begin(alloc, &declared.name, code, option, first)?;
-        Ok(())
+        self.clients[client as usize].begin(alloc, &declared.name, code, option, first, out)
     }
 
     /// What becomes of a transaction that conflicts, by the name of its resolver.
@@ -125,8 +124,9 @@ impl<D: Disk> World<D> {
     }
 
     fn say_begun(&self, client: u64, out: &mut Text) -> Result<(), NoMemory>
-        requires ready { IsReady D.reads D.may_leave client self.now }
-        ensures { OnOk result (Steps D.reads D.may_leave (Says (begin_text client)) self.now self.now out.old out.new tt) }
+        requires ready { IsReady (medium D.reads D.may_leave D.faults D.arms) client self.now }
+        ensures { OnOk result
+            (Steps (medium D.reads D.may_leave D.faults D.arms) (Says (begin_text client)) self.now self.now out.old out.new tt) }
     {
         let laptop = &self.clients[client as usize];
         match laptop.running() {
@@ -147,24 +147,27 @@ impl<D: Disk> World<D> {
         client: u64,
         most: u64,
         out: &mut Text,
-    ) -> Result<(), WorldFault>
-        requires ready { IsReady D.reads D.may_leave client self.old }
-        ensures step { OnOk result (Steps D.reads D.may_leave (StepsAloud client most) self.old self.new out.old out.new tt) }
-        ensures counts { OnOk result (SameCounts self.old self.new) }
-        ensures disks { SameDisks D.arms D.faults (CallCountsAll result) self.old self.new }
+    ) -> Result<(), NoMemory>
+        requires ready { IsReady (medium D.reads D.may_leave D.faults D.arms) client self.old }
+        ensures step { OnOk result
+            (Steps (medium D.reads D.may_leave D.faults D.arms) (StepsAloud client most) self.old self.new out.old out.new tt) }
+        ensures counts { OnOk result (SameDeclared self.old self.new) }
+        ensures disks { SameDisks D.arms self.old self.new }
     {
         if !self.clients[client as usize].runs() {
             say(b"idle", out)?;
             return Ok(());
         }
-        let _stepped = self.steps(alloc, client, most, true, out)?;
-        self.say_stepped(client, out)?;
+        if self.steps(alloc, client, most, true, out)?.goes_on() {
+            self.say_stepped(client, out)?;
+        }
         Ok(())
     }
 
     fn say_stepped(&self, client: u64, out: &mut Text) -> Result<(), NoMemory>
-        requires ready { IsReady D.reads D.may_leave client self.now }
-        ensures { OnOk result (Steps D.reads D.may_leave (Says (step_text client)) self.now self.now out.old out.new tt) }
+        requires ready { IsReady (medium D.reads D.may_leave D.faults D.arms) client self.now }
+        ensures { OnOk result
+            (Steps (medium D.reads D.may_leave D.faults D.arms) (Says (step_text client)) self.now self.now out.old out.new tt) }
     {
         let laptop = &self.clients[client as usize];
         match laptop.running() {
@@ -190,12 +193,13 @@ impl<D: Disk> World<D> {
         most: u64,
         loud: bool,
         out: &mut Text,
-    ) -> Result<Stepped, WorldFault>
-        requires ready { IsReady D.reads D.may_leave client self.old }
+    ) -> Result<Stepped, NoMemory>
+        requires ready { IsReady (medium D.reads D.may_leave D.faults D.arms) client self.old }
         ensures step { IfOk result (λ stepped.
-            Steps D.reads D.may_leave (StepsAll client loud most) self.old self.new out.old out.new (stepped_of stepped)) }
-        ensures counts { OnOk result (SameCounts self.old self.new) }
-        ensures disks { SameDisks D.arms D.faults (CallCountsAll result) self.old self.new }
+            Steps (medium D.reads D.may_leave D.faults D.arms) (StepsAll client loud most)
+            self.old self.new out.old out.new (stepped_of stepped)) }
+        ensures counts { IfOk result (λ stepped. SameIf (steps_on (stepped_of stepped)) self.old self.new) }
+        ensures disks { SameDisks D.arms self.old self.new }
     {
         'steps: for _ in 0..most {
             let stepped = self.step(alloc, client, loud, out)?;
@@ -213,18 +217,22 @@ impl<D: Disk> World<D> {
         client: u64,
         loud: bool,
         out: &mut Text,
-    ) -> Result<Stepped, WorldFault>
-        requires ready { IsReady D.reads D.may_leave client self.old }
+    ) -> Result<Stepped, NoMemory>
+        requires ready { IsReady (medium D.reads D.may_leave D.faults D.arms) client self.old }
         ensures step { IfOk result (λ stepped.
-            Steps D.reads D.may_leave (SingleStep client loud) self.old self.new out.old out.new (stepped_of stepped)) }
-        ensures counts { OnOk result (SameCounts self.old self.new) }
-        ensures disks { SameDisks D.arms D.faults (CallCountsAll result) self.old self.new }
+            Steps (medium D.reads D.may_leave D.faults D.arms) (SingleStep client loud)
+            self.old self.new out.old out.new (stepped_of stepped)) }
+        ensures counts { IfOk result (λ stepped. SameIf (steps_on (stepped_of stepped)) self.old self.new) }
+        ensures disks { SameDisks D.arms self.old self.new }
     {
         let laptop = &mut self.clients[client as usize];
         if !laptop.runs() {
             return Ok(Stepped::Over);
         }
-        match laptop.step(alloc)? {
+        let Some(step) = laptop.step(alloc, out)? else {
+            return Ok(Stepped::Stops);
+        };
+        match step {
             Step::Acted { .. } => Ok(Stepped::Went),
             Step::Fetch { request, path } => match self.fetch(alloc, client, request, out)? {
                 Brought::Held => {
@@ -235,6 +243,7 @@ impl<D: Disk> World<D> {
                     say_fetched(loud, &path, true, out)?;
                     Ok(Stepped::Away)
                 }
+                Brought::Stopped => Ok(Stepped::Stops),
             },
             Step::AtEnd { .. } => Ok(Stepped::Over),
             Step::AtLimit { .. } => Ok(Stepped::Over),
@@ -243,16 +252,11 @@ impl<D: Disk> World<D> {
 
     // ---- end
 
-    pub(crate) fn end(
-        &mut self,
-        alloc: Global,
-        client: u64,
-        out: &mut Text,
-    ) -> Result<(), WorldFault>
-        requires ready { IsReady D.reads D.may_leave client self.old }
-        ensures step { OnOk result (Steps D.reads D.may_leave (Ends client) self.old self.new out.old out.new tt) }
-        ensures counts { OnOk result (SameCounts self.old self.new) }
-        ensures disks { SameDisks D.arms D.faults (CallCountsAll result) self.old self.new }
+    pub(crate) fn end(&mut self, alloc: Global, client: u64, out: &mut Text) -> Result<(), NoMemory>
+        requires ready { IsReady (medium D.reads D.may_leave D.faults D.arms) client self.old }
+        ensures step { OnOk result (Steps (medium D.reads D.may_leave D.faults D.arms) (Ends client) self.old self.new out.old out.new tt) }
+        ensures counts { OnOk result (SameDeclared self.old self.new) }
+        ensures disks { SameDisks D.arms self.old self.new }
     {
         let laptop = &mut self.clients[client as usize];
         if !laptop.runs() {
@@ -263,7 +267,9 @@ impl<D: Disk> World<D> {
             say(b"not at end", out)?;
             return Ok(());
         }
-        let gone = laptop.end(alloc)?;
+        let Some(gone) = laptop.end(alloc, out)? else {
+            return Ok(());
+        };
         say_end(&gone.printed.transaction, out)?;
         if !gone.first {
             say_pending(&gone.printed, out)?;
@@ -271,7 +277,7 @@ impl<D: Disk> World<D> {
         }
         match self.sync(alloc, client, out)? {
             Synced::Unanswered => say_pending(&gone.printed, out)?,
-            Synced::Empty | Synced::Left | Synced::Moved | Synced::ByHand => (),
+            Synced::Empty | Synced::Left | Synced::Moved | Synced::ByHand | Synced::Halted => (),
         }
         Ok(())
     }
@@ -286,36 +292,37 @@ impl<D: Disk> World<D> {
         script: u64,
         option: Choice,
         out: &mut Text,
-    ) -> Result<(), WorldFault>
-        requires ready { IsReady D.reads D.may_leave client self.old }
+    ) -> Result<(), NoMemory>
+        requires ready { IsReady (medium D.reads D.may_leave D.faults D.arms) client self.old }
         requires script { script < length self.old.scripts.items }
         requires option { ResolverIsDeclared option (length self.old.scripts.items) }
-        ensures step { OnOk result (Steps D.reads D.may_leave (Runs client script (chosen option)) self.old self.new out.old out.new tt) }
-        ensures counts { OnOk result (SameCounts self.old self.new) }
-        ensures disks { SameDisks D.arms D.faults (CallCountsAll result) self.old self.new }
+        ensures step { OnOk result
+            (Steps (medium D.reads D.may_leave D.faults D.arms) (Runs client script (chosen option)) self.old self.new out.old out.new tt) }
+        ensures counts { OnOk result (SameDeclared self.old self.new) }
+        ensures disks { SameDisks D.arms self.old self.new }
     {
         if self.clients[client as usize].runs() {
             say(b"busy", out)?;
             return Ok(());
         }
-        self.sync_if_up(alloc, client, out)?;
-        self.run_script(alloc, client, script, option, out)?;
+        if self.sync_if_up(alloc, client, out)? {
+            self.run_script(alloc, client, script, option, out)?;
+        }
         Ok(())
     }
 
-    /// Syncs the transactions that wait, if the link is up.
-    fn sync_if_up(&mut self, alloc: Global, client: u64, out: &mut Text) -> Result<(), WorldFault>
-        requires ready { IsReady D.reads D.may_leave client self.old }
-        ensures step { OnOk result (Steps D.reads D.may_leave (Then (Asks (is_connected client)) (SyncsIf client))
-            self.old self.new out.old out.new tt) }
-        ensures counts { OnOk result (SameCounts self.old self.new) }
-        ensures disks { SameDisks D.arms D.faults (CallCountsAll result) self.old self.new }
+    /// Syncs the transactions that wait, if the link is up; and whether the client goes on.
+    fn sync_if_up(&mut self, alloc: Global, client: u64, out: &mut Text) -> Result<bool, NoMemory>
+        requires ready { IsReady (medium D.reads D.may_leave D.faults D.arms) client self.old }
+        ensures step { IfOk result (Steps (medium D.reads D.may_leave D.faults D.arms) (Then (Asks (is_connected client)) (SyncsIf client))
+            self.old self.new out.old out.new) }
+        ensures counts { IfOk result (λ on. SameIf on self.old self.new) }
+        ensures disks { SameDisks D.arms self.old self.new }
     {
         if !self.clients[client as usize].link.is_up() {
-            return Ok(());
+            return Ok(true);
         }
-        let _synced = self.sync_all(alloc, client, out)?;
-        Ok(())
+        Ok(self.sync_all(alloc, client, out)?.goes_on())
     }
 
     /// Begins a transaction of the script, does its single steps, and ends it.
@@ -326,20 +333,22 @@ impl<D: Disk> World<D> {
         script: u64,
         option: Choice,
         out: &mut Text,
-    ) -> Result<(), WorldFault>
-        requires ready { IsReady D.reads D.may_leave client self.old }
+    ) -> Result<(), NoMemory>
+        requires ready { IsReady (medium D.reads D.may_leave D.faults D.arms) client self.old }
         requires script { script < length self.old.scripts.items }
         requires option { ResolverIsDeclared option (length self.old.scripts.items) }
         ensures step { OnOk result
-            (Steps D.reads D.may_leave (runs_script client script (chosen option)) self.old self.new out.old out.new tt) }
-        ensures counts { OnOk result (SameCounts self.old self.new) }
-        ensures disks { SameDisks D.arms D.faults (CallCountsAll result) self.old self.new }
+            (Steps (medium D.reads D.may_leave D.faults D.arms) (runs_script client script (chosen option))
+            self.old self.new out.old out.new tt) }
+        ensures counts { OnOk result (SameDeclared self.old self.new) }
+        ensures disks { SameDisks D.arms self.old self.new }
     {
         if !self.begin(alloc, client, script, option, out)? {
             return Ok(());
         }
-        let _stepped = self.steps(alloc, client, RUN_STEPS, false, out)?;
-        self.end(alloc, client, out)?;
+        if self.steps(alloc, client, RUN_STEPS, false, out)?.goes_on() {
+            self.end(alloc, client, out)?;
+        }
         Ok(())
     }
 }

@@ -1,28 +1,24 @@
 //! The world: the server and its clients, as they are between two events.
-ghost use Rattle.std.specs.Prelude.{◌≡◌, ◌<◌, List, ◌∷◌, ◌++◌, true, false, codes, Some, OnOk, IfOk, IfErr, IfSome};
+ghost use Rattle.std.specs.Prelude.{◌≡◌, ◌<◌, List, ◌∷◌, ◌++◌, true, false, codes, map, Some, OnOk, IfOk, IfErr, IfSome};
 ghost use Rattle.std.specs.Option.{option_copied};
 ghost use Rattle.iot_event.specs.declared.event.Event.TheVariants.{ShowClient};
 ghost use Rattle.iot_machine.specs.Calls.{At};
 ghost use Rattle.iot_machine.specs.Machine.{Machine, server};
-ghost use Rattle.iot_machine.specs.Events.{CrashesClient, RestartsClient, RestartsServer, event_part};
-ghost use Rattle.iot_machine.specs.Stops.{Crashes};
+ghost use Rattle.iot_machine.specs.Events.{Declares, CrashesClient, RestartsClient, RestartsServer, ArmsClient, event_part};
+ghost use Rattle.iot_machine.specs.Stops.{Crashes, ArmsDisk};
 ghost use Rattle.iot_machine.specs.Serving.{server_name};
-ghost use Rattle.iot_machine.specs.Texts.{line, client_line};
-ghost use Rattle.iot_world.specs.Disks.{AreFresh, NoneRose};
+ghost use Rattle.iot_machine.specs.Texts.{line};
+ghost use Rattle.iot_world.specs.Disks.{medium, AreFresh};
 ghost use Rattle.iot_server.specs.Servers as servers;
-ghost use Rattle.iot_world.specs.Faults.{CallCountsAll};
 ghost use Rattle.iot_world.specs.Servers.{disk_of};
 
 use crate::disks::{put_first, take_first};
-use crate::fault::WorldFault;
 use crate::laptop::Laptop;
-use crate::node::ClientNode;
 use crate::server::ServerNode;
-use crate::texts::{say, say_client, say_crash, say_cut, say_restart, say_tree};
+use crate::texts::{say, say_client, say_crash, say_cut, say_tree};
 use iot_client::Client;
-use iot_disk::Disk;
+use iot_disk::{Disk, Pick};
 use iot_event::{Event, SharedScript};
-use iot_link::Link;
 use iot_server::Server;
 use iot_text::{Name, NoMemory, Text};
 use std::alloc::Global;
@@ -48,42 +44,40 @@ pub struct World<D: Disk> {
 }
 
 impl<D: Disk> World<D> {
-    ghost use Rattle.iot_world.specs.Allowed.{IsAllowed};
-    ghost use Rattle.iot_world.specs.World.{StandsFor, StandsForSome, IsWorldOfSome, Steps, EventSteps, DeclaredOn, Opens, HandsAllBack};
-    ghost use Rattle.iot_world.specs.World.{HasDisks, SameDisks, disks_of, AddsClient, AddsScript, SetsServer};
+    ghost use Rattle.iot_world.specs.Allowed.{IsAllowed, is_of_disks};
+    ghost use Rattle.iot_world.specs.World.{StandsFor, StandsForSome, IsWorldOfSome, Steps, EventSteps, DeclaredOn, Opens};
+    ghost use Rattle.iot_world.specs.World.{HasDisks, SameDisks, KeepsDisks, SameArms, disks_of, DeclaresClient, AddsScript, SetsServer};
     ghost use Rattle.iot_world.specs.World.{IsInside, ClientIs, IsAlive, IsDown, SameDeclared};
+    ghost use Rattle.iot_world.specs.Deciding.{Decides, DecidesClient, DecidesServer};
     ghost use Rattle.iot_world.specs.Nodes.{disk_in};
     ghost use Rattle.iot_client.specs.Ties.{disk_of as client_disk};
     ghost use Rattle.iot_world.specs.World.{client_count, script_names, IsReady, LendsServer, LendsClient};
     ghost use Rattle.iot_event.specs.declared.event.Event.{Event};
 
-    /// The world before any event, with a server on the first of the disks. Each client that is declared takes the next one.
+    /// The world before any event, with a server on the first of the disks. Each client that is declared takes the next one. If the
+    /// server's disk fails in its start, the server has stopped, which is said.
     ///
     /// # Errors
     ///
-    /// The disks come back if memory runs out, or if the first one fails.
-    pub fn new(
-        alloc: Global,
-        disks: Vec<D>,
-        out: &mut Text,
-    ) -> Result<World<D>, (Vec<D>, WorldFault)>
-        requires { AreFresh D.reads D.may_leave disks.items }
-        ensures opens { IfOk result (Opens D.reads D.may_leave D.arms D.faults disks.items) }
-        ensures says { out.new ≡ out.old }
-        ensures refused { IfErr result (λ refused. HandsAllBack D.arms D.faults disks.items refused.0.items refused.1) }
+    /// The disks come back if memory runs out.
+    pub fn new(alloc: Global, disks: Vec<D>, out: &mut Text) -> Result<World<D>, Vec<D>>
+        requires { AreFresh (medium D.reads D.may_leave D.faults D.arms) disks.items }
+        ensures opens { IfOk result (Opens (medium D.reads D.may_leave D.faults D.arms) disks.items out.old out.new) }
+        ensures arms { IfOk result (λ world. map D.arms (disks_of world) ≡ map D.arms disks.items) }
+        ensures refused { IfErr result (λ back. map D.arms back.items ≡ map D.arms disks.items) }
     {
         let mut disks = disks;
-        let disk = take_first(&mut disks);
-        match ServerNode::start(alloc, disk) {
-            Ok(server) => Ok(World {
+        let mut server = ServerNode::unopened(take_first(&mut disks));
+        match server.open(alloc, out) {
+            Ok(_on) => Ok(World {
                 server,
                 clients: Vec::new(alloc),
                 scripts: Vec::new(alloc),
                 spare: disks,
             }),
-            Err((disk, fault)) => {
-                put_first(&mut disks, disk);
-                Err((disks, fault))
+            Err(_no_memory) => {
+                put_first(&mut disks, server.into_disk());
+                Err(disks)
             }
         }
     }
@@ -92,29 +86,46 @@ impl<D: Disk> World<D> {
     ///
     /// # Errors
     ///
-    /// If memory runs out, or if a disk fails in it.
-    pub fn apply(&mut self, alloc: Global, event: &Event, out: &mut Text) -> Result<(), WorldFault>
+    /// If memory runs out.
+    pub fn apply(&mut self, alloc: Global, event: &Event, out: &mut Text) -> Result<(), NoMemory>
         requires allowed { IsAllowed event.now (client_count self.old) (script_names self.old) }
-        requires stands { IsWorldOfSome D.reads D.may_leave self.old }
+        requires stands { IsWorldOfSome (medium D.reads D.may_leave D.faults D.arms) self.old }
 
         // Each machine of which this was the world does this event, with the text that was added, and this is its world then: the
-        // nodes that are lent are the machine's, and what is in its list goes together with the queues.
-        ensures step { OnOk result (EventSteps D.reads D.may_leave event.now self.old self.new out.old out.new) }
+        // nodes that are lent are the machine's, and so is what its disks may hold after a crash and what they count; and what is in
+        // its list goes together with the queues. A node may stop in it, but only if its disk failed.
+        ensures step { OnOk result
+            (EventSteps (medium D.reads D.may_leave D.faults D.arms) event.now self.old self.new out.old out.new) }
 
-        // The disks are those of before. None was armed, and their faults say whether one of them ended this.
-        ensures disks { SameDisks D.arms D.faults (CallCountsAll result) self.old self.new }
+        // If all images of a disk have the record that is in doubt, or none has it, this decides whether it is kept.
+        ensures decided { OnOk result (Decides D.may_leave event.now self.old out.old out.new) }
+
+        // The disks are those of before. If memory ran out, none was armed.
+        ensures disks { KeepsDisks self.old self.new }
+        ensures arms { IfErr result (λ _. SameArms D.arms self.old self.new) }
 
         // For the events after it.
         ensures declared { OnOk result ((later : List Event) → DeclaredOn (event.now ∷ later) self.old → DeclaredOn later self.new) }
     {
-        self.perform(alloc, event, out)?;
+        match event {
+            Event::StopServer { calls, pick } => self.stop_server(*calls, *pick, out)?,
+            Event::StopClient {
+                client,
+                calls,
+                pick,
+            } => self.stop_client(*client, *calls, *pick, out)?,
+            Event::RestartServer => self.restart(alloc, out)?,
+            Event::RestartClient { client } => self.restart_client(alloc, *client, out)?,
+            _another => self.perform(alloc, event, out)?,
+        }
         Ok(())
     }
 
     /// The server, if it is alive. Its disk is the first of those that `into_disks` gives back. Does not allocate.
     pub fn server(&self) -> Option<&Server<D>>
         // Its tree, its labels and its count of requests are those of each machine for which the world stands.
-        ensures lent { (m : Machine) → StandsFor D.reads D.may_leave self.now m → LendsServer (option_copied result) m }
+        ensures lent { (m : Machine) → StandsFor (medium D.reads D.may_leave D.faults D.arms) self.now m
+            → LendsServer (option_copied result) m }
         ensures disk { IfSome (option_copied result) (λ it. disk_of self.now.server ≡ Some (servers.disk_of it)) }
     {
         self.server.lent()
@@ -124,7 +135,8 @@ impl<D: Disk> World<D> {
     /// server's and those of the clients before it, of those that `into_disks` gives back. Does not allocate.
     pub fn client(&self, place: u64) -> Option<&Client<D>>
         // Its tree, its view, its queue and its running transaction are those of each machine for which the world stands.
-        ensures lent { (m : Machine) → StandsFor D.reads D.may_leave self.now m → LendsClient (option_copied result) place m }
+        ensures lent { (m : Machine) → StandsFor (medium D.reads D.may_leave D.faults D.arms) self.now m
+            → LendsClient (option_copied result) place m }
         ensures disk { IfSome (option_copied result) (λ it. ClientIs (λ laptop. disk_in laptop ≡ Some (client_disk it)) place self.now) }
     {
         match self.clients.get(place as usize) {
@@ -135,13 +147,15 @@ impl<D: Disk> World<D> {
 
     // ---- events
 
-    /// Does one event: what its part of the machine does with the nodes.
-    fn perform(&mut self, alloc: Global, event: &Event, out: &mut Text) -> Result<(), WorldFault>
+    /// Does one event that neither arms a disk nor starts from one again: what its part of the machine does with the nodes.
+    fn perform(&mut self, alloc: Global, event: &Event, out: &mut Text) -> Result<(), NoMemory>
+        requires another { is_of_disks event.now ≡ false }
         requires allowed { IsAllowed event.now (client_count self.old) (script_names self.old) }
-        requires stands { StandsForSome D.reads D.may_leave self.old }
-        requires sound { IsWorldOfSome D.reads D.may_leave self.old }
-        ensures step { OnOk result (Steps D.reads D.may_leave (event_part event.now) self.old self.new out.old out.new tt) }
-        ensures disks { SameDisks D.arms D.faults (CallCountsAll result) self.old self.new }
+        requires stands { StandsForSome (medium D.reads D.may_leave D.faults D.arms) self.old }
+        requires sound { IsWorldOfSome (medium D.reads D.may_leave D.faults D.arms) self.old }
+        ensures step { OnOk result
+            (Steps (medium D.reads D.may_leave D.faults D.arms) (event_part event.now) self.old self.new out.old out.new tt) }
+        ensures disks { SameDisks D.arms self.old self.new }
         ensures declared { OnOk result ((later : List Event) → DeclaredOn (event.now ∷ later) self.old → DeclaredOn later self.new) }
     {
         match event {
@@ -214,10 +228,12 @@ impl<D: Disk> World<D> {
                     self.show_client(*client, out)?;
                 }
             }
+            Event::StopServer { .. } => unreachable!(),
+            Event::StopClient { .. } => unreachable!(),
             Event::CrashServer => self.crash(out)?,
             Event::CrashClient { client } => self.crash_client(*client, out)?,
-            Event::RestartServer => self.restart(alloc, out)?,
-            Event::RestartClient { client } => self.restart_client(alloc, *client, out)?,
+            Event::RestartServer => unreachable!(),
+            Event::RestartClient { .. } => unreachable!(),
             Event::Queue { client } => {
                 if self.is_up(*client, out)? {
                     self.queue(*client, out)?;
@@ -235,41 +251,29 @@ impl<D: Disk> World<D> {
 
     // ---- declarations
 
-    /// A client that does not start keeps its disk, and is down.
-    fn declare_client(
-        &mut self,
-        alloc: Global,
-        name: &Name,
-        out: &mut Text,
-    ) -> Result<(), WorldFault>
-        requires stands { StandsForSome D.reads D.may_leave self.old }
+    /// A client joins, and starts on the next disk. If that fails in it, the client has stopped, which is said in place of its line.
+    fn declare_client(&mut self, alloc: Global, name: &Name, out: &mut Text) -> Result<(), NoMemory>
+        requires stands { StandsForSome (medium D.reads D.may_leave D.faults D.arms) self.old }
         requires few { client_count self.old < 8 }
-        ensures world { OnOk result (AddsClient D.reads D.may_leave name.now self.old self.new) }
-        ensures text { OnOk result (out.new ≡ out.old ++ client_line name.now) }
-        ensures disks { SameDisks D.arms D.faults (CallCountsAll result) self.old self.new }
+        ensures step { OnOk result
+            (Steps (medium D.reads D.may_leave D.faults D.arms) (Declares name.now) self.old self.new out.old out.new tt) }
+        ensures declared { OnOk result (DeclaresClient self.old self.new) }
+        ensures disks { SameDisks D.arms self.old self.new }
     {
         self.clients.reserve(1)?;
         let place = self.clients.len() as u64;
         let disk = take_first(&mut self.spare);
-        match Laptop::start(alloc, *name, place, disk) {
-            Ok(laptop) => self.clients.push_reserved(laptop),
-            Err((disk, fault)) => {
-                self.clients.push_reserved(Laptop {
-                    name: *name,
-                    place,
-                    node: ClientNode::Down(disk),
-                    link: Link::new(),
-                });
-                return Err(fault);
-            }
+        self.clients
+            .push_reserved(Laptop::unopened(*name, place, disk));
+        if self.clients[place as usize].open(alloc, out)? {
+            say_client(name, out)?;
         }
-        say_client(name, out)?;
         Ok(())
     }
 
     fn declare_script(&mut self, name: &Name, script: &SharedScript) -> Result<(), NoMemory>
         ensures world { OnOk result (AddsScript name.now script.now self.old self.new) }
-        ensures disks { SameDisks D.arms D.faults NoneRose self.old self.new }
+        ensures disks { SameDisks D.arms self.old self.new }
     {
         self.scripts.push(DeclaredScript {
             name: *name,
@@ -282,7 +286,7 @@ impl<D: Disk> World<D> {
 
     /// Whether the client is alive. If not, that is said.
     fn is_up(&self, client: u64, out: &mut Text) -> Result<bool, NoMemory>
-        requires inside { IsInside D.reads D.may_leave client self.now }
+        requires inside { IsInside (medium D.reads D.may_leave D.faults D.arms) client self.now }
         ensures yes { IfOk result (λ up. up ≡ true → (out.new ≡ out.old) × ClientIs IsAlive client self.now) }
         ensures no { IfOk result (λ up. up ≡ false → (out.new ≡ out.old ++ line (codes "down")) × ClientIs IsDown client self.now) }
     {
@@ -294,9 +298,9 @@ impl<D: Disk> World<D> {
     }
 
     fn show_client(&self, client: u64, out: &mut Text) -> Result<(), NoMemory>
-        requires ready { IsReady D.reads D.may_leave client self.now }
+        requires ready { IsReady (medium D.reads D.may_leave D.faults D.arms) client self.now }
         ensures { OnOk result
-            (Steps D.reads D.may_leave (event_part (ShowClient client)) self.now self.now out.old out.new tt) }
+            (Steps (medium D.reads D.may_leave D.faults D.arms) (event_part (ShowClient client)) self.now self.now out.old out.new tt) }
     {
         say_tree(self.clients[client as usize].view(), out)?;
         Ok(())
@@ -304,10 +308,11 @@ impl<D: Disk> World<D> {
 
     /// The client loses its memory.
     fn crash_client(&mut self, client: u64, out: &mut Text) -> Result<(), NoMemory>
-        requires inside { IsInside D.reads D.may_leave client self.old }
-        ensures step { OnOk result (Steps D.reads D.may_leave (CrashesClient client) self.old self.new out.old out.new tt) }
+        requires inside { IsInside (medium D.reads D.may_leave D.faults D.arms) client self.old }
+        ensures step { OnOk result
+            (Steps (medium D.reads D.may_leave D.faults D.arms) (CrashesClient client) self.old self.new out.old out.new tt) }
         ensures counts { OnOk result (SameDeclared self.old self.new) }
-        ensures disks { SameDisks D.arms D.faults NoneRose self.old self.new }
+        ensures disks { SameDisks D.arms self.old self.new }
     {
         if !self.is_up(client, out)? {
             return Ok(());
@@ -318,51 +323,87 @@ impl<D: Disk> World<D> {
         Ok(())
     }
 
-    /// The client comes back. What ran when it lost its memory is cut off.
-    fn restart_client(
-        &mut self,
-        alloc: Global,
-        client: u64,
-        out: &mut Text,
-    ) -> Result<(), WorldFault>
-        requires inside { IsInside D.reads D.may_leave client self.old }
-        ensures step { OnOk result (Steps D.reads D.may_leave (RestartsClient client) self.old self.new out.old out.new tt) }
+    /// The client comes back, unless its disk fails again. What ran when it lost its memory is cut off.
+    fn restart_client(&mut self, alloc: Global, client: u64, out: &mut Text) -> Result<(), NoMemory>
+        requires inside { IsInside (medium D.reads D.may_leave D.faults D.arms) client self.old }
+        ensures step { OnOk result
+            (Steps (medium D.reads D.may_leave D.faults D.arms) (RestartsClient client) self.old self.new out.old out.new tt) }
+        ensures decided { OnOk result (ClientIs (DecidesClient D.may_leave out.old out.new) client self.old) }
         ensures counts { OnOk result (SameDeclared self.old self.new) }
-        ensures disks { SameDisks D.arms D.faults (CallCountsAll result) self.old self.new }
+        ensures disks { SameDisks D.arms self.old self.new }
     {
         if self.clients[client as usize].is_alive() {
             say(b"up", out)?;
             return Ok(());
         }
         let laptop = &mut self.clients[client as usize];
-        laptop.come_back(alloc)?;
-        say_restart(&laptop.name, out)?;
-        match laptop.cut_off(alloc)? {
+        if !laptop.come_back(alloc, out)? {
+            return Ok(());
+        }
+        match laptop.cut_off(alloc, out)? {
             Some(cut) => say_cut(&cut, out)?,
             None => (),
         }
         Ok(())
     }
 
-    /// The server stops.
+    /// The server loses its memory.
     fn crash(&mut self, out: &mut Text) -> Result<(), NoMemory>
-        requires { StandsForSome D.reads D.may_leave self.old }
+        requires { StandsForSome (medium D.reads D.may_leave D.faults D.arms) self.old }
         ensures world { OnOk result (SetsServer self.old self.new) }
-        ensures step { OnOk result (Steps D.reads D.may_leave (At server (Crashes server_name)) self.old self.new out.old out.new tt) }
-        ensures disks { SameDisks D.arms D.faults NoneRose self.old self.new }
+        ensures step { OnOk result
+            (Steps (medium D.reads D.may_leave D.faults D.arms) (At server (Crashes server_name)) self.old self.new out.old out.new tt) }
+        ensures disks { SameDisks D.arms self.old self.new }
     {
         self.server.crash(out)?;
         Ok(())
     }
 
-    /// The server comes back.
-    fn restart(&mut self, alloc: Global, out: &mut Text) -> Result<(), WorldFault>
-        requires { StandsForSome D.reads D.may_leave self.old }
+    /// The server comes back, unless its disk fails again.
+    fn restart(&mut self, alloc: Global, out: &mut Text) -> Result<(), NoMemory>
+        requires { StandsForSome (medium D.reads D.may_leave D.faults D.arms) self.old }
         ensures world { OnOk result (SetsServer self.old self.new) }
-        ensures step { OnOk result (Steps D.reads D.may_leave RestartsServer self.old self.new out.old out.new tt) }
-        ensures disks { SameDisks D.arms D.faults (CallCountsAll result) self.old self.new }
+        ensures step { OnOk result
+            (Steps (medium D.reads D.may_leave D.faults D.arms) RestartsServer self.old self.new out.old out.new tt) }
+        ensures decided { OnOk result (DecidesServer D.may_leave self.old.server out.old out.new) }
+        ensures disks { SameDisks D.arms self.old self.new }
     {
         self.server.restart(alloc, out)?;
+        Ok(())
+    }
+
+    // ---- disks that are to fail
+
+    /// A later call of the server's disk is to fail.
+    fn stop_server(&mut self, calls: u64, pick: Pick, out: &mut Text) -> Result<(), NoMemory>
+        requires { StandsForSome (medium D.reads D.may_leave D.faults D.arms) self.old }
+        ensures world { OnOk result (SetsServer self.old self.new) }
+        ensures step { OnOk result
+            (Steps (medium D.reads D.may_leave D.faults D.arms) (At server (ArmsDisk server_name calls pick))
+            self.old self.new out.old out.new tt) }
+        ensures disks { KeepsDisks self.old self.new }
+        ensures arms { IfErr result (λ _. SameArms D.arms self.old self.new) }
+    {
+        self.server.arm(calls, pick, out)?;
+        Ok(())
+    }
+
+    /// A later call of the client's disk is to fail.
+    fn stop_client(
+        &mut self,
+        client: u64,
+        calls: u64,
+        pick: Pick,
+        out: &mut Text,
+    ) -> Result<(), NoMemory>
+        requires inside { IsInside (medium D.reads D.may_leave D.faults D.arms) client self.old }
+        ensures step { OnOk result
+            (Steps (medium D.reads D.may_leave D.faults D.arms) (ArmsClient client calls pick) self.old self.new out.old out.new tt) }
+        ensures counts { OnOk result (SameDeclared self.old self.new) }
+        ensures disks { KeepsDisks self.old self.new }
+        ensures arms { IfErr result (λ _. SameArms D.arms self.old self.new) }
+    {
+        self.clients[client as usize].arm(calls, pick, out)?;
         Ok(())
     }
 

@@ -2,13 +2,13 @@ use Rattle.iot_world.proofs.PassLaws.{not_both, stands_over, is_second}
 use Rattle.iot_world.proofs.laptop.Laptop.pass.Goals as goal
 
 pub second-requires : goal.second-requires
-second-requires g c = stands_over g.D.Disk.reads g.D.Disk.may_leave c.args.self.now c.outcome-passage.new.self c.requires
+second-requires g c = stands_over _ c.args.self.now c.outcome-passage.new.self c.requires
 
 pub returns-in-Away : goal.returns-in-Away
 returns-in-Away g c = record {
   passage = c.outcome-passage.ensures.passage;
   after =
-      is_second g.D.Disk.reads g.D.Disk.may_leave c.args.self.now c.outcome-passage.result c.outcome-passage.new.self c.second.new.self
+      is_second _ c.args.self.now c.outcome-passage.result c.outcome-passage.new.self c.second.new.self
       c.outcome-passage.ensures.link c.in-Away.is c.second.ensures;
   both = λ is. absurd (not_both c.outcome-passage.result c.in-Away.is is);
   disk = c.second.ensures.disk;

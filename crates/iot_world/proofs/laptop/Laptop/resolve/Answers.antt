@@ -5,18 +5,23 @@ use Rattle.iot_queue.specs.declared.items.Stage.TheVariants.{Conflict}
 use Rattle.iot_client.specs.Ties.{state_of}
 use Rattle.iot_world.specs.Nodes.{state_by}
 use Rattle.iot_world.specs.declared.node.ClientNode.{ClientNode}
-use Rattle.iot_world.proofs.BroughtLaws.{not_bad}
-use Rattle.iot_world.proofs.LaptopCallsLaws.{resolves_with}
+use Rattle.iot_world.proofs.BroughtLaws.{none_bad}
+use Rattle.iot_world.proofs.LaptopStopsLaws.{resolves_if}
 use Rattle.iot_world.proofs.laptop.Laptop.resolve.Goals as goal
 
-pub of_client-requires : goal.of_client-requires
-of_client-requires g c =
-    not_bad c.in-Up.client c.resolve.new.self c.args.reply.now (λ (item : Item). item.stage ≡ Conflict) (state_of c.in-Up.client).items
-    c.in-Err.fault
+pub goes_on-requires-clause-fault : goal.goes_on-requires-clause-fault
+goes_on-requires-clause-fault g c =
+    none_bad c.in-Up.client c.resolve-answer.new.self c.args.reply.now (λ (item : Item). item.stage ≡ Conflict)
+    (state_of c.in-Up.client).items c.resolve-answer.result
     (subst (λ (node : ClientNode _). HeadIs (λ (item : Item). item.stage ≡ Conflict) (state_by node).items) c.in-Up.is c.requires.conflict)
-    c.in-Err.ensures.only c.requires.brings c.requires.whole c.in-Err.ensures.refuses
+    c.resolve-answer.ensures.only c.requires.brings c.requires.whole c.resolve-answer.ensures.refuses
 
-pub returns-in-Ok-clause-does : goal.returns-in-Ok-clause-does
-returns-in-Ok-clause-does g c = λ t spells.
-    resolves_with g.D.Disk.reads g.D.Disk.may_leave c.args.self.now c.in-Up.client c.resolve.new.self c.in-Ok.ensures.tied c.in-Up.is
-    c.args.reply.now c.args.script.value t c.requires.script c.in-Ok.ensures.only c.in-Ok.ensures.resolves c.in-Ok.ensures.live spells
+pub returns-clause-does : goal.returns-clause-does
+returns-clause-does g c = λ t spells.
+    resolves_if _ c.args.self.now c.in-Up.client c.resolve-answer.new.self c.records-count.result c.in-Up.is c.records-count.ensures
+    c.goes_on.new.self c.args.out.now c.goes_on.new.out c.resolve-answer.result c.in_ok-goes_on.field-0
+    c.is_some.result c.is_some.ensures
+    (record { tied = c.resolve-answer.ensures.tied; counts = c.resolve-answer.ensures.counts; arms = c.resolve-answer.ensures.arms })
+    (record { goes = c.in_ok-goes_on.ensures.goes; stopped = c.in_ok-goes_on.ensures.stopped; says = c.in_ok-goes_on.ensures.says })
+    c.args.reply.now c.args.script.value c.requires.script c.resolve-answer.ensures.only c.resolve-answer.ensures.resolves
+    c.resolve-answer.ensures.live c.resolve-answer.ensures.stopped t spells

@@ -9,7 +9,7 @@ use Rattle.iot_world.proofs.laptop.Laptop.say_queue.Goals as goal
 
 pub returns-in_ok-queue-in-Some : goal.returns-in_ok-queue-in-Some
 returns-in_ok-queue-in-Some g c =
-    says_running g.D.Disk.reads g.D.Disk.may_leave c.args.self.now c.queue-waiting.result.now
+    says_running _ c.args.self.now c.queue-waiting.result.now
     (c.queue-waiting.ensures ∙ ap (λ (s : State). s.items) c.client.ensures.state)
     c.args.out.now c.queue.new.out _ c.in-Some.running.now.first
     (sym c.running.ensures.running ∙ ap (λ o. transaction_of (option_copied o)) c.in-Some.is)
@@ -19,7 +19,7 @@ returns-in_ok-queue-in-Some g c =
 
 pub returns-in_ok-queue-in-None : goal.returns-in_ok-queue-in-None
 returns-in_ok-queue-in-None g c =
-    says_waiting g.D.Disk.reads g.D.Disk.may_leave c.args.self.now c.queue-waiting.result.now
+    says_waiting _ c.args.self.now c.queue-waiting.result.now
     (c.queue-waiting.ensures ∙ ap (λ (s : State). s.items) c.client.ensures.state)
     c.args.out.now c.queue-in-None.new.out
     (sym c.running.ensures.running ∙ ap (λ o. transaction_of (option_copied o)) c.in-None.is) c.in_ok-queue-in-None.ensures

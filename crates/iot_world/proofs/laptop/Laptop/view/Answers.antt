@@ -10,4 +10,4 @@ returns g c = λ scripts m here.
     let laptop = c.args.self.now in
     c.view.ensures.view ∙ ap view c.client.ensures.state
     ∙ view_is (state_in laptop) (live_in laptop) m.first m.node.durable here.state
-    (own_in g.D.Disk.reads g.D.Disk.may_leave scripts laptop m here)
+    (own_in _ scripts laptop m here)

@@ -1,57 +1,54 @@
-use Rattle.std.proofs.Common.{ℕ, ap, subst, refl, ◌∙◌}
-use Rattle.std.proofs.lemmas.Result.{err_from_is_err_and}
+use Rattle.std.proofs.Common.{ℕ, ap, length, ◌++◌, ◌∙◌}
 use Rattle.iot_server.specs.Servers as servers
-use Rattle.iot_world.specs.Faults.{FaultCounts, of_start}
-use Rattle.iot_world.specs.Records.{state_of}
-use Rattle.iot_world.specs.Servers.{disk_of}
-use Rattle.iot_world.proofs.ServersLaws.{comes_back, back_stands, start_counts}
+use Rattle.iot_store.specs.Store as stores
+use Rattle.iot_store.specs.declared.store.Store.{Store}
+use Rattle.iot_world.specs.Disks.{medium}
+use Rattle.iot_world.specs.Servers.{back_said}
+use Rattle.iot_world.proofs.DecidedLaws.{decides_back, decides_stopped}
+use Rattle.iot_world.proofs.ServersLaws.{comes_back, stops_again, back_stands, counts_alike, has_failed}
 use Rattle.iot_world.proofs.server.ServerNode.come_back.Goals as goal
 
-pub of_start-requires : goal.of_start-requires
-of_start-requires g c =
-    c.in-Err.ensures.never (state_of c.requires.sound.node.durable)
-    (back_stands _ _ c.args.disk c.restart.new.self c.requires.sound c.restart.ensures.image)
+pub say_failed_start-requires : goal.say_failed_start-requires
+say_failed_start-requires g c =
+    let stands = back_stands _ c.requires.sound.names c.args.disk c.restart.new.self c.args.doubt c.requires.sound.node
+    c.requires.sound.stands
+    c.restart.ensures.image in
+    c.in-Err.ensures.never stands.0 stands.1
 
-pub returns-in_ok-say-in-Ok-clause-step : goal.returns-in_ok-say-in-Ok-clause-step
-returns-in_ok-say-in-Ok-clause-step g c =
+pub returns-in_ok-say_back-in-Ok-clause-step : goal.returns-in_ok-say_back-in-Ok-clause-step
+returns-in_ok-say_back-in-Ok-clause-step g c = λ names.
     rw c.settle.ensures
-    (comes_back g.D.Disk.reads g.D.Disk.may_leave c.args.disk c.restart.new.self c.in-Ok.server c.args.out.now c.say.new.out
-    c.restart.ensures.image c.in-Ok.ensures.synced c.in-Ok.ensures.records c.in-Ok.ensures.only c.in_ok-say-in-Ok.ensures)
+    (comes_back _ names c.args.disk c.restart.new.self c.in-Ok.server c.args.out.now c.say_back.new.out
+    c.restart.ensures.image c.in-Ok.ensures.synced c.in-Ok.ensures.records c.in-Ok.ensures.only
+    (counts_alike (medium g.D.Disk.reads g.D.Disk.may_leave g.D.Disk.faults g.D.Disk.arms) (servers.disk_of c.in-Ok.server) c.args.disk
+    (c.in-Ok.ensures.steady ∙ c.restart.ensures.faults) (c.in-Ok.ensures.arms ∙ c.restart.ensures.arms))
+    c.args.doubt
+    (c.in_ok-say_back-in-Ok.ensures
+    ∙ ap (λ (number : ℕ). c.args.out.now ++ back_said c.args.doubt number)
+    (c.number-number.ensures ∙ ap (λ (it : Store _). length (stores.state_of it).labels) c.store.ensures)))
 
-pub returns-in_ok-say-in-Ok-clause-disk : goal.returns-in_ok-say-in-Ok-clause-disk
-returns-in_ok-say-in-Ok-clause-disk g c = record {
-  was = c.args.disk;
-  now = servers.disk_of c.in-Ok.server;
-  old_has = refl;
-  new_has = ap disk_of c.settle.ensures;
-  arms = c.in-Ok.ensures.arms ∙ c.restart.ensures.arms;
-  faults = c.in-Ok.ensures.steady ∙ c.restart.ensures.faults;
-}
+pub returns-in_ok-say_back-in-Ok-clause-decided : goal.returns-in_ok-say_back-in-Ok-clause-decided
+returns-in_ok-say_back-in-Ok-clause-decided g c =
+    decides_back (medium g.D.Disk.reads g.D.Disk.may_leave g.D.Disk.faults g.D.Disk.arms) c.args.disk c.restart.new.self c.in-Ok.server
+    c.args.out.now c.say_back.new.out c.restart.ensures.image c.in-Ok.ensures.only c.args.doubt c.requires.sound
+    (c.in_ok-say_back-in-Ok.ensures
+    ∙ ap (λ (number : ℕ). c.args.out.now ++ back_said c.args.doubt number)
+    (c.number-number.ensures ∙ ap (λ (it : Store _). length (stores.state_of it).labels) c.store.ensures))
 
-pub returns-in_err-say-in-Ok-clause-disk : goal.returns-in_err-say-in-Ok-clause-disk
-returns-in_err-say-in-Ok-clause-disk g c =
-    let p = err_from_is_err_and c.from_residual.result c.from_residual.ensures.1 in
-    rw (p.1, p.2) (record {
-      was = c.args.disk;
-      now = servers.disk_of c.in-Ok.server;
-      old_has = refl;
-      new_has = ap disk_of c.settle.ensures;
-      arms = c.in-Ok.ensures.arms ∙ c.restart.ensures.arms;
-      faults = c.in-Ok.ensures.steady ∙ c.restart.ensures.faults;
-    })
+pub returns-in_ok-say_failed_start-in-Err-clause-step :
+    goal.returns-in_ok-say_failed_start-in-Err-clause-step
+returns-in_ok-say_failed_start-in-Err-clause-step g c = λ names.
+    rw c.settle-in-Err.ensures
+    (stops_again _ names c.args.disk c.restart.new.self c.in-Err.disk c.args.doubt c.args.out.now c.say_failed_start.new.out
+    c.restart.ensures.image c.in-Err.ensures.bodies
+    (has_failed _ c.args.disk c.restart.new.self c.in-Err.disk c.in-Err.fault c.in_ok-say_failed_start-in-Err.ensures.stopped
+    c.in-Err.ensures.cause
+    (counts_alike (medium g.D.Disk.reads g.D.Disk.may_leave g.D.Disk.faults g.D.Disk.arms) c.restart.new.self c.args.disk
+    c.restart.ensures.faults c.restart.ensures.arms) c.in-Err.ensures.arms)
+    c.in_ok-say_failed_start-in-Err.ensures.says)
 
-pub returns-in-Err-clause-disk : goal.returns-in-Err-clause-disk
-returns-in-Err-clause-disk g c = record {
-  was = c.args.disk;
-  now = c.in-Err.disk;
-  old_has = refl;
-  new_has = ap disk_of c.settle-in-Err.ensures;
-  arms = c.in-Err.ensures.arms ∙ c.restart.ensures.arms;
-  faults = rw c.of_start.ensures
-      (subst (λ (n : ℕ). FaultCounts (of_start c.in-Err.fault) (record { before = n; after = g.D.Disk.faults c.in-Err.disk }))
-      c.restart.ensures.faults
-      (start_counts c.in-Err.fault _ _ _
-      (c.in-Err.ensures.never (state_of c.requires.sound.node.durable)
-      (back_stands _ _ c.args.disk c.restart.new.self c.requires.sound c.restart.ensures.image))
-      c.in-Err.ensures.cause));
-}
+pub returns-in_ok-say_failed_start-in-Err-clause-decided :
+    goal.returns-in_ok-say_failed_start-in-Err-clause-decided
+returns-in_ok-say_failed_start-in-Err-clause-decided g c =
+    decides_stopped (medium g.D.Disk.reads g.D.Disk.may_leave g.D.Disk.faults g.D.Disk.arms) c.args.disk c.args.doubt c.args.out.now
+    c.say_failed_start.new.out c.in_ok-say_failed_start-in-Err.ensures.says

@@ -1,20 +1,21 @@
 use Rattle.std.proofs.Common.{length, subst, ◌≤◌}
+use Rattle.iot_world.specs.Disks.{medium}
 use Rattle.iot_world.proofs.WorldLaws.{lends_any, lends_disk, lends_none, looked_up}
 use Rattle.iot_world.proofs.world.World.client.Goals as goal
 
 pub returns-in-Some-clause-lent : goal.returns-in-Some-clause-lent
 returns-in-Some-clause-lent g c =
-    lends_any _ _ c.args.self.now c.args.place c.in-Some.laptop.now
+    lends_any _ c.args.self.now c.args.place c.in-Some.laptop.now
     (looked_up c.args.self.now.clients.items c.deref.result.now c.args.place c.in-Some.laptop.now c.deref.ensures.value
     c.in-Some.ensures.lookup.3.0 c.in-Some.ensures.lookup.1) _ c.lent.ensures
 
 pub returns-in-Some-clause-disk : goal.returns-in-Some-clause-disk
 returns-in-Some-clause-disk g c =
-    lends_disk g.D.Disk.reads g.D.Disk.may_leave c.args.self.now c.args.place c.in-Some.laptop.now
+    lends_disk (medium g.D.Disk.reads g.D.Disk.may_leave g.D.Disk.faults g.D.Disk.arms) c.args.self.now c.args.place c.in-Some.laptop.now
     (looked_up c.args.self.now.clients.items c.deref.result.now c.args.place c.in-Some.laptop.now c.deref.ensures.value
     c.in-Some.ensures.lookup.3.0 c.in-Some.ensures.lookup.1) _ c.lent.ensures
 
 pub returns-in-None-clause-lent : goal.returns-in-None-clause-lent
 returns-in-None-clause-lent g c =
-    lends_none _ _ c.args.self.now c.args.place
+    lends_none _ c.args.self.now c.args.place
     (subst (λ ls. length ls ≤ c.args.place) c.deref.ensures.value c.in-None.ensures.lookup.3)

@@ -8,10 +8,10 @@ use Rattle.iot_world.proofs.world.World.connect.Goals as goal
 
 pub returns-clause-step : goal.returns-clause-step
 returns-clause-step g c =
-    relinks g.D.Disk.reads g.D.Disk.may_leave c.args.client c.args.self.now _ c.index_mut-laptop.result.now c.connect.new.self
+    relinks _ c.args.client c.args.self.now _ c.index_mut-laptop.result.now c.connect.new.self
     (linked (connected true c.index_mut-laptop.result.now.link)) (λ m. record m { link = connected true m.link }) connect_line
     c.args.out.now c.say_connect.new.out
-    (found_there g.D.Disk.reads g.D.Disk.may_leave c.args.client c.args.self.now c.index_mut-laptop.result.now c.requires.inside
+    (found_there _ c.args.client c.args.self.now c.index_mut-laptop.result.now c.requires.inside
     c.index_mut-laptop.ensures.value)
     (record { server = refl; scripts = refl; spare = refl; clients = refl }) c.connect.ensures
     (λ m here. (ap (λ (l : LinkState). linked (connected true l) m) here, refl)) c.in_ok-say_connect.ensures
@@ -19,24 +19,24 @@ returns-clause-step g c =
 pub returns-clause-counts : goal.returns-clause-counts
 returns-clause-counts g c =
     counts_put c.args.client c.args.self.now _ c.index_mut-laptop.result.now c.connect.new.self
-    (found_there g.D.Disk.reads g.D.Disk.may_leave c.args.client c.args.self.now c.index_mut-laptop.result.now c.requires.inside
+    (found_there _ c.args.client c.args.self.now c.index_mut-laptop.result.now c.requires.inside
     c.index_mut-laptop.ensures.value)
     (sym c.connect.ensures.alive) (record { server = refl; scripts = refl; spare = refl; clients = refl })
 
 pub returns-in_err-say_connect-clause-disks : goal.returns-in_err-say_connect-clause-disks
 returns-in_err-say_connect-clause-disks g c =
-    relinked_disks g.D.Disk.reads g.D.Disk.may_leave g.D.Disk.arms g.D.Disk.faults c.args.client c.args.self.now _
+    relinked_disks _ g.D.Disk.arms c.args.client c.args.self.now _
     c.index_mut-laptop.result.now
     c.connect.new.self _ c.requires.inside
-    (found_there g.D.Disk.reads g.D.Disk.may_leave c.args.client c.args.self.now c.index_mut-laptop.result.now c.requires.inside
+    (found_there _ c.args.client c.args.self.now c.index_mut-laptop.result.now c.requires.inside
     c.index_mut-laptop.ensures.value)
     refl refl refl c.connect.ensures
 
 pub returns-clause-disks : goal.returns-clause-disks
 returns-clause-disks g c =
-    relinked_disks g.D.Disk.reads g.D.Disk.may_leave g.D.Disk.arms g.D.Disk.faults c.args.client c.args.self.now _
+    relinked_disks _ g.D.Disk.arms c.args.client c.args.self.now _
     c.index_mut-laptop.result.now
     c.connect.new.self _ c.requires.inside
-    (found_there g.D.Disk.reads g.D.Disk.may_leave c.args.client c.args.self.now c.index_mut-laptop.result.now c.requires.inside
+    (found_there _ c.args.client c.args.self.now c.index_mut-laptop.result.now c.requires.inside
     c.index_mut-laptop.ensures.value)
     refl refl refl c.connect.ensures

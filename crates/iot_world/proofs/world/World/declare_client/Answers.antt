@@ -1,31 +1,111 @@
-use Rattle.std.proofs.Common.{refl, ap, ◌∙◌, ◌++◌, ◌∷◌, []}
-use Rattle.std.proofs.lemmas.Result.{err_from_is_err_and}
-use Rattle.iot_world.specs.declared.node.ClientNode.TheVariants.{Down}
-use Rattle.iot_world.proofs.DisksLaws.{pushed_disks, steady_lifts, fault_lifts}
+use Rattle.std.proofs.Common.{◌++◌, ◌∷◌, [], length, true, false, slice_set, slice_index_or, refl, sym, ap, subst, ◌∙◌}
+use Rattle.std.proofs.lemmas.List.{append-nil}
+use Rattle.iot_world.specs.Disks.{medium, SameDisk}
+use Rattle.iot_world.specs.Laptops.{Opens}
+use Rattle.iot_world.specs.Nodes.{disk_in}
+use Rattle.iot_world.proofs.DeclaringLaws.{declares, declared_disks, end_at}
 use Rattle.iot_world.proofs.world.World.declare_client.Goals as goal
 
-pub returns-in-Err-clause-disks : goal.returns-in-Err-clause-disks
-returns-in-Err-clause-disks g c =
-    pushed_disks _ _ c.args.self.now _ c.take_first-disk.result _ _ (fault_lifts _ _ c.in-Err.fault) refl
-    c.take_first-disk.ensures.capacity (record
-    { name = c.args.name.now; place = c.len-place.result; node = Down c.in-Err.disk; link = c.new.result })
-    (c.push_reserved-in-Err.ensures.items ∙ ap
-    (λ ls. ls ++ record { name = c.args.name.now; place = c.len-place.result; node = Down c.in-Err.disk; link = c.new.result } ∷ [])
-    c.reserve.ensures.items) c.take_first-disk.ensures.items
-    c.take_first-disk.ensures.len c.in-Err.ensures.refused
+pub returns-in_err-open-clause-disks : goal.returns-in_err-open-clause-disks
+returns-in_err-open-clause-disks g c =
+    let there = c.index_mut.ensures.value ∙ (λ i. slice_index_or ((c.push_reserved.ensures.items ∙ ap (λ ls. ls ++ c.unopened.result ∷ [])
+    c.reserve.ensures.items) i) ((c.len-place.ensures ∙ c.reserve.new.self.ok.0 ∙ ap length c.reserve.ensures.items) i)
+    c.index_mut.result.now)
+    ∙ end_at c.args.self.now.clients.items c.unopened.result c.index_mut.result.now in
+    declared_disks g.D.Disk.arms c.args.self.now _ c.take_first-disk.result c.unopened.result c.open.new.self refl
+    c.take_first-disk.ensures.capacity
+    (λ i. slice_set ((c.push_reserved.ensures.items ∙ ap (λ ls. ls ++ c.unopened.result ∷ []) c.reserve.ensures.items) i)
+    ((c.len-place.ensures ∙ c.reserve.new.self.ok.0 ∙ ap length c.reserve.ensures.items) i) c.open.new.self)
+    c.take_first-disk.ensures.items c.take_first-disk.ensures.len c.unopened.ensures.disk
+    (subst (λ l. SameDisk g.D.Disk.arms (disk_in l) (disk_in c.open.new.self)) there c.open.ensures.disk)
 
 pub returns-in_err-say_client-clause-disks : goal.returns-in_err-say_client-clause-disks
 returns-in_err-say_client-clause-disks g c =
-    let p = err_from_is_err_and c.from_residual-in_err-say_client.result c.from_residual-in_err-say_client.ensures.1 in
-    rw (p.1, p.2)
-    (pushed_disks _ _ c.args.self.now _ c.take_first-disk.result _ _ (steady_lifts _ _) refl
-    c.take_first-disk.ensures.capacity c.in-Ok.laptop
-    (c.push_reserved.ensures.items ∙ ap (λ ls. ls ++ c.in-Ok.laptop ∷ []) c.reserve.ensures.items) c.take_first-disk.ensures.items
-    c.take_first-disk.ensures.len c.in-Ok.ensures.disk)
+    let there = c.index_mut.ensures.value ∙ (λ i. slice_index_or ((c.push_reserved.ensures.items ∙ ap (λ ls. ls ++ c.unopened.result ∷ [])
+    c.reserve.ensures.items) i) ((c.len-place.ensures ∙ c.reserve.new.self.ok.0 ∙ ap length c.reserve.ensures.items) i)
+    c.index_mut.result.now)
+    ∙ end_at c.args.self.now.clients.items c.unopened.result c.index_mut.result.now in
+    declared_disks g.D.Disk.arms c.args.self.now _ c.take_first-disk.result c.unopened.result c.open.new.self refl
+    c.take_first-disk.ensures.capacity
+    (λ i. slice_set ((c.push_reserved.ensures.items ∙ ap (λ ls. ls ++ c.unopened.result ∷ []) c.reserve.ensures.items) i)
+    ((c.len-place.ensures ∙ c.reserve.new.self.ok.0 ∙ ap length c.reserve.ensures.items) i) c.open.new.self)
+    c.take_first-disk.ensures.items c.take_first-disk.ensures.len c.unopened.ensures.disk
+    (subst (λ l. SameDisk g.D.Disk.arms (disk_in l) (disk_in c.open.new.self)) there c.open.ensures.disk)
 
-pub returns-clause-disks : goal.returns-clause-disks
-returns-clause-disks g c =
-    pushed_disks _ _ c.args.self.now _ c.take_first-disk.result _ _ (steady_lifts _ _) refl
-    c.take_first-disk.ensures.capacity c.in-Ok.laptop
-    (c.push_reserved.ensures.items ∙ ap (λ ls. ls ++ c.in-Ok.laptop ∷ []) c.reserve.ensures.items) c.take_first-disk.ensures.items
-    c.take_first-disk.ensures.len c.in-Ok.ensures.disk
+pub returns-in_ok-say_client-clause-disks : goal.returns-in_ok-say_client-clause-disks
+returns-in_ok-say_client-clause-disks g c =
+    let there = c.index_mut.ensures.value ∙ (λ i. slice_index_or ((c.push_reserved.ensures.items ∙ ap (λ ls. ls ++ c.unopened.result ∷ [])
+    c.reserve.ensures.items) i) ((c.len-place.ensures ∙ c.reserve.new.self.ok.0 ∙ ap length c.reserve.ensures.items) i)
+    c.index_mut.result.now)
+    ∙ end_at c.args.self.now.clients.items c.unopened.result c.index_mut.result.now in
+    declared_disks g.D.Disk.arms c.args.self.now _ c.take_first-disk.result c.unopened.result c.open.new.self refl
+    c.take_first-disk.ensures.capacity
+    (λ i. slice_set ((c.push_reserved.ensures.items ∙ ap (λ ls. ls ++ c.unopened.result ∷ []) c.reserve.ensures.items) i)
+    ((c.len-place.ensures ∙ c.reserve.new.self.ok.0 ∙ ap length c.reserve.ensures.items) i) c.open.new.self)
+    c.take_first-disk.ensures.items c.take_first-disk.ensures.len c.unopened.ensures.disk
+    (subst (λ l. SameDisk g.D.Disk.arms (disk_in l) (disk_in c.open.new.self)) there c.open.ensures.disk)
+
+pub returns-else-branch-clause-disks : goal.returns-else-branch-clause-disks
+returns-else-branch-clause-disks g c =
+    let there = c.index_mut.ensures.value ∙ (λ i. slice_index_or ((c.push_reserved.ensures.items ∙ ap (λ ls. ls ++ c.unopened.result ∷ [])
+    c.reserve.ensures.items) i) ((c.len-place.ensures ∙ c.reserve.new.self.ok.0 ∙ ap length c.reserve.ensures.items) i)
+    c.index_mut.result.now)
+    ∙ end_at c.args.self.now.clients.items c.unopened.result c.index_mut.result.now in
+    declared_disks g.D.Disk.arms c.args.self.now _ c.take_first-disk.result c.unopened.result c.open.new.self refl
+    c.take_first-disk.ensures.capacity
+    (λ i. slice_set ((c.push_reserved.ensures.items ∙ ap (λ ls. ls ++ c.unopened.result ∷ []) c.reserve.ensures.items) i)
+    ((c.len-place.ensures ∙ c.reserve.new.self.ok.0 ∙ ap length c.reserve.ensures.items) i) c.open.new.self)
+    c.take_first-disk.ensures.items c.take_first-disk.ensures.len c.unopened.ensures.disk
+    (subst (λ l. SameDisk g.D.Disk.arms (disk_in l) (disk_in c.open.new.self)) there c.open.ensures.disk)
+
+pub returns-in_ok-say_client-clause-step : goal.returns-in_ok-say_client-clause-step
+returns-in_ok-say_client-clause-step g c =
+    let there = c.index_mut.ensures.value ∙ (λ i. slice_index_or ((c.push_reserved.ensures.items ∙ ap (λ ls. ls ++ c.unopened.result ∷ [])
+    c.reserve.ensures.items) i) ((c.len-place.ensures ∙ c.reserve.new.self.ok.0 ∙ ap length c.reserve.ensures.items) i)
+    c.index_mut.result.now)
+    ∙ end_at c.args.self.now.clients.items c.unopened.result c.index_mut.result.now in
+    declares (medium g.D.Disk.reads g.D.Disk.may_leave g.D.Disk.faults g.D.Disk.arms) c.args.name.now c.args.self.now
+    (record c.args.self.now { clients = c.push_reserved.new.self; spare = c.take_first-disk.new.disks }) c.unopened.result
+    c.take_first-disk.result refl
+    (c.push_reserved.ensures.items ∙ ap (λ ls. ls ++ c.unopened.result ∷ []) c.reserve.ensures.items) refl c.take_first-disk.ensures.items
+    (c.unopened.ensures.place ∙ c.len-place.ensures ∙ c.reserve.new.self.ok.0 ∙ ap length c.reserve.ensures.items)
+    c.unopened.ensures.stands _ c.open.new.self
+    c.args.out.now c.open.new.out c.say_client.new.out true
+    (record {
+      server = refl;
+      scripts = refl;
+      spare = refl;
+      clients = ap (λ n. slice_set c.push_reserved.new.self.items n c.open.new.self) (c.len-place.ensures ∙ c.reserve.new.self.ok.0 ∙ ap
+          length c.reserve.ensures.items);
+    })
+    (subst (λ l. Opens (medium g.D.Disk.reads g.D.Disk.may_leave g.D.Disk.faults g.D.Disk.arms) true l c.open.new.self c.args.out.now
+    c.open.new.out) there
+    (subst (λ on. Opens (medium g.D.Disk.reads g.D.Disk.may_leave g.D.Disk.faults g.D.Disk.arms) on c.index_mut.result.now c.open.new.self
+    c.args.out.now c.open.new.out) c.if-branch.true c.in_ok-open.ensures.opens))
+    c.in_ok-say_client.ensures
+
+pub returns-else-branch-clause-step : goal.returns-else-branch-clause-step
+returns-else-branch-clause-step g c =
+    let there = c.index_mut.ensures.value ∙ (λ i. slice_index_or ((c.push_reserved.ensures.items ∙ ap (λ ls. ls ++ c.unopened.result ∷ [])
+    c.reserve.ensures.items) i) ((c.len-place.ensures ∙ c.reserve.new.self.ok.0 ∙ ap length c.reserve.ensures.items) i)
+    c.index_mut.result.now)
+    ∙ end_at c.args.self.now.clients.items c.unopened.result c.index_mut.result.now in
+    declares (medium g.D.Disk.reads g.D.Disk.may_leave g.D.Disk.faults g.D.Disk.arms) c.args.name.now c.args.self.now
+    (record c.args.self.now { clients = c.push_reserved.new.self; spare = c.take_first-disk.new.disks }) c.unopened.result
+    c.take_first-disk.result refl
+    (c.push_reserved.ensures.items ∙ ap (λ ls. ls ++ c.unopened.result ∷ []) c.reserve.ensures.items) refl c.take_first-disk.ensures.items
+    (c.unopened.ensures.place ∙ c.len-place.ensures ∙ c.reserve.new.self.ok.0 ∙ ap length c.reserve.ensures.items)
+    c.unopened.ensures.stands _ c.open.new.self
+    c.args.out.now c.open.new.out c.open.new.out false
+    (record {
+      server = refl;
+      scripts = refl;
+      spare = refl;
+      clients = ap (λ n. slice_set c.push_reserved.new.self.items n c.open.new.self) (c.len-place.ensures ∙ c.reserve.new.self.ok.0 ∙ ap
+          length c.reserve.ensures.items);
+    })
+    (subst (λ l. Opens (medium g.D.Disk.reads g.D.Disk.may_leave g.D.Disk.faults g.D.Disk.arms) false l c.open.new.self c.args.out.now
+    c.open.new.out) there
+    (subst (λ on. Opens (medium g.D.Disk.reads g.D.Disk.may_leave g.D.Disk.faults g.D.Disk.arms) on c.index_mut.result.now c.open.new.self
+    c.args.out.now c.open.new.out) c.if-branch.false c.in_ok-open.ensures.opens))
+    (sym (append-nil c.open.new.out))

@@ -7,15 +7,15 @@ use Rattle.iot_world.proofs.world.World.disconnect.Goals as goal
 
 pub disconnect-requires : goal.disconnect-requires
 disconnect-requires g c =
-    found_anyhow g.D.Disk.reads g.D.Disk.may_leave c.args.client c.args.self.now c.index_mut-laptop.result.now c.requires.inside
+    found_anyhow _ c.args.client c.args.self.now c.index_mut-laptop.result.now c.requires.inside
     c.index_mut-laptop.ensures.value
 
 pub returns-clause-step : goal.returns-clause-step
 returns-clause-step g c =
-    relinks g.D.Disk.reads g.D.Disk.may_leave c.args.client c.args.self.now _ c.index_mut-laptop.result.now c.disconnect.new.self
+    relinks _ c.args.client c.args.self.now _ c.index_mut-laptop.result.now c.disconnect.new.self
     cut_off cut_off disconnect_line
     c.args.out.now c.say_disconnect.new.out
-    (found_there g.D.Disk.reads g.D.Disk.may_leave c.args.client c.args.self.now c.index_mut-laptop.result.now c.requires.inside
+    (found_there _ c.args.client c.args.self.now c.index_mut-laptop.result.now c.requires.inside
     c.index_mut-laptop.ensures.value)
     (record { server = refl; scripts = refl; spare = refl; clients = refl }) c.disconnect.ensures
     (λ m here. (refl, refl)) c.in_ok-say_disconnect.ensures
@@ -23,24 +23,24 @@ returns-clause-step g c =
 pub returns-clause-counts : goal.returns-clause-counts
 returns-clause-counts g c =
     counts_put c.args.client c.args.self.now _ c.index_mut-laptop.result.now c.disconnect.new.self
-    (found_there g.D.Disk.reads g.D.Disk.may_leave c.args.client c.args.self.now c.index_mut-laptop.result.now c.requires.inside
+    (found_there _ c.args.client c.args.self.now c.index_mut-laptop.result.now c.requires.inside
     c.index_mut-laptop.ensures.value)
     (sym c.disconnect.ensures.alive) (record { server = refl; scripts = refl; spare = refl; clients = refl })
 
 pub returns-in_err-say_disconnect-clause-disks : goal.returns-in_err-say_disconnect-clause-disks
 returns-in_err-say_disconnect-clause-disks g c =
-    relinked_disks g.D.Disk.reads g.D.Disk.may_leave g.D.Disk.arms g.D.Disk.faults c.args.client c.args.self.now _
+    relinked_disks _ g.D.Disk.arms c.args.client c.args.self.now _
     c.index_mut-laptop.result.now
     c.disconnect.new.self _ c.requires.inside
-    (found_there g.D.Disk.reads g.D.Disk.may_leave c.args.client c.args.self.now c.index_mut-laptop.result.now c.requires.inside
+    (found_there _ c.args.client c.args.self.now c.index_mut-laptop.result.now c.requires.inside
     c.index_mut-laptop.ensures.value)
     refl refl refl c.disconnect.ensures
 
 pub returns-clause-disks : goal.returns-clause-disks
 returns-clause-disks g c =
-    relinked_disks g.D.Disk.reads g.D.Disk.may_leave g.D.Disk.arms g.D.Disk.faults c.args.client c.args.self.now _
+    relinked_disks _ g.D.Disk.arms c.args.client c.args.self.now _
     c.index_mut-laptop.result.now
     c.disconnect.new.self _ c.requires.inside
-    (found_there g.D.Disk.reads g.D.Disk.may_leave c.args.client c.args.self.now c.index_mut-laptop.result.now c.requires.inside
+    (found_there _ c.args.client c.args.self.now c.index_mut-laptop.result.now c.requires.inside
     c.index_mut-laptop.ensures.value)
     refl refl refl c.disconnect.ensures

@@ -8,10 +8,10 @@ use Rattle.iot_world.proofs.world.World.json.Goals as goal
 
 pub finish-requires : goal.finish-requires
 finish-requires g c =
-    are_of g.D.Disk.reads g.D.Disk.may_leave c.args.self.now (named c.in_ok-json.json) c.labels.result.now c.in-Some.server.now c.requires
+    are_of _ c.args.self.now (named c.in_ok-json.json) c.labels.result.now c.in-Some.server.now c.requires
     (c.in_ok-json.ensures c.requires.machine c.requires.stands.stands).names
     (c.labels.ensures ∙ ap (λ s. (state_of s).labels) c.store.ensures)
-    (lent_up g.D.Disk.reads g.D.Disk.may_leave c.args.self.now c.server.result c.in-Some.server c.server.ensures.lent c.in-Some.is)
+    (lent_up _ c.args.self.now c.server.result c.in-Some.server c.server.ensures.lent c.in-Some.is)
 
 pub returns-in-Some : goal.returns-in-Some
 returns-in-Some g c =
@@ -21,7 +21,7 @@ returns-in-Some g c =
     ∙ json_up m c.in_ok-json.json c.labels.result.now c.tree.result.now c.in-Some.server.now (c.in_ok-json.ensures m here)
     (c.labels.ensures ∙ ap (λ s. (state_of s).labels) c.store.ensures)
     (c.tree.ensures ∙ ap (λ s. (state_of s).tree) c.store-in-Some.ensures)
-    (lent_up g.D.Disk.reads g.D.Disk.may_leave c.args.self.now c.server.result c.in-Some.server c.server.ensures.lent c.in-Some.is m here))
+    (lent_up _ c.args.self.now c.server.result c.in-Some.server c.server.ensures.lent c.in-Some.is m here))
     c.finish.ensures
 
 pub returns-in-None : goal.returns-in-None
@@ -30,5 +30,5 @@ returns-in-None g c =
     (λ text same m here.
     same
     ∙ json_down m c.in_ok-json.json [] (c.in_ok-json.ensures m here)
-    (lent_down g.D.Disk.reads g.D.Disk.may_leave c.args.self.now c.server.result c.server.ensures.lent c.in-None.is m here))
+    (lent_down _ c.args.self.now c.server.result c.server.ensures.lent c.in-None.is m here))
     c.finish-in-None-2.ensures

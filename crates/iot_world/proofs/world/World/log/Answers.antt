@@ -5,22 +5,22 @@ use Rattle.iot_world.proofs.world.World.log.Goals as goal
 
 pub log-requires : goal.log-requires
 log-requires g c =
-    are_of g.D.Disk.reads g.D.Disk.may_leave c.args.self.now c.as_slice.result.now c.labels.result.now c.in-Some.server.now c.requires.sound
+    are_of _ c.args.self.now c.as_slice.result.now c.labels.result.now c.in-Some.server.now c.requires.sound
     (c.as_slice.ensures.value ∙ c.in_ok-names-in-Some.ensures
-    ∙ names_are g.D.Disk.reads g.D.Disk.may_leave c.args.self.now c.requires.sound.machine c.requires.sound.stands.stands)
+    ∙ names_are _ c.args.self.now c.requires.sound.machine c.requires.sound.stands.stands)
     (c.labels.ensures ∙ ap (λ s. (state_of s).labels) c.store.ensures)
-    (lent_up g.D.Disk.reads g.D.Disk.may_leave c.args.self.now c.server.result c.in-Some.server c.server.ensures.lent c.in-Some.is)
+    (lent_up _ c.args.self.now c.server.result c.in-Some.server c.server.ensures.lent c.in-Some.is)
 
 pub returns-in_ok-log-in-Some : goal.returns-in_ok-log-in-Some
 returns-in_ok-log-in-Some g c =
-    logs_up g.D.Disk.reads g.D.Disk.may_leave c.args.self.now c.args.out.now c.log.new.out c.as_slice.result.now c.labels.result.now
+    logs_up _ c.args.self.now c.args.out.now c.log.new.out c.as_slice.result.now c.labels.result.now
     c.in-Some.server.now
     (c.as_slice.ensures.value ∙ c.in_ok-names-in-Some.ensures) (c.labels.ensures ∙ ap (λ s. (state_of s).labels) c.store.ensures)
-    (lent_up g.D.Disk.reads g.D.Disk.may_leave c.args.self.now c.server.result c.in-Some.server c.server.ensures.lent c.in-Some.is)
+    (lent_up _ c.args.self.now c.server.result c.in-Some.server c.server.ensures.lent c.in-Some.is)
     c.in_ok-log-in-Some.ensures
 
 pub returns-in_ok-say-in-None : goal.returns-in_ok-say-in-None
 returns-in_ok-say-in-None g c =
-    logs_down g.D.Disk.reads g.D.Disk.may_leave c.args.self.now c.args.out.now c.say.new.out
-    (lent_down g.D.Disk.reads g.D.Disk.may_leave c.args.self.now c.server.result c.server.ensures.lent c.in-None.is)
+    logs_down _ c.args.self.now c.args.out.now c.say.new.out
+    (lent_down _ c.args.self.now c.server.result c.server.ensures.lent c.in-None.is)
     c.in_ok-say-in-None.ensures

@@ -4,5 +4,5 @@ use Rattle.iot_world.proofs.world.World.restart.Goals as goal
 
 pub returns-clause-step : goal.returns-clause-step
 returns-clause-step g c =
-    restarts _ _ c.args.self.now _ refl refl refl c.args.out.now c.restart.new.out c.in_ok-restart.ensures.requests
+    restarts _ c.args.self.now _ refl refl refl c.args.out.now c.restart.new.out c.in_ok-restart.ensures.requests
     c.in_ok-restart.ensures.step

@@ -11,13 +11,13 @@ use Rattle.iot_world.proofs.world.World.say_begun.Goals as goal
 
 pub running-requires : goal.running-requires
 running-requires g c =
-    found_some g.D.Disk.reads g.D.Disk.may_leave c.args.client c.args.self.now c.index-laptop.result.now c.requires.ready
+    found_some _ c.args.client c.args.self.now c.index-laptop.result.now c.requires.ready
     c.index-laptop.ensures
 
 pub returns-in_ok-say_begin-in-Some : goal.returns-in_ok-say_begin-in-Some
 returns-in_ok-say_begin-in-Some g c =
-    says_begun g.D.Disk.reads g.D.Disk.may_leave c.args.client c.args.self.now c.index-laptop.result.now
-    (found g.D.Disk.reads g.D.Disk.may_leave c.args.client c.args.self.now c.index-laptop.result.now c.requires.ready
+    says_begun _ c.args.client c.args.self.now c.index-laptop.result.now
+    (found _ c.args.client c.args.self.now c.index-laptop.result.now c.requires.ready
     c.index-laptop.ensures)
     c.args.out.now c.say_begin.new.out _
     (sym c.running.ensures.running ∙ ap (λ o. transaction_of (option_copied o)) c.in-Some.is) c.in-Some.running.now.first
@@ -29,8 +29,8 @@ returns-in_ok-say_begin-in-Some g c =
 
 pub returns-in-None : goal.returns-in-None
 returns-in-None g c =
-    no_begin g.D.Disk.reads g.D.Disk.may_leave c.args.client c.args.self.now c.index-laptop.result.now
-    (found g.D.Disk.reads g.D.Disk.may_leave c.args.client c.args.self.now c.index-laptop.result.now c.requires.ready
+    no_begin _ c.args.client c.args.self.now c.index-laptop.result.now
+    (found _ c.args.client c.args.self.now c.index-laptop.result.now c.requires.ready
     c.index-laptop.ensures)
     c.args.out.now c.args.out.now
     (none_runs (scripts_of c.args.self.now) c.index-laptop.result.now

@@ -12,18 +12,18 @@ use Rattle.iot_world.proofs.world.World.say_stepped.Goals as goal
 
 pub running-requires : goal.running-requires
 running-requires g c =
-    found_some g.D.Disk.reads g.D.Disk.may_leave c.args.client c.args.self.now c.index-laptop.result.now c.requires.ready
+    found_some _ c.args.client c.args.self.now c.index-laptop.result.now c.requires.ready
     c.index-laptop.ensures
 
 pub at_end-requires : goal.at_end-requires
 at_end-requires g c =
-    found_some g.D.Disk.reads g.D.Disk.may_leave c.args.client c.args.self.now c.index-laptop.result.now c.requires.ready
+    found_some _ c.args.client c.args.self.now c.index-laptop.result.now c.requires.ready
     c.index-laptop.ensures
 
 pub returns-in_ok-say_step-in-Some : goal.returns-in_ok-say_step-in-Some
 returns-in_ok-say_step-in-Some g c =
-    says_stepped g.D.Disk.reads g.D.Disk.may_leave c.args.client c.args.self.now c.index-laptop.result.now
-    (found g.D.Disk.reads g.D.Disk.may_leave c.args.client c.args.self.now c.index-laptop.result.now c.requires.ready
+    says_stepped _ c.args.client c.args.self.now c.index-laptop.result.now
+    (found _ c.args.client c.args.self.now c.index-laptop.result.now c.requires.ready
     c.index-laptop.ensures)
     c.args.out.now c.say_step.new.out _
     (sym c.running.ensures.running ∙ ap (λ o. transaction_of (option_copied o)) c.in-Some.is)
@@ -40,8 +40,8 @@ returns-in_ok-say_step-in-Some g c =
 
 pub returns-in-None : goal.returns-in-None
 returns-in-None g c =
-    no_step g.D.Disk.reads g.D.Disk.may_leave c.args.client c.args.self.now c.index-laptop.result.now
-    (found g.D.Disk.reads g.D.Disk.may_leave c.args.client c.args.self.now c.index-laptop.result.now c.requires.ready
+    no_step _ c.args.client c.args.self.now c.index-laptop.result.now
+    (found _ c.args.client c.args.self.now c.index-laptop.result.now c.requires.ready
     c.index-laptop.ensures)
     c.args.out.now c.args.out.now
     (none_runs (scripts_of c.args.self.now) c.index-laptop.result.now

@@ -1,10 +1,11 @@
-use Rattle.iot_world.specs.Disks.{NoneRose}
+use Rattle.iot_world.specs.Disks.{medium}
 use Rattle.iot_world.specs.World.{SameDisks}
 use Rattle.iot_world.proofs.TransactionsLaws.{AfterSteps}
 use Rattle.iot_world.proofs.world.World.steps.Given as goal
 
--- what is left after these steps makes the whole, and no disk has failed in them
+-- what is left after these steps makes the whole, and no disk was armed in them
 abbrev pub invariant-steps : goal.invariant-steps
 invariant-steps g l =
-    AfterSteps g.D.Disk.reads g.D.Disk.may_leave l.client l.loud l.most l.initial.self l.initial.out l.counter l.self l.out
-    × SameDisks g.D.Disk.arms g.D.Disk.faults NoneRose l.initial.self l.self
+    AfterSteps (medium g.D.Disk.reads g.D.Disk.may_leave g.D.Disk.faults g.D.Disk.arms) l.client l.loud l.most
+    l.initial.self l.initial.out l.counter l.self l.out
+    × SameDisks g.D.Disk.arms l.initial.self l.self

@@ -1,10 +1,11 @@
-use Rattle.iot_world.specs.Disks.{NoneRose}
+use Rattle.iot_world.specs.Disks.{medium}
 use Rattle.iot_world.specs.World.{SameDisks}
 use Rattle.iot_world.proofs.QueuesLaws.{AfterSyncs}
 use Rattle.iot_world.proofs.world.World.sync_all.Given as goal
 
--- what is left after these makes the whole, and no disk has failed in them
+-- what is left after these makes the whole, and no disk was armed in them
 abbrev pub invariant-syncs : goal.invariant-syncs
 invariant-syncs g l =
-    AfterSyncs g.D.Disk.reads g.D.Disk.may_leave l.client l.most l.initial.self l.initial.out l.counter l.self l.out
-    × SameDisks g.D.Disk.arms g.D.Disk.faults NoneRose l.initial.self l.self
+    AfterSyncs (medium g.D.Disk.reads g.D.Disk.may_leave g.D.Disk.faults g.D.Disk.arms) l.client l.most l.initial.self l.initial.out
+    l.counter l.self l.out
+    × SameDisks g.D.Disk.arms l.initial.self l.self

@@ -5,24 +5,24 @@ use Rattle.iot_world.proofs.world.World.told.Goals as goal
 
 pub loop-laptop-init : goal.loop-laptop-init
 loop-laptop-init g c =
-    tells_none g.D.Disk.reads g.D.Disk.may_leave c.args.self.now c.new-json.result c.new-json.ensures.clients c.new-json.ensures.names
+    tells_none _ c.args.self.now c.new-json.result c.new-json.ensures.clients c.new-json.ensures.names
 
 pub tell-requires : goal.tell-requires
 tell-requires g c =
-    stands_at g.D.Disk.reads g.D.Disk.may_leave c.args.self.now c.loop-laptop.laptop-index c.laptop-item.result
+    stands_at _ c.args.self.now c.loop-laptop.laptop-index c.laptop-item.result
     (looked_up c.args.self.now.clients.items c.deref-laptop-items.result.now c.loop-laptop.laptop-index c.laptop-item.result
     c.deref-laptop-items.ensures.value c.loop-laptop-test.true c.laptop-item.is)
     c.requires
 
 pub loop-laptop-preserved : goal.loop-laptop-preserved
 loop-laptop-preserved g c =
-    tells_more g.D.Disk.reads g.D.Disk.may_leave c.args.self.now c.loop-laptop.laptop-index c.laptop-item.result
+    tells_more _ c.args.self.now c.loop-laptop.laptop-index c.laptop-item.result
     (looked_up c.args.self.now.clients.items c.deref-laptop-items.result.now c.loop-laptop.laptop-index c.laptop-item.result
     c.deref-laptop-items.ensures.value c.loop-laptop-test.true c.laptop-item.is)
     c.loop-laptop.json c.tell.new.json c.loop-laptop.invariant c.in_ok-tell.ensures
 
 pub returns : goal.returns
 returns g c =
-    tells_all g.D.Disk.reads g.D.Disk.may_leave c.args.self.now c.loop-laptop.laptop-index c.loop-laptop.json
+    tells_all _ c.args.self.now c.loop-laptop.laptop-index c.loop-laptop.json
     (subst (λ ls. length ls ≤ c.loop-laptop.laptop-index) c.deref-laptop-items.ensures.value c.loop-laptop-test.false)
     c.loop-laptop.invariant
