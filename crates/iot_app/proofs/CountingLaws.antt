@@ -44,9 +44,9 @@ counts_apart done rest whole = λ i. record {
   pending = count_apart (codes "pending ") done rest whole i;
 }
 
--- nothing is said yet
-pub none_counted : (counts : Counts) (text : List ℕ) → counts ≡ counts_of [] → text ≡ [] → HasCounted counts text []
-none_counted counts text is none = record { done = []; split = sym none; lines = inl refl; counted = is }
+-- nothing is counted yet
+pub none_counted : (counts : Counts) (text : List ℕ) → counts ≡ counts_of [] → HasCounted counts text text
+none_counted counts text is = record { done = []; split = refl; lines = inl refl; counted = is }
 
 -- more is said
 pub more_said : (counts : Counts) (before after transcript says : List ℕ) → after ≡ before ++ says → HasCounted counts before transcript

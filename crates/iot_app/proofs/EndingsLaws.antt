@@ -16,7 +16,7 @@ use Rattle.iot_app.specs.Job.{TextEnds, whole, front, NothingEnds, RefusalEnds, 
 use Rattle.iot_app.specs.Outputs.{is_generated, GivesEvents}
 use Rattle.iot_app.specs.Played.{WroteFront}
 use Rattle.iot_app.specs.Refusals.{usage_line, too_long_line, refusal_line}
-use Rattle.iot_app.specs.Status.{SourceCounts, DiskCounts}
+use Rattle.iot_app.specs.Status.{SourceCounts}
 use Rattle.iot_app.specs.declared.input.InputFault.{InputFault}
 use Rattle.iot_app.specs.declared.input.InputFault.TheVariants as inputs
 use Rattle.iot_app.specs.declared.status.Status.{Status}
@@ -41,9 +41,6 @@ module _ (asked : Status) (text : List ℕ) (status : Status) (wrote : List ℕ 
 
   pub text_source : (reads : Counted) → SourceCounts asked reads → IsSteady reads → Text → SourceCounts status reads
   text_source reads one steady line = by_text (λ (s : Status). SourceCounts s reads) line (λ _. one) (λ _. steady)
-
-  pub text_disk : (before after : List ℕ) → DiskCounts asked before after → after ≡ before → Text → DiskCounts status before after
-  text_disk before after one steady line = by_text (λ (s : Status). DiskCounts s before after) line (λ _. one) (λ _. steady)
 
 module _ (it : Effects) where
   -- ---- the words
@@ -79,11 +76,11 @@ module _ (it : Effects) where
   -- ---- the events
 
   on_events : (job : Job) (status : Status) (events : List Event) → GivesEvents job it.took it.at_end events
-      → Did it.wrote it.holds it.disk job status events → OnEvents it job status
+      → Did it.handed it.wrote it.holds it.armed it.unread it.disk job status events → OnEvents it job status
   on_events job status events given did = record { events = events; given = given; did = did }
 
   pub events_end : (job : Job) (status : Status) (events : List Event) → GivesEvents job it.took it.at_end events
-      → Did it.wrote it.holds it.disk job status events → JobEnds it job status
+      → Did it.handed it.wrote it.holds it.armed it.unread it.disk job status events → JobEnds it job status
   events_end job statuses.Done events given did = on_events job statuses.Done events given did
   events_end job statuses.Refused events given did = absurd did
   events_end job statuses.Usage events given did = absurd did
@@ -91,7 +88,6 @@ module _ (it : Effects) where
   events_end job statuses.WriteFailed events given did = inr (on_events job statuses.WriteFailed events given did)
   events_end job statuses.NoMemory events given did = inr (inr (on_events job statuses.NoMemory events given did))
   events_end job statuses.SaveFailed events given did = on_events job statuses.SaveFailed events given did
-  events_end job statuses.DiskFailed events given did = on_events job statuses.DiskFailed events given did
 
   -- ---- no events
 

@@ -1,27 +1,31 @@
 -- Events that are done one by one.
-use Rattle.std.proofs.Common.{◌≡◌, ℕ, suc, ◌+◌, ◌<◌, ◌≤◌, List, [], ◌∷◌, ◌++◌, length, take, drop, slice_index_or}
-use Rattle.std.proofs.Common.{Option, Some, None}
-use Rattle.std.proofs.Common.{refl, sym, ap, subst, ◌∙◌, append_assoc, add-one}
+use Rattle.std.proofs.Common.{◌≡◌, ℕ, suc, ◌+◌, ◌<◌, ◌≤◌, List, [], ◌∷◌, ◌++◌, length, map, take, drop, slice_index_or}
+use Rattle.std.proofs.Common.{Option, Some, None, true}
+use Rattle.std.proofs.Common.{refl, sym, ap, subst, ◌∙◌, append_assoc, add-one, inl, inr, arith}
 use Rattle.std.proofs.lemmas.List.{append-nil, take_all, take-append-drop}
+use Rattle.std.proofs.lemmas.Simd.{map-map}
 use Rattle.std.proofs.Math.Seq.{drop-cons, take-suc}
 use Rattle.std.specs.Io.KnownBytes.{Appends}
 use Rattle.std.proofs.KnownBytes.{Appends-trans}
-use Rattle.iot_count.specs.Counts.{Counted, IsSteady}
+use Rattle.iot_disk.specs.Disk.{Arms}
 use Rattle.iot_event.specs.Declarations.{AreDeclared}
 use Rattle.iot_event.specs.declared.event.Event.{Event}
 use Rattle.iot_event.specs.declared.event.Event.TheVariants as events
-use Rattle.iot_machine.specs.Machine.{Machine, opening}
+use Rattle.iot_machine.specs.Machine.{Machine, handed as before_all}
+use Rattle.iot_machine.specs.Nodes.{Counts, opened}
 use Rattle.iot_machine.specs.Events.{event_part}
-use Rattle.iot_machine.specs.Transcript.{InTurn, Transcript}
+use Rattle.iot_machine.specs.Transcript.{Opening, InTurn, Transcript}
 use Rattle.iot_world.specs.Allowed.{IsAllowed}
-use Rattle.iot_world.specs.Faults.{FaultCountsAll}
-use Rattle.iot_world.specs.World.{StandsFor, IsWorldOf, IsWorldOfSome, EventSteps, DeclaredOn, IsOpened, client_count, script_names}
-use Rattle.iot_world.specs.declared.fault.WorldFault.{WorldFault}
-use Rattle.iot_world.specs.declared.fault.WorldFault.TheVariants as world
+use Rattle.iot_world.specs.Disks.{Medium, AreFresh}
+use Rattle.iot_world.specs.Holding.{counts_in}
+use Rattle.iot_world.specs.World.{StandsFor, IsWorldOf, IsWorldOfSome, EventSteps, DeclaredOn, client_count, script_names, disks_of}
+use Rattle.iot_world.specs.World.{Opens, KeepsDisks, SameArms}
 use Rattle.iot_world.specs.declared.world.World.{World}
-use Rattle.iot_app.specs.Faults.{ended_by}
-use Rattle.iot_app.specs.Played.{Reported, WroteFirst, WroteCut, Played}
-use Rattle.iot_app.specs.Status.{SinkCounts, DiskCounts}
+use Rattle.iot_world.proofs.DisksLaws.{last_here, last_then}
+use Rattle.iot_world.proofs.HoldingLaws.{disks_hold, disks_count}
+use Rattle.iot_app.specs.Keeping.{DisksKeep, AreArmed}
+use Rattle.iot_app.specs.Played.{Reported, WroteFront, DidFirst, WroteFirst, WroteCut, CutsOpening, Played}
+use Rattle.iot_app.specs.Running.{IsOpened, IsArmed}
 use Rattle.iot_app.specs.declared.status.Status.{Status}
 use Rattle.iot_app.specs.declared.status.Status.TheVariants as statuses
 
@@ -47,6 +51,32 @@ InTurn-append (first ∷ events) event m n o text more front last = record {
   whole = ap (λ (t : List ℕ). t ++ more) front.whole ∙ append_assoc front.front front.rest more;
 }
 
+-- one more event of a transcript
+transcript_more : (handed : List Counts) (events : List Event) (event : Event) (m n : Machine) (text more : List ℕ)
+    → Transcript handed events text m → event_part event m more tt n → Transcript handed (events ++ event ∷ []) (text ++ more) n
+transcript_more handed events event m n text more told last = record {
+  mid = told.mid;
+  front = told.front;
+  rest = told.rest ++ more;
+  answer = told.answer;
+  first = told.first;
+  second = InTurn-append events event told.mid m n told.rest more told.second last;
+  whole = ap (λ (t : List ℕ). t ++ more) told.whole ∙ append_assoc told.front told.rest more;
+}
+
+-- a transcript of no events is what the opening says
+transcript_none : (handed : List Counts) (m : Machine) (text : List ℕ) → Opening (before_all handed) text tt m
+    → Transcript handed [] text m
+transcript_none handed m text opens = record {
+  mid = m;
+  front = text;
+  rest = [];
+  answer = tt;
+  first = opens;
+  second = (refl, refl);
+  whole = sym (append-nil text);
+}
+
 -- ---- which event may come
 
 -- the first of events that are declared may come
@@ -69,6 +99,8 @@ allowed (events.Repair client script) later world declared = (declared.0, declar
 allowed (events.Discard client) later world declared = declared.0
 allowed events.ShowServer later world declared = tt
 allowed (events.ShowClient client) later world declared = declared.0
+allowed (events.StopServer calls pick) later world declared = tt
+allowed (events.StopClient client calls pick) later world declared = declared.0
 allowed events.CrashServer later world declared = tt
 allowed (events.CrashClient client) later world declared = declared.0
 allowed events.RestartServer later world declared = tt
@@ -77,25 +109,75 @@ allowed (events.Queue client) later world declared = declared.0
 allowed (events.Reads client item) later world declared = (declared.0, declared.1)
 allowed events.Log later world declared = tt
 
--- the first so many events are done, and of what they say this holds
-pub record PlaysOn {D : Type 0} (reads : D → List ℕ) (may_leave : D → List ℕ → Type 0) (so : List ℕ → Type 0)
-    (events : List Event) (world : World D) (done : ℕ) : Type 0 where
+-- ---- the disks meanwhile
+
+-- nothing was done to them
+pub keeps_same : {D : Type 0} (world : World D) → KeepsDisks world world
+keeps_same world = record { has = λ had. had; spare = last_here world.spare.items }
+
+-- they were kept, and then kept again
+pub keeps_then : {D : Type 0} (old mid new : World D) → KeepsDisks old mid → KeepsDisks mid new → KeepsDisks old new
+keeps_then old mid new first second = record {
+  has = λ had. second.has (first.has had);
+  spare = last_then new.spare.items mid.spare.items old.spare.items first.spare second.spare;
+}
+
+module _ {D : Type 0} (medium : Medium D) where
+  abbrev pub arms_in : D → Arms
+  arms_in disk = (medium.counts disk).arms
+
+  -- the disks of a world were armed as those of its machine
+  pub armed_as : (world : World D) (m : Machine) → StandsFor medium world m → IsArmed arms_in world m
+  armed_as world m stands =
+      sym (map-map (λ (counts : Counts). counts.arms) medium.counts (disks_of world))
+      ∙ ap (map (λ (counts : Counts). counts.arms)) (disks_count medium world m stands)
+
+  -- and still are, if none was armed since
+  pub still_armed : (old new : World D) (m : Machine) → StandsFor medium old m → SameArms arms_in old new → IsArmed arms_in new m
+  still_armed old new m stands arms = arms.same ∙ armed_as old m stands
+
+-- a new world has opened over its disks
+pub opened_on : {D : Type 0} (medium : Medium D) (disks : List D) (before after : List ℕ) (world : World D) → before ≡ []
+    → Opens medium disks before after world → IsOpened medium (map medium.counts disks) after world
+opened_on medium disks before after world none opens = record {
+  machine = opens.machine;
+  step =
+      subst (λ (t : List ℕ). Opening (before_all (map medium.counts disks)) t tt opens.machine)
+      (sym (opens.wrote ∙ ap (λ (t : List ℕ). t ++ opens.text) none)) opens.step;
+  stands = opens.stands;
+  no_clients = opens.no_clients;
+  no_scripts = opens.no_scripts;
+}
+
+-- what its disks hold and have counted later
+pub disks_keep : {D : Type 0} (medium : Medium D) (disks : List D) (before world : World D) (x y : List ℕ)
+    → Opens medium disks x y before → KeepsDisks before world → (m : Machine) → StandsFor medium world m
+    → DisksKeep medium disks (disks_of world) m
+disks_keep medium disks before world x y opens same m here = record {
+  holds = disks_hold medium disks before world m x y here opens same;
+  counted = disks_count medium world m here;
+}
+
+-- ---- events in turn
+
+-- the first so many events are done, and of what the opening and they say this holds
+pub record PlaysOn {D : Type 0} (medium : Medium D) (handed : List Counts) (so : List ℕ → Type 0) (events : List Event) (world : World D)
+    (done : ℕ) : Type 0 where
   pub text : List ℕ
   pub machine : Machine
-  pub transcript : Transcript (take done events) text machine
-  pub stands : IsWorldOf reads may_leave world machine
+  pub transcript : Transcript handed (take done events) text machine
+  pub stands : IsWorldOf medium world machine
   pub said : so text
   pub declared : DeclaredOn (drop done events) world
 
 -- nothing is done yet
-pub plays_none : {D : Type 0} (reads : D → List ℕ) (may_leave : D → List ℕ → Type 0) (so : List ℕ → Type 0) (events : List Event)
+pub plays_none : {D : Type 0} (medium : Medium D) (handed : List Counts) (so : List ℕ → Type 0) (events : List Event) (opening : List ℕ)
     (world : World D)
-    → IsOpened reads may_leave world → AreDeclared events 0 [] → so []
-    → PlaysOn reads may_leave so events world 0
-plays_none reads may_leave so events world is declared said = record {
-  text = [];
-  machine = opening;
-  transcript = (refl, refl);
+    → IsOpened medium handed opening world → AreDeclared events 0 [] → so opening → PlaysOn medium handed so events world 0
+plays_none medium handed so events opening world is declared said = record {
+  text = opening;
+  machine = is.machine;
+  transcript = transcript_none handed is.machine opening is.step;
   stands = is.stands;
   said = said;
   declared =
@@ -104,11 +186,11 @@ plays_none reads may_leave so events world is declared said = record {
 }
 
 -- the event that is done next, and the text that it is added to
-module _ {D : Type 0} (reads : D → List ℕ) (may_leave : D → List ℕ → Type 0) (so : List ℕ → Type 0) (events : List Event)
+module _ {D : Type 0} (medium : Medium D) (handed : List Counts) (so : List ℕ → Type 0) (events : List Event)
     (old new : World D) (done : ℕ) (event : Event) (before after : List ℕ)
-    (plays : PlaysOn reads may_leave so events old done) (within : done < length events)
+    (plays : PlaysOn medium handed so events old done) (within : done < length events)
     (here : event ≡ slice_index_or events done event)
-    (refines : EventSteps reads may_leave event old new before after) where
+    (refines : EventSteps medium event old new before after) where
   front : take (done + 1) events ≡ take done events ++ event ∷ []
   front =
       ap (λ (k : ℕ). take k events) (add-one done) ∙ take-suc events done event within
@@ -124,7 +206,7 @@ module _ {D : Type 0} (reads : D → List ℕ) (may_leave : D → List ℕ → T
     machine : Machine
     is : after ≡ before ++ says
     last : event_part event plays.machine says tt machine
-    stands : IsWorldOf reads may_leave new machine
+    stands : IsWorldOf medium new machine
 
   next : Next
   next =
@@ -135,13 +217,13 @@ module _ {D : Type 0} (reads : D → List ℕ) (may_leave : D → List ℕ → T
   pub plays_more : (so_then : List ℕ → Type 0)
       → ((later : List Event) → DeclaredOn (event ∷ later) old → DeclaredOn later new)
       → ((text says : List ℕ) → after ≡ before ++ says → so text → so_then (text ++ says))
-      → PlaysOn reads may_leave so_then events new (done + 1)
+      → PlaysOn medium handed so_then events new (done + 1)
   plays_more so_then declares adds = record {
     text = plays.text ++ next.says;
     machine = next.machine;
     transcript =
-        subst (λ (es : List Event). Transcript es (plays.text ++ next.says) next.machine) (sym front)
-        (InTurn-append (take done events) event opening plays.machine next.machine plays.text next.says plays.transcript next.last);
+        subst (λ (es : List Event). Transcript handed es (plays.text ++ next.says) next.machine) (sym front)
+        (transcript_more handed (take done events) event plays.machine next.machine plays.text next.says plays.transcript next.last);
     stands = next.stands;
     said = adds plays.text next.says next.is plays.said;
     declared = declares (drop (done + 1) events) (subst (λ (es : List Event). DeclaredOn es old) rest plays.declared);
@@ -150,7 +232,7 @@ module _ {D : Type 0} (reads : D → List ℕ) (may_leave : D → List ℕ → T
   -- it is done, and of its text, which is all that there is, only a front is written
   pub plays_cut : (wrote : List ℕ → Type 0) (count : ℕ) → before ≡ [] → count < length after
       → ((text : List ℕ) → so text → wrote (text ++ take count after))
-      → WroteCut wrote (StandsFor reads may_leave new) events
+      → WroteCut handed wrote (StandsFor medium new) events
   plays_cut wrote count none cut adds = record {
     earlier = take done events;
     event = event;
@@ -170,26 +252,53 @@ module _ {D : Type 0} (reads : D → List ℕ) (may_leave : D → List ℕ → T
     kept = next.stands.stands;
   }
 
-module _ {D : Type 0} (reads : D → List ℕ) (may_leave : D → List ℕ → Type 0) (so : List ℕ → Type 0) (events : List Event)
-    (world : World D) where
-  -- what was written before an event is a transcript of those before it
-  pub plays_first : (done : ℕ) → PlaysOn reads may_leave so events world done → WroteFirst so events
-  plays_first done plays = record {
+module _ {D : Type 0} (medium : Medium D) (handed : List Counts) (so : List ℕ → Type 0) (events : List Event) (world : World D) where
+  -- in other words of what holds of the text
+  pub plays_as : (so_then : List ℕ → Type 0) (done : ℕ) → ((text : List ℕ) → so text → so_then text)
+      → PlaysOn medium handed so events world done → PlaysOn medium handed so_then events world done
+  plays_as so_then done means plays = record {
+    text = plays.text;
+    machine = plays.machine;
+    transcript = plays.transcript;
+    stands = plays.stands;
+    said = means plays.text plays.said;
+    declared = plays.declared;
+  }
+
+  -- some are done, and the world is of no more use, but that none of its disks was armed since
+  pub plays_did : (done : ℕ) (plays : PlaysOn medium handed so events world done) (new : World D)
+      → IsArmed (arms_in medium) new plays.machine → DidFirst handed (IsArmed (arms_in medium) new) events
+  plays_did done plays new armed = record {
     done = done;
     text = plays.text;
     machine = plays.machine;
     transcript = plays.transcript;
-    written = plays.said;
+    arms = armed;
   }
 
-  -- all are done
-  pub whole_transcript : (done : ℕ) (plays : PlaysOn reads may_leave so events world done) → length events ≤ done
-      → Transcript events plays.text plays.machine
-  whole_transcript done plays whole =
-      subst (λ (es : List Event). Transcript es plays.text plays.machine) (take_all done events whole) plays.transcript
+  -- memory ran out in the next one
+  pub plays_failed : (done : ℕ) (new : World D) → PlaysOn medium handed so events world done → SameArms (arms_in medium) world new
+      → DidFirst handed (IsArmed (arms_in medium) new) events
+  plays_failed done new plays arms = plays_did done plays new (still_armed medium world new plays.machine plays.stands.stands arms)
 
-  pub plays_all : (done : ℕ) → length events ≤ done → PlaysOn reads may_leave so events world done
-      → Reported so (StandsFor reads may_leave world) (λ transcript m. transcript) events
+  -- memory ran out after them
+  pub plays_ended : (done : ℕ) → PlaysOn medium handed so events world done → DidFirst handed (IsArmed (arms_in medium) world) events
+  plays_ended done plays = plays_did done plays world (armed_as medium world plays.machine plays.stands.stands)
+
+  -- what was written before an event is a transcript of those before it
+  pub plays_first : (done : ℕ) (new : World D) → PlaysOn medium handed so events world done → SameArms (arms_in medium) world new
+      → WroteFirst handed so (IsArmed (arms_in medium) new) events
+  unfolding plays_failed plays_did
+  plays_first done new plays arms = record { did = plays_failed done new plays arms; written = plays.said }
+
+  -- all are done
+  pub whole_transcript : (done : ℕ) (plays : PlaysOn medium handed so events world done) → length events ≤ done
+      → Transcript handed events plays.text plays.machine
+  whole_transcript done plays whole =
+      subst (λ (es : List Event). Transcript handed es plays.text plays.machine) (take_all done events whole) plays.transcript
+
+  pub plays_all : (done : ℕ) → length events ≤ done → PlaysOn medium handed so events world done
+      → Reported handed so (StandsFor medium world) (λ transcript m. transcript) events
   plays_all done whole plays = record {
     ran = record {
       text = plays.text;
@@ -201,7 +310,7 @@ module _ {D : Type 0} (reads : D → List ℕ) (may_leave : D → List ℕ → T
   }
 
   -- the next event may come
-  pub next_allowed : (done : ℕ) (event : Event) → PlaysOn reads may_leave so events world done → done < length events
+  pub next_allowed : (done : ℕ) (event : Event) → PlaysOn medium handed so events world done → done < length events
       → event ≡ slice_index_or events done event
       → IsAllowed event (client_count world) (script_names world)
   next_allowed done event plays within here =
@@ -210,7 +319,7 @@ module _ {D : Type 0} (reads : D → List ℕ) (may_leave : D → List ℕ → T
       (drop-cons events done event within ∙ ap (λ (e : Event). e ∷ drop (suc done) events) (sym here)) plays.declared)
 
   -- in a world that stands for a machine
-  pub plays_some : (done : ℕ) → PlaysOn reads may_leave so events world done → IsWorldOfSome reads may_leave world
+  pub plays_some : (done : ℕ) → PlaysOn medium handed so events world done → IsWorldOfSome medium world
   plays_some done plays = record { machine = plays.machine; stands = plays.stands }
 
 -- ---- what is written
@@ -219,6 +328,10 @@ pub appends_none : (written : Option (List ℕ)) → Appends written written []
 appends_none None = tt
 appends_none (Some bytes) = sym (append-nil bytes)
 
+-- when the opening was written, this is what was written with it, from the start
+abbrev pub Follows : (opened : Option (List ℕ)) (opening : List ℕ) (now : Option (List ℕ)) → List ℕ → Type 0
+Follows opened opening now text = (first : Option (List ℕ)) → Appends first opened opening → Appends first now text
+
 -- what an event says is written behind what those before it said
 pub appends_more : (first mid last : Option (List ℕ)) (before after : List ℕ) → before ≡ [] → Appends mid last after
     → (text says : List ℕ) → after ≡ before ++ says → Appends first mid text → Appends first last (text ++ says)
@@ -226,68 +339,132 @@ appends_more first mid last before after none written text says is earlier =
     Appends-trans first mid last text says earlier
     (subst (Appends mid last) (is ∙ ap (λ (t : List ℕ). t ++ says) none) written)
 
+pub follows_more : (opened : Option (List ℕ)) (opening : List ℕ) (mid last : Option (List ℕ)) (before after : List ℕ) → before ≡ []
+    → Appends mid last after → (text says : List ℕ) → after ≡ before ++ says → Follows opened opening mid text
+    → Follows opened opening last (text ++ says)
+follows_more opened opening mid last before after none written text says is earlier =
+    λ first had. appends_more first mid last before after none written text says is (earlier first had)
+
 -- ---- how it ends
 
--- some events were done, and then the world failed
-pub fault_played : (fault : WorldFault) (events : List Event) (wrote : List ℕ → Type 0) (holds : Machine → Type 0)
-    → WroteFirst wrote events → Played (ended_by fault) wrote holds events
-fault_played world.NoMemory events wrote holds first = first
-fault_played world.DiskFailed events wrote holds first = first
-
--- no event was done
-pub none_played : (events : List Event) (written : Option (List ℕ)) → WroteFirst (Appends written written) events
-none_played events written = record { done = 0; text = []; machine = opening; transcript = (refl, refl); written = appends_none written }
-
--- the sink's counts and the disk's, if the world failed
-pub fault_sink : (fault : WorldFault) (faults empties : Counted) → IsSteady faults → IsSteady empties
-    → SinkCounts (ended_by fault) faults empties
-fault_sink world.NoMemory faults empties one other = (one, other)
-fault_sink world.DiskFailed faults empties one other = (one, other)
-
-pub fault_disk : (fault : WorldFault) (before after : List ℕ) → FaultCountsAll fault before after
-    → DiskCounts (ended_by fault) before after
-fault_disk world.NoMemory before after counts = counts
-fault_disk world.DiskFailed before after counts = counts
-
--- what the disks hold, in other words
-pub reported_as : (wrote : List ℕ → Type 0) (says : List ℕ → Machine → List ℕ) (one other : Machine → Type 0) (events : List Event)
-    → ((m : Machine) → one m → other m) → Reported wrote one says events → Reported wrote other says events
-reported_as wrote says one other events means reported = record {
-  ran = record {
-    text = reported.ran.text;
-    machine = reported.ran.machine;
-    transcript = reported.ran.transcript;
-    kept = means reported.ran.machine reported.ran.kept;
-  };
-  written = reported.written;
+-- only a front of what the opening says was written
+pub cuts_opening : {D : Type 0} (medium : Medium D) (handed : List Counts) (wrote : List ℕ → Type 0) (opening : List ℕ) (world : World D)
+    → IsOpened medium handed opening world → WroteFront wrote opening → CutsOpening handed wrote (StandsFor medium world)
+cuts_opening medium handed wrote opening world is front = record {
+  says = opening;
+  machine = is.machine;
+  opens = is.step;
+  front = front;
+  kept = is.stands.stands;
 }
 
-cut_as : (wrote : List ℕ → Type 0) (one other : Machine → Type 0) (events : List Event) → ((m : Machine) → one m → other m)
-    → WroteCut wrote one events → WroteCut wrote other events
-cut_as wrote one other events means cut = record {
-  earlier = cut.earlier;
-  event = cut.event;
-  later = cut.later;
-  split = cut.split;
-  text = cut.text;
-  before = cut.before;
-  transcript = cut.transcript;
-  says = cut.says;
-  machine = cut.machine;
-  last = cut.last;
-  count = cut.count;
-  cut = cut.cut;
-  written = cut.written;
-  kept = means cut.machine cut.kept;
+-- the machine whose server has started over disks that count this, and has not stopped in that
+abbrev started : List Counts → Machine
+started counts = record (before_all counts) { server = opened (before_all counts).server }
+
+starts : (counts : List Counts) → Transcript counts [] [] (started counts)
+starts counts =
+    transcript_none counts (started counts) []
+    (record {
+      mid = started counts;
+      front = [];
+      rest = [];
+      answer = true;
+      first = record { inner = opened (before_all counts).server; step = inl (refl, refl, refl); is = refl };
+      second = (refl, refl);
+      whole = refl;
+    })
+
+-- no event was done, and the disks came back as they were armed
+module _ {D : Type 0} (medium : Medium D) (disks back : List D) (events : List Event) (fresh : AreFresh medium disks)
+    (arms : map (arms_in medium) back ≡ map (arms_in medium) disks) where
+  counts_started : (ds : List D) → length ds ≡ 9 → counts_in (started (map medium.counts ds)) ≡ map medium.counts ds
+  counts_started [] nine = absurd (omega (arith, nine))
+  counts_started (d ∷ ds) nine = refl
+
+  pub none_did : DidFirst (map medium.counts disks) (AreArmed medium back) events
+  none_did = record {
+    done = 0;
+    text = [];
+    machine = started (map medium.counts disks);
+    transcript = starts (map medium.counts disks);
+    arms =
+        arms
+        ∙ sym (map-map (λ (counts : Counts). counts.arms) medium.counts disks)
+        ∙ ap (map (λ (counts : Counts). counts.arms)) (sym (counts_started disks fresh.nine));
+  }
+
+  pub none_played : (written : Option (List ℕ))
+      → WroteFirst (map medium.counts disks) (Appends written written) (AreArmed medium back) events
+  unfolding none_did
+  none_played written = record { did = none_did; written = appends_none written }
+
+-- how the disks were armed, in other words
+pub did_as : (handed : List Counts) (one other : Machine → Type 0) (events : List Event) → ((m : Machine) → one m → other m)
+    → DidFirst handed one events → DidFirst handed other events
+did_as handed one other events means did = record {
+  done = did.done;
+  text = did.text;
+  machine = did.machine;
+  transcript = did.transcript;
+  arms = means did.machine did.arms;
 }
 
-pub holds_as : (status : Status) (wrote : List ℕ → Type 0) (one other : Machine → Type 0) (events : List Event)
-    → ((m : Machine) → one m → other m) → Played status wrote one events → Played status wrote other events
-holds_as statuses.Done wrote one other events means played = reported_as wrote (λ transcript m. transcript) one other events means played
-holds_as statuses.Refused wrote one other events means played = absurd played
-holds_as statuses.Usage wrote one other events means played = absurd played
-holds_as statuses.ReadFailed wrote one other events means played = absurd played
-holds_as statuses.WriteFailed wrote one other events means played = cut_as wrote one other events means played
-holds_as statuses.NoMemory wrote one other events means played = played
-holds_as statuses.SaveFailed wrote one other events means played = absurd played
-holds_as statuses.DiskFailed wrote one other events means played = played
+-- what they hold, in other words
+module _ (handed : List Counts) (wrote : List ℕ → Type 0) (one other : Machine → Type 0) (events : List Event)
+    (means : (m : Machine) → one m → other m) where
+  pub reported_as : (says : List ℕ → Machine → List ℕ) → Reported handed wrote one says events → Reported handed wrote other says events
+  reported_as says reported = record {
+    ran = record {
+      text = reported.ran.text;
+      machine = reported.ran.machine;
+      transcript = reported.ran.transcript;
+      kept = means reported.ran.machine reported.ran.kept;
+    };
+    written = reported.written;
+  }
+
+  cut_as : WroteCut handed wrote one events → WroteCut handed wrote other events
+  cut_as cut = record {
+    earlier = cut.earlier;
+    event = cut.event;
+    later = cut.later;
+    split = cut.split;
+    text = cut.text;
+    before = cut.before;
+    transcript = cut.transcript;
+    says = cut.says;
+    machine = cut.machine;
+    last = cut.last;
+    count = cut.count;
+    cut = cut.cut;
+    written = cut.written;
+    kept = means cut.machine cut.kept;
+  }
+
+  opening_as : CutsOpening handed wrote one → CutsOpening handed wrote other
+  opening_as cut = record {
+    says = cut.says;
+    machine = cut.machine;
+    opens = cut.opens;
+    front = cut.front;
+    kept = means cut.machine cut.kept;
+  }
+
+pub holds_as : (handed : List Counts) (status : Status) (wrote : List ℕ → Type 0) (one other armed armed_so : Machine → Type 0)
+    (events : List Event)
+    → ((m : Machine) → one m → other m) → ((m : Machine) → armed m → armed_so m)
+    → Played handed status wrote one armed events → Played handed status wrote other armed_so events
+unfolding did_as
+holds_as handed statuses.Done wrote one other armed armed_so events means arms played =
+    reported_as handed wrote one other events means (λ transcript m. transcript) played
+holds_as handed statuses.Refused wrote one other armed armed_so events means arms played = absurd played
+holds_as handed statuses.Usage wrote one other armed armed_so events means arms played = absurd played
+holds_as handed statuses.ReadFailed wrote one other armed armed_so events means arms played = absurd played
+holds_as handed statuses.WriteFailed wrote one other armed armed_so events means arms (inl played) =
+    inl (opening_as handed wrote one other events means played)
+holds_as handed statuses.WriteFailed wrote one other armed armed_so events means arms (inr played) =
+    inr (cut_as handed wrote one other events means played)
+holds_as handed statuses.NoMemory wrote one other armed armed_so events means arms played =
+    record { did = did_as handed armed armed_so events arms played.did; written = played.written }
+holds_as handed statuses.SaveFailed wrote one other armed armed_so events means arms played = absurd played

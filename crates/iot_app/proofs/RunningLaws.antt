@@ -1,55 +1,110 @@
 -- Runs whose events are done while nothing is written, and what is written then.
-use Rattle.std.proofs.Common.{◌≡◌, ℕ, ◌<◌, ◌≤◌, List, [], ◌∷◌, ◌++◌, length, slice_set, get_or, refl, sym, ap, subst, ◌∙◌, arith}
-use Rattle.std.specs.Prelude.{Result, Ok, Err, IfOk}
-use Rattle.iot_count.specs.Counts.{Counted}
-use Rattle.iot_disk.specs.Disk.{SameImages}
+use Rattle.std.proofs.Common.{◌≡◌, ℕ, ◌<◌, ◌≤◌, List, [], ◌∷◌, ◌++◌, length, map, drop, slice_set, get_or, refl, sym, ap, subst, ◌∙◌, arith}
+use Rattle.std.specs.Prelude.{Result, Ok, Err, IfOk, IfErr, Option, None, Some}
+use Rattle.std.proofs.lemmas.List.{take_all}
+use Rattle.std.proofs.lemmas.Simd.{map-map}
+use Rattle.iot_count.specs.Counts.{Counted, Stayed, Rose}
+use Rattle.iot_disk.specs.Disk.{CountsFault, SameImages}
 use Rattle.iot_disk.specs.declared.disk.DiskFault.{DiskFault}
 use Rattle.iot_disk.specs.declared.disk.DiskFault.TheVariants as reading
 use Rattle.iot_event.specs.declared.event.Event.{Event}
-use Rattle.iot_machine.specs.Machine.{Machine}
+use Rattle.iot_machine.specs.Machine.{Machine, Commit, first_of}
+use Rattle.iot_machine.specs.Nodes.{Counts as DiskCounts}
+use Rattle.iot_machine.specs.Transcript.{Transcript}
 use Rattle.iot_words.specs.declared.jobs.Job.{Job}
-use Rattle.iot_words.specs.declared.jobs.Job.TheVariants.{Transcript, Json, Generate, Save}
-use Rattle.iot_world.specs.Holding.{DisksHold}
+use Rattle.iot_words.specs.declared.jobs.Job.TheVariants.{Transcript as Plays, Json, Generate, Save}
+use Rattle.iot_world.specs.Disks.{Medium}
+use Rattle.iot_world.specs.Holding.{DisksHold, HoldsList, counts_in}
 use Rattle.iot_world.specs.World.{StandsFor, IsWorldOfSome}
-use Rattle.iot_world.specs.declared.fault.WorldFault.{WorldFault}
-use Rattle.iot_world.specs.declared.fault.WorldFault.TheVariants as world
 use Rattle.iot_world.specs.declared.world.World.{World}
 use Rattle.iot_app.specs.Counting.{HasCounted}
 use Rattle.iot_app.specs.Doing.{Did}
-use Rattle.iot_app.specs.Faults.{ended_by, ended_by_read}
+use Rattle.iot_app.specs.Faults.{ended_by_read}
 use Rattle.iot_app.specs.Job.{TextEnds}
+use Rattle.iot_app.specs.Keeping.{DisksKeep, DisksKeepUnread, AreArmed}
 use Rattle.iot_app.specs.Outputs.{output_of}
-use Rattle.iot_app.specs.Played.{RanAll, Reported, WroteFront, Played}
-use Rattle.iot_app.specs.Running.{told_of, tells, RanIn, IsTold}
+use Rattle.iot_app.specs.Played.{RanAll, Reported, DidFirst, WroteFront, Played}
+use Rattle.iot_app.specs.Running.{told_of, tells, RanIn, IsArmed, IsTold}
 use Rattle.iot_app.specs.Saving.{first_reads}
 use Rattle.iot_app.specs.Summary.{counts_of}
 use Rattle.iot_app.specs.declared.counts.Counts.{Counts}
 use Rattle.iot_app.specs.declared.status.Status.{Status}
 use Rattle.iot_app.specs.declared.status.Status.TheVariants as statuses
 use Rattle.iot_app.proofs.EndingsLaws.{by_text}
-use Rattle.iot_app.proofs.PlayedLaws.{PlaysOn, whole_transcript, reported_as}
+use Rattle.iot_app.proofs.PlayedLaws.{PlaysOn, whole_transcript, armed_as, arms_in, reported_as}
 
-module _ {D : Type 0} (reads : D → List ℕ) (may_leave : D → List ℕ → Type 0) (events : List Event) (w : World D) where
+-- ---- runs in other words
+
+module _ (handed : List DiskCounts) (one other : Machine → Type 0) (events : List Event) (ran : RanAll handed one events)
+    (means : (m : Machine) → one m → other m) where
+  pub ran_as : RanAll handed other events
+  ran_as = record { text = ran.text; machine = ran.machine; transcript = ran.transcript; kept = means ran.machine ran.kept }
+
+  -- as a run of the first so many events
+  pub all_did : DidFirst handed other events
+  all_did = record {
+    done = length events;
+    text = ran.text;
+    machine = ran.machine;
+    transcript =
+        subst (λ (es : List Event). Transcript handed es ran.text ran.machine) (sym (take_all (length events) events (omega arith)))
+        ran.transcript;
+    arms = means ran.machine ran.kept;
+  }
+
+module _ {T E : Type 0} (result : Result T E) where
+  -- what is said of an answer, and of a fault
+  pub if_ok : (P : T → Type 0) (t : T) → result ≡ Ok t → IfOk result P → P t
+  if_ok P t is so = subst (λ (r : Result T E). IfOk r P) is so
+
+  pub if_err : (P : E → Type 0) (e : E) → result ≡ Err e → IfErr result P → P e
+  if_err P e is so = subst (λ (r : Result T E). IfErr r P) is so
+
+  -- what is so whatever the fault
+  pub any_err : (P : Type 0) → P → IfErr result (λ _. P)
+  any_err P so = any result
+    where
+      any : (r : Result T E) → IfErr r (λ _. P)
+      any (Ok t) = tt
+      any (Err e) = so
+
+-- what is told of a run, if the disks hold it in other words
+pub told_as : {E : Type 0} (handed : List DiskCounts) (told : Result (List ℕ) E) (says : List ℕ → Machine → List ℕ)
+    (one other : Machine → Type 0) (events : List Event) → ((m : Machine) → one m → other m)
+    → IfOk told (λ text. Reported handed (λ said. text ≡ said) one says events)
+    → IfOk told (λ text. Reported handed (λ said. text ≡ said) other says events)
+told_as handed (Ok text) says one other events means reported =
+    reported_as handed (λ said. text ≡ said) one other events means says reported
+told_as handed (Err fault) says one other events means none = none
+
+-- and what is so of one that failed
+pub failed_as : {T E : Type 0} (told : Result T E) (one other : Type 0) → (one → other) → IfErr told (λ _. one) → IfErr told (λ _. other)
+failed_as (Ok text) one other means none = none
+failed_as (Err fault) one other means did = means did
+
+-- ---- a run in a world
+
+module _ {D : Type 0} (medium : Medium D) (handed : List DiskCounts) (events : List Event) (w : World D) where
   -- all are done and counted
   pub ran_in : (counts last : Counts) (rest : List ℕ) (done : ℕ)
-      → PlaysOn reads may_leave (HasCounted counts rest) events w done → length events ≤ done
+      → PlaysOn medium handed (HasCounted counts rest) events w done → length events ≤ done
       → ((transcript : List ℕ) → HasCounted counts rest transcript → last ≡ counts_of transcript)
-      → RanIn reads may_leave events last w
+      → RanIn medium handed events last w
   ran_in counts last rest done plays whole counted = record {
     text = plays.text;
     machine = plays.machine;
-    transcript = whole_transcript reads may_leave (HasCounted counts rest) events w done plays whole;
+    transcript = whole_transcript medium handed (HasCounted counts rest) events w done plays whole;
     counted = counted plays.text plays.said;
     stands = plays.stands;
   }
 
-  module _ (counts : Counts) (ran : RanIn reads may_leave events counts w) where
-    pub ran_some : IsWorldOfSome reads may_leave w
+  module _ (counts : Counts) (ran : RanIn medium handed events counts w) where
+    pub ran_some : IsWorldOfSome medium w
     ran_some = record { machine = ran.machine; stands = ran.stands }
 
     -- what the job has to say of it
-    pub ran_told : (job : Job) (text : List ℕ) → ((m : Machine) → StandsFor reads may_leave w m → text ≡ told_of job counts m)
-        → Reported (λ told. text ≡ told) (StandsFor reads may_leave w) (tells job) events
+    pub ran_told : (job : Job) (text : List ℕ) → ((m : Machine) → StandsFor medium w m → text ≡ told_of job counts m)
+        → Reported handed (λ told. text ≡ told) (StandsFor medium w) (tells job) events
     ran_told job text told = record {
       ran = record { text = ran.text; machine = ran.machine; transcript = ran.transcript; kept = ran.stands.stands };
       written =
@@ -57,61 +112,61 @@ module _ {D : Type 0} (reads : D → List ℕ) (may_leave : D → List ℕ → T
           ∙ ap (λ (c : Counts). told_of job c ran.machine) ran.counted;
     }
 
+    -- memory ran out when that was to be said
+    pub ran_untold : DidFirst handed (IsArmed (arms_in medium) w) events
+    ran_untold =
+        all_did handed (StandsFor medium w) (IsArmed (arms_in medium) w) events
+        (record { text = ran.text; machine = ran.machine; transcript = ran.transcript; kept = ran.stands.stands })
+        (armed_as medium w)
+
 -- ---- writing it
 
-module _ (wrote : List ℕ → Type 0) (holds : Machine → Type 0) (disk : List ℕ) (events : List Event) where
+module _ (handed : List DiskCounts) (wrote : List ℕ → Type 0) (holds armed unread : Machine → Type 0) (disk : List ℕ)
+    (events : List Event) where
+  abbrev Does : Job → Status → Type 0
+  Does job status = Did handed wrote holds armed unread disk job status events
+
   -- what was to be written was written, or a front of it
   reported_by : (so : List ℕ → Type 0) (text : List ℕ) (says other : List ℕ → Machine → List ℕ)
       → ((transcript : List ℕ) (m : Machine) → says transcript m ≡ other transcript m)
-      → Reported (λ told. text ≡ told) holds says events → so text → Reported so holds other events
+      → Reported handed (λ told. text ≡ told) holds says events → so text → Reported handed so holds other events
   reported_by so text says other same told written = record {
     ran = told.ran;
     written = subst so (told.written ∙ same told.ran.text told.ran.machine) written;
   }
 
   pub text_did : (job : Job) (text : List ℕ) (status : Status) (f e : Counted) → IsTold job
-      → Reported (λ told. text ≡ told) holds (tells job) events → TextEnds statuses.Done text status wrote f e
-      → Did wrote holds disk job status events
-  text_did Transcript text status f e is told ends = absurd is
+      → Reported handed (λ told. text ≡ told) holds (tells job) events → TextEnds statuses.Done text status wrote f e
+      → Does job status
+  text_did Plays text status f e is told ends = absurd is
   text_did Json text status f e is told ends =
-      by_text statuses.Done text status wrote f e (λ (s : Status). Did wrote holds disk Json s events) ends
+      by_text statuses.Done text status wrote f e (Does Json) ends
       (λ written. reported_by wrote text (tells Json) (output_of Json disk) (λ transcript m. refl) told written)
       (λ written. reported_by (WroteFront wrote) text (tells Json) (output_of Json disk) (λ transcript m. refl) told written)
   text_did (Generate n) text status f e is told ends =
-      by_text statuses.Done text status wrote f e (λ (s : Status). Did wrote holds disk (Generate n) s events) ends
+      by_text statuses.Done text status wrote f e (Does (Generate n)) ends
       (λ written. reported_by wrote text (tells (Generate n)) (output_of (Generate n) disk) (λ transcript m. refl) told written)
       (λ written. reported_by (WroteFront wrote) text (tells (Generate n)) (output_of (Generate n) disk) (λ transcript m. refl) told
       written)
   text_did Save text status f e is told ends = absurd is
 
-  -- nothing was written, since the world failed
-  pub fault_did : (job : Job) (fault : WorldFault) → IsTold job → wrote [] → Did wrote holds disk job (ended_by fault) events
-  fault_did Transcript fault is written = absurd is
-  fault_did Json world.NoMemory is written = written
-  fault_did Json world.DiskFailed is written = written
-  fault_did (Generate n) world.NoMemory is written = written
-  fault_did (Generate n) world.DiskFailed is written = written
-  fault_did Save fault is written = absurd is
-
-  pub fault_save : (fault : WorldFault) → wrote [] → Did wrote holds disk Save (ended_by fault) events
-  fault_save world.NoMemory written = written
-  fault_save world.DiskFailed written = written
+  -- nothing was written, since memory ran out
+  pub nothing_did : (job : Job) → IsTold job → DidFirst handed armed events → wrote [] → Does job statuses.NoMemory
+  nothing_did Plays is did written = absurd is
+  nothing_did Json is did written = record { did = did; written = written }
+  nothing_did (Generate n) is did written = record { did = did; written = written }
+  nothing_did Save is did written = absurd is
 
   -- what the server's disk reads as was written, or a front of it
-  pub saved_did : (bytes : List ℕ) (status : Status) (f e : Counted) → bytes ≡ disk → RanAll holds events
-      → TextEnds statuses.Done bytes status wrote f e → Did wrote holds disk Save status events
+  pub saved_did : (bytes : List ℕ) (status : Status) (f e : Counted) → bytes ≡ disk → RanAll handed holds events
+      → TextEnds statuses.Done bytes status wrote f e → Does Save status
   saved_did bytes status f e is ran ends =
-      by_text statuses.Done bytes status wrote f e (λ (s : Status). Did wrote holds disk Save s events) ends
+      by_text statuses.Done bytes status wrote f e (Does Save) ends
       (λ written. record { ran = ran; written = subst wrote is written })
       (λ written. record { ran = ran; written = subst (WroteFront wrote) is written })
 
-  -- or it could not be read
-  pub unsaved_did : (fault : DiskFault) → RanAll holds events → wrote [] → Did wrote holds disk Save (ended_by_read fault) events
-  unsaved_did reading.NoMemory ran written = written
-  unsaved_did reading.Failed ran written = record { ran = ran; written = written }
-
   -- a transcript
-  pub played_did : (status : Status) → Played status wrote holds events → Did wrote holds disk Transcript status events
+  pub played_did : (status : Status) → Played handed status wrote holds armed events → Does Plays status
   played_did statuses.Done played = played
   played_did statuses.Refused played = absurd played
   played_did statuses.Usage played = absurd played
@@ -119,58 +174,109 @@ module _ (wrote : List ℕ → Type 0) (holds : Machine → Type 0) (disk : List
   played_did statuses.WriteFailed played = played
   played_did statuses.NoMemory played = played
   played_did statuses.SaveFailed played = absurd played
-  played_did statuses.DiskFailed played = played
 
 -- ---- reading the first disk
 
 -- a world has given back at least one disk
-pub some_disk : {D : Type 0} (may_leave : D → List ℕ → Type 0) (handed old : List D) (m : Machine) → DisksHold may_leave handed old m
-    → 0 < length old
-some_disk {D = D} may_leave handed old m holds = subst (λ (ds : List D). 0 < length ds) (sym holds.is) (omega arith)
+pub some_disk : {D : Type 0} (medium : Medium D) (handed old : List D) (m : Machine) → DisksKeep medium handed old m → 0 < length old
+some_disk {D = D} medium handed old m keeps = subst (λ (ds : List D). 0 < length ds) (sym keeps.holds.is) (omega arith)
 
--- after a run the first disk is another one, with the same images
-module _ {D : Type 0} (may_leave : D → List ℕ → Type 0) (handed old : List D) (events : List Event)
-    (ran : RanAll (DisksHold may_leave handed old) events) (was now : D) (here : was ≡ get_or old 0 was) where
-  abbrev Held : Type 0
-  Held = DisksHold may_leave handed old ran.machine
+-- after a run the first disk is another one, with the same images and arms
+module _ {D : Type 0} (medium : Medium D) (handed old : List D) (was now : D) (here : was ≡ get_or old 0 was)
+    (images : SameImages (medium.may_leave was) (medium.may_leave now)) (arms : (medium.counts now).arms ≡ (medium.counts was).arms)
+    (m : Machine) (keeps : DisksKeep medium handed old m) where
+  abbrev held : DisksHold medium handed old m
+  held = keeps.holds
 
-  changed : (holds : Held) → slice_set old 0 now ≡ now ∷ holds.clients ++ holds.spare
-  changed holds = ap (λ (ds : List D). slice_set ds 0 now) holds.is
+  changed : slice_set old 0 now ≡ now ∷ held.clients ++ held.spare
+  changed = ap (λ (ds : List D). slice_set ds 0 now) held.is
 
-  first : (holds : Held) → was ≡ holds.server
-  first holds = here ∙ ap (λ (ds : List D). get_or ds 0 was) holds.is
+  first : was ≡ held.server
+  first = here ∙ ap (λ (ds : List D). get_or ds 0 was) held.is
 
-  holds_changed : SameImages (may_leave was) (may_leave now) → (holds : Held)
-      → DisksHold may_leave handed (slice_set old 0 now) ran.machine
-  holds_changed images holds = record {
+  list_changed : (commits : List Commit) (doubt : Option (List Commit)) → HoldsList (medium.may_leave was) commits doubt
+      → HoldsList (medium.may_leave now) commits doubt
+  list_changed commits None list = record { each = λ image leaves. list.each image (images.was image leaves) }
+  list_changed commits (Some after) list = λ image leaves. list image (images.was image leaves)
+
+  holds_changed : DisksHold medium handed (slice_set old 0 now) m
+  holds_changed = record {
     server = now;
-    clients = holds.clients;
-    spare = holds.spare;
-    is = changed holds;
-    list = record {
-      each = λ image leaves. holds.list.each image (subst (λ (d : D). may_leave d image) (first holds) (images.was image leaves));
-    };
-    each = holds.each;
-    first = holds.first;
-    front = holds.front;
-    was = holds.was;
-    aligned = holds.aligned;
+    clients = held.clients;
+    spare = held.spare;
+    is = changed;
+    list =
+        list_changed m.server.durable m.server.doubt
+        (subst (λ (d : D). HoldsList (medium.may_leave d) m.server.durable m.server.doubt) (sym first) held.list);
+    each = held.each;
+    first = held.first;
+    front = held.front;
+    was = held.was;
+    aligned = held.aligned;
   }
 
-  pub ran_changed : SameImages (may_leave was) (may_leave now) → RanAll (DisksHold may_leave handed (slice_set old 0 now)) events
-  ran_changed images = record {
-    text = ran.text;
-    machine = ran.machine;
-    transcript = ran.transcript;
-    kept = holds_changed images ran.kept;
+  -- what the first one and the others have counted
+  first_counted : medium.counts was ≡ m.server.counts
+  first_counted = ap medium.counts first ∙ ap first_of (sym (ap (map medium.counts) held.is) ∙ keeps.counted)
+
+  rest_counted : map medium.counts (held.clients ++ held.spare) ≡ drop 1 (counts_in m)
+  rest_counted = ap (drop 1) (sym (ap (map medium.counts) held.is) ∙ keeps.counted)
+
+  -- no read of it failed
+  pub keeps_read : Stayed (medium.counts was).faults (medium.counts now).faults → DisksKeep medium handed (slice_set old 0 now) m
+  keeps_read stayed =
+      let same : medium.counts now ≡ medium.counts was = (λ i. record { faults = stayed i; arms = arms i }) in
+      record {
+        holds = holds_changed;
+        counted =
+            ap (map medium.counts) changed
+            ∙ (λ i. (same ∙ first_counted) i ∷ rest_counted i);
+      }
+
+  -- or one did
+  pub keeps_unread : Rose (medium.counts was).faults (medium.counts now).faults
+      → DisksKeepUnread medium handed (slice_set old 0 now) m
+  keeps_unread rose = record {
+    holds = holds_changed;
+    first = now;
+    rest = held.clients ++ held.spare;
+    is = changed;
+    rose = subst (λ (c : DiskCounts). Rose c.faults (medium.counts now).faults) first_counted rose;
+    arms = arms ∙ ap (λ (c : DiskCounts). c.arms) first_counted;
+    counted = rest_counted;
   }
 
-  pub reads_changed : (reads : D → List ℕ) → reads now ≡ first_reads reads (slice_set old 0 now)
-  reads_changed reads = sym (ap (first_reads reads) (changed ran.kept))
+  pub reads_changed : medium.reads now ≡ first_reads medium.reads (slice_set old 0 now)
+  reads_changed = sym (ap (first_reads medium.reads) changed)
 
--- what is told of a run, if the disks hold it in other words
-pub told_as : (told : Result (List ℕ) WorldFault) (says : List ℕ → Machine → List ℕ) (one other : Machine → Type 0) (events : List Event)
-    → ((m : Machine) → one m → other m) → IfOk told (λ text. Reported (λ said. text ≡ said) one says events)
-    → IfOk told (λ text. Reported (λ said. text ≡ said) other says events)
-told_as (Ok text) says one other events means reported = reported_as (λ said. text ≡ said) says one other events means reported
-told_as (Err fault) says one other events means none = none
+-- disks that have counted what a machine's have were armed as they were
+pub keeps_armed : {D : Type 0} (medium : Medium D) (handed back : List D) (m : Machine) → DisksKeep medium handed back m
+    → AreArmed medium back m
+keeps_armed medium handed back m keeps =
+    sym (map-map (λ (c : DiskCounts). c.arms) medium.counts back) ∙ ap (map (λ (c : DiskCounts). c.arms)) keeps.counted
+
+-- and then the disk could not be read
+module _ {D : Type 0} (medium : Medium D) (handed old : List D) (was now : D) (here : was ≡ get_or old 0 was)
+    (images : SameImages (medium.may_leave was) (medium.may_leave now)) (arms : (medium.counts now).arms ≡ (medium.counts was).arms)
+    (wrote : List ℕ → Type 0) (disk : List ℕ) (events : List Event)
+    (ran : RanAll (map medium.counts handed) (DisksKeep medium handed old) events) (written : wrote []) where
+  abbrev now_in : List D
+  now_in = slice_set old 0 now
+
+  pub unsaved_did : (T : Type 0) (fault : DiskFault)
+      → CountsFault {T = T} (Err fault) (medium.counts was).faults (medium.counts now).faults
+      → Did (map medium.counts handed) wrote (DisksKeep medium handed now_in) (AreArmed medium now_in)
+      (DisksKeepUnread medium handed now_in) disk Save (ended_by_read fault) events
+  unsaved_did T reading.NoMemory stayed = record {
+    did =
+        all_did (map medium.counts handed) (DisksKeep medium handed old) (AreArmed medium now_in) events ran
+        (λ m keeps.
+        keeps_armed medium handed now_in m (keeps_read medium handed old was now here images arms m keeps stayed));
+    written = written;
+  }
+  unsaved_did T reading.Failed rose = record {
+    ran =
+        ran_as (map medium.counts handed) (DisksKeep medium handed old) (DisksKeepUnread medium handed now_in) events ran
+        (λ m keeps. keeps_unread medium handed old was now here images arms m keeps rose);
+    written = written;
+  }

@@ -2,6 +2,7 @@
 use Rattle.std.specs.Prelude.{◌≡◌, ◌⊎◌, ℕ, false, List, [], Option, None, Some}
 use Rattle.iot_event.specs.declared.event.Event.{Event}
 use Rattle.iot_machine.specs.Machine.{Machine}
+use Rattle.iot_machine.specs.Nodes.{Counts}
 use Rattle.iot_words.specs.Jobs.{job_of}
 use Rattle.iot_words.specs.declared.jobs.Job.{Job}
 use Rattle.iot_app.specs.Doing.{Did}
@@ -11,15 +12,18 @@ use Rattle.iot_app.specs.Played.{WroteFront}
 use Rattle.iot_app.specs.Refusals.{usage_line}
 use Rattle.iot_app.specs.declared.status.Status.{Status}
 use Rattle.iot_app.specs.declared.status.Status.TheVariants.{Done, Refused, Usage, ReadFailed, WriteFailed, NoMemory, SaveFailed}
-use Rattle.iot_app.specs.declared.status.Status.TheVariants.{DiskFailed}
 
 -- What can be seen of a run but for its words: which bytes were taken from the source, and whether nothing is left there; which bytes
--- were written to the sink; which machine the disks hold, and what the first of them reads as; whether they are as they were.
+-- were written to the sink; what the disks counted that were handed in; whether they hold and have counted now what a machine has, or do
+-- but for a failed read of the first, or were armed as its disks were; what the first of them reads as; whether they are as they were.
 pub record Effects : Type 1 where
   pub took : List ℕ → Type 0
   pub at_end : Type 0
   pub wrote : List ℕ → Type 0
+  pub handed : List Counts
   pub holds : Machine → Type 0
+  pub unread : Machine → Type 0
+  pub armed : Machine → Type 0
   pub disk : List ℕ
   pub untouched : Type 0
 
@@ -48,7 +52,7 @@ pub record OnRefusal (it : Effects) (wrote : List ℕ → Type 0) (job : Job) : 
 pub record OnEvents (it : Effects) (job : Job) (status : Status) : Type 0 where
   pub events : List Event
   pub given : GivesEvents job it.took it.at_end events
-  pub did : Did it.wrote it.holds it.disk job status events
+  pub did : Did it.handed it.wrote it.holds it.armed it.unread it.disk job status events
 
 -- how a run ends whose words name this job
 abbrev pub JobEnds : Effects → Job → Status → Type 0
@@ -59,7 +63,6 @@ JobEnds it job ReadFailed = ReadInPart it job
 JobEnds it job WriteFailed = OnRefusal it (WroteFront it.wrote) job ⊎ OnEvents it job WriteFailed
 JobEnds it job NoMemory = DidNothing it (it.wrote []) ⊎ ReadInPart it job ⊎ OnEvents it job NoMemory
 JobEnds it job SaveFailed = OnEvents it job SaveFailed
-JobEnds it job DiskFailed = OnEvents it job DiskFailed
 
 -- and one whose words name none
 abbrev pub UsageEnds : Effects → Status → Type 0

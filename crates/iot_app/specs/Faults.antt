@@ -1,14 +1,8 @@
--- The status with which a fault of the world or of a disk that is saved ends a run.
+-- The status with which a fault of a disk that is saved ends a run.
 use Rattle.iot_disk.specs.declared.disk.DiskFault.{DiskFault}
 use Rattle.iot_disk.specs.declared.disk.DiskFault.TheVariants as reading
-use Rattle.iot_world.specs.declared.fault.WorldFault.{WorldFault}
-use Rattle.iot_world.specs.declared.fault.WorldFault.TheVariants.{NoMemory, DiskFailed}
 use Rattle.iot_app.specs.declared.status.Status.{Status}
 use Rattle.iot_app.specs.declared.status.Status.TheVariants as status
-
-abbrev pub ended_by : WorldFault → Status
-ended_by NoMemory = status.NoMemory
-ended_by DiskFailed = status.DiskFailed
 
 abbrev pub ended_by_read : DiskFault → Status
 ended_by_read reading.NoMemory = status.NoMemory

@@ -8,6 +8,7 @@ pub mod Outputs
 pub mod Played
 pub mod Running
 pub mod Saving
+pub mod Keeping
 pub mod Doing
 pub mod Endings
 pub mod Job

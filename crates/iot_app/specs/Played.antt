@@ -1,24 +1,26 @@
--- What was done of some events, and what was written of what they say. `wrote bytes` says that these bytes were written to the sink,
--- and `holds m` that the disks hold what this machine keeps.
-use Rattle.std.specs.Prelude.{◌≡◌, ℕ, ◌<◌, List, ◌∷◌, ◌++◌, length, take}
+-- What was done of some events, and what was written of what they say. `handed` is what the disks counted that were handed in,
+-- `wrote bytes` says that these bytes were written to the sink, `holds m` that the disks hold and have counted what this machine has, and
+-- `armed m` that they were armed as its disks were.
+use Rattle.std.specs.Prelude.{◌≡◌, ◌⊎◌, ℕ, ◌<◌, List, ◌∷◌, ◌++◌, length, take}
 use Rattle.iot_event.specs.declared.event.Event.{Event}
-use Rattle.iot_machine.specs.Machine.{Machine}
 use Rattle.iot_machine.specs.Events.{event_part}
-use Rattle.iot_machine.specs.Transcript.{Transcript}
+use Rattle.iot_machine.specs.Machine.{Machine, handed as before_all}
+use Rattle.iot_machine.specs.Nodes.{Counts}
+use Rattle.iot_machine.specs.Transcript.{Opening, Transcript}
 use Rattle.iot_app.specs.declared.status.Status.{Status}
-use Rattle.iot_app.specs.declared.status.Status.TheVariants.{Done, WriteFailed, NoMemory, DiskFailed}
+use Rattle.iot_app.specs.declared.status.Status.TheVariants.{Done, WriteFailed, NoMemory}
 
 -- all events were done: this is a whole transcript of them, written or not, and the disks hold what the machine keeps at its end
-pub record RanAll (holds : Machine → Type 0) (events : List Event) : Type 0 where
+pub record RanAll (handed : List Counts) (holds : Machine → Type 0) (events : List Event) : Type 0 where
   pub text : List ℕ
   pub machine : Machine
-  pub transcript : Transcript events text machine
+  pub transcript : Transcript handed events text machine
   pub kept : holds machine
 
 -- and what is to be said of such a run was written
-pub record Reported (wrote : List ℕ → Type 0) (holds : Machine → Type 0) (says : (transcript : List ℕ) → Machine → List ℕ)
-    (events : List Event) : Type 0 where
-  pub ran : RanAll holds events
+pub record Reported (handed : List Counts) (wrote : List ℕ → Type 0) (holds : Machine → Type 0)
+    (says : (transcript : List ℕ) → Machine → List ℕ) (events : List Event) : Type 0 where
+  pub ran : RanAll handed holds events
   pub written : wrote (says ran.text ran.machine)
 
 -- only a front of a text was written
@@ -27,24 +29,29 @@ pub record WroteFront (wrote : List ℕ → Type 0) (text : List ℕ) : Type 0 w
   pub cut : count < length text
   pub written : wrote (take count text)
 
--- a transcript of the first so many events was written
-pub record WroteFirst (wrote : List ℕ → Type 0) (events : List Event) : Type 0 where
+-- the first so many events were done, and no disk was armed but by them
+pub record DidFirst (handed : List Counts) (armed : Machine → Type 0) (events : List Event) : Type 0 where
   pub done : ℕ
   pub text : List ℕ
   pub machine : Machine
-  pub transcript : Transcript (take done events) text machine
-  pub written : wrote text
+  pub transcript : Transcript handed (take done events) text machine
+  pub arms : armed machine
+
+-- and a transcript of them was written
+pub record WroteFirst (handed : List Counts) (wrote : List ℕ → Type 0) (armed : Machine → Type 0) (events : List Event) : Type 0 where
+  pub did : DidFirst handed armed events
+  pub written : wrote did.text
 
 -- A transcript of the earlier events was written, and of what the next one says only a front. That event was done and no later one:
 -- the disks hold what the machine keeps after it.
-pub record WroteCut (wrote : List ℕ → Type 0) (holds : Machine → Type 0) (events : List Event) : Type 0 where
+pub record WroteCut (handed : List Counts) (wrote : List ℕ → Type 0) (holds : Machine → Type 0) (events : List Event) : Type 0 where
   pub earlier : List Event
   pub event : Event
   pub later : List Event
   pub split : events ≡ earlier ++ event ∷ later
   pub text : List ℕ
   pub before : Machine
-  pub transcript : Transcript earlier text before
+  pub transcript : Transcript handed earlier text before
   pub says : List ℕ
   pub machine : Machine
   pub last : event_part event before says tt machine
@@ -53,10 +60,17 @@ pub record WroteCut (wrote : List ℕ → Type 0) (holds : Machine → Type 0) (
   pub written : wrote (text ++ take count says)
   pub kept : holds machine
 
+-- of what the opening says only a front was written, and no event was done
+pub record CutsOpening (handed : List Counts) (wrote : List ℕ → Type 0) (holds : Machine → Type 0) : Type 0 where
+  pub says : List ℕ
+  pub machine : Machine
+  pub opens : Opening (before_all handed) says tt machine
+  pub front : WroteFront wrote says
+  pub kept : holds machine
+
 -- how writing a transcript ended
-abbrev pub Played : Status → (List ℕ → Type 0) → (Machine → Type 0) → List Event → Type 0
-Played Done wrote holds events = Reported wrote holds (λ transcript m. transcript) events
-Played WriteFailed wrote holds events = WroteCut wrote holds events
-Played NoMemory wrote holds events = WroteFirst wrote events
-Played DiskFailed wrote holds events = WroteFirst wrote events
-Played status wrote holds events = ⊥
+abbrev pub Played : (handed : List Counts) → Status → (List ℕ → Type 0) → (holds armed : Machine → Type 0) → List Event → Type 0
+Played handed Done wrote holds armed events = Reported handed wrote holds (λ transcript m. transcript) events
+Played handed WriteFailed wrote holds armed events = CutsOpening handed wrote holds ⊎ WroteCut handed wrote holds events
+Played handed NoMemory wrote holds armed events = WroteFirst handed wrote armed events
+Played handed status wrote holds armed events = ⊥

@@ -1,13 +1,17 @@
 -- What is told of a run whose events were done while nothing was written.
-use Rattle.std.specs.Prelude.{◌≡◌, ℕ, List, []}
+use Rattle.std.specs.Prelude.{◌≡◌, ℕ, List, [], map}
 use Rattle.iot_event.specs.declared.event.Event.{Event}
 use Rattle.iot_machine.specs.Json.{json_text, row_count}
-use Rattle.iot_machine.specs.Machine.{Machine}
+use Rattle.iot_disk.specs.Disk.{Arms}
+use Rattle.iot_machine.specs.Machine.{Machine, handed as before_all}
+use Rattle.iot_machine.specs.Nodes.{Counts as DiskCounts}
 use Rattle.iot_machine.specs.Texts.{line}
-use Rattle.iot_machine.specs.Transcript.{Transcript}
+use Rattle.iot_machine.specs.Transcript.{Opening, Transcript}
 use Rattle.iot_words.specs.declared.jobs.Job.{Job}
 use Rattle.iot_words.specs.declared.jobs.Job.TheVariants.{Transcript as plays, Json, Generate, Save}
-use Rattle.iot_world.specs.World.{IsWorldOf}
+use Rattle.iot_world.specs.Disks.{Medium}
+use Rattle.iot_world.specs.Holding.{counts_in}
+use Rattle.iot_world.specs.World.{IsWorldOf, client_count, script_names, disks_of}
 use Rattle.iot_world.specs.declared.world.World.{World}
 use Rattle.iot_app.specs.Summary.{counts_of, summary_text}
 use Rattle.iot_app.specs.declared.counts.Counts.{Counts}
@@ -24,16 +28,33 @@ abbrev pub tells : Job → (transcript : List ℕ) → Machine → List ℕ
 tells job transcript m = told_of job (counts_of transcript) m
 
 -- all events were done: these are the counts of their transcript, and this is the world of the machine at its end
-pub record RanIn {D : Type 0} (reads : D → List ℕ) (may_leave : D → List ℕ → Type 0) (events : List Event) (counts : Counts)
-    (world : World D) : Type 0 where
+pub record RanIn {D : Type 0} (medium : Medium D) (handed : List DiskCounts) (events : List Event) (counts : Counts) (world : World D)
+    : Type 0 where
   pub text : List ℕ
   pub machine : Machine
-  pub transcript : Transcript events text machine
+  pub transcript : Transcript handed events text machine
   pub counted : counts ≡ counts_of text
-  pub stands : IsWorldOf reads may_leave world machine
+  pub stands : IsWorldOf medium world machine
 
 -- the job has something to say after all events
 abbrev pub IsTold : Job → Type 0
 IsTold Json = Unit {0}
 IsTold (Generate n) = Unit {0}
 IsTold other = ⊥
+
+-- a new world, of a machine that has opened over what these disks counted, with this text
+pub record IsOpened {D : Type 0} (medium : Medium D) (handed : List DiskCounts) (text : List ℕ) (world : World D) : Type 0 where
+  pub machine : Machine
+  pub step : Opening (before_all handed) text tt machine
+  pub stands : IsWorldOf medium world machine
+  pub no_clients : client_count world ≡ 0
+  pub no_scripts : script_names world ≡ []
+
+-- the same over some disks
+pub record IsOpenedSome {D : Type 0} (medium : Medium D) (text : List ℕ) (world : World D) : Type 0 where
+  pub handed : List DiskCounts
+  pub is : IsOpened medium handed text world
+
+-- the disks of the world were armed as this machine's were
+abbrev pub IsArmed : {D : Type 0} → (D → Arms) → World D → Machine → Type 0
+IsArmed arms_of world m = map arms_of (disks_of world) ≡ map (λ counts. counts.arms) (counts_in m)

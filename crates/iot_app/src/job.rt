@@ -2,11 +2,11 @@
 ghost use Rattle.std.specs.Prelude.{◌≡◌, map};
 ghost use Rattle.std.specs.Io.KnownBytes.{Appends, IsAtEnd};
 ghost use Rattle.iot_io.specs.ReadAll.{Took};
-ghost use Rattle.iot_world.specs.Disks.{AreFresh};
-ghost use Rattle.iot_world.specs.Holding.{DisksHold};
+ghost use Rattle.iot_world.specs.Disks.{medium, AreFresh};
+ghost use Rattle.iot_app.specs.Keeping.{DisksKeep, DisksKeepUnread, AreArmed};
 ghost use Rattle.iot_app.specs.Endings.{Ends, JobEnds};
 ghost use Rattle.iot_app.specs.Saving.{first_reads};
-ghost use Rattle.iot_app.specs.Status.{HasStatus, SourceCounts, SinkCounts, DiskCounts};
+ghost use Rattle.iot_app.specs.Status.{HasStatus, SourceCounts, SinkCounts};
 
 use crate::doing::do_events;
 use crate::events::events_of;
@@ -51,12 +51,14 @@ pub struct Outcome<D> {
 /// - 5: memory ran out. Nothing was written; or a transcript is wanted, the input was read to its end, and what its first events say was
 ///   written.
 /// - 6: the server's disk could not be read to be saved. All events were done, and nothing was written.
-/// - 7: a disk failed at the start or in an event, the server's or a client's. The input was read to its end, or none is read. If a
-///   transcript is wanted, what the first events say was written, and else nothing.
+///
+/// A disk that fails ends no run: its node stops, which is a line of the transcript, and is down until it is restarted.
 ///
 /// After all events, or a cut transcript of those that were done, the first disk holds the commits, and the disk of each
-/// client what it keeps, whichever of its images a crash leaves; the disks that no client has are as they were. If no event was
-/// done, with the statuses 1 to 5, all are as they were. Of the disks after some events and status 5 or 7 nothing is said.
+/// client what it keeps, whichever of its images a crash leaves; if a record is in doubt, without it or with it. The disks that no client
+/// has are as they were. The count of a disk's faults rises in each event in which its node stops, and in no other, and a disk is armed by
+/// the `stop` events of its node alone. If no event was done, with the statuses 1 to 5, all are as they were. Of the disks after some
+/// events and status 5 only their arms are known: those of the events that were done.
 pub fn run<S: Source, K: Sink, D: Disk>(
     alloc: Global,
     words: &[&str],
@@ -64,14 +66,17 @@ pub fn run<S: Source, K: Sink, D: Disk>(
     sink: &mut K,
     disks: Vec<D>,
 ) -> Outcome<D>
-    requires { AreFresh D.reads D.may_leave disks.items }
+    requires { AreFresh (medium D.reads D.may_leave D.faults D.arms) disks.items }
 
     // What was read and written and what the disks hold, by the words and the status.
     ensures ends { HasStatus result.status (Ends (map (λ word. word.now) words.now) (record {
       took = Took S.left S.taken source.old source.new;
       at_end = IsAtEnd (S.left source.new);
       wrote = Appends (K.written sink.old) (K.written sink.new);
-      holds = DisksHold D.may_leave disks.items result.disks.items;
+      handed = map (medium D.reads D.may_leave D.faults D.arms).counts disks.items;
+      holds = DisksKeep (medium D.reads D.may_leave D.faults D.arms) disks.items result.disks.items;
+      unread = DisksKeepUnread (medium D.reads D.may_leave D.faults D.arms) disks.items result.disks.items;
+      armed = AreArmed (medium D.reads D.may_leave D.faults D.arms) result.disks.items;
       disk = first_reads D.reads result.disks.items;
       untouched = result.disks.items ≡ disks.items;
     })) }
@@ -82,11 +87,6 @@ pub fn run<S: Source, K: Sink, D: Disk>(
     ensures sink_faults { HasStatus result.status (λ status. SinkCounts status
         (record { before = K.faults sink.old; after = K.faults sink.new })
         (record { before = K.empties sink.old; after = K.empties sink.new })) }
-    ensures disk_faults { HasStatus result.status (λ status.
-        DiskCounts status (map D.faults disks.items) (map D.faults result.disks.items)) }
-
-    // The disks come back, and none was armed.
-    ensures disks { map D.arms result.disks.items ≡ map D.arms disks.items }
 {
     let (status, disks) = status_of(alloc, words, source, sink, disks);
     Outcome {
@@ -103,12 +103,15 @@ fn status_of<S: Source, K: Sink, D: Disk>(
     sink: &mut K,
     disks: Vec<D>,
 ) -> (Status, Vec<D>)
-    requires { AreFresh D.reads D.may_leave disks.items }
+    requires { AreFresh (medium D.reads D.may_leave D.faults D.arms) disks.items }
     ensures ends { Ends (map (λ word. word.now) words.now) (record {
       took = Took S.left S.taken source.old source.new;
       at_end = IsAtEnd (S.left source.new);
       wrote = Appends (K.written sink.old) (K.written sink.new);
-      holds = DisksHold D.may_leave disks.items result.1.items;
+      handed = map (medium D.reads D.may_leave D.faults D.arms).counts disks.items;
+      holds = DisksKeep (medium D.reads D.may_leave D.faults D.arms) disks.items result.1.items;
+      unread = DisksKeepUnread (medium D.reads D.may_leave D.faults D.arms) disks.items result.1.items;
+      armed = AreArmed (medium D.reads D.may_leave D.faults D.arms) result.1.items;
       disk = first_reads D.reads result.1.items;
       untouched = result.1.items ≡ disks.items;
     }) result.0 }
@@ -116,8 +119,6 @@ fn status_of<S: Source, K: Sink, D: Disk>(
     ensures sink_faults { SinkCounts result.0
         (record { before = K.faults sink.old; after = K.faults sink.new })
         (record { before = K.empties sink.old; after = K.empties sink.new }) }
-    ensures disk_faults { DiskCounts result.0 (map D.faults disks.items) (map D.faults result.1.items) }
-    ensures disks { map D.arms result.1.items ≡ map D.arms disks.items }
 {
     match read_words(alloc, words) {
         Ok(job) => do_job(alloc, job, source, sink, disks),
@@ -133,12 +134,15 @@ fn do_job<S: Source, K: Sink, D: Disk>(
     sink: &mut K,
     disks: Vec<D>,
 ) -> (Status, Vec<D>)
-    requires { AreFresh D.reads D.may_leave disks.items }
+    requires { AreFresh (medium D.reads D.may_leave D.faults D.arms) disks.items }
     ensures ends { JobEnds (record {
       took = Took S.left S.taken source.old source.new;
       at_end = IsAtEnd (S.left source.new);
       wrote = Appends (K.written sink.old) (K.written sink.new);
-      holds = DisksHold D.may_leave disks.items result.1.items;
+      handed = map (medium D.reads D.may_leave D.faults D.arms).counts disks.items;
+      holds = DisksKeep (medium D.reads D.may_leave D.faults D.arms) disks.items result.1.items;
+      unread = DisksKeepUnread (medium D.reads D.may_leave D.faults D.arms) disks.items result.1.items;
+      armed = AreArmed (medium D.reads D.may_leave D.faults D.arms) result.1.items;
       disk = first_reads D.reads result.1.items;
       untouched = result.1.items ≡ disks.items;
     }) job result.0 }
@@ -146,8 +150,6 @@ fn do_job<S: Source, K: Sink, D: Disk>(
     ensures sink_faults { SinkCounts result.0
         (record { before = K.faults sink.old; after = K.faults sink.new })
         (record { before = K.empties sink.old; after = K.empties sink.new }) }
-    ensures disk_faults { DiskCounts result.0 (map D.faults disks.items) (map D.faults result.1.items) }
-    ensures disks { map D.arms result.1.items ≡ map D.arms disks.items }
 {
     match events_of(alloc, job, source) {
         Ok(events) => do_events(alloc, job, &events, sink, disks),

@@ -1,15 +1,15 @@
 //! Doing the events while nothing is written.
-ghost use Rattle.std.specs.Prelude.{◌≡◌, [], map, IfOk};
+ghost use Rattle.std.specs.Prelude.{◌≡◌, [], List, map, IfOk, IfErr};
 ghost use Rattle.iot_event.specs.Declarations.{AreDeclared};
 ghost use Rattle.iot_machine.specs.Json.{json_text};
 ghost use Rattle.iot_machine.specs.Machine.{Machine};
 ghost use Rattle.iot_machine.specs.Texts.{line};
-ghost use Rattle.iot_world.specs.Disks.{AreFresh};
-ghost use Rattle.iot_world.specs.Faults.{CallCountsAll};
-ghost use Rattle.iot_world.specs.Holding.{DisksHold};
-ghost use Rattle.iot_world.specs.World.{StandsFor, IsWorldOfSome, IsOpened, SameDisks};
-ghost use Rattle.iot_app.specs.Played.{Reported};
-ghost use Rattle.iot_app.specs.Running.{RanIn, told_of, tells};
+ghost use Rattle.iot_world.specs.Disks.{medium, AreFresh};
+ghost use Rattle.iot_app.specs.Keeping.{DisksKeep, AreArmed};
+ghost use Rattle.iot_machine.specs.Nodes.{Counts as DiskCounts};
+ghost use Rattle.iot_world.specs.World.{StandsFor, IsWorldOfSome, KeepsDisks};
+ghost use Rattle.iot_app.specs.Played.{Reported, DidFirst};
+ghost use Rattle.iot_app.specs.Running.{RanIn, IsOpened, IsOpenedSome, IsArmed, told_of, tells};
 
 use crate::counts::Counts;
 use crate::summary::sum_up;
@@ -17,7 +17,7 @@ use iot_disk::Disk;
 use iot_event::Event;
 use iot_text::{NoMemory, Text};
 use iot_words::Job;
-use iot_world::{World, WorldFault};
+use iot_world::World;
 use std::alloc::Global;
 
 /// Does the events in turn, on these disks, and gives the disks back, with what the job has to say of the run. A job that writes what the
@@ -27,59 +27,71 @@ pub(crate) fn run_events<D: Disk>(
     job: Job,
     events: &[Event],
     disks: Vec<D>,
-) -> (Result<Text, WorldFault>, Vec<D>)
+) -> (Result<Text, NoMemory>, Vec<D>)
     requires declared { AreDeclared events.now 0 [] }
-    requires fresh { AreFresh D.reads D.may_leave disks.items }
+    requires fresh { AreFresh (medium D.reads D.may_leave D.faults D.arms) disks.items }
     ensures told { IfOk result.0 (λ text.
-        Reported (λ told. text ≡ told) (DisksHold D.may_leave disks.items result.1.items) (tells job) events.now) }
-    ensures disk_faults { CallCountsAll result.0 (map D.faults disks.items) (map D.faults result.1.items) }
-    ensures disks { map D.arms result.1.items ≡ map D.arms disks.items }
+        Reported (map (medium D.reads D.may_leave D.faults D.arms).counts disks.items) (λ told. text ≡ told)
+        (DisksKeep (medium D.reads D.may_leave D.faults D.arms) disks.items result.1.items) (tells job) events.now) }
+    ensures failed { IfErr result.0 (λ _. DidFirst (map (medium D.reads D.may_leave D.faults D.arms).counts disks.items)
+        (AreArmed (medium D.reads D.may_leave D.faults D.arms) result.1.items) events.now) }
 {
     let mut opening = Text::new(alloc);
     match World::new(alloc, disks, &mut opening) {
         Ok(mut world) => {
-            let told = run_in(alloc, job, events, &mut world);
+            let told = run_in(alloc, job, opening, events, &mut world);
             (told, world.into_disks())
         }
-        Err((disks, fault)) => (Err(fault), disks),
+        Err(disks) => (Err(NoMemory), disks),
     }
 }
 
-/// The same in a new world.
+/// The same in a new world, whose opening said this.
 fn run_in<D: Disk>(
     alloc: Global,
     job: Job,
+    opening: Text,
     events: &[Event],
     world: &mut World<D>,
-) -> Result<Text, WorldFault>
+) -> Result<Text, NoMemory>
     requires declared { AreDeclared events.now 0 [] }
-    requires opened { IsOpened D.reads D.may_leave world.old }
-    ensures told { IfOk result (λ text.
-        Reported (λ told. text ≡ told) (StandsFor D.reads D.may_leave world.new) (tells job) events.now) }
-    ensures disks { SameDisks D.arms D.faults (CallCountsAll result) world.old world.new }
+    requires opened { IsOpenedSome (medium D.reads D.may_leave D.faults D.arms) opening world.old }
+    ensures told { IfOk result (λ text. (handed : List DiskCounts)
+        → IsOpened (medium D.reads D.may_leave D.faults D.arms) handed opening world.old
+        → Reported handed (λ told. text ≡ told) (StandsFor (medium D.reads D.may_leave D.faults D.arms) world.new) (tells job) events.now) }
+    ensures failed { IfErr result (λ _. (handed : List DiskCounts)
+        → IsOpened (medium D.reads D.may_leave D.faults D.arms) handed opening world.old
+        → DidFirst handed (IsArmed D.arms world.new) events.now) }
+    ensures disks { KeepsDisks world.old world.new }
 {
-    let counts = do_all(alloc, events, world)?;
-    Ok(tell(alloc, job, &counts, world)?)
+    let counts = do_all(alloc, opening, events, world)?;
+    tell(alloc, job, &counts, world)
 }
 
-/// Does the events in a new world, and counts the lines that they say.
+/// Does the events in a new world, and counts the lines that they say, and those of its opening.
 fn do_all<D: Disk>(
     alloc: Global,
+    opening: Text,
     events: &[Event],
     world: &mut World<D>,
-) -> Result<Counts, WorldFault>
+) -> Result<Counts, NoMemory>
     requires declared { AreDeclared events.now 0 [] }
-    requires opened { IsOpened D.reads D.may_leave world.old }
-    ensures ran { IfOk result (λ counts. RanIn D.reads D.may_leave events.now counts world.new) }
-    ensures disks { SameDisks D.arms D.faults (CallCountsAll result) world.old world.new }
+    requires opened { IsOpenedSome (medium D.reads D.may_leave D.faults D.arms) opening world.old }
+    ensures ran { IfOk result (λ counts. (handed : List DiskCounts)
+        → IsOpened (medium D.reads D.may_leave D.faults D.arms) handed opening world.old
+        → RanIn (medium D.reads D.may_leave D.faults D.arms) handed events.now counts world.new) }
+    ensures failed { IfErr result (λ _. (handed : List DiskCounts)
+        → IsOpened (medium D.reads D.may_leave D.faults D.arms) handed opening world.old
+        → DidFirst handed (IsArmed D.arms world.new) events.now) }
+    ensures disks { KeepsDisks world.old world.new }
 {
     let mut counts = Counts::new();
-    let mut text = Text::new(alloc);
+    let mut text = opening;
     'events: for event in events {
         world.apply(alloc, event, &mut text)?;
         counts.take_lines(&mut text)?;
     }
-    Ok(counts.with_text(text.as_bytes())?)
+    counts.with_text(text.as_bytes())
 }
 
 /// What the job has to say of a run with these counts that came to this world.
@@ -89,8 +101,9 @@ fn tell<D: Disk>(
     counts: &Counts,
     world: &World<D>,
 ) -> Result<Text, NoMemory>
-    requires { IsWorldOfSome D.reads D.may_leave world.now }
-    ensures { IfOk result (λ text. (m : Machine) → StandsFor D.reads D.may_leave world.now m → text ≡ told_of job counts.now m) }
+    requires { IsWorldOfSome (medium D.reads D.may_leave D.faults D.arms) world.now }
+    ensures { IfOk result (λ text. (m : Machine)
+        → StandsFor (medium D.reads D.may_leave D.faults D.arms) world.now m → text ≡ told_of job counts.now m) }
 {
     match job {
         Job::Transcript => Ok(Text::new(alloc)),
@@ -102,8 +115,9 @@ fn tell<D: Disk>(
 
 /// The last state as JSON, and a newline.
 fn json_line<D: Disk>(alloc: Global, world: &World<D>) -> Result<Text, NoMemory>
-    requires { IsWorldOfSome D.reads D.may_leave world.now }
-    ensures { IfOk result (λ text. (m : Machine) → StandsFor D.reads D.may_leave world.now m → text ≡ line (json_text m)) }
+    requires { IsWorldOfSome (medium D.reads D.may_leave D.faults D.arms) world.now }
+    ensures { IfOk result (λ text. (m : Machine)
+        → StandsFor (medium D.reads D.may_leave D.faults D.arms) world.now m → text ≡ line (json_text m)) }
 {
     let mut text = world.json(alloc)?;
     text.push(b'\n')?;

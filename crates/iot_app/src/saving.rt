@@ -3,12 +3,12 @@ ghost use Rattle.std.specs.Prelude.{◌≡◌, [], map, IfOk};
 ghost use Rattle.std.specs.Io.KnownBytes.{Appends};
 ghost use Rattle.iot_disk.specs.Disk.{CountsFault, SameImages};
 ghost use Rattle.iot_event.specs.Declarations.{AreDeclared};
-ghost use Rattle.iot_world.specs.Disks.{AreFresh};
-ghost use Rattle.iot_world.specs.Holding.{DisksHold};
+ghost use Rattle.iot_world.specs.Disks.{medium, AreFresh};
+ghost use Rattle.iot_app.specs.Keeping.{DisksKeep, DisksKeepUnread, AreArmed};
 ghost use Rattle.iot_words.specs.declared.jobs.Job.TheVariants.{Save};
 ghost use Rattle.iot_app.specs.Doing.{Did};
 ghost use Rattle.iot_app.specs.Saving.{first_reads};
-ghost use Rattle.iot_app.specs.Status.{SinkCounts, DiskCounts};
+ghost use Rattle.iot_app.specs.Status.{SinkCounts};
 
 use crate::running::run_events;
 use crate::status::Status;
@@ -27,17 +27,17 @@ pub(crate) fn save<K: Sink, D: Disk>(
     disks: Vec<D>,
 ) -> (Status, Vec<D>)
     requires declared { AreDeclared events.now 0 [] }
-    requires fresh { AreFresh D.reads D.may_leave disks.items }
-    ensures ends { Did
+    requires fresh { AreFresh (medium D.reads D.may_leave D.faults D.arms) disks.items }
+    ensures ends { Did (map (medium D.reads D.may_leave D.faults D.arms).counts disks.items)
         (Appends (K.written sink.old) (K.written sink.new))
-        (DisksHold D.may_leave disks.items result.1.items)
+        (DisksKeep (medium D.reads D.may_leave D.faults D.arms) disks.items result.1.items)
+        (AreArmed (medium D.reads D.may_leave D.faults D.arms) result.1.items)
+        (DisksKeepUnread (medium D.reads D.may_leave D.faults D.arms) disks.items result.1.items)
         (first_reads D.reads result.1.items)
         Save result.0 events.now }
     ensures sink_faults { SinkCounts result.0
         (record { before = K.faults sink.old; after = K.faults sink.new })
         (record { before = K.empties sink.old; after = K.empties sink.new }) }
-    ensures disk_faults { DiskCounts result.0 (map D.faults disks.items) (map D.faults result.1.items) }
-    ensures disks { map D.arms result.1.items ≡ map D.arms disks.items }
 {
     let (told, mut disks) = run_events(alloc, Job::Save, events, disks);
     match told {
@@ -45,7 +45,7 @@ pub(crate) fn save<K: Sink, D: Disk>(
             Ok(bytes) => (write_text(sink, &bytes, Status::Done), disks),
             Err(fault) => (Status::of_read(fault), disks),
         },
-        Err(fault) => (Status::of_fault(fault), disks),
+        Err(_no_memory) => (Status::NoMemory, disks),
     }
 }
 

@@ -1,10 +1,9 @@
 //! How a run of the program ends.
 ghost use Rattle.std.specs.Prelude.{◌≡◌};
-ghost use Rattle.iot_app.specs.Faults.{ended_by, ended_by_read};
+ghost use Rattle.iot_app.specs.Faults.{ended_by_read};
 ghost use Rattle.iot_app.specs.Status.{code_of};
 
 use iot_disk::DiskFault;
-use iot_world::WorldFault;
 
 /// How a run ends.
 #[derive(Clone, Copy, Debug, PartialEq, Eq)]
@@ -29,22 +28,9 @@ pub(crate) enum Status {
 
     /// The server's disk could not be read to be saved.
     SaveFailed,
-
-    /// A disk failed: the server's or a client's.
-    DiskFailed,
 }
 
 impl Status {
-    /// The status of a run that ends by this fault.
-    pub(crate) fn of_fault(fault: WorldFault) -> Status
-        ensures { result ≡ ended_by fault }
-    {
-        match fault {
-            WorldFault::NoMemory => Status::NoMemory,
-            WorldFault::DiskFailed => Status::DiskFailed,
-        }
-    }
-
     /// The status of a run that ends because the server's disk could not be read.
     pub(crate) fn of_read(fault: DiskFault) -> Status
         ensures { result ≡ ended_by_read fault }
@@ -67,7 +53,6 @@ impl Status {
             Status::WriteFailed => 4,
             Status::NoMemory => 5,
             Status::SaveFailed => 6,
-            Status::DiskFailed => 7,
         }
     }
 }

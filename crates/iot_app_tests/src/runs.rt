@@ -26,6 +26,23 @@ pub(crate) const RECORDED: &[u8] = b"\xa5IOTJRNL1\xa5\0\0\0\0\0\0\0\xae\x01\
     \0\0\0\0\0\0\0\x01\x02\0\0\0\0\0\0\0\x01\0\0\0\0\0\0\0\x01x\x02\
     \0\0\0\0\0\0\0\0\x01\0\0\0\0\0\0\0\x10cat: /x: no file\0";
 
+/// The same, if the server's disk fails in its start. What the laptop runs knows of no tree.
+const UNSTARTED: &[u8] =
+    b"server stopped\nclient laptop\nend laptop.1\npending laptop.1\n|mkdir: /d: not cached\n\
+    |cat: /x: not cached\ndown\npending\ndown\nrestart server\nup\ndir /\n";
+
+/// If it fails in the commit: up to the restart, and from then on if the commit was kept, or was lost.
+const STOPPED: &[u8] =
+    b"client laptop\nend laptop.1\nserver stopped\naway\npending laptop.1\n|cat: /x: no file\ndown\npending\ndown\n";
+
+const KEPT: &[u8] =
+    b"restart server kept\ncommit 1 laptop.1 certified\n|cat: /x: no file\nup\ndir /\ndir /d\n";
+
+const LOST: &[u8] = b"restart server lost\nup\ndir /\n";
+
+/// If it fails in the first start after the crash: from the crash on.
+const AGAIN: &[u8] = b"crash server\naway\ndown\nserver stopped\nrestart server\ndir /\ndir /d\n";
+
 /// A client that crashes after three acts of a transaction. What they did is committed when it is back.
 const CUT: &[u8] = b"client laptop\nscript five {\necho 1\necho 2\necho 3\necho 4\necho 5\n}\n\
     begin laptop five abort\nstep laptop 3\ncrash laptop\nrestart laptop\nqueue laptop\ndrain laptop\n";
@@ -80,6 +97,18 @@ const SETTLED: &[u8] =
     connect laptop\nlose laptop reply\ncommit 1 laptop.1 certified\n|1\naway\n\
     connect laptop\nsettled laptop.1 1\nnothing\ndir /\nfile /n \"1\"\n";
 
+/// A server that is told to stop in a commit, and then in each of two starts. The commit is kept.
+const STOPS: &[u8] =
+    b"client laptop\nscript put {\nwrite /n 1\n}\nhoard laptop /\nstop server 3 new\nrun laptop put abort\n\
+    show server\nstop server 1 0\nrestart server\nstop server 1 old\nrestart server\nrestart server\n\
+    connect laptop\nsync laptop\nshow server\n";
+
+/// What it says. The verdict comes when the server is back.
+const BACK: &[u8] =
+    b"client laptop\nhoard laptop /\nstop server 3 new\nend laptop.1\nserver stopped\naway\npending laptop.1\n\
+    down\nstop server 1 0\nserver stopped\nstop server 1 old\nserver stopped\n\
+    restart server kept\ncommit 1 laptop.1 certified\nconnect laptop\nsettled laptop.1 1\ndir /\nfile /n \"1\"\n";
+
 #[test]
 fn a_run_keeps_its_commit(rt: HostRuntime) -> Result<(), Fail> {
     let alloc = rt.alloc();
@@ -113,7 +142,7 @@ fn a_client_aborts_by_what_another_did(rt: HostRuntime) -> Result<(), Fail> {
 
 #[test]
 fn a_transaction_waits_until_a_verdict_comes(rt: HostRuntime) -> Result<(), Fail> {
-    for (input, says) in [(OFFLINE, DRAINED), (LOSSES, SETTLED)] {
+    for (input, says) in [(OFFLINE, DRAINED), (LOSSES, SETTLED), (STOPS, BACK)] {
         let (ended, written) = ran(rt.alloc(), input, &[], NONE)?;
         assert_eq!(rt; ended.status, 0);
         assert_eq!(rt; written.as_slice(), says);
@@ -144,7 +173,7 @@ fn a_read_or_a_write_that_fails_ends_the_run(rt: HostRuntime) -> Result<(), Fail
 }
 
 #[test]
-fn a_disk_of_the_server_that_fails_ends_the_run(rt: HostRuntime) -> Result<(), Fail> {
+fn a_server_whose_disk_fails_stops(rt: HostRuntime) -> Result<(), Fail> {
     let alloc = rt.alloc();
     // A start of an empty disk makes six device calls, a commit four, and the start after a crash one.
     for device in 1..12 {
@@ -155,16 +184,19 @@ fn a_disk_of_the_server_that_fails_ends_the_run(rt: HostRuntime) -> Result<(), F
                 ..NONE
             };
             let (ended, written) = ran(alloc, CRASH, &[], failing)?;
-            assert_eq!(rt; ended.status, 7, "call {device}");
-            let lines = match device {
-                1..=6 => 0,
-                7..=10 => 1,
-                _ => 8,
+            assert_eq!(rt; ended.status, 0, "call {device}");
+            let kept = device > 8 && pick != Pick::Old;
+            let (first, rest, number) = match device {
+                1..=6 => (UNSTARTED, b"".as_slice(), 0),
+                7..=10 if kept => (STOPPED, KEPT, 1),
+                7..=10 => (STOPPED, LOST, 0),
+                _ => (COMMITTED, AGAIN, 1),
             };
-            assert_eq!(rt; lines_in(&written), lines, "call {device}");
-            let kept = device > 10 || device > 8 && pick != Pick::Old;
+            let mut says = Vec::from_slice(alloc, first)?;
+            says.extend_from_slice(rest)?;
+            assert_eq!(rt; written.as_slice(), says.as_slice(), "call {device}");
             let store = store_on(alloc, ended.disks.into_iter().next())?;
-            assert_eq!(rt; store.number(), u64::from(kept), "call {device}");
+            assert_eq!(rt; store.number(), number, "call {device}");
         }
     }
     Ok(())
@@ -179,20 +211,68 @@ fn a_client_comes_back_from_its_disk(rt: HostRuntime) -> Result<(), Fail> {
 }
 
 #[test]
-fn a_disk_of_a_client_that_fails_ends_the_run(rt: HostRuntime) -> Result<(), Fail> {
+fn a_client_whose_disk_fails_stops(rt: HostRuntime) -> Result<(), Fail> {
     let alloc = rt.alloc();
     // A start of an empty disk makes six device calls, a record four, and the start after a crash one.
-    for (device, lines, before, after) in [
-        (6, 0, 0, 0),
-        (8, 1, 0, 0),
-        (10, 1, 0, 1),
-        (14, 1, 1, 2),
-        (26, 2, 4, 5),
-        (27, 4, 5, 5),
-        (31, 4, 5, 6),
-        (35, 7, 6, 7),
-        (39, 7, 7, 8),
-    ] {
+    let cases: [(u64, Pick, &[u8]); 8] = [
+        (
+            6,
+            Pick::Old,
+            b"laptop stopped\ndown\ndown\ndown\nrestart laptop\nempty\nrefresh laptop\n",
+        ),
+        (
+            8,
+            Pick::New,
+            b"client laptop\nlaptop stopped\ndown\ndown\nrestart laptop lost\nempty\nrefresh laptop\n",
+        ),
+        (
+            14,
+            Pick::New,
+            b"client laptop\nlaptop stopped\ndown\ndown\nrestart laptop kept\ncut laptop.1 0 acts\n\
+            item laptop.1 five abort waiting 0 acts cut\ncommit 1 laptop.1 certified\nsettled laptop.1 1\nrefresh laptop\n",
+        ),
+        (
+            26,
+            Pick::Old,
+            b"client laptop\nbegin laptop.1 five first\nlaptop stopped\ndown\nrestart laptop lost\ncut laptop.1 2 acts\n\
+            item laptop.1 five abort waiting 2 acts cut\ncommit 1 laptop.1 certified\n|1\n|2\nsettled laptop.1 1\nrefresh laptop\n",
+        ),
+        (
+            26,
+            Pick::New,
+            b"client laptop\nbegin laptop.1 five first\nlaptop stopped\ndown\nrestart laptop kept\ncut laptop.1 3 acts\n\
+            item laptop.1 five abort waiting 3 acts cut\ncommit 1 laptop.1 certified\n|1\n|2\n|3\nsettled laptop.1 1\nrefresh laptop\n",
+        ),
+        (
+            27,
+            Pick::New,
+            b"client laptop\nbegin laptop.1 five first\nstep laptop.1 3 acts\ncrash laptop\nlaptop stopped\ndown\ndown\n",
+        ),
+        (
+            31,
+            Pick::New,
+            b"client laptop\nbegin laptop.1 five first\nstep laptop.1 3 acts\ncrash laptop\nrestart laptop\nlaptop stopped\ndown\ndown\n",
+        ),
+        (
+            35,
+            Pick::New,
+            b"client laptop\nbegin laptop.1 five first\nstep laptop.1 3 acts\ncrash laptop\nrestart laptop\ncut laptop.1 3 acts\n\
+            item laptop.1 five abort waiting 3 acts cut\ncommit 1 laptop.1 certified\n|1\n|2\n|3\nlaptop stopped\n",
+        ),
+    ];
+    for (device, pick, says) in cases {
+        let failing = Failing {
+            place: 1,
+            device,
+            pick,
+            ..NONE
+        };
+        let (ended, written) = ran(alloc, CUT, &[], failing)?;
+        assert_eq!(rt; ended.status, 0, "call {device}");
+        assert_eq!(rt; written.as_slice(), says, "call {device}");
+    }
+    // What it finds that stops in its last records.
+    for (device, before, after) in [(27, 5, 5), (31, 5, 6), (35, 6, 7), (39, 7, 8)] {
         for (pick, records) in [(Pick::Old, before), (Pick::New, after)] {
             let failing = Failing {
                 place: 1,
@@ -200,9 +280,7 @@ fn a_disk_of_a_client_that_fails_ends_the_run(rt: HostRuntime) -> Result<(), Fai
                 pick,
                 ..NONE
             };
-            let (ended, written) = ran(alloc, CUT, &[], failing)?;
-            assert_eq!(rt; ended.status, 7, "call {device}");
-            assert_eq!(rt; lines_in(&written), lines, "call {device}");
+            let (ended, _) = ran(alloc, CUT, &[], failing)?;
             let client = client_on(alloc, ended.disks.into_iter().nth(1))?;
             assert_eq!(rt; client.records(), records, "call {device}");
         }

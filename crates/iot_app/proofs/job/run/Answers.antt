@@ -10,7 +10,3 @@ returns-clause-source_faults g c =
 pub returns-clause-sink_faults : goal.returns-clause-sink_faults
 returns-clause-sink_faults g c =
     record { status = c.status_of-status.result.0; is = c.code.ensures; so = c.status_of-status.ensures.sink_faults }
-
-pub returns-clause-disk_faults : goal.returns-clause-disk_faults
-returns-clause-disk_faults g c =
-    record { status = c.status_of-status.result.0; is = c.code.ensures; so = c.status_of-status.ensures.disk_faults }

@@ -1,15 +1,18 @@
-use Rattle.std.proofs.Common.{◌≡◌}
-use Rattle.std.specs.Io.KnownBytes.{Appends}
-use Rattle.iot_world.specs.Disks.{NoneRose}
-use Rattle.iot_world.specs.World.{SameDisks}
-use Rattle.iot_app.proofs.PlayedLaws.{PlaysOn}
+use Rattle.std.proofs.Common.{◌≡◌, List}
+use Rattle.iot_machine.specs.Nodes.{Counts}
+use Rattle.iot_world.specs.Disks.{medium}
+use Rattle.iot_world.specs.World.{KeepsDisks}
+use Rattle.iot_app.specs.Running.{IsOpened}
+use Rattle.iot_app.proofs.PlayedLaws.{PlaysOn, Follows}
 use Rattle.iot_app.proofs.play.play_on.Given as goal
 
 abbrev pub invariant-events : goal.invariant-events
 invariant-events g l = record {
-  plays : PlaysOn g.D.Disk.reads g.D.Disk.may_leave (Appends (g.K.Sink.written l.initial.sink) (g.K.Sink.written l.sink)) l.events
-      l.world l.event-index;
+  plays : (handed : List Counts)
+      → IsOpened (medium g.D.Disk.reads g.D.Disk.may_leave g.D.Disk.faults g.D.Disk.arms) handed l.opening l.initial.world
+      → PlaysOn (medium g.D.Disk.reads g.D.Disk.may_leave g.D.Disk.faults g.D.Disk.arms) handed
+      (Follows (g.K.Sink.written l.initial.sink) l.opening (g.K.Sink.written l.sink)) l.events l.world l.event-index;
   faults : g.K.Sink.faults l.sink ≡ g.K.Sink.faults l.initial.sink;
   empties : g.K.Sink.empties l.sink ≡ g.K.Sink.empties l.initial.sink;
-  disks : SameDisks g.D.Disk.arms g.D.Disk.faults NoneRose l.initial.world l.world;
+  disks : KeepsDisks l.initial.world l.world;
 }
