@@ -1,0 +1,4 @@
+pub mod FrontLaws
+pub mod KeepingLaws
+pub mod LastingLaws
+pub mod AcknowledgedLaws
