@@ -182,7 +182,8 @@ class Picture:
             self.put(text(EDGE, top + 16 + place * LINE, words, GREY if len(row.asked) > 1 else TEXT))
         for place, words in enumerate(shortened(row.said)):
             plain = words.startswith(('|', 'dir ', 'file ', '..'))
-            self.put(text(self.said_at, top + 16 + place * LINE, words, GREY if plain else WORDS.get(words.split()[0], TEXT)))
+            word = 'crash' if words.endswith(' stopped') else words.split()[0]
+            self.put(text(self.said_at, top + 16 + place * LINE, words, GREY if plain else WORDS.get(word, TEXT)))
 
     # ---- lanes
 

@@ -1,13 +1,23 @@
 """Which lines the program prints for which event, and what a reader knows of each node by then."""
 
+import re
 from dataclasses import dataclass, field
+from typing import Callable
 
 REFUSALS = {'down', 'up', 'busy', 'pending', 'idle', 'nothing', 'not at end', 'not manual'}
-NEVER_REFUSED = {'client', 'connect', 'disconnect', 'lose'}
+NEVER_REFUSED = {'client', 'connect', 'disconnect', 'lose', 'stop'}
 
 
 class Strange(Exception):
     """The lines are not those of these events, or an event is unknown."""
+
+
+class Halted(Exception):
+    """A client has stopped, so the rest of its event is silent."""
+
+
+def nothing_more(_):
+    """What is so after the restart of a node that had nothing in doubt of which there is anything to be seen."""
 
 
 @dataclass
@@ -18,6 +28,9 @@ class Item:
     option: str
     slot: int
     stage: str = 'waiting'
+
+    def repair(self):
+        self.option, self.stage = 'resolver', 'conflict'
 
 
 @dataclass
@@ -31,6 +44,9 @@ class Node:
     option: str = ''
     first: bool = False
     queue: list = field(default_factory=list)
+
+    # What is to be done at its restart, by whether the record in doubt was kept.
+    doubt: Callable = nothing_more
 
     def snapshot(self):
         """How the lane looks from here on: its state, what runs on it, and what waits beside it."""
@@ -94,6 +110,11 @@ class Day:
     def __init__(self, events, lines):
         self.lines, self.at = lines, 0
         self.server, self.clients, self.rows = Node('server'), {}, []
+        self.listed = set()
+        if self.next() == 'server stopped':
+            self.rows.append(Row(node='server'))
+            self.stop(self.server)
+            self.close()
         for event in events:
             self.do(event)
         if self.at < len(lines):
@@ -123,6 +144,25 @@ class Day:
     def mark(self, what, node, text=''):
         self.rows[-1].marks.append((what, node, text))
 
+    def stop(self, node, doubt=nothing_more):
+        """The node has stopped, with this in doubt."""
+        self.take(f'{node.name} stopped')
+        self.mark('crash', node.name)
+        node.alive, node.doubt = False, doubt
+
+    def halts(self, client, doubt=nothing_more):
+        """If the client has stopped here, with this in doubt, the event is over."""
+        if self.next() == f'{client.name} stopped':
+            self.stop(client, doubt)
+            raise Halted
+
+    def commit(self):
+        """The server commits a transaction."""
+        words = self.take('commit ').split()
+        self.mark('commit', 'server', words[1])
+        self.listed.add(words[2])
+        self.output()
+
     def close(self):
         """The last row is over, and shows the nodes as they are now."""
         nodes = [self.server, *self.clients.values()]
@@ -147,11 +187,15 @@ class Day:
             if refused and words[0] not in NEVER_REFUSED:
                 self.take()
             else:
-                method(self.clients.get(node, self.server), words)
+                try:
+                    method(self.clients.get(node, self.server), words)
+                except Halted:
+                    pass
         self.close()
 
     def on_client(self, _, words):
         self.clients[words[1]] = Node(words[1])
+        self.halts(self.clients[words[1]])
         self.take('client ')
 
     def on_connect(self, client, _):
@@ -166,16 +210,25 @@ class Day:
         client.loss = words[2]
         self.take('lose ')
 
+    def on_stop(self, _, __):
+        self.take('stop ')
+
     def on_crash(self, node, _):
         node.alive = False
         self.mark('crash', node.name)
         self.take('crash ')
 
     def on_restart(self, node, _):
+        if self.next() == f'{node.name} stopped':
+            self.stop(node, node.doubt)
+            return
         node.alive = True
         self.mark('restart', node.name)
-        self.take('restart ')
+        word = self.take(f'restart {node.name}').split()[-1]
+        doubt, node.doubt = node.doubt, nothing_more
+        doubt(word == 'kept')
         if node.running:
+            self.halts(node, lambda kept: kept and node.wait())
             self.take('cut ')
             node.wait()
 
@@ -187,6 +240,7 @@ class Day:
 
     def on_begin(self, client, words):
         client.first = not client.queue and self.exchange(client, 'refresh') == 'both'
+        self.halts(client, lambda _: self.cuts(client) and client.begin(words[3]))
         client.begin(words[3])
         self.take(f'begin {client.name}.{client.running} {words[2]} {"first" if client.first else "second"}')
 
@@ -198,6 +252,7 @@ class Day:
             if line.endswith(' away') == arrived:
                 raise Strange(f'line {self.at} of the output: the link says otherwise: {line}')
         self.row(client.name)
+        self.halts(client)
         self.take(f'step {client.name}.{client.running} ')
 
     def on_end(self, client, _):
@@ -218,6 +273,7 @@ class Day:
             self.syncs(client)
         self.row(client.name)
         client.first = not client.queue and self.exchange(client, 'refresh') == 'both'
+        self.halts(client, lambda kept: self.ran(client, words[3], kept))
         client.begin(words[3])
         if self.next() == 'not at end':
             self.take()
@@ -225,10 +281,12 @@ class Day:
             self.end(client)
 
     def on_repair(self, client, _):
-        client.queue[0].option, client.queue[0].stage = 'resolver', 'conflict'
+        self.halts(client, lambda kept: kept and client.queue[0].repair())
+        client.queue[0].repair()
         self.take('repair ')
 
     def on_discard(self, client, _):
+        self.halts(client, lambda kept: kept and self.give_up(client))
         self.give_up(client)
         self.take('discard ')
 
@@ -272,17 +330,43 @@ class Day:
             passage = client.loss or 'both'
         if passage in ('request', 'reply'):
             client.up, client.loss = False, ''
+        if passage in ('both', 'reply') and self.next() == 'server stopped':
+            passage, client.up, client.loss = 'reply', False, ''
+            self.stop(self.server, lambda kept: kept and self.commit_kept())
         client.first = client.first and passage == 'both'
         if passage != 'away':
             self.rows[-1].exchange = (client.name, what, passage)
         return passage
 
+    def commit_kept(self):
+        """What the server says of the commit that it has kept."""
+        self.row('server')
+        self.commit()
+
+    def cuts(self, client):
+        """Whether a transaction of the client is cut now."""
+        return self.next().startswith(f'cut {client.name}.')
+
+    def ran(self, client, option, kept):
+        """What is left of a `run` in which the client has stopped. If that is not said now, it is where its transaction is named next."""
+        name = re.escape(f'{client.name}.{client.last + 1}')
+        later = next((line for line in self.lines[self.at:] if re.search(rf'\b{name}\b', line)), '')
+        if self.cuts(client):
+            client.begin(option)
+        elif kept and later and not later.startswith(('begin ', 'end ')):
+            client.begin(option)
+            client.wait()
+
     def ask(self, client, what, line):
         self.row(client.name)
-        self.take(line if self.exchange(client, what) == 'both' else 'away')
+        arrived = self.exchange(client, what) == 'both'
+        if arrived:
+            self.halts(client)
+        self.take(line if arrived else 'away')
 
     def end(self, client):
         tid = f'{client.name}.{client.running}'
+        self.halts(client, lambda kept: kept and client.wait())
         self.take(f'end {tid}')
         first = client.first
         client.wait()
@@ -317,6 +401,7 @@ class Day:
         if self.exchange(client, 'whole tree') != 'both':
             self.take('away')
             return 'away'
+        self.halts(client, lambda kept: kept and setattr(head, 'stage', 'resolved'))
         head.stage = 'resolved'
         self.take(f'resolve {tid} ')
         return 'on'
@@ -324,24 +409,30 @@ class Day:
     def submit(self, client, head, tid):
         passage = self.exchange(client, 'submit')
         if passage in ('both', 'reply') and self.next().startswith('commit '):
-            self.mark('commit', 'server', self.take().split()[1])
-            self.output()
+            self.commit()
         if passage != 'both':
             self.take('away')
             return 'away'
+        self.halts(client, lambda kept: kept and self.judged(client, head, tid))
         if self.next().startswith('settled '):
             self.take(f'settled {tid} ')
             client.queue.pop(0)
             return 'on'
         self.mark('conflict', client.name)
         self.take(f'conflict {tid} ')
-        if head.option == 'abort':
-            self.take(f'abort {tid}')
-            self.give_up(client)
-        elif head.option == 'manual':
-            self.take(f'manual {tid}')
-        head.stage = 'manual' if head.option == 'manual' else 'conflict'
+        if head.option in ('abort', 'manual'):
+            self.take(f'{head.option} {tid}')
+        self.judged(client, head, tid)
         return 'manual' if head.option == 'manual' else 'on'
+
+    def judged(self, client, head, tid):
+        """What the client has noted of the reply to a submission."""
+        if tid in self.listed:
+            client.queue.pop(0)
+        elif head.option == 'abort':
+            self.give_up(client)
+        else:
+            head.stage = 'manual' if head.option == 'manual' else 'conflict'
 
     def give_up(self, client):
         self.mark('given up', client.name, str(client.queue.pop(0).slot))
