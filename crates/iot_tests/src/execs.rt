@@ -1,8 +1,8 @@
-//! Scripts on trees of which only some is known, and with kept files.
+//! A script on a tree of which only some is known.
 use crate::fixtures::{path, script};
-use iot_exec::{Exec, run};
+use iot_exec::Exec;
 use iot_text::NoMemory;
-use iot_tree::{ACT_LIMIT, Blob, Files, Tree};
+use iot_tree::{Files, Tree};
 
 #[test]
 fn an_act_asks_for_what_the_tree_does_not_know(rt: HostRuntime) -> Result<(), NoMemory> {
@@ -15,19 +15,5 @@ fn an_act_asks_for_what_the_tree_does_not_know(rt: HostRuntime) -> Result<(), No
     let line = act.lines.as_slice().first().expect(&rt, "a line");
     assert_eq!(rt; line.as_bytes(), b"cat: /d/n: not cached".as_slice());
     assert!(rt; exec.at_end() && exec.acts() == 1);
-    Ok(())
-}
-
-#[test]
-fn kept_files_are_put_back(rt: HostRuntime) -> Result<(), NoMemory> {
-    let alloc = rt.alloc();
-    let mut kept = Files::new(alloc);
-    let bytes = Blob::from_vec(Vec::from_slice(alloc, b"mine")?);
-    kept.push((path(&rt, alloc, "/f"), bytes))?;
-    let keeps = script(&rt, alloc, "keep /f /g\n")?;
-    let ran = run(alloc, keeps, kept, &Tree::whole_root(alloc)?, ACT_LIMIT)?;
-    assert!(rt; ran.ended && ran.acts.len() == 1);
-    let put_back = path(&rt, alloc, "/g");
-    assert_eq!(rt; ran.tree.content(&put_back), Some(b"mine".as_slice()));
     Ok(())
 }

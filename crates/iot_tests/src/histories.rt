@@ -1,9 +1,9 @@
-//! Journals of each change, as they were written by hand.
+//! Journals of a client with each of its changes, as they were written by hand.
 ghost use Rattle.std.specs.Prelude.{IfOk};
 ghost use Rattle.iot_kept.specs.Kept.{IsSynced};
 
-use iot_disk::{Disk, MemDisk, Pick};
-use iot_kept::{Change, Kept, StartFault};
+use iot_disk::{Disk, MemDisk};
+use iot_kept::{Kept, StartFault};
 use iot_text::Path;
 use iot_tree::Kind;
 use std::alloc::{AllocError, Global};
@@ -91,11 +91,6 @@ const DAMAGE: &[(&[&[u8]], &[&[u8]], u64)] = &[
 
 /// A disk with a journal of these bodies and of one more.
 fn written(alloc: Global, bodies: &[&[u8]], last: Option<&[u8]>) -> Result<MemDisk, AllocError> {
-    MemDisk::of(alloc, journal_of(alloc, bodies, last)?)
-}
-
-/// The bytes of that journal.
-fn journal_of(alloc: Global, bodies: &[&[u8]], last: Option<&[u8]>) -> Result<Vec<u8>, AllocError> {
     let mut bytes = Vec::from_slice(alloc, b"\xa5IOTJRNL1")?;
     for body in bodies {
         write(&mut bytes, body)?;
@@ -104,7 +99,7 @@ fn journal_of(alloc: Global, bodies: &[&[u8]], last: Option<&[u8]>) -> Result<Ve
         write(&mut bytes, body)?;
     }
     bytes.push(0)?;
-    Ok(bytes)
+    MemDisk::of(alloc, bytes)
 }
 
 /// Appends a record of this body.
@@ -237,98 +232,6 @@ fn what_cannot_follow_is_damage(rt: HostRuntime) -> Result<(), Fail> {
     let alloc = rt.alloc();
     for (bodies, later, at) in DAMAGE {
         assert!(rt; are_damaged(alloc, bodies, later, *at)?);
-    }
-    Ok(())
-}
-
-/// Notes a cut on a disk that fails at this call: whether it is noted, and how many wait after a restart.
-fn cut_on(alloc: Global, calls: u64, pick: Pick) -> Result<(bool, usize), StartFault> {
-    let mut kept = started(alloc, written(alloc, &[HELD, FIRST, ACTED], None)?)?;
-    kept.arm(calls, pick);
-    let noted = if kept.running().is_some() {
-        kept.note(alloc, Change::Cut).is_ok()
-    } else {
-        false
-    };
-    let kept = started(alloc, kept.into_disk())?;
-    Ok((noted, kept.queue().items().len()))
-}
-
-#[test]
-fn a_stop_keeps_a_change_or_loses_it(rt: HostRuntime) -> Result<(), Fail> {
-    let alloc = rt.alloc();
-
-    // There is no call with the number 0.
-    assert_eq!(rt; cut_on(alloc, 0, Pick::Old)?, (true, 1));
-    for calls in 1..5 {
-        assert_eq!(rt; cut_on(alloc, calls, Pick::Old)?, (false, 0));
-        let waiting = if calls > 2 { 1 } else { 0 };
-        assert_eq!(rt; cut_on(alloc, calls, Pick::New)?, (false, waiting));
-        assert_eq!(rt; cut_on(alloc, calls, Pick::Fill(165))?, (false, waiting));
-    }
-    Ok(())
-}
-
-#[test]
-fn the_class_is_not_kept(rt: HostRuntime) -> Result<(), Fail> {
-    let alloc = rt.alloc();
-    let mut kept = started(alloc, written(alloc, &[HELD, FIRST, ACTED], None)?)?;
-    assert_eq!(rt; running_of(&kept), Some((1, false, 1)));
-    kept.set_class(true);
-    assert_eq!(rt; running_of(&kept), Some((1, true, 1)));
-    let kept = started(alloc, kept.into_disk())?;
-    assert_eq!(rt; running_of(&kept), Some((1, false, 1)));
-    Ok(())
-}
-
-/// How many records of these bodies begin before this place of their journal, and the gate of the last of them.
-fn begun_before(bodies: &[&[u8]], place: usize) -> (u64, u64) {
-    let mut begun: u64 = 0;
-    let mut last: u64 = 0;
-    let mut gate: u64 = 9;
-    for body in bodies {
-        if gate < place as u64 {
-            begun = begun.wrapping_add(1);
-            last = gate;
-        }
-        gate = gate.wrapping_add(9).wrapping_add(body.len() as u64);
-    }
-    (begun, last)
-}
-
-#[test]
-fn each_cut_is_named(rt: HostRuntime) -> Result<(), Fail> {
-    let alloc = rt.alloc();
-    let whole = journal_of(alloc, WEEK, None)?;
-    for size in 0..whole.len() {
-        let cut = Vec::from_slice(alloc, &whole[..size])?;
-        match started(alloc, MemDisk::of(alloc, cut)?) {
-            Ok(kept) => assert!(rt; size < 10 && kept.records() == 0),
-            Err(StartFault::Damaged { at }) => {
-                assert!(rt; size >= 10 && at == begun_before(WEEK, size).1)
-            }
-            Err(fault) => return Err(Fail::from(fault)),
-        }
-    }
-    Ok(())
-}
-
-#[test]
-fn each_damaged_byte_is_named(rt: HostRuntime) -> Result<(), Fail> {
-    let alloc = rt.alloc();
-    let whole = journal_of(alloc, WEEK, None)?;
-    for place in 0..whole.len() {
-        let mut bytes = Vec::from_slice(alloc, whole.as_slice())?;
-        bytes[place] = !bytes[place];
-        let (before, _) = begun_before(WEEK, place);
-        let (_, gate) = begun_before(WEEK, place + 1);
-        match started(alloc, MemDisk::of(alloc, bytes)?) {
-            // Another gate than an open one ends the journal; what a body says may be something else that can follow.
-            Ok(kept) => assert!(rt; place == 0 || place >= 9 && kept.records() >= before),
-            Err(StartFault::Foreign) => assert!(rt; place > 0 && place < 9),
-            Err(StartFault::Damaged { at }) => assert!(rt; place > 9 && at >= gate),
-            Err(fault) => return Err(Fail::from(fault)),
-        }
     }
     Ok(())
 }

@@ -1,10 +1,7 @@
-//! Trees of which only some is known, and rows that are no tree.
+//! Trees of which only some is known, and copies of trees.
 use crate::fixtures::{path, tree};
-use iot_text::{Name, NoMemory};
-use iot_tree::{
-    Act, Blob, Duplicate, Files, Kind, Label, Lines, Node, Question, Read, Reads, RowFault, Rows,
-    Sequence, Tree, Update, Want, Way,
-};
+use iot_text::NoMemory;
+use iot_tree::{Duplicate, Kind, Node, Question, Read, Reads, Rows, Tree, Update};
 use std::alloc::Global;
 use std::process::Abort;
 use std::test::Fail;
@@ -40,82 +37,27 @@ fn the_inside_of_a_far_object_is_away(rt: HostRuntime) -> Result<(), Fail> {
     Ok(())
 }
 
-/// The place of the first of these rows that does not go with those before it.
-fn bad_row(
-    rt: &impl Abort,
-    alloc: Global,
-    spelled: &[(&str, &Node)],
-) -> Result<Option<u64>, NoMemory> {
-    match Tree::from_rows(rows(rt, alloc, spelled)?) {
-        Err(RowFault::NoTree { at }) => Ok(Some(at)),
-        _ => Ok(None),
-    }
-}
-
 #[test]
-fn rows_that_are_no_tree_are_refused(rt: HostRuntime) -> Result<(), NoMemory> {
-    let dir = &Node::Dir;
-    let twice = [("/", dir), ("/a", dir), ("/a", dir)];
-    let falling = [("/", dir), ("/b", dir), ("/a", dir)];
-    let alone = [("/", dir), ("/a/b", dir)];
-    assert_eq!(rt; bad_row(&rt, rt.alloc(), &twice)?, Some(2));
-    assert_eq!(rt; bad_row(&rt, rt.alloc(), &falling)?, Some(2));
-    assert_eq!(rt; bad_row(&rt, rt.alloc(), &alone)?, Some(1));
-    Ok(())
-}
-
-#[test]
-fn copies_are_equal(rt: HostRuntime) -> Result<(), NoMemory> {
+fn a_copy_stays_as_it_was(rt: HostRuntime) -> Result<(), NoMemory> {
     let alloc = rt.alloc();
-    let before = tree(&rt, alloc, "mkdir /d\nwrite /d/n 1\n")?.copy(alloc)?;
+    let before = tree(&rt, alloc, "mkdir /d\nwrite /d/n 1\n")?;
     let file = path(&rt, alloc, "/d/n");
-    let mut reads = Reads::new(alloc);
     let asked = [
         Question::Kind(file.copy(alloc)?),
         Question::Content(file.copy(alloc)?),
         Question::Names(path(&rt, alloc, "/d")),
     ];
+    let mut reads = Reads::new(alloc);
     for question in asked {
         let answer = before.answer(alloc, &question)?;
         reads.push(Read { question, answer })?;
     }
-    let bytes = Blob::from_vec(Vec::from_slice(alloc, b"2")?);
-    let act = Act {
-        reads,
-        update: Some(Update::Put(file, bytes)),
-        lines: Lines::new(alloc),
-    };
-    let copy = act.copy(alloc)?;
-    assert!(rt; copy.reads.len() == 3 && copy.update.is_some() && copy.lines.is_empty());
-    for read in copy.reads.as_slice() {
-        assert!(rt; before.answers(read));
+    let mut after = before.copy(alloc)?;
+    let update = Update::Remove(file);
+    assert!(rt; after.fits(&update));
+    after.apply(alloc, &update)?;
+    for read in reads.as_slice() {
+        assert!(rt; before.answers(read) && !after.answers(read));
     }
-    Ok(())
-}
-
-#[test]
-fn labels_and_wishes_are_copied(rt: HostRuntime) -> Result<(), NoMemory> {
-    let alloc = rt.alloc();
-    let label = Label {
-        client: 1,
-        tid: 2,
-        script: Name::parse(b"build").expect(&rt, "a name"),
-        budget: 3,
-        way: Way::Certified,
-        kept: Files::new(alloc),
-    };
-    let copy = label.copy(alloc)?;
-    assert!(rt; copy.client == 1 && copy.tid == 2 && copy.budget == 3 && copy.kept.is_empty());
-    let wanted = Want::Below(path(&rt, alloc, "/d")).copy(alloc)?;
-    assert!(rt; matches!(wanted, Want::Below(_)));
-    Ok(())
-}
-
-#[test]
-fn lists_are_changed_in_place(rt: HostRuntime) -> Result<(), NoMemory> {
-    let mut list = Sequence::from_vec(vec![in rt.alloc(); (1u8, 2u8), (3, 4)]?);
-    list.insert(1, (5, 6))?;
-    list.set_value(0, 7);
-    assert_eq!(rt; list.as_slice(), [(1, 7), (5, 6), (3, 4)].as_slice());
     Ok(())
 }
