@@ -35,7 +35,10 @@ fn below(alloc: Global, origin: &Option<Path>, rest: &[Name]) -> Result<Option<P
     ensures { IfOk result (λ source. source ≡ option_map (λ o. o ++ rest.now) origin.now) }
 {
     match origin {
-        Some(origin) => Ok(Some(Path::from_names(joined(alloc, origin.names(), rest)?))),
+        Some(origin) => {
+            let names = joined(alloc, origin.names(), rest)?;
+            Ok(Some(Path::from_names(names)?))
+        }
         None => Ok(None),
     }
 }

@@ -44,7 +44,8 @@ impl Spelled for Blob {
         if !are_content_bytes(contents) {
             return Err(malformed(at));
         }
-        Ok((Blob::from_vec(Vec::from_slice(alloc, contents)?), end))
+        let blob = Blob::from_vec(Vec::from_slice(alloc, contents)?)?;
+        Ok((blob, end))
     }
 
     ghost laws = { contents_laws };

@@ -28,7 +28,8 @@ impl Spelled for Path {
     #[tactic(auto, unfolding(crate::specs::Decoding::path_at))]
     fn read(alloc: Global, bytes: &[u8], at: usize) -> Result<(Path, usize), CodecFault> {
         let (names, end) = read_list::<Name>(alloc, bytes, at)?;
-        Ok((Path::from_names(names.into_vec()), end))
+        let path = Path::from_names(names.into_vec())?;
+        Ok((path, end))
     }
 
     ghost laws = { path_laws };

@@ -138,7 +138,8 @@ impl Spelled for Tree {
     #[tactic(auto, unfolding(crate::specs::Decoding::tree_at))]
     fn read(alloc: Global, bytes: &[u8], at: usize) -> Result<(Tree, usize), CodecFault> {
         let (rows, end) = read_tree_rows(alloc, bytes, at)?;
-        Ok((Tree::of_rows(rows), end))
+        let tree = Tree::of_rows(rows)?;
+        Ok((tree, end))
     }
 
     ghost laws = { tree_laws };

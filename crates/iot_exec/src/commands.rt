@@ -20,7 +20,7 @@ fn joined(alloc: Global, one: &[u8], two: &[u8]) -> Result<Blob, NoMemory>
     let mut both = Vec::with_capacity(alloc, one.len())?;
     both.extend_from_slice(one)?;
     both.extend_from_slice(two)?;
-    Ok(Blob::from_vec(both))
+    Blob::from_vec(both)
 }
 
 /// Whether both contents together have more bytes than a file may have.
@@ -115,7 +115,7 @@ impl<'t> Asking<'t> {
         ensures { Ends self.old (copy from.now to) self.new result }
     {
         let bytes = self.contents(from)?;
-        let copy = Blob::from_vec(Vec::from_slice(self.alloc, bytes)?);
+        let copy = Blob::from_vec(Vec::from_slice(self.alloc, bytes)?)?;
         self.write(to, copy)
     }
 

@@ -53,7 +53,7 @@ impl<'t> Asking<'t> {
         ensures { OnOk result (self.new ≡ asked self.old (Question.Content path.now)) }
     {
         let question = Question::Content(path.copy(self.alloc)?);
-        let copy = Blob::from_vec(Vec::from_slice(self.alloc, bytes)?);
+        let copy = Blob::from_vec(Vec::from_slice(self.alloc, bytes)?)?;
         self.record(question, Answer::Bytes(copy))
     }
 

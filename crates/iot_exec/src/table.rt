@@ -8,7 +8,7 @@ use crate::env::Env;
 use crate::kept::kept_at;
 use iot_lang::Command;
 use iot_text::Path;
-use iot_tree::{Blob, Files};
+use iot_tree::{Blob, Duplicate, Files};
 
 impl<'t> Asking<'t> {
     /// Does a command but for its update, its lines and its variable.
@@ -33,7 +33,7 @@ impl<'t> Asking<'t> {
             Command::Remove(path) => self.remove_file(env.path(alloc, path)?),
             Command::Write(path, word) => {
                 let path = env.path(alloc, path)?;
-                let bytes = Blob::from_vec(env.word(alloc, word)?.into_bytes());
+                let bytes = Blob::from_vec(env.word(alloc, word)?.into_bytes())?;
                 self.write(path, bytes)
             }
             Command::Append(path, word) => {
@@ -70,7 +70,7 @@ impl<'t> Asking<'t> {
     {
         match kept_at(kept, from) {
             Some(bytes) => {
-                let copy = Blob::from_vec(Vec::from_slice(self.alloc, bytes.as_slice())?);
+                let copy = bytes.copy(self.alloc)?;
                 self.write(to, copy)
             }
             None => Err(self.fail(from, Reason::NothingKept)),

@@ -18,7 +18,8 @@ pub fn prune(alloc: Global, s: &Tree, k: &Paths) -> Result<Tree, NoMemory>
     ensures answers { IfOk result (AnswersOrAway s.now) }
 {
     let rows = cut_rows(alloc, s.rows().as_slice(), k.as_slice())?;
-    Ok(Tree::of_rows(rows))
+    let tree = Tree::of_rows(rows)?;
+    Ok(tree)
 }
 
 /// The rows of the pruned tree.

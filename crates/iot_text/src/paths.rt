@@ -15,23 +15,26 @@ use crate::{Name, NoMemory, Text, TextFault};
 use std::alloc::Global;
 use std::cmp::Ordering;
 use std::marker::Model;
+use std::rc::Rc;
 
 /// A path: the names on the way down from the root, whose own path has none.
-/// Contracts see it as the list of its names.
+/// Contracts see it as the list of its names. Copies share them.
 #[derive(Clone, Debug, Drop)]
 pub struct Path {
-    names: Vec<Name>,
+    /// The names; None of the root, which takes no memory.
+    names: Option<Rc<Vec<Name>>>,
 }
 
 impl Model for Path {
-    ghost use Rattle.std.specs.Prelude.{ℕ, List};
+    ghost use Rattle.std.specs.Prelude.{ℕ, List, []};
+    ghost use Rattle.std.specs.Option.{option_map_or};
     ghost use Rattle.iot_text.specs.Paths.{IsPath};
 
     ghost Value = { List (List ℕ) };
 
-    ghost view = { λ path. path.names.items };
+    ghost view = { λ path. option_map_or (λ names. names.value.items) path.names [] };
 
-    ghost invariant = { λ path. IsPath path.names.items };
+    ghost invariant = { λ path. IsPath (option_map_or (λ names. names.value.items) path.names []) };
 }
 
 /// How many bytes come before the first `/`, or in all if there is none.
@@ -71,13 +74,13 @@ impl Path {
         ensures none { IfErr result (λ fault.
             fault ≢ TextFault.NoMemory → path_of text.now ≡ None) }
     {
-        let mut names = Vec::new(alloc);
         if text.is_empty() || text[0] != b'/' {
             return Err(TextFault::BadPath { at: 0 });
         }
         if text.len() == 1 {
-            return Ok(Path { names });
+            return Ok(Path { names: None });
         }
+        let mut names = Vec::new(alloc);
         let mut start = 1;
         'parts: loop {
             let rest = &text[start..];
@@ -89,27 +92,28 @@ impl Path {
             names.push(name)?;
             start += len;
             if start == text.len() {
-                return Ok(Path { names });
+                return Ok(Path::from_names(names)?);
             }
             start += 1;
         }
     }
 
     /// The path of the root. Does not allocate.
-    pub fn root(alloc: Global) -> Path
+    pub fn root(_alloc: Global) -> Path
         ensures { result ≡ [] }
     {
-        Path {
-            names: Vec::new(alloc),
-        }
+        Path { names: None }
     }
 
-    /// A path of these names. Does not allocate.
-    pub fn from_names(names: Vec<Name>) -> Path
+    /// A path of these names, which its copies share.
+    pub fn from_names(names: Vec<Name>) -> Result<Path, NoMemory>
         requires { IsPath names.items }
-        ensures { result ≡ names.items }
+        ensures { IfOk result (λ path. path ≡ names.items) }
     {
-        Path { names }
+        let alloc = *names.allocator();
+        Ok(Path {
+            names: Some(Rc::new(alloc, names)?),
+        })
     }
 
     /// The names of the path, from the root down.
@@ -118,7 +122,10 @@ impl Path {
         ensures value { result.now ≡ self.now }
         ensures valid { IsPath result.now }
     {
-        self.names.as_slice()
+        match &self.names {
+            Some(names) => names.as_slice(),
+            None => &[],
+        }
     }
 
     /// The last name, which only the root's path has not.
@@ -152,9 +159,7 @@ impl Path {
         ensures { IfOk result (λ parent. parent ≡ parent_of self.now) }
     {
         match self.parent_names() {
-            Some(names) => Ok(Some(Path {
-                names: Vec::from_slice(alloc, names)?,
-            })),
+            Some(names) => Ok(Some(Path::from_names(Vec::from_slice(alloc, names)?)?)),
             None => Ok(None),
         }
     }
@@ -165,19 +170,27 @@ impl Path {
     {
         // That it is a name is known of its bytes.
         let _valid = name.as_bytes();
-        let mut names = Vec::with_capacity(alloc, self.names.len() + 1)?;
-        names.extend_from_slice(self.names())?;
+        let above = self.names();
+        let mut names = Vec::with_capacity(alloc, above.len() + 1)?;
+        names.extend_from_slice(above)?;
         names.push(*name)?;
-        Ok(Path { names })
+        Path::from_names(names)
     }
 
-    /// A path of the same names.
-    pub fn copy(&self, alloc: Global) -> Result<Path, NoMemory>
+    /// The same path: it shares its names. Does not allocate.
+    ///
+    /// # Errors
+    ///
+    /// Only if it is shared more often than can be counted.
+    #[inline]
+    pub fn copy(&self, _alloc: Global) -> Result<Path, NoMemory>
         ensures { IfOk result (λ path. path ≡ self.now) }
     {
-        Ok(Path {
-            names: Vec::from_slice(alloc, self.names())?,
-        })
+        let names = match &self.names {
+            Some(names) => Some(Rc::clone(names)?),
+            None => None,
+        };
+        Ok(Path { names })
     }
 
     /// Appends the text of the path: `/` for the root, else each name after a `/`.

@@ -24,7 +24,7 @@ pub record IsFirstBadRow (rows : List Row) (at : ℕ) : Type 0 where
   pub before : 0 < at → AreTreeRows (take at rows)
   pub bad : ¬ AreTreeRows (take (at + 1) rows)
 
--- why rows are refused; want of memory is no reason, since none is taken
+-- why rows are refused; want of memory says nothing of them
 abbrev pub RefusesRows : List Row → RowFault → Type 0
-RefusesRows rows NoMemory = ⊥
+RefusesRows rows NoMemory = Unit {0}
 RefusesRows rows (NoTree at) = IsFirstBadRow rows at

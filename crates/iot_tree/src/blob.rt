@@ -1,35 +1,47 @@
 //! The contents of files.
-ghost use Rattle.std.specs.Prelude.{ℕ, List, ◌≡◌, ◌==◌, ◌↔◌, IsTrue, length, nat_eq};
+ghost use Rattle.std.specs.Prelude.{ℕ, List, ◌≡◌, ◌==◌, ◌↔◌, IsTrue, IfOk, length, nat_eq};
 ghost use Rattle.std.specs.Cmp.{partial_equiv_from_equiv};
 ghost use Rattle.std.specs.Cmp.Lexicographic.{pointwise, nat_list_eq_equiv};
 
+use iot_text::NoMemory;
 use std::marker::Model;
+use std::rc::Rc;
 
-/// The contents of a file: any bytes. Contracts see it as their list.
+/// The contents of a file: any bytes. Contracts see it as their list. Copies share them.
 #[derive(Drop)]
 pub struct Blob {
-    bytes: Vec<u8>,
+    bytes: Rc<Vec<u8>>,
 }
 
 impl Model for Blob {
     ghost Value = { List ℕ };
 
-    ghost view = { λ blob. blob.bytes.items };
+    ghost view = { λ blob. blob.bytes.value.items };
 }
 
 impl Blob {
-    /// Takes these bytes. Does not allocate.
-    pub fn from_vec(bytes: Vec<u8>) -> Blob
-        ensures { result ≡ bytes.items }
+    /// Takes these bytes, which its copies share.
+    pub fn from_vec(bytes: Vec<u8>) -> Result<Blob, NoMemory>
+        ensures { IfOk result (λ blob. blob ≡ bytes.items) }
     {
-        Blob { bytes }
+        let alloc = *bytes.allocator();
+        Ok(Blob {
+            bytes: Rc::new(alloc, bytes)?,
+        })
     }
 
-    /// Gives the bytes back. Does not allocate.
-    pub fn into_vec(self) -> Vec<u8>
-        ensures { result.items ≡ self }
+    /// The same contents: they share their bytes. Does not allocate.
+    ///
+    /// # Errors
+    ///
+    /// Only if they are shared more often than can be counted.
+    #[inline]
+    pub(crate) fn share(&self) -> Result<Blob, NoMemory>
+        ensures { IfOk result (λ blob. blob ≡ self.now) }
     {
-        self.bytes
+        Ok(Blob {
+            bytes: Rc::clone(&self.bytes)?,
+        })
     }
 
     /// The bytes.

@@ -37,9 +37,8 @@ impl Duplicate for Text {
 }
 
 impl Duplicate for Blob {
-    fn copy(&self, alloc: Global) -> Result<Blob, NoMemory> {
-        let bytes = Vec::from_slice(alloc, self.as_slice())?;
-        Ok(Blob::from_vec(bytes))
+    fn copy(&self, _alloc: Global) -> Result<Blob, NoMemory> {
+        self.share()
     }
 }
 

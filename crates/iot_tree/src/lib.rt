@@ -8,6 +8,7 @@ mod changes;
 mod children;
 mod duplicate;
 mod faults;
+mod grown;
 mod kinds;
 mod labels;
 mod limits;

@@ -21,7 +21,7 @@ fn renamed_path(alloc: Global, path: &Path, from: &Path, to: &Path) -> Result<Pa
     let mut names = Vec::with_capacity(alloc, to.names().len() + rest.len())?;
     names.extend_from_slice(to.names())?;
     names.extend_from_slice(rest)?;
-    Ok(Path::from_names(names))
+    Path::from_names(names)
 }
 
 /// The paths of the rows, with `to` in place of `from`.

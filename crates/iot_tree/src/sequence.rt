@@ -47,6 +47,12 @@ impl<T> Sequence<T> {
         self.items
     }
 
+    /// What it takes its memory from.
+    #[inline]
+    pub(crate) fn allocator(&self) -> Global {
+        *self.items.allocator()
+    }
+
     /// The items in their order.
     #[inline]
     pub fn as_slice(&self) -> &[T]

@@ -13,11 +13,11 @@ of_rows-requires c =
 pub returns-clause-pruned : goal.returns-clause-pruned
 returns-clause-pruned c =
     let done = rw (c.as_slice-2.ensures, c.as_slice.ensures, c.rows.ensures.rows) at c.in_ok-rows.ensures in
-    same_entries_map _ _ (c.of_rows.ensures ∙ done ∙ sym (entries_pruned c.args.s.now (has c.args.k.now)))
+    same_entries_map _ _ (c.in_ok-tree.ensures ∙ done ∙ sym (entries_pruned c.args.s.now (has c.args.k.now)))
 
 pub returns-clause-answers : goal.returns-clause-answers
 returns-clause-answers c =
     let done = rw (c.as_slice-2.ensures, c.as_slice.ensures, c.rows.ensures.rows) at c.in_ok-rows.ensures in
-    let is : c.of_rows.result ≡ prune c.args.s.now (has c.args.k.now) =
-    same_entries_map _ _ (c.of_rows.ensures ∙ done ∙ sym (entries_pruned c.args.s.now (has c.args.k.now))) in
+    let is : c.in_ok-tree.tree ≡ prune c.args.s.now (has c.args.k.now) =
+    same_entries_map _ _ (c.in_ok-tree.ensures ∙ done ∙ sym (entries_pruned c.args.s.now (has c.args.k.now))) in
     subst (AnswersOrAway c.args.s.now) (sym is) (answers_or_away c.args.s.now (has c.args.k.now) c.rows.ensures.tree)

@@ -3,5 +3,5 @@ use Rattle.iot_codec.proofs.trees.TreeSpelled.read.Goals as goal
 
 pub returns : goal.returns
 returns c =
-    tree_read c.args.bytes.now c.args.at c.of_rows.result c.in_ok-rows.rows c.in_ok-rows.end c.in_ok-rows.ensures.exact
-    c.of_rows.ensures
+    tree_read c.args.bytes.now c.args.at c.in_ok-tree.tree c.in_ok-rows.rows c.in_ok-rows.end c.in_ok-rows.ensures.exact
+    c.in_ok-tree.ensures

@@ -20,7 +20,7 @@ returns-in_default-clause-refused c =
 
 pub returns-then-start-text-clause-ok : goal.returns-then-start-text-clause-ok
 returns-then-start-text-clause-ok c =
-    rw (c.in_ok-push.ensures.items) (completed c.parts.names.items c.args.text.now c.parts.start c.part_len-len.result c.in-Ok.name
+    rw (c.in_ok-from_names.ensures, c.in_ok-push.ensures.items) (completed c.parts.names.items c.args.text.now c.parts.start c.part_len-len.result c.in-Ok.name
     c.parts.invariant.names c.parts.invariant.stepped.spelled c.if-start-text.true c.in-Ok.ensures.ok.1
     (rw (c.in-Ok.ensures.ok.1) (c.in-Ok.ensures.ok.0)))
 
@@ -42,10 +42,10 @@ returns-then-is_empty-clause-none c = λ fault. elim c.then-is_empty.branch [
 
 pub returns-then-text-eq1-clause-found : goal.returns-then-text-eq1-clause-found
 returns-then-text-eq1-clause-found c =
-    path_of-root c.args.text.now c.if-text-eq1.true c.if-text-ne47.false ∙ ap Some (sym c.new-names.ensures.items)
+    path_of-root c.args.text.now c.if-text-eq1.true c.if-text-ne47.false
 
 pub returns-in_default-clause-none : goal.returns-in_default-clause-none
 returns-in_default-clause-none c = λ fault. path_of-none c.args.text.now (returns-in_default-clause-refused c).0
 
 pub returns-then-start-text-clause-found : goal.returns-then-start-text-clause-found
-returns-then-start-text-clause-found c = path_of-spelled c.args.text.now c.push.new.self.items (returns-then-start-text-clause-ok c)
+returns-then-start-text-clause-found c = path_of-spelled c.args.text.now c.in_ok-from_names.field-0 (returns-then-start-text-clause-ok c)

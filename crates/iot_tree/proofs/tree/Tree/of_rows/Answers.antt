@@ -1,5 +1,0 @@
-use Rattle.iot_tree.proofs.RowLaws.{entries_rows}
-use Rattle.iot_tree.proofs.tree.Tree.of_rows.Goals as goal
-
-pub returns : goal.returns
-returns c = entries_rows c.args.rows c.requires.rising
