@@ -1,3 +1,4 @@
+mod CommitsLaws
+mod PiecesLaws
 mod PlainLaws
 mod ReadsLaws
-mod PiecesLaws

@@ -1,8 +1,9 @@
 //! What a transaction read.
-ghost use Rattle.std.specs.Prelude.{◌≡◌, ◌+◌, ◌++◌, length, IfOk, OnOk};
+ghost use Rattle.std.specs.Prelude.{◌≡◌, ◌+◌, ◌∷◌, ◌++◌, length, IfOk, OnOk, OnErr};
+ghost use Rattle.iot_text.specs.Texts.{AppendsPart};
 ghost use Rattle.iot_inspect.specs.Texts.{child_text, others_text, children_text, answer_text, read_line, reads_from, reads_text, reads_of};
 
-use crate::pieces::{put_empty, put_question};
+use crate::pieces::{put_empty, put_numbered, put_question};
 use iot_queue::Item;
 use iot_text::{Name, NoMemory, Text, quote};
 use iot_tree::{Act, Answer, Kind, Read};
@@ -10,7 +11,8 @@ use std::alloc::AllocError;
 
 /// A name in a directory, with a `/` after that of a directory.
 fn put_child(child: &(Name, Kind), out: &mut Text) -> Result<(), NoMemory>
-    ensures { OnOk result (out.new ≡ out.old ++ child_text child.now) }
+    ensures ok { OnOk result (out.new ≡ out.old ++ child_text child.now) }
+    ensures err { OnErr result (AppendsPart out.old out.new (child_text child.now)) }
 {
     out.append(child.0.as_bytes())?;
     match child.1 {
@@ -19,20 +21,30 @@ fn put_child(child: &(Name, Kind), out: &mut Text) -> Result<(), NoMemory>
     }
 }
 
+/// A name after a space.
+fn put_other(child: &(Name, Kind), out: &mut Text) -> Result<(), NoMemory>
+    ensures ok { OnOk result (out.new ≡ out.old ++ 32 ∷ child_text child.now) }
+    ensures err { OnErr result (AppendsPart out.old out.new (32 ∷ child_text child.now)) }
+{
+    out.push(b' ')?;
+    put_child(child, out)
+}
+
 /// Names, each after a space.
 fn put_others(children: &[(Name, Kind)], out: &mut Text) -> Result<(), NoMemory>
-    ensures { OnOk result (out.new ≡ out.old ++ others_text children.now) }
+    ensures ok { OnOk result (out.new ≡ out.old ++ others_text children.now) }
+    ensures err { OnErr result (AppendsPart out.old out.new (others_text children.now)) }
 {
     for child in children {
-        out.push(b' ')?;
-        put_child(child, out)?;
+        put_other(child, out)?;
     }
     Ok(())
 }
 
 /// Names, with a space between them.
 fn put_children(children: &[(Name, Kind)], out: &mut Text) -> Result<(), NoMemory>
-    ensures { OnOk result (out.new ≡ out.old ++ children_text children.now) }
+    ensures ok { OnOk result (out.new ≡ out.old ++ children_text children.now) }
+    ensures err { OnErr result (AppendsPart out.old out.new (children_text children.now)) }
 {
     if let Some((first, others)) = children.split_first() {
         put_child(first, out)?;
@@ -43,7 +55,8 @@ fn put_children(children: &[(Name, Kind)], out: &mut Text) -> Result<(), NoMemor
 
 /// An answer.
 fn put_answer(answer: &Answer, out: &mut Text) -> Result<(), NoMemory>
-    ensures { OnOk result (out.new ≡ out.old ++ answer_text answer.now) }
+    ensures ok { OnOk result (out.new ≡ out.old ++ answer_text answer.now) }
+    ensures err { OnErr result (AppendsPart out.old out.new (answer_text answer.now)) }
 {
     match answer {
         Answer::Away => out.append(b"away"),
@@ -61,11 +74,10 @@ fn put_answer(answer: &Answer, out: &mut Text) -> Result<(), NoMemory>
 
 /// One read, of this number.
 fn put_read(number: u64, read: &Read, out: &mut Text) -> Result<(), NoMemory>
-    ensures { OnOk result (out.new ≡ out.old ++ read_line number read.now) }
+    ensures ok { OnOk result (out.new ≡ out.old ++ read_line number read.now) }
+    ensures err { OnErr result (AppendsPart out.old out.new (read_line number read.now)) }
 {
-    out.append(b"read ")?;
-    out.append_number(number)?;
-    out.push(b' ')?;
+    put_numbered(b"read ", number, out)?;
     put_question(&read.question, out)?;
     out.append(b" = ")?;
     put_answer(&read.answer, out)?;
@@ -85,7 +97,8 @@ fn number_after(number: u64) -> Result<u64, NoMemory>
 /// Reads, of which the first has this number. Gives the number after them.
 fn put_reads(first: u64, reads: &[Read], out: &mut Text) -> Result<u64, NoMemory>
     ensures next { IfOk result (λ next. next ≡ first + length reads.now) }
-    ensures text { OnOk result (out.new ≡ out.old ++ reads_from first reads.now) }
+    ensures ok { OnOk result (out.new ≡ out.old ++ reads_from first reads.now) }
+    ensures err { OnErr result (AppendsPart out.old out.new (reads_from first reads.now)) }
 {
     let mut number = first;
     for read in reads {
@@ -97,7 +110,8 @@ fn put_reads(first: u64, reads: &[Read], out: &mut Text) -> Result<u64, NoMemory
 
 /// The reads of acts.
 fn put_acts(acts: &[Act], out: &mut Text) -> Result<(), NoMemory>
-    ensures { OnOk result (out.new ≡ out.old ++ reads_from 1 (reads_of acts.now)) }
+    ensures ok { OnOk result (out.new ≡ out.old ++ reads_from 1 (reads_of acts.now)) }
+    ensures err { OnErr result (AppendsPart out.old out.new (reads_from 1 (reads_of acts.now))) }
 {
     let mut number = 1;
     for act in acts {
@@ -108,7 +122,8 @@ fn put_acts(acts: &[Act], out: &mut Text) -> Result<(), NoMemory>
 
 /// Appends what a transaction read in its first run, with the answers; `empty` if it read nothing.
 pub fn reads(item: &Item, out: &mut Text) -> Result<(), NoMemory>
-    ensures { OnOk result (out.new ≡ out.old ++ reads_text item.now) }
+    ensures ok { OnOk result (out.new ≡ out.old ++ reads_text item.now) }
+    ensures err { OnErr result (AppendsPart out.old out.new (reads_text item.now)) }
 {
     let before = out.len();
     put_acts(item.acts.as_slice(), out)?;

@@ -1,10 +1,11 @@
 //! The transactions of a client: those that wait, and the one that runs.
-ghost use Rattle.std.specs.Prelude.{◌≡◌, [], ◌∷◌, ◌++◌, OnOk, codes, decimal};
+ghost use Rattle.std.specs.Prelude.{◌≡◌, [], ◌∷◌, ◌++◌, OnOk, OnErr, codes, decimal};
 ghost use Rattle.std.specs.List.{flat_map};
+ghost use Rattle.iot_text.specs.Texts.{AppendsPart};
 ghost use Rattle.iot_inspect.specs.Texts.{transaction_name, option_text, stage_text, cut_text, item_line, class_text};
 ghost use Rattle.iot_inspect.specs.Texts.{running_line, queue_text};
 
-use crate::pieces::{put_empty, put_transaction};
+use crate::pieces::{put_empty, put_subject};
 use iot_queue::{Item, Queue, Stage};
 use iot_text::{Name, NoMemory, Text};
 use iot_tree::{ACT_LIMIT, OnConflict};
@@ -24,7 +25,8 @@ pub struct RunLine {
 
 /// What is done with a transaction that conflicts.
 pub(crate) fn put_option(option: &OnConflict, out: &mut Text) -> Result<(), NoMemory>
-    ensures { OnOk result (out.new ≡ out.old ++ option_text option.now) }
+    ensures ok { OnOk result (out.new ≡ out.old ++ option_text option.now) }
+    ensures err { OnErr result (AppendsPart out.old out.new (option_text option.now)) }
 {
     match option {
         OnConflict::Reexec => out.append(b"reexec"),
@@ -39,7 +41,8 @@ pub(crate) fn put_option(option: &OnConflict, out: &mut Text) -> Result<(), NoMe
 
 /// How far a transaction is.
 pub(crate) fn put_stage(stage: &Stage, out: &mut Text) -> Result<(), NoMemory>
-    ensures { OnOk result (out.new ≡ out.old ++ stage_text stage.now) }
+    ensures ok { OnOk result (out.new ≡ out.old ++ stage_text stage.now) }
+    ensures err { OnErr result (AppendsPart out.old out.new (stage_text stage.now)) }
 {
     match stage {
         Stage::Waiting => out.append(b"waiting"),
@@ -51,7 +54,8 @@ pub(crate) fn put_stage(stage: &Stage, out: &mut Text) -> Result<(), NoMemory>
 
 /// Whether a transaction was cut: fewer acts were allowed than there may be.
 fn put_cut(budget: u64, out: &mut Text) -> Result<(), NoMemory>
-    ensures { OnOk result (out.new ≡ out.old ++ cut_text budget) }
+    ensures ok { OnOk result (out.new ≡ out.old ++ cut_text budget) }
+    ensures err { OnErr result (AppendsPart out.old out.new (cut_text budget)) }
 {
     if budget == ACT_LIMIT {
         return Ok(());
@@ -59,19 +63,10 @@ fn put_cut(budget: u64, out: &mut Text) -> Result<(), NoMemory>
     out.append(b" cut")
 }
 
-/// Which transaction a line is about, and its script, before more words.
-fn put_subject(client: &Name, tid: u64, script: &Name, out: &mut Text) -> Result<(), NoMemory>
-    ensures { OnOk result (out.new ≡ out.old ++ (transaction_name client.now tid ++ 32 ∷ script.now ++ 32 ∷ [])) }
-{
-    put_transaction(client, tid, out)?;
-    out.push(b' ')?;
-    out.append(script.as_bytes())?;
-    out.push(b' ')
-}
-
 /// What is done with a transaction that waits if it conflicts, and how far it is, before more words.
 fn put_state(item: &Item, out: &mut Text) -> Result<(), NoMemory>
-    ensures { OnOk result (out.new ≡ out.old ++ (option_text item.now.option ++ 32 ∷ stage_text item.now.stage ++ 32 ∷ [])) }
+    ensures ok { OnOk result (out.new ≡ out.old ++ (option_text item.now.option ++ 32 ∷ stage_text item.now.stage ++ 32 ∷ [])) }
+    ensures err { OnErr result (AppendsPart out.old out.new (option_text item.now.option ++ 32 ∷ stage_text item.now.stage ++ 32 ∷ [])) }
 {
     put_option(&item.option, out)?;
     out.push(b' ')?;
@@ -81,7 +76,8 @@ fn put_state(item: &Item, out: &mut Text) -> Result<(), NoMemory>
 
 /// How many acts were done.
 fn put_count(acts: u64, out: &mut Text) -> Result<(), NoMemory>
-    ensures { OnOk result (out.new ≡ out.old ++ (decimal acts ++ codes " acts")) }
+    ensures ok { OnOk result (out.new ≡ out.old ++ (decimal acts ++ codes " acts")) }
+    ensures err { OnErr result (AppendsPart out.old out.new (decimal acts ++ codes " acts")) }
 {
     out.append_number(acts)?;
     out.append(b" acts")
@@ -89,7 +85,8 @@ fn put_count(acts: u64, out: &mut Text) -> Result<(), NoMemory>
 
 /// A transaction that waits.
 fn put_item(client: &Name, item: &Item, out: &mut Text) -> Result<(), NoMemory>
-    ensures { OnOk result (out.new ≡ out.old ++ item_line client.now item.now) }
+    ensures ok { OnOk result (out.new ≡ out.old ++ item_line client.now item.now) }
+    ensures err { OnErr result (AppendsPart out.old out.new (item_line client.now item.now)) }
 {
     out.append(b"item ")?;
     put_subject(client, item.tid, &item.script, out)?;
@@ -101,7 +98,8 @@ fn put_item(client: &Name, item: &Item, out: &mut Text) -> Result<(), NoMemory>
 
 /// The transactions that wait.
 fn put_items(client: &Name, items: &[Item], out: &mut Text) -> Result<(), NoMemory>
-    ensures { OnOk result (out.new ≡ out.old ++ flat_map (item_line client.now) items.now) }
+    ensures ok { OnOk result (out.new ≡ out.old ++ flat_map (item_line client.now) items.now) }
+    ensures err { OnErr result (AppendsPart out.old out.new (flat_map (item_line client.now) items.now)) }
 {
     for item in items {
         put_item(client, item, out)?;
@@ -111,14 +109,16 @@ fn put_items(client: &Name, items: &[Item], out: &mut Text) -> Result<(), NoMemo
 
 /// The class of a transaction.
 fn put_class(first: bool, out: &mut Text) -> Result<(), NoMemory>
-    ensures { OnOk result (out.new ≡ out.old ++ class_text first) }
+    ensures ok { OnOk result (out.new ≡ out.old ++ class_text first) }
+    ensures err { OnErr result (AppendsPart out.old out.new (class_text first)) }
 {
     out.append(if first { b"first" } else { b"second" })
 }
 
 /// A transaction that runs.
 fn put_running(client: &Name, run: &RunLine, out: &mut Text) -> Result<(), NoMemory>
-    ensures { OnOk result (out.new ≡ out.old ++ running_line client.now run.now) }
+    ensures ok { OnOk result (out.new ≡ out.old ++ running_line client.now run.now) }
+    ensures err { OnErr result (AppendsPart out.old out.new (running_line client.now run.now)) }
 {
     out.append(b"running ")?;
     put_subject(client, run.tid, &run.script, out)?;
@@ -130,7 +130,8 @@ fn put_running(client: &Name, run: &RunLine, out: &mut Text) -> Result<(), NoMem
 
 /// The transactions that run.
 fn put_runs(client: &Name, running: &[RunLine], out: &mut Text) -> Result<(), NoMemory>
-    ensures { OnOk result (out.new ≡ out.old ++ flat_map (running_line client.now) running.now) }
+    ensures ok { OnOk result (out.new ≡ out.old ++ flat_map (running_line client.now) running.now) }
+    ensures err { OnErr result (AppendsPart out.old out.new (flat_map (running_line client.now) running.now)) }
 {
     for run in running {
         put_running(client, run, out)?;
@@ -140,7 +141,8 @@ fn put_runs(client: &Name, running: &[RunLine], out: &mut Text) -> Result<(), No
 
 /// Appends the transactions of a client that wait, in their order, and then those that run; `empty` if there is neither.
 pub fn queue(client: &Name, q: &Queue, running: &[RunLine], out: &mut Text) -> Result<(), NoMemory>
-    ensures { OnOk result (out.new ≡ out.old ++ queue_text client.now q.now running.now) }
+    ensures ok { OnOk result (out.new ≡ out.old ++ queue_text client.now q.now running.now) }
+    ensures err { OnErr result (AppendsPart out.old out.new (queue_text client.now q.now running.now)) }
 {
     let before = out.len();
     put_items(client, q.items(), out)?;

@@ -2,6 +2,11 @@
 use Rattle.std.specs.Prelude.{ℕ, ◌≡◌, List, [], ◌∷◌, ◌++◌, slice_index}
 use Rattle.std.specs.Str.Parse.{IsNumeral, digits_value}
 
+-- the new text is the old one, perhaps with more after it
+pub record Extends (old new : List ℕ) : Type 0 where
+  pub more : List ℕ
+  pub extended : new ≡ old ++ more
+
 -- the new text is the old one followed by a beginning of what was to append
 pub record AppendsPart (old new added : List ℕ) : Type 0 where
   pub part : List ℕ

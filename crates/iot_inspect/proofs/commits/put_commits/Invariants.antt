@@ -1,8 +1,9 @@
-use Rattle.std.proofs.Common.{◌≡◌, ◌+◌, ◌++◌, drop}
+use Rattle.std.proofs.Common.{◌+◌, drop}
+use Rattle.iot_text.proofs.TextsLaws.{Leaves}
 use Rattle.iot_inspect.specs.Texts.{log_from}
 use Rattle.iot_inspect.proofs.commits.put_commits.Given as goal
 
--- the text so far, and what is left, are the whole
+-- the commits that are left are to come
 abbrev pub invariant-loop-place : goal.invariant-loop-place
 invariant-loop-place l =
-    l.out ++ log_from l.clients (l.place + 1) (drop l.place l.labels) ≡ l.initial.out ++ log_from l.clients 1 l.labels
+    Leaves l.initial.out l.out (log_from l.clients (l.place + 1) (drop l.place l.labels)) (log_from l.clients 1 l.labels)

@@ -1,4 +1,4 @@
-use Rattle.std.proofs.Common.{◌≡◌, length, drop, sym, ◌∙◌, ap, subst, arith, Some}
+use Rattle.std.proofs.Common.{◌≡◌, length, drop, sym, ◌∙◌, ap, subst, arith}
 use borrow.Author.Tests.{eqb-true}
 use Rattle.std.proofs.lemmas.List.{take_rest}
 use Rattle.iot_text.specs.Names.{IsName, beginning_len}

@@ -14,7 +14,7 @@ returns-in_ok-queue-in-Some g c =
     c.args.out.now c.queue.new.out _ c.in-Some.running.now.first
     (sym c.running.ensures.running ∙ ap (λ o. transaction_of (option_copied o)) c.in-Some.is)
     (sym c.running.ensures.class ∙ ap (λ o. class_of (option_copied o)) c.in-Some.is)
-    (c.in_ok-queue-in-Some.ensures
+    (c.in_ok-queue-in-Some.ensures.ok
     ∙ ap (λ (l : RunLine). c.args.out.now ++ queue_text c.args.self.now.name c.queue-waiting.result.now (l ∷ [])) c.line_of.ensures)
 
 pub returns-in_ok-queue-in-None : goal.returns-in_ok-queue-in-None
@@ -22,4 +22,4 @@ returns-in_ok-queue-in-None g c =
     says_waiting _ c.args.self.now c.queue-waiting.result.now
     (c.queue-waiting.ensures ∙ ap (λ (s : State). s.items) c.client.ensures.state)
     c.args.out.now c.queue-in-None.new.out
-    (sym c.running.ensures.running ∙ ap (λ o. transaction_of (option_copied o)) c.in-None.is) c.in_ok-queue-in-None.ensures
+    (sym c.running.ensures.running ∙ ap (λ o. transaction_of (option_copied o)) c.in-None.is) c.in_ok-queue-in-None.ensures.ok

@@ -17,7 +17,7 @@ returns-in_ok-log-in-Some g c =
     c.in-Some.server.now
     (c.as_slice.ensures.value ∙ c.in_ok-names-in-Some.ensures) (c.labels.ensures ∙ ap (λ s. (state_of s).labels) c.store.ensures)
     (lent_up _ c.args.self.now c.server.result c.in-Some.server c.server.ensures.lent c.in-Some.is)
-    c.in_ok-log-in-Some.ensures
+    c.in_ok-log-in-Some.ensures.ok
 
 pub returns-in_ok-say-in-None : goal.returns-in_ok-say-in-None
 returns-in_ok-say-in-None g c =

@@ -13,7 +13,7 @@ returns-in_ok-reads-in-Some g c =
     reads_some _ c.args.client c.args.self.now c.index.result.now
     (found _ c.args.client c.args.self.now c.index.result.now c.requires.ready c.index.ensures)
     c.args.out.now c.reads.new.out c.args.place c.in-Some.item.now
-    (sym (ap option_copied c.in-Some.is) ∙ c.waiting.ensures) c.in_ok-reads-in-Some.ensures
+    (sym (ap option_copied c.in-Some.is) ∙ c.waiting.ensures) c.in_ok-reads-in-Some.ensures.ok
 
 pub returns-in_ok-say-in-None : goal.returns-in_ok-say-in-None
 returns-in_ok-say-in-None g c =
