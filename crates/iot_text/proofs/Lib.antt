@@ -3,3 +3,4 @@ pub mod PathTextsLaws
 pub mod PathsLaws
 pub mod QuotesLaws
 pub mod TextsLaws
+pub mod WordsLaws

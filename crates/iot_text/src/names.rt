@@ -1,5 +1,6 @@
 //! Names: the short labels that paths are made of.
-ghost use Rattle.std.specs.Prelude.{ℕ, List, ◌≡◌, ◌↔◌, IsTrue, IfOk, IfErr, Some, refl, nat_eq};
+ghost use Rattle.std.specs.Prelude.{ℕ, List, ◌≡◌, ◌≤◌, ◌+◌, ◌↔◌, IsTrue, IfOk, IfErr, Some, refl, nat_eq, take, drop};
+ghost use Rattle.std.specs.Int.{w64, from_be_bytes};
 ghost use Rattle.std.specs.List.{list_all, prefix_len};
 ghost use Rattle.std.specs.Result.{OkIff};
 ghost use Rattle.std.specs.Ordering.{nat_cmp};
@@ -91,6 +92,24 @@ fn is_name(text: &[u8]) -> bool
     !text.is_empty() && text.len() <= NAME_LIMIT && !is_dots(text) && are_name_bytes(text)
 }
 
+/// The number that eight bytes of the array spell, most significant first.
+#[inline]
+fn word_at(bytes: &[u8; NAME_LIMIT], at: usize) -> u64
+    requires { at + 8 ≤ 32 }
+    ensures { result ≡ from_be_bytes w64 (take 8 (drop at bytes.now)) }
+{
+    u64::from_be_bytes([
+        bytes[at],
+        bytes[at + 1],
+        bytes[at + 2],
+        bytes[at + 3],
+        bytes[at + 4],
+        bytes[at + 5],
+        bytes[at + 6],
+        bytes[at + 7],
+    ])
+}
+
 impl Name {
     /// Parses a name. Does not allocate.
     ///
@@ -131,7 +150,7 @@ impl PartialEq for Name {
         ensures value { result ≡ pointwise nat_eq self.now other.now }
         ensures same { IsTrue result ↔ (self.now ≡ other.now) }
     {
-        self.as_bytes() == other.as_bytes()
+        self.cmp(other).is_eq()
     }
 }
 
@@ -169,7 +188,15 @@ impl Ord for Name {
 
     ghost matches_eq = { texts_ties };
 
+    /// By words of the arrays, since the zeros after a name are less than each of its bytes.
     fn cmp(&self, other: &Name) -> Ordering {
-        self.as_bytes().cmp(other.as_bytes())
+        'words: for word in 0..NAME_LIMIT / 8 {
+            let mine = word_at(&self.bytes, 8 * word);
+            let theirs = word_at(&other.bytes, 8 * word);
+            if mine != theirs {
+                return mine.cmp(&theirs);
+            }
+        }
+        Ordering::Equal
     }
 }

@@ -35,6 +35,15 @@ impl Text {
         }
     }
 
+    /// An empty text with room for so many bytes, which it takes from `alloc`.
+    pub fn with_capacity(alloc: Global, room: usize) -> Result<Text, NoMemory>
+        ensures { IfOk result (λ text. text ≡ []) }
+    {
+        Ok(Text {
+            bytes: Vec::with_capacity(alloc, room)?,
+        })
+    }
+
     /// The bytes of the text.
     #[inline]
     pub fn as_bytes(&self) -> &[u8]
