@@ -17,13 +17,24 @@ use iot_text::{NoMemory, Text};
 use iot_tree::{Blob, CONTENTS_LIMIT};
 use std::alloc::Global;
 
-/// Whether contents may have each of these bytes.
+/// Whether contents may have this byte.
+#[inline]
+fn is_content_byte(byte: u8) -> bool
+    ensures { result ≡ is_content_byte byte }
+{
+    (32 <= byte && byte <= 126) || byte == b'\n'
+}
+
+/// Whether contents may have each of these bytes. It looks at all of them, since a loop with no
+/// way out takes many bytes at a time.
 fn are_content_bytes(bytes: &[u8]) -> bool
     ensures { result ≡ list_all is_content_byte bytes.now }
 {
-    bytes
-        .iter()
-        .all(|byte| (32 <= *byte && *byte <= 126) || *byte == b'\n')
+    let mut all = true;
+    'bytes: for byte in bytes {
+        all &= is_content_byte(*byte);
+    }
+    all
 }
 
 impl Spelled for Blob {

@@ -8,6 +8,7 @@ ghost use Rattle.iot_codec.specs.Spelling.{list_spelling};
 
 use crate::CodecFault;
 use crate::numbers::number_at;
+use crate::parts::room_for;
 use crate::spelled::Spelled;
 use iot_text::{NoMemory, Text};
 use iot_tree::Sequence;
@@ -58,7 +59,7 @@ pub(crate) fn read_items<T: Spelled>(
 ) -> Result<(Sequence<T>, usize), CodecFault>
     ensures { IsOutcome result (items_at (λ _. T.decoding) count None bytes.now at) }
 {
-    let mut items = Vec::new(alloc);
+    let mut items = Vec::with_capacity(alloc, room_for(count, bytes, at))?;
     let mut end = at;
     'items: for _ in 0..count {
         let (item, after) = T::read(alloc, bytes, end)?;

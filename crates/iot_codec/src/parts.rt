@@ -42,6 +42,14 @@ pub(crate) fn bytes_at(bytes: &[u8], at: usize, len: u64) -> Result<(&[u8], usiz
     Ok((part, at + len))
 }
 
+/// How many elements are given room before they are read: as many as are said to come, and no more
+/// than the bytes that are left can spell, with eight or more to each.
+#[inline]
+pub(crate) fn room_for(count: u64, bytes: &[u8], at: usize) -> usize {
+    let left = bytes.len().saturating_sub(at);
+    count.min((left / 8) as u64) as usize
+}
+
 /// Appends the number of the bytes, and then the bytes.
 pub(crate) fn put_counted(bytes: &[u8], out: &mut Text) -> Result<(), NoMemory>
     ensures ok { OnOk result (out.new ≡ out.old ++ counted bytes.now) }

@@ -14,7 +14,7 @@ ghost use Rattle.iot_codec.specs.Laws.Rising.{paths_laws};
 use crate::CodecFault;
 use crate::lists::put_list;
 use crate::numbers::number_at;
-use crate::parts::malformed;
+use crate::parts::{malformed, room_for};
 use crate::spelled::{Spelled, read};
 use iot_text::{NoMemory, Path, Text};
 use iot_tree::Paths;
@@ -55,7 +55,7 @@ fn read_rising(
 ) -> Result<(Paths, usize), CodecFault>
     ensures { IsOutcome result (items_at next_path_at count None bytes.now at) }
 {
-    let mut paths = Vec::new(alloc);
+    let mut paths = Vec::with_capacity(alloc, room_for(count, bytes, at))?;
     let mut end = at;
     'paths: for _ in 0..count {
         let (path, after) = read_next(alloc, paths.last(), bytes, end)?;

@@ -10,7 +10,7 @@ ghost use Rattle.iot_codec.specs.Spelling.{pair_spelling, table_spelling};
 
 use crate::CodecFault;
 use crate::numbers::number_at;
-use crate::parts::malformed;
+use crate::parts::{malformed, room_for};
 use crate::spelled::Spelled;
 use iot_text::{NoMemory, Text};
 use iot_tree::Sequence;
@@ -77,7 +77,7 @@ fn read_pairs<K: Spelled + Ord, V: Spelled>(
 ) -> Result<(Sequence<(K, V)>, usize), CodecFault>
     ensures { IsOutcome result (items_at (pair_at K.cmp K.decoding V.decoding) count None bytes.now at) }
 {
-    let mut pairs = Vec::new(alloc);
+    let mut pairs = Vec::with_capacity(alloc, room_for(count, bytes, at))?;
     let mut end = at;
     'pairs: for _ in 0..count {
         let (pair, after) = read_pair(alloc, pairs.last(), bytes, end)?;

@@ -14,7 +14,7 @@ ghost use Rattle.iot_codec.specs.Laws.Trees.{tree_laws};
 
 use crate::CodecFault;
 use crate::numbers::number_at;
-use crate::parts::malformed;
+use crate::parts::{malformed, room_for};
 use crate::spelled::{Spelled, read};
 use crate::tables::put_table;
 use iot_text::{Name, NoMemory, Path, Text};
@@ -86,7 +86,7 @@ fn read_rows(
 ) -> Result<(Rows, usize), CodecFault>
     ensures { IsOutcome result (items_at row_at count None bytes.now at) }
 {
-    let mut rows = Vec::new(alloc);
+    let mut rows = Vec::with_capacity(alloc, room_for(count, bytes, at))?;
     let mut end = at;
     'rows: for _ in 0..count {
         let (row, after) = read_row(alloc, rows.last(), bytes, end)?;

@@ -14,7 +14,7 @@ returns-in_err-path c =
     let paths = c.paths.paths.items in
     let before : option_copied c.last.result ≡ last_of None paths =
     rw (c.last.ensures.value, c.deref.ensures.value) (sym (last_of-get paths)) in
-    let p = err_from_is_err_and c.from_residual.result c.from_residual.ensures.1 in
+    let p = err_from_is_err_and c.from_residual-in_err-path.result c.from_residual-in_err-path.ensures.1 in
     rw (p.1, p.2) (ends item c.args.bytes.now c.args.count total c.in_err-path.field-0.0 paths c.paths.counter c.paths.end
     c.paths-test.true (rw before at c.in_err-path.ensures) c.paths.invariant)
 

@@ -14,7 +14,7 @@ returns-in_err-pair g c =
     let pairs = c.pairs.pairs.items in
     let before : option_copied c.last.result ≡ last_of None pairs =
     rw (c.last.ensures.value, c.deref.ensures.value) (sym (last_of-get pairs)) in
-    let p = err_from_is_err_and c.from_residual.result c.from_residual.ensures.1 in
+    let p = err_from_is_err_and c.from_residual-in_err-pair.result c.from_residual-in_err-pair.ensures.1 in
     rw (p.1, p.2) (ends item c.args.bytes.now c.args.count total c.in_err-pair.field-0.0 pairs c.pairs.counter c.pairs.end
     c.pairs-test.true (rw before at c.in_err-pair.ensures) c.pairs.invariant)
 

@@ -14,7 +14,7 @@ returns-in_err-row c =
     let rows = c.rows.rows.items in
     let before : option_copied c.last.result ≡ last_of None rows =
     rw (c.last.ensures.value, c.deref.ensures.value) (sym (last_of-get rows)) in
-    let p = err_from_is_err_and c.from_residual.result c.from_residual.ensures.1 in
+    let p = err_from_is_err_and c.from_residual-in_err-row.result c.from_residual-in_err-row.ensures.1 in
     rw (p.1, p.2) (ends item c.args.bytes.now c.args.count total c.in_err-row.field-0.0 rows c.rows.counter c.rows.end
     c.rows-test.true (rw before at c.in_err-row.ensures) c.rows.invariant)
 

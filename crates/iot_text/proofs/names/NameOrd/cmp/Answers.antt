@@ -35,7 +35,9 @@ returns c =
     let theirs = drop_all (8 * c.words.word) ys (omega (arith, c.other.told, c.words-test.false)) in
     let stored = as_arrays _ _ _ _ c.self.invariant c.other.invariant in
     sym
-    (sym (ap (λ (l : List ℕ). slice_cmp nat_cmp l (take c.other.inside.len ys)) c.self.view_is ∙ ap (slice_cmp nat_cmp c.args.self.now) c.other.view_is)
+    (sym
+    (ap (λ (l : List ℕ). slice_cmp nat_cmp l (take c.other.inside.len ys)) c.self.view_is
+    ∙ ap (slice_cmp nat_cmp c.args.self.now) c.other.view_is)
     ∙ stored
     ∙ c.words.invariant
     ∙ ap (λ (l : List ℕ). slice_cmp nat_cmp l (drop (8 * c.words.word) ys)) mine
