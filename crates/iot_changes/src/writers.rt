@@ -11,6 +11,9 @@ use iot_codec::{put_act, put_name, put_number, put_option, put_tree};
 use iot_text::{NoMemory, Text};
 use std::alloc::Global;
 
+/// How many bytes there is room for at first, which are enough for most changes.
+const ROOM: usize = 512;
+
 /// Appends the spelling of the change.
 #[tactic(auto, unfolding(crate::specs::Spelling::change_spelling))]
 fn put_change(change: &Change, out: &mut Text) -> Result<(), NoMemory>
@@ -61,7 +64,7 @@ pub fn write_change(alloc: Global, change: &Change) -> Result<Vec<u8>, NoMemory>
     ensures spelled { IfOk result (λ bytes. bytes.items ≡ change_spelling change.now) }
     ensures back { IfOk result (λ bytes. whole change_at bytes.items ≡ Ok change.now) }
 {
-    let mut out = Text::new(alloc);
+    let mut out = Text::with_capacity(alloc, ROOM)?;
     put_change(change, &mut out)?;
     Ok(out.into_bytes())
 }

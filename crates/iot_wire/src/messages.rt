@@ -7,6 +7,9 @@ ghost use Rattle.iot_wire.specs.Messages.{at_end};
 use iot_codec::{CodecFault, read_number};
 use std::alloc::Global;
 
+/// How many bytes a message has room for at first, which are enough for most of them.
+pub(crate) const ROOM: usize = 512;
+
 /// The tag of a message, if it has one.
 #[inline]
 pub(crate) fn tag_of(bytes: &[u8]) -> Option<u8>

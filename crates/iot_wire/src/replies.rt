@@ -6,7 +6,7 @@ ghost use Rattle.iot_wire.specs.Messages.{IsMessage, ReadsMessage, IsOneMessage,
 ghost use Rattle.iot_wire.specs.Rules.{IsReply};
 ghost use Rattle.iot_wire.specs.Spelling.{reply_spelling};
 
-use crate::messages::{finished, malformed, tag_of};
+use crate::messages::{ROOM, finished, malformed, tag_of};
 use iot_codec::{
     CodecFault, put_answer, put_number, put_tree, read_answer, read_number, read_tree,
 };
@@ -60,7 +60,7 @@ pub fn write_reply(alloc: Global, reply: &Reply) -> Result<Vec<u8>, NoMemory>
     ensures spelled { IfOk result (λ bytes. bytes.items ≡ reply_spelling reply.now) }
     ensures back { IfOk result (λ bytes. whole reply_at bytes.items ≡ Ok reply.now) }
 {
-    let mut out = Text::new(alloc);
+    let mut out = Text::with_capacity(alloc, ROOM)?;
     put_reply(reply, &mut out)?;
     Ok(out.into_bytes())
 }

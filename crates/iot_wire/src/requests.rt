@@ -6,7 +6,7 @@ ghost use Rattle.iot_wire.specs.Messages.{IsMessage, ReadsMessage, IsOneMessage,
 ghost use Rattle.iot_wire.specs.Rules.{IsRequest};
 ghost use Rattle.iot_wire.specs.Spelling.{request_spelling};
 
-use crate::messages::{finished, malformed, read_at_most, tag_of};
+use crate::messages::{ROOM, finished, malformed, read_at_most, tag_of};
 use iot_codec::{
     CodecFault, put_acts, put_label, put_number, put_paths, put_want, read_acts, read_label,
     read_paths, read_want,
@@ -65,7 +65,7 @@ pub fn write_request(alloc: Global, request: &Request) -> Result<Vec<u8>, NoMemo
     ensures spelled { IfOk result (λ bytes. bytes.items ≡ request_spelling request.now) }
     ensures back { IfOk result (λ bytes. whole request_at bytes.items ≡ Ok request.now) }
 {
-    let mut out = Text::new(alloc);
+    let mut out = Text::with_capacity(alloc, ROOM)?;
     put_request(request, &mut out)?;
     Ok(out.into_bytes())
 }
