@@ -29,6 +29,11 @@ pub fn open<D: Disk>(alloc: Global, disk: &mut D) -> Result<Found, StartFault>
         ChangesNothing fault (D.reads disk.new ≡ D.reads disk.old)) }
     ensures refused_images { IfErr result (λ fault.
         ChangesNothing fault (SameImages (D.may_leave disk.old) (D.may_leave disk.new))) }
+
+    // A disk on which a journal was started is only read, also if this fails.
+    ensures only_read { is_started (D.reads disk.old) ≡ true → D.reads disk.new ≡ D.reads disk.old }
+    ensures only_read_images { is_started (D.reads disk.old) ≡ true
+        → SameImages (D.may_leave disk.old) (D.may_leave disk.new) }
     ensures arms { D.arms disk.new ≡ D.arms disk.old }
 {
     let bytes = read_disk(alloc, disk)?;

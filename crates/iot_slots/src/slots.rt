@@ -1,10 +1,10 @@
 //! The slots themselves.
-ghost use Rattle.std.specs.Prelude.{◌≡◌, [], false, length, IfOk, IfErr, OnOk, IsErrOf, MatchResult};
+ghost use Rattle.std.specs.Prelude.{◌≡◌, ◌≢◌, [], false, length, IfOk, IfErr, OnOk, IsErrOf, MatchResult};
 ghost use Rattle.iot_disk.specs.Disk.{armed_with, Only, SameImages};
 ghost use Rattle.iot_disk.specs.Faults.{CountsJournalFault};
 ghost use Rattle.iot_records.specs.Records.{ChangesNothing};
 ghost use Rattle.iot_slots.specs.Cells.{next};
-ghost use Rattle.iot_slots.specs.Decoding.{Encodes, decoded, opened, state_in};
+ghost use Rattle.iot_slots.specs.Decoding.{Encodes, NotStarted, decoded, opened, state_in};
 ghost use Rattle.iot_slots.specs.Start.{HasCause, EachEncodesAs};
 
 use crate::layout::MANY;
@@ -62,6 +62,14 @@ impl<D: Disk> Slots<D> {
         ensures refused_images { IfErr result (λ refused.
             ChangesNothing refused.1 (SameImages (D.may_leave disk) (D.may_leave refused.0))) }
 
+        // A disk that is started is only read, whatever the answer, and so is each whose bytes are refused.
+        ensures only_read { decoded header (D.reads disk) ≢ NotStarted → MatchResult result
+            (λ made. D.reads (disk_of made.0) ≡ D.reads disk)
+            (λ refused. D.reads refused.0 ≡ D.reads disk) }
+        ensures only_read_images { decoded header (D.reads disk) ≢ NotStarted → MatchResult result
+            (λ made. SameImages (D.may_leave disk) (D.may_leave (disk_of made.0)))
+            (λ refused. SameImages (D.may_leave disk) (D.may_leave refused.0)) }
+
         ensures arms { MatchResult result
             (λ made. D.arms (disk_of made.0) ≡ D.arms disk)
             (λ refused. D.arms refused.0 ≡ D.arms disk) }
@@ -98,6 +106,14 @@ impl<D: Disk> Slots<D> {
             ChangesNothing refused.1 (D.reads refused.0 ≡ D.reads disk)) }
         ensures refused_images { IfErr result (λ refused.
             ChangesNothing refused.1 (SameImages (D.may_leave disk) (D.may_leave refused.0))) }
+
+        // A disk that is started is only read, whatever the answer, and so is each whose bytes are refused.
+        ensures only_read { decoded header (D.reads disk) ≢ NotStarted → MatchResult result
+            (λ made. D.reads (disk_of made.0) ≡ D.reads disk)
+            (λ refused. D.reads refused.0 ≡ D.reads disk) }
+        ensures only_read_images { decoded header (D.reads disk) ≢ NotStarted → MatchResult result
+            (λ made. SameImages (D.may_leave disk) (D.may_leave (disk_of made.0)))
+            (λ refused. SameImages (D.may_leave disk) (D.may_leave refused.0)) }
 
         ensures arms { MatchResult result
             (λ made. D.arms (disk_of made.0) ≡ D.arms disk)

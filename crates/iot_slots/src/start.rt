@@ -1,5 +1,5 @@
 //! The start of slots from their disk.
-ghost use Rattle.std.specs.Prelude.{◌≡◌, ◌≤◌, ◌^◌, [], true, length, IfOk, IfErr, OnOk};
+ghost use Rattle.std.specs.Prelude.{◌≡◌, ◌≢◌, ◌≤◌, ◌^◌, [], true, length, IfOk, IfErr, OnOk};
 ghost use Rattle.iot_disk.specs.Disk.{CountsFault, Only, SameImages};
 ghost use Rattle.iot_records.specs.Bytes.{is_closed};
 ghost use Rattle.iot_records.specs.Images.{Each};
@@ -39,6 +39,11 @@ pub fn open<D: Disk>(
         ChangesNothing fault (D.reads disk.new ≡ D.reads disk.old)) }
     ensures refused_images { IfErr result (λ fault.
         ChangesNothing fault (SameImages (D.may_leave disk.old) (D.may_leave disk.new))) }
+
+    // A disk that is started is only read, also if this fails.
+    ensures only_read { decoded header.now (D.reads disk.old) ≢ NotStarted → D.reads disk.new ≡ D.reads disk.old }
+    ensures only_read_images { decoded header.now (D.reads disk.old) ≢ NotStarted
+        → SameImages (D.may_leave disk.old) (D.may_leave disk.new) }
     ensures arms { D.arms disk.new ≡ D.arms disk.old }
 {
     let bytes = read_disk(alloc, disk)?;
