@@ -1,9 +1,9 @@
 //! The store itself.
-ghost use Rattle.std.specs.Prelude.{◌≡◌, ◌≤◌, ◌+◌, ◌^◌, ◌++◌, [], ◌∷◌, length, IfOk, IfErr, OnOk, IsErrOf, MatchResult};
+ghost use Rattle.std.specs.Prelude.{◌≡◌, ◌≤◌, ◌+◌, ◌^◌, ◌++◌, [], ◌∷◌, length, IfOk, IfErr, OnOk, IsErrOf, MatchResult, true};
 ghost use Rattle.iot_disk.specs.Bodies.{bodies_of};
 ghost use Rattle.iot_disk.specs.Disk.{armed_with, Only, SameImages};
 ghost use Rattle.iot_disk.specs.Faults.{CountsJournalFault};
-ghost use Rattle.iot_journal.specs.Decoding.{Encodes, decoded, records};
+ghost use Rattle.iot_journal.specs.Decoding.{Encodes, decoded, records, is_started};
 ghost use Rattle.iot_journal.specs.Images.{EachDecodes, EachDecodesEither};
 ghost use Rattle.iot_journal.specs.Start.{ChangesNothing};
 ghost use Rattle.iot_codec.specs.Rules.{IsLabel, AreActs};
@@ -74,6 +74,14 @@ impl<D: Disk> Store<D> {
             ChangesNothing refused.1 (D.reads refused.0 ≡ D.reads disk)) }
         ensures refused_images { IfErr result (λ refused.
             ChangesNothing refused.1 (SameImages (D.may_leave disk) (D.may_leave refused.0))) }
+
+        // A disk on which a journal was started is only read, whatever the answer, and so is each whose bytes are refused.
+        ensures only_read { is_started (D.reads disk) ≡ true → MatchResult result
+            (λ store. D.reads (disk_of store) ≡ D.reads disk)
+            (λ refused. D.reads refused.0 ≡ D.reads disk) }
+        ensures only_read_images { is_started (D.reads disk) ≡ true → MatchResult result
+            (λ store. SameImages (D.may_leave disk) (D.may_leave (disk_of store)))
+            (λ refused. SameImages (D.may_leave disk) (D.may_leave refused.0)) }
 
         ensures arms { MatchResult result
             (λ store. D.arms (disk_of store) ≡ D.arms disk)
