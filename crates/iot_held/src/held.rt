@@ -3,7 +3,7 @@ ghost use Rattle.std.specs.Prelude.{◌≡◌, IfOk, OnOk, OnErr};
 ghost use Rattle.iot_acts.specs.Traces.{FitsIfAny, after_update, after_acts};
 ghost use Rattle.iot_tree.specs.Snapshots.{ArePathsRising, known};
 ghost use Rattle.iot_tree.specs.Tree.{IsTree, root_alone};
-ghost use Rattle.iot_held.specs.Fitting.{UpdatesFit, IsPartly};
+ghost use Rattle.iot_held.specs.Fitting.{UpdatesFit};
 
 use iot_prune::known;
 use iot_text::NoMemory;
@@ -63,15 +63,18 @@ impl Held {
         known(alloc, &self.tree)
     }
 
-    /// Makes the updates of the acts in turn. After an error the first of them are made, and the others not: give the tree up.
+    /// Makes the updates of the acts in turn, on a copy, which shares the rows until the first of them. After an error the tree is as
+    /// it was.
     pub fn pass(&mut self, alloc: Global, acts: &Acts) -> Result<(), NoMemory>
         requires { UpdatesFit self.old acts.now }
         ensures ok { OnOk result (self.new ≡ after_acts self.old acts.now) }
-        ensures err { OnErr result (IsPartly self.old self.new acts.now) }
+        ensures err { OnErr result (self.new ≡ self.old) }
     {
+        let mut tree = self.tree.copy(alloc)?;
         'acts: for act in acts.as_slice() {
-            make(alloc, &mut self.tree, &act.update)?;
+            make(alloc, &mut tree, &act.update)?;
         }
+        self.tree = tree;
         Ok(())
     }
 }
