@@ -1,9 +1,9 @@
 //! What is kept of a client.
-ghost use Rattle.std.specs.Prelude.{◌≡◌, ◌+◌, ◌++◌, [], ◌∷◌, IfOk, IfErr, OnOk, IsErrOf, MatchResult};
+ghost use Rattle.std.specs.Prelude.{◌≡◌, ◌+◌, ◌++◌, [], ◌∷◌, IfOk, IfErr, OnOk, IsErrOf, MatchResult, true};
 ghost use Rattle.std.specs.Option.{option_copied};
 ghost use Rattle.iot_disk.specs.Disk.{armed_with, Only, SameImages};
 ghost use Rattle.iot_disk.specs.Faults.{CountsJournalFault};
-ghost use Rattle.iot_journal.specs.Decoding.{Encodes, decoded};
+ghost use Rattle.iot_journal.specs.Decoding.{Encodes, decoded, is_started};
 ghost use Rattle.iot_journal.specs.Images.{EachDecodes, EachDecodesEither};
 ghost use Rattle.iot_journal.specs.Start.{ChangesNothing};
 ghost use Rattle.iot_changes.specs.Rules.{IsChange};
@@ -81,6 +81,14 @@ impl<D: Disk> Kept<D> {
             ChangesNothing refused.1 (D.reads refused.0 ≡ D.reads disk)) }
         ensures refused_images { IfErr result (λ refused.
             ChangesNothing refused.1 (SameImages (D.may_leave disk) (D.may_leave refused.0))) }
+
+        // A disk on which a journal was started is only read, whatever the answer, and so is each whose bytes are refused.
+        ensures only_read { is_started (D.reads disk) ≡ true → MatchResult result
+            (λ kept. D.reads (disk_of kept) ≡ D.reads disk)
+            (λ refused. D.reads refused.0 ≡ D.reads disk) }
+        ensures only_read_images { is_started (D.reads disk) ≡ true → MatchResult result
+            (λ kept. SameImages (D.may_leave disk) (D.may_leave (disk_of kept)))
+            (λ refused. SameImages (D.may_leave disk) (D.may_leave refused.0)) }
 
         ensures arms { MatchResult result
             (λ kept. D.arms (disk_of kept) ≡ D.arms disk)
