@@ -30,7 +30,7 @@ use Rattle.iot_changes.specs.declared.changes.Change.{Change}
 use Rattle.iot_changes.specs.declared.changes.Change.TheVariants as changes
 use Rattle.iot_client.specs.Faults.{MayFail}
 use Rattle.iot_client.specs.Messages.{IsRefresh, IsToldBy, objects_in, whole_in, noted_in}
-use Rattle.iot_client.specs.Ties.{state_of, place_of, Live, count, run_of}
+use Rattle.iot_client.specs.Ties.{state_of, place_of, records_of, Live, count, run_of}
 use Rattle.iot_client.specs.declared.client.Client.{Client}
 use Rattle.iot_client.specs.declared.fault.ClientFault.{ClientFault}
 use Rattle.iot_client.specs.declared.fault.ClientFault.TheVariants.{NoMemory, Stopped, Busy, Pending, Idle, NotAtEnd, Nothing}
@@ -132,11 +132,12 @@ not_at_end over acts = if over || leb ACT_LIMIT acts then None else Some NotAtEn
 
 -- ---- changes
 
--- the durable state changes by this change, which could follow
+-- the durable state changes by this change, which could follow, and there is one record more
 pub record Notes {D : Type 0} (change : Change) (old new : Client D) : Type 0 where
   pub follows : CanFollow (state_of old) change
   pub state : state_of new ≡ after (state_of old) change
   pub place : place_of new ≡ place_of old
+  pub records : records_of new ≡ records_of old + 1
 
 -- a call was stopped while it appended the record of this change, which has a spelling and could follow: each image stands for the state
 -- before or for the one after it, and has the records before, or those and the record of the change

@@ -1,8 +1,8 @@
 //! The client itself.
-ghost use Rattle.std.specs.Prelude.{◌≡◌, None, IfOk, IfErr, MatchResult};
+ghost use Rattle.std.specs.Prelude.{◌≡◌, None, IfOk, IfErr, MatchResult, true};
 ghost use Rattle.std.specs.Option.{option_copied};
 ghost use Rattle.iot_disk.specs.Disk.{armed_with, Only, SameImages};
-ghost use Rattle.iot_journal.specs.Decoding.{Encodes, decoded};
+ghost use Rattle.iot_journal.specs.Decoding.{Encodes, decoded, is_started};
 ghost use Rattle.iot_journal.specs.Images.{EachDecodes};
 ghost use Rattle.iot_journal.specs.Start.{ChangesNothing};
 ghost use Rattle.iot_kept.specs.Causes.{HasCause, TakesBytes};
@@ -80,6 +80,14 @@ impl<D: Disk> Client<D> {
             ChangesNothing refused.1 (D.reads refused.0 ≡ D.reads disk)) }
         ensures refused_images { IfErr result (λ refused.
             ChangesNothing refused.1 (SameImages (D.may_leave disk) (D.may_leave refused.0))) }
+
+        // A disk on which a journal was started is only read, whatever the answer, and so is each whose bytes are refused.
+        ensures only_read { is_started (D.reads disk) ≡ true → MatchResult result
+            (λ client. D.reads (disk_of client) ≡ D.reads disk)
+            (λ refused. D.reads refused.0 ≡ D.reads disk) }
+        ensures only_read_images { is_started (D.reads disk) ≡ true → MatchResult result
+            (λ client. SameImages (D.may_leave disk) (D.may_leave (disk_of client)))
+            (λ refused. SameImages (D.may_leave disk) (D.may_leave refused.0)) }
 
         ensures arms { MatchResult result
             (λ client. D.arms (disk_of client) ≡ D.arms disk)

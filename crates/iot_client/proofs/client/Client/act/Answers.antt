@@ -58,6 +58,7 @@ returns-clause-step g c =
       follows = c.in_ok-note.ensures.notes.follows;
       state = c.in_ok-note.ensures.notes.state;
       place = c.in_ok-note.ensures.notes.place;
+      records = c.in_ok-note.ensures.notes.records;
     })
     (subst (λ (i : Option Interpreter). RunsIn (state_of c.note.new.self) (class_in c.note.new.self) i) c.note.ensures.interpreter
     (returns-clause-tied g c).runs)
