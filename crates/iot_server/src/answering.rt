@@ -2,6 +2,8 @@
 ghost use Rattle.std.specs.Prelude.{◌≡◌, ◌+◌, IfOk, OnOk, IsErrOf, None};
 ghost use Rattle.iot_codec.specs.Rules.{ArePaths, IsLabel, AreActs};
 ghost use Rattle.iot_disk.specs.Faults.{CountsJournalFault};
+ghost use Rattle.iot_journal.specs.Decoding.{Encodes};
+ghost use Rattle.iot_journal.specs.Images.{EachDecodes};
 ghost use Rattle.iot_server.specs.Faults.{CutsOff};
 ghost use Rattle.iot_server.specs.Replies.{IsAnswered, IsJudged};
 ghost use Rattle.iot_store.specs.Numbers.{number_in};
@@ -37,6 +39,8 @@ pub(crate) fn answer<D: Disk>(
     ensures stopped { IsErrOf result JournalFault.Stopped → CutsOff (λ (asked : Asked). asked ≡ request)
         (state_of store.old) (bodies_on D.reads store.old) (D.may_leave (disk_of store.new)) }
     ensures no_memory { IsErrOf result JournalFault.NoMemory → EachStands (D.may_leave (disk_of store.new)) (state_of store.old) }
+    ensures no_record { IsErrOf result JournalFault.NoMemory
+        → EachDecodes (D.may_leave (disk_of store.new)) (Encodes (bodies_on D.reads store.old)) }
     ensures faults { CountsJournalFault result (D.faults (disk_of store.old)) (D.faults (disk_of store.new)) }
     ensures arms { D.arms (disk_of store.new) ≡ D.arms (disk_of store.old) }
 {
@@ -88,6 +92,8 @@ fn submit<D: Disk>(
     ensures stopped { IsErrOf result JournalFault.Stopped → CutsOff (λ (asked : Asked). asked ≡ Commit label acts.now)
         (state_of store.old) (bodies_on D.reads store.old) (D.may_leave (disk_of store.new)) }
     ensures no_memory { IsErrOf result JournalFault.NoMemory → EachStands (D.may_leave (disk_of store.new)) (state_of store.old) }
+    ensures no_record { IsErrOf result JournalFault.NoMemory
+        → EachDecodes (D.may_leave (disk_of store.new)) (Encodes (bodies_on D.reads store.old)) }
     ensures faults { CountsJournalFault result (D.faults (disk_of store.old)) (D.faults (disk_of store.new)) }
     ensures arms { D.arms (disk_of store.new) ≡ D.arms (disk_of store.old) }
 {
@@ -115,6 +121,8 @@ fn judge<D: Disk>(
     ensures stopped { IsErrOf result JournalFault.Stopped → CutsOff (λ (asked : Asked). asked ≡ Commit label acts.now)
         (state_of store.old) (bodies_on D.reads store.old) (D.may_leave (disk_of store.new)) }
     ensures no_memory { IsErrOf result JournalFault.NoMemory → EachStands (D.may_leave (disk_of store.new)) (state_of store.old) }
+    ensures no_record { IsErrOf result JournalFault.NoMemory
+        → EachDecodes (D.may_leave (disk_of store.new)) (Encodes (bodies_on D.reads store.old)) }
     ensures faults { CountsJournalFault result (D.faults (disk_of store.old)) (D.faults (disk_of store.new)) }
     ensures arms { D.arms (disk_of store.new) ≡ D.arms (disk_of store.old) }
 {
@@ -145,6 +153,8 @@ fn commit<D: Disk>(
     ensures stopped { IsErrOf result JournalFault.Stopped → CutsOff (λ (asked : Asked). asked ≡ Commit label acts.now)
         (state_of store.old) (bodies_on D.reads store.old) (D.may_leave (disk_of store.new)) }
     ensures no_memory { IsErrOf result JournalFault.NoMemory → EachStands (D.may_leave (disk_of store.new)) (state_of store.old) }
+    ensures no_record { IsErrOf result JournalFault.NoMemory
+        → EachDecodes (D.may_leave (disk_of store.new)) (Encodes (bodies_on D.reads store.old)) }
     ensures faults { CountsJournalFault result (D.faults (disk_of store.old)) (D.faults (disk_of store.new)) }
     ensures arms { D.arms (disk_of store.new) ≡ D.arms (disk_of store.old) }
 {

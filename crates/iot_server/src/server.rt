@@ -1,7 +1,7 @@
 //! The server itself.
-ghost use Rattle.std.specs.Prelude.{◌≡◌, ℕ, length, IfOk, IfErr, OnOk, IsErrOf, MatchResult};
+ghost use Rattle.std.specs.Prelude.{◌≡◌, ℕ, length, IfOk, IfErr, OnOk, IsErrOf, MatchResult, true};
 ghost use Rattle.iot_disk.specs.Disk.{Only, SameImages, armed_with};
-ghost use Rattle.iot_journal.specs.Decoding.{Encodes, decoded};
+ghost use Rattle.iot_journal.specs.Decoding.{Encodes, decoded, is_started};
 ghost use Rattle.iot_journal.specs.Images.{EachDecodes};
 ghost use Rattle.iot_journal.specs.Start.{ChangesNothing};
 ghost use Rattle.iot_server.specs.Faults.{CountsServerFault, CutsOff, EndsBy, IsNotMalformed};
@@ -70,6 +70,14 @@ impl<D: Disk> Server<D> {
         ensures refused_images { IfErr result (λ refused.
             ChangesNothing refused.1 (SameImages (D.may_leave disk) (D.may_leave refused.0))) }
 
+        // A disk on which a journal was started is only read, whatever the answer, and so is each whose bytes are refused.
+        ensures only_read { is_started (D.reads disk) ≡ true → MatchResult result
+            (λ server. D.reads (disk_of server) ≡ D.reads disk)
+            (λ refused. D.reads refused.0 ≡ D.reads disk) }
+        ensures only_read_images { is_started (D.reads disk) ≡ true → MatchResult result
+            (λ server. SameImages (D.may_leave disk) (D.may_leave (disk_of server)))
+            (λ refused. SameImages (D.may_leave disk) (D.may_leave refused.0)) }
+
         ensures arms { MatchResult result
             (λ server. D.arms (disk_of server) ≡ D.arms disk)
             (λ refused. D.arms refused.0 ≡ D.arms disk) }
@@ -92,7 +100,7 @@ impl<D: Disk> Server<D> {
     ///
     /// `Malformed` exactly if the bytes are the spelling of no request; it changes nothing. `Stopped` if the disk failed in this call,
     /// which was to append a commit: each image then stands for the commits before or for those with the new one. `NoMemory`: each
-    /// stands for the commits before.
+    /// stands for the commits before, and has their records.
     pub fn handle(&mut self, alloc: Global, request: &[u8]) -> Result<Vec<u8>, ServerFault>
         requires { IsSynced D.reads D.may_leave self.old }
 
@@ -111,6 +119,8 @@ impl<D: Disk> Server<D> {
         ensures stopped { IsErrOf result Stopped → CutsOff (IsMessage IsRequest request_spelling request.now)
             (state_of self.old) (bodies_on D.reads self.old) (D.may_leave (disk_of self.new)) }
         ensures no_memory { IsErrOf result NoMemory → EachStands (D.may_leave (disk_of self.new)) (state_of self.old) }
+        ensures no_record { IsErrOf result NoMemory
+            → EachDecodes (D.may_leave (disk_of self.new)) (Encodes (bodies_on D.reads self.old)) }
 
         ensures faults { CountsServerFault result (D.faults (disk_of self.old)) (D.faults (disk_of self.new)) }
         ensures arms { D.arms (disk_of self.new) ≡ D.arms (disk_of self.old) }
