@@ -1,5 +1,5 @@
 -- What an interpreter does when it does one act.
-use Rattle.std.specs.Prelude.{◌≡◌, ◌<◌, false, [], ◌∷◌, Option, Some, None}
+use Rattle.std.specs.Prelude.{◌≡◌, ◌<◌, Bool, false, [], ◌∷◌, Option, Some, None}
 use Rattle.std.specs.FinMap.{empty}
 use Rattle.iot_tree.specs.Tree.{Nodes}
 use Rattle.iot_tree.specs.declared.limits.TheConstants.{ACT_LIMIT}
@@ -7,7 +7,10 @@ use Rattle.iot_acts.specs.Guards.{IsGuarded}
 use Rattle.iot_acts.specs.Traces.{ActsHold, after_update}
 use Rattle.iot_lang.specs.Code.{Code}
 use Rattle.iot_exec.specs.Places.{is_over}
-use Rattle.iot_exec.specs.Execs.{IsNextAt, IsRunning, RunsOn, place, kept_by, act_count}
+use Rattle.iot_exec.specs.Execs.{IsNextAt, IsRunning, RunsOn, place, kept_by, act_count, next_miss}
+use Rattle.iot_client.specs.Calls.{missed_by}
+use Rattle.iot_client.specs.declared.interpreter.Decided.{Decided}
+use Rattle.iot_client.specs.declared.interpreter.Decided.TheVariants as decides
 use Rattle.iot_client.specs.declared.interpreter.Interpreter.{Interpreter}
 use Rattle.iot_client.specs.declared.interpreter.Done.{Done}
 
@@ -45,3 +48,13 @@ abbrev pub DidIfAny : Option Interpreter → Nodes → Done → Option Interpret
 DidIfAny None t done j = ⊥
 DidIfAny (Some i) t done None = ⊥
 DidIfAny (Some i) t done (Some j) = Did i t done j
+
+-- the next act was done, and if it is first class it misses nothing; or it is first class, misses this path, and was not done
+abbrev pub Decides : Bool → Interpreter → Nodes → Decided → Interpreter → Type 0
+Decides first i t (decides.Did done) j = (None ≡ missed_by first (next_miss (kept_by i.exec) (place i.exec) t)) × Did i t done j
+Decides first i t (decides.Missed path) j = (Some path ≡ missed_by first (next_miss (kept_by i.exec) (place i.exec) t)) × (j ≡ i)
+
+abbrev pub DecidesIfAny : Bool → Option Interpreter → Nodes → Decided → Option Interpreter → Type 0
+DecidesIfAny first None t decided j = ⊥
+DecidesIfAny first (Some i) t decided None = ⊥
+DecidesIfAny first (Some i) t decided (Some j) = Decides first i t decided j

@@ -1,11 +1,13 @@
 //! The interpreter of the running transaction.
 ghost use Rattle.std.specs.Prelude.{◌≡◌, IfOk, Some};
+ghost use Rattle.iot_exec.specs.Execs.{act_count, place};
+ghost use Rattle.iot_exec.specs.Places.{is_over};
 ghost use Rattle.iot_lang.specs.Scripts.{IsScript};
-ghost use Rattle.iot_client.specs.Doing.{Starts, IsAgain, IsAgainIfAny, IsAble, Did, DidIfAny};
+ghost use Rattle.iot_client.specs.Doing.{Starts, IsAgain, IsAgainIfAny, IsAble, Decides, DecidesIfAny};
 
-use iot_exec::Exec;
+use iot_exec::{Exec, Tried};
 use iot_lang::Script;
-use iot_text::NoMemory;
+use iot_text::{NoMemory, Path};
 use iot_tree::{Act, Files, Tree};
 use std::alloc::Global;
 use std::rc::Rc;
@@ -27,6 +29,16 @@ pub(crate) struct Done {
 
     /// Whether the script has ended now.
     pub(crate) ended: bool,
+}
+
+/// What came of the next act.
+#[derive(Drop)]
+pub(crate) enum Decided {
+    /// It was done.
+    Did(Done),
+
+    /// It was not done: the tree does not know what is at this path.
+    Missed(Path),
 }
 
 impl Interpreter {
@@ -51,17 +63,30 @@ impl Interpreter {
         Interpreter::start(alloc, shared(&self.script)?)
     }
 
-    /// Does the next act on the tree, but for its update.
-    fn decide(&mut self, alloc: Global, view: &Tree) -> Result<Done, NoMemory>
+    /// Does the next act on the tree, but for its update. A first-class one is not done if the tree does not know all that it asks.
+    fn decide(&mut self, alloc: Global, view: &Tree, first: bool) -> Result<Decided, NoMemory>
         requires { IsAble (Some self.old) }
-        ensures { IfOk result (λ done. Did self.old view.now done self.new) }
+        ensures { IfOk result (λ decided. Decides first self.old view.now decided self.new) }
     {
-        let act = self.exec.decide(alloc, view)?;
-        Ok(Done {
+        if !first {
+            let act = self.exec.decide(alloc, view)?;
+            return Ok(Decided::Did(self.done(act)));
+        }
+        match self.exec.decide_if_known(alloc, view)? {
+            Tried::Acted(act) => Ok(Decided::Did(self.done(act))),
+            Tried::Missed(path) => Ok(Decided::Missed(path)),
+        }
+    }
+
+    /// This act as one that was done now.
+    fn done(&self, act: Act) -> Done
+        ensures { result ≡ record { act = act; acts = act_count self.now.exec; ended = is_over (place self.now.exec) } }
+    {
+        Done {
             act,
             acts: self.exec.acts(),
             ended: self.exec.at_end(),
-        })
+        }
     }
 }
 
@@ -78,17 +103,18 @@ pub(crate) fn again_by(
     }
 }
 
-/// Has the interpreter do the next act on the tree, but for its update.
+/// Has the interpreter do the next act on the tree, but for its update, unless that is first class and misses something.
 pub(crate) fn decide_by(
     interpreter: &mut Option<Interpreter>,
     alloc: Global,
     view: &Tree,
-) -> Result<Done, NoMemory>
+    first: bool,
+) -> Result<Decided, NoMemory>
     requires { IsAble interpreter.old }
-    ensures { IfOk result (λ done. DidIfAny interpreter.old view.now done interpreter.new) }
+    ensures { IfOk result (λ decided. DecidesIfAny first interpreter.old view.now decided interpreter.new) }
 {
     match interpreter {
-        Some(interpreter) => interpreter.decide(alloc, view),
+        Some(interpreter) => interpreter.decide(alloc, view, first),
         None => unreachable!(),
     }
 }

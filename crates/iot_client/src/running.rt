@@ -2,27 +2,26 @@
 ghost use Rattle.std.specs.Prelude.{◌≡◌, ◌≤◌, ◌+◌, Bool, [], true, None, Some, IsSome, IfOk, IfErr, OnOk, IfSome, IfNone, IsErrOf};
 ghost use Rattle.iot_codec.specs.Rules.{IsOption, IsTreeOfRows};
 ghost use Rattle.iot_text.specs.Names.{IsName};
-ghost use Rattle.iot_exec.specs.Execs.{place, kept_by, next_miss};
 ghost use Rattle.iot_kept.specs.Changes.{CanFollow};
 ghost use Rattle.iot_kept.specs.States.{view};
 ghost use Rattle.iot_client.specs.Calls.{busy, idle, may_end, unended, Refuses, RefusesReply, Notes, Brings};
 ghost use Rattle.iot_client.specs.Calls.{CutsOff, CutsOffByTree, CutsOffNextIfAny};
-ghost use Rattle.iot_client.specs.Calls.{missed_by, second_class, IsFirstIfAny, StepIsIfAny, CanActIfAny, EndsIfAny, CutsIfAny};
+ghost use Rattle.iot_client.specs.Calls.{second_class, IsFirstIfAny, StepIsIfAny, EndsIfAny, CutsIfAny};
+ghost use Rattle.iot_client.specs.Doing.{IsAble};
 ghost use Rattle.iot_client.specs.Faults.{CountsFault, MayFail};
 ghost use Rattle.iot_client.specs.Messages.{objects_in, ReadsObjects};
 
 use crate::client::Client;
 use crate::ended::Ended;
 use crate::fault::ClientFault;
-use crate::interpreter::{Interpreter, again_by, decide_by};
+use crate::interpreter::{Decided, Interpreter, again_by, decide_by};
 use crate::replies::objects;
 use crate::requests::refresh;
 use crate::steps::Step;
 use iot_disk::Disk;
-use iot_exec::Exec;
 use iot_kept::Change;
 use iot_lang::Script;
-use iot_text::{Name, NoMemory, Path};
+use iot_text::{Name, NoMemory};
 use iot_tree::{Duplicate, OnConflict, Tree, Want};
 use std::alloc::Global;
 use std::rc::Rc;
@@ -257,39 +256,31 @@ impl<D: Disk> Client<D> {
         ensures stopped { IsErrOf result ClientFault.Stopped → CutsOffNextIfAny (live_of self.old)
             (state_of self.old) (bodies_on D.reads self.old) (D.may_leave (disk_of self.new)) }
     {
-        match self.pause(alloc)? {
+        match self.pause() {
             Some(step) => Ok(step),
             None => self.act(alloc),
         }
     }
 
-    /// Why no act is done, if that is so.
-    fn pause(&self, alloc: Global) -> Result<Option<Step>, NoMemory>
+    /// Why no act is done, whatever it asks, if that is so.
+    fn pause(&self) -> Option<Step>
         requires tied { IsTied D.reads D.may_leave self.now }
         requires begun { IsBegunIfAny (state_of self.now).running (live_of self.now) }
-        requires place { place_of self.now ≤ 7 }
         requires runs { IsSome (state_of self.now).running }
-        ensures pauses { IfOk result (λ pause. IfSome pause (λ step. StepIsIfAny self.now (live_of self.now) step self.now)) }
-        ensures goes { IfOk result (λ pause. IfNone pause (CanActIfAny (state_of self.now) (live_of self.now))) }
+        ensures pauses { IfSome result (λ step. StepIsIfAny self.now (live_of self.now) step self.now) }
+        ensures goes { IfNone result (IsAble self.now.interpreter) }
     {
         let Some(interpreter) = &self.interpreter else {
             unreachable!();
         };
         let exec = &interpreter.exec;
         if exec.at_end() {
-            return Ok(Some(Step::AtEnd { acts: exec.acts() }));
+            return Some(Step::AtEnd { acts: exec.acts() });
         }
         if exec.at_limit() {
-            return Ok(Some(Step::AtLimit { acts: exec.acts() }));
+            return Some(Step::AtLimit { acts: exec.acts() });
         }
-        match missed(alloc, self.is_first(), exec, self.kept.view())? {
-            Some(path) => {
-                let want = Want::Path(path.copy(alloc)?);
-                let request = refresh(alloc, self.me, self.kept.held(), want)?;
-                Ok(Some(Step::Fetch { request, path }))
-            }
-            None => Ok(None),
-        }
+        None
     }
 
     /// Whether the running transaction is first class.
@@ -304,8 +295,9 @@ impl<D: Disk> Client<D> {
 
     fn act(&mut self, alloc: Global) -> Result<Step, ClientFault>
         requires tied { IsTied D.reads D.may_leave self.old }
+        requires place { place_of self.old ≤ 7 }
         requires runs { IsSome (state_of self.old).running }
-        requires can { CanActIfAny (state_of self.old) (live_of self.old) }
+        requires able { IsAble self.old.interpreter }
         ensures step { IfOk result (λ step. StepIsIfAny self.old (live_of self.old) step self.new) }
         ensures live { OnOk result (live_of self.new ≡ live_of self.old) }
         ensures tied { OnOk result (IsTied D.reads D.may_leave self.new) }
@@ -315,12 +307,22 @@ impl<D: Disk> Client<D> {
         ensures stopped { IsErrOf result ClientFault.Stopped → CutsOffNextIfAny (live_of self.old)
             (state_of self.old) (bodies_on D.reads self.old) (D.may_leave (disk_of self.new)) }
     {
-        let done = decide_by(&mut self.interpreter, alloc, self.kept.view())?;
-        self.note(alloc, Change::Acted(done.act))?;
-        Ok(Step::Acted {
-            acts: done.acts,
-            ended: done.ended,
-        })
+        let first = self.is_first();
+        let decided = decide_by(&mut self.interpreter, alloc, self.kept.view(), first)?;
+        match decided {
+            Decided::Did(done) => {
+                self.note(alloc, Change::Acted(done.act))?;
+                Ok(Step::Acted {
+                    acts: done.acts,
+                    ended: done.ended,
+                })
+            }
+            Decided::Missed(path) => {
+                let want = Want::Path(path.copy(alloc)?);
+                let request = refresh(alloc, self.me, self.kept.held(), want)?;
+                Ok(Step::Fetch { request, path })
+            }
+        }
     }
 
     fn retire(&mut self, alloc: Global) -> Result<Ended, ClientFault>
@@ -358,17 +360,6 @@ fn next_number(last: u64) -> Result<u64, NoMemory>
     match last.checked_add(1) {
         Some(number) => Ok(number),
         None => Err(NoMemory),
-    }
-}
-
-/// The path that the next act misses, if the transaction is first class.
-fn missed(alloc: Global, first: bool, exec: &Exec, view: &Tree) -> Result<Option<Path>, NoMemory>
-    ensures { IfOk result (λ path. path ≡ missed_by first (next_miss (kept_by exec.now) (place exec.now) view.now)) }
-{
-    if first {
-        exec.next_miss(alloc, view)
-    } else {
-        Ok(None)
     }
 }
 

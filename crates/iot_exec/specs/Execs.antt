@@ -1,5 +1,5 @@
 -- What an interpreter that stands in a script means.
-use Rattle.std.specs.Prelude.{◌≡◌, ℕ, ◌+◌, List, [], ◌∷◌, ◌++◌, Option, None}
+use Rattle.std.specs.Prelude.{◌≡◌, ℕ, ◌+◌, List, [], ◌∷◌, ◌++◌, Option, Some, None}
 use Rattle.iot_tree.specs.Tree.{Nodes}
 use Rattle.iot_tree.specs.declared.acts.Act.{Act}
 use Rattle.iot_lang.specs.Code.{Code}
@@ -10,6 +10,8 @@ use Rattle.iot_exec.specs.Places.{Place, Over, At, plan_at, IsAfter}
 use Rattle.iot_exec.specs.Misses.{first_away}
 use Rattle.iot_exec.specs.Positions.{place_of}
 use Rattle.iot_exec.specs.declared.exec.Exec.{Exec}
+use Rattle.iot_exec.specs.declared.exec.Tried.{Tried}
+use Rattle.iot_exec.specs.declared.exec.Tried.TheVariants.{Acted, Missed}
 
 -- the place at which it stands
 abbrev pub place : Exec → Place
@@ -49,3 +51,20 @@ RunsOn before t act after u =
 abbrev pub next_miss : Kept → Place → Nodes → Option (List (List ℕ))
 next_miss kept Over t = None
 next_miss kept (At code frames env) t = first_away (perform t (plan_at kept code frames env)).reads
+
+-- ---- the next act, unless it misses something
+
+-- the path that it missed, if it did
+abbrev pub missed_in : Tried → Option (List (List ℕ))
+missed_in (Acted act) = None
+missed_in (Missed path) = Some path
+
+-- what is so of the act, if it was done
+abbrev pub IfActed : Tried → (Act → Type 0) → Type 0
+IfActed (Acted act) Is = Is act
+IfActed (Missed path) Is = Unit {0}
+
+-- what is so if it was not done
+abbrev pub IfMissed : Tried → (List (List ℕ) → Type 0) → Type 0
+IfMissed (Acted act) Is = Unit {0}
+IfMissed (Missed path) Is = Is path

@@ -33,6 +33,16 @@ pub struct Exec {
     acts: u64,
 }
 
+/// What came of the next act on a tree that may not know all that the act asks.
+#[derive(Drop)]
+pub enum Tried {
+    /// It was done.
+    Acted(Act),
+
+    /// It was not done, and nothing has changed: this is the path of its first question that is answered `Away`.
+    Missed(Path),
+}
+
 /// The path of the first question that is answered `Away`.
 fn first_away(alloc: Global, reads: &[Read]) -> Result<Option<Path>, NoMemory>
     ensures { IfOk result (λ path. path ≡ first_away reads.now) }
@@ -68,6 +78,7 @@ fn apply(alloc: Global, t: &mut Tree, update: &Option<Update>) -> Result<(), NoM
 impl Exec {
     ghost use Rattle.iot_exec.specs.Finding.{next_found};
     ghost use Rattle.iot_exec.specs.Execs.{place, kept_by, act_count, next_miss, IsNextAt, IsRunning, RunsOn};
+    ghost use Rattle.iot_exec.specs.Execs.{missed_in, IfActed, IfMissed};
 
     /// At the first act of a script. `keep` reads the kept files. Does not allocate.
     pub fn new(alloc: Global, script: Rc<Script>, kept: Files) -> Exec
@@ -158,6 +169,44 @@ impl Exec {
             Some(act) => Ok(act),
             None => unreachable!(),
         }
+    }
+
+    /// Does the next act on the tree, but for its update, unless the tree answers one of its questions by `Away`. Asks each question once.
+    pub fn decide_if_known(&mut self, alloc: Global, t: &Tree) -> Result<Tried, NoMemory>
+        requires statement { is_over (place self.old) ≡ false }
+        requires limit { act_count self.old < ACT_LIMIT }
+
+        // It is done exactly if it misses nothing.
+        ensures misses { IfOk result (λ tried. missed_in tried ≡ next_miss (kept_by self.old) (place self.old) t.now) }
+        ensures stays { IfOk result (λ tried. IfMissed tried (λ path. self.new ≡ self.old)) }
+        ensures next { IfOk result (λ tried. IfActed tried
+            (λ act. IsNextAt (kept_by self.old) (place self.old) t.now act (place self.new) (after_update t.now act.update))) }
+        ensures runs { IfOk result (λ tried. IfActed tried (λ act. RunsOn self.old t.now act self.new (after_update t.now act.update))) }
+        ensures holds { IfOk result (λ tried. IfActed tried (λ act. ActsHold t.now (act ∷ []))) }
+        ensures guarded { IfOk result (λ tried. IfActed tried IsGuarded) }
+
+        // Its reads alone show that its update fits: it fits every tree that answers them.
+        ensures fits { IfOk result (λ tried. IfActed tried FitsByReads) }
+    {
+        let block = self.script.block();
+        let statements = self.position.statements(block);
+        let Some(statement) = self.position.next_of(statements) else {
+            unreachable!();
+        };
+        let done = perform(alloc, t, &self.env, &self.kept, statement)?;
+        if let Some(path) = first_away(alloc, done.act.reads.as_slice())? {
+            return Ok(Tried::Missed(path));
+        }
+        go_on(
+            alloc,
+            block,
+            statements,
+            &mut self.position,
+            &mut self.env,
+            done.goes,
+        )?;
+        self.acts += 1;
+        Ok(Tried::Acted(done.act))
     }
 
     /// Does the next act on the tree.

@@ -22,7 +22,7 @@ mod table;
 mod turns;
 mod variables;
 
-pub use exec::Exec;
+pub use exec::{Exec, Tried};
 pub use finding_job::run_finding;
 pub use job::{run, run_on};
 pub use ran::{Acted, Found, Ran};
