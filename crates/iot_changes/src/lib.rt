@@ -13,4 +13,4 @@ mod writers;
 pub use changes::Change;
 pub use readers::read_change;
 pub use resolutions::{put_resolution, read_resolution};
-pub use writers::write_change;
+pub use writers::{put_change, write_change};

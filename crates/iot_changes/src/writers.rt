@@ -16,7 +16,7 @@ const ROOM: usize = 512;
 
 /// Appends the spelling of the change.
 #[tactic(auto, unfolding(crate::specs::Spelling::change_spelling))]
-fn put_change(change: &Change, out: &mut Text) -> Result<(), NoMemory>
+pub fn put_change(change: &Change, out: &mut Text) -> Result<(), NoMemory>
     requires { IsChange change.now }
     ensures { OnOk result (out.new ≡ out.old ++ change_spelling change.now) }
 {

@@ -1,12 +1,14 @@
 -- What is read of bytes that are the spelling of a reply.
-use Rattle.std.proofs.Common.{◌≡◌, ℕ, ◌<◌, ◌^◌, List, length, ap}
+use Rattle.std.proofs.Common.{◌≡◌, ℕ, ◌<◌, ◌^◌, List, length, ap, sym}
 use Rattle.std.specs.Prelude.{OnOk, Result, Ok, Err}
 use Rattle.iot_tree.specs.Tree.{Nodes, IsWhole}
 use Rattle.iot_lang.specs.Code.{Code}
 use Rattle.iot_wire.specs.Messages.{IsMessage}
 use Rattle.iot_wire.specs.Rules.{IsReply}
 use Rattle.iot_wire.specs.Spelling.{reply_spelling}
+use Rattle.iot_changes.specs.Spelling.{change_spelling}
 use Rattle.iot_changes.specs.declared.changes.Change.{Change}
+use Rattle.iot_changes.specs.declared.changes.Change.TheVariants.{Held}
 use Rattle.iot_wire.proofs.MessagesLaws.{whole_again}
 use Rattle.iot_wire.proofs.SpellingLaws.{reply_laws}
 use Rattle.iot_wire.specs.declared.replies.Reply.TheVariants.{Objects}
@@ -19,6 +21,12 @@ only_objects bytes short tree is = ap objects (whole_again _ _ _ reply_laws byte
 
 pub only_noted : (bytes : List ℕ) → length bytes < 2 ^ 64 → ReadsNoted bytes
 only_noted bytes short said is = ap noted (whole_again _ _ _ reply_laws bytes said short is)
+
+-- the reply that brings a tree is the record of holding that tree
+pub held_is_reply : (reply : List ℕ) (tree : Nodes) → IsMessage IsReply reply_spelling reply (Objects tree)
+    → reply ≡ change_spelling (Held tree)
+unfolding reply_spelling change_spelling
+held_is_reply reply tree message = sym message.spelled
 
 -- what becomes of a client by the tree of a reply
 

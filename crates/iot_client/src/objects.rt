@@ -1,10 +1,13 @@
 //! Asking for objects, and holding what a reply brings.
 ghost use Rattle.std.specs.Prelude.{◌≡◌, ◌≤◌, None, IfOk, IfErr, OnOk, IsErrOf};
-ghost use Rattle.iot_codec.specs.Rules.{IsTreeOfRows};
 ghost use Rattle.iot_kept.specs.Changes.{CanFollow};
 ghost use Rattle.iot_client.specs.Calls.{unready, RefusesFor, RefusesReply, Notes, Brings, CutsOff, CutsOffByTree};
 ghost use Rattle.iot_client.specs.Faults.{CountsFault, MayFail};
 ghost use Rattle.iot_client.specs.Messages.{IsRefresh, objects_in, ReadsObjects};
+ghost use Rattle.iot_wire.specs.Messages.{IsMessage};
+ghost use Rattle.iot_wire.specs.Rules.{IsReply};
+ghost use Rattle.iot_wire.specs.Spelling.{reply_spelling};
+ghost use Rattle.iot_wire.specs.declared.replies.Reply.TheVariants.{Objects};
 
 use crate::client::Client;
 use crate::fault::ClientFault;
@@ -57,14 +60,15 @@ impl<D: Disk> Client<D> {
             Some(refusal) => Err(refusal),
             None => {
                 let tree = objects(alloc, reply)?;
-                self.hold(alloc, tree)
+                self.hold(alloc, tree, reply)
             }
         }
     }
 
-    fn hold(&mut self, alloc: Global, tree: Tree) -> Result<(), ClientFault>
+    /// Holds the tree. The reply that brings it is the record of that, as it stands.
+    fn hold(&mut self, alloc: Global, tree: Tree, reply: &[u8]) -> Result<(), ClientFault>
         requires tied { IsTied D.reads D.may_leave self.old }
-        requires spelled { IsTreeOfRows tree }
+        requires spelled { IsMessage IsReply reply_spelling reply.now (Objects tree) }
         requires follows { CanFollow (state_of self.old) (Change.Held tree) }
         ensures notes { OnOk result (Notes (Change.Held tree) self.old self.new) }
         ensures live { OnOk result (live_of self.new ≡ None) }
@@ -75,6 +79,6 @@ impl<D: Disk> Client<D> {
         ensures stopped { IsErrOf result ClientFault.Stopped → CutsOff (Change.Held tree)
             (state_of self.old) (bodies_on D.reads self.old) (D.may_leave (disk_of self.new)) }
     {
-        self.note(alloc, Change::Held(tree))
+        self.note_spelled(alloc, Change::Held(tree), reply)
     }
 }

@@ -11,6 +11,8 @@ use Rattle.iot_journal.specs.Decoding.{Encodes, decoded, records, bodies_decoded
 use Rattle.iot_journal.specs.Images.{EachDecodes, EachDecodesEither}
 use Rattle.iot_journal.proofs.DecodingLaws.{length-records-append, length-records-push}
 use Rattle.iot_wire.proofs.MessagesLaws.{call_one}
+use Rattle.iot_changes.specs.Rules.{IsChange}
+use Rattle.iot_changes.specs.Spelling.{change_spelling}
 use Rattle.iot_changes.specs.declared.changes.Change.{Change}
 use Rattle.iot_changes.specs.declared.changes.Change.TheVariants.{Held, Begun, Fetched, Acted, Ended, Cut, Conflicted, Resolved}
 use Rattle.iot_changes.specs.declared.changes.Change.TheVariants.{Repaired, Left}
@@ -24,6 +26,10 @@ use Rattle.iot_kept.specs.Causes.{IsReason, TakesBytes}
 use Rattle.iot_kept.specs.Standing.{Leads, StandFor, EachStands, EachStandsEither, CannotFollow, IsDamagedAt, IsRecord}
 use Rattle.iot_kept.proofs.FollowingLaws.{left_is}
 use Rattle.iot_kept.proofs.StatesLaws.{keeps, keeps_guarded, opening_holds, opening_guarded}
+
+-- the spelling of a change is its record
+pub is_record : (change : Change) (body : List ℕ) → IsChange change → body ≡ change_spelling change → IsRecord body change
+is_record change body has spelled = record { value = has; spelled = sym spelled }
 
 -- a body is the spelling of one change at most
 record_alone : (body : List ℕ) (one other : Change) → length body < 2 ^ 64 → IsRecord body one → IsRecord body other → one ≡ other

@@ -18,10 +18,11 @@ ghost use Rattle.iot_kept.specs.Spelled.{IsSpelledState};
 use crate::memory::Memory;
 use crate::replay::replay;
 use crate::running::Running;
-use iot_changes::{Change, write_change};
+use iot_changes::{Change, put_change};
 use iot_disk::{Disk, JournalFault, Pick, StartFault};
 use iot_journal::Journal;
 use iot_queue::Queue;
+use iot_text::{NoMemory, Text};
 use iot_tree::Tree;
 use std::alloc::Global;
 
@@ -33,6 +34,9 @@ use std::alloc::Global;
 pub struct Kept<D: Disk> {
     pub(crate) journal: Journal<D>,
     pub(crate) memory: Memory,
+
+    /// The last record that was spelled, whose memory serves the next one.
+    pub(crate) buffer: Text,
 }
 
 impl<D: Disk> Kept<D> {
@@ -99,7 +103,11 @@ impl<D: Disk> Kept<D> {
             Err(refused) => return Err(refused),
         };
         match replay(alloc, bodies.as_slice()) {
-            Ok(memory) => Ok(Kept { journal, memory }),
+            Ok(memory) => Ok(Kept {
+                journal,
+                memory,
+                buffer: Text::new(alloc),
+            }),
             Err(fault) => Err((journal.into_disk(), fault)),
         }
     }
@@ -139,10 +147,53 @@ impl<D: Disk> Kept<D> {
             (D.faults (disk_of self.old)) (D.faults (disk_of self.new)) }
         ensures arms { D.arms (disk_of self.new) ≡ D.arms (disk_of self.old) }
     {
-        let body = write_change(alloc, &change)?;
-        self.journal.append(&body)?;
+        spell(&change, &mut self.buffer)?;
+        self.journal.append(self.buffer.as_bytes())?;
         self.memory.note(alloc, change)?;
         Ok(())
+    }
+
+    /// The same, if the spelling of the change is at hand: that is the record, and the change is not spelled again.
+    ///
+    /// # Errors
+    ///
+    /// As of `note`.
+    pub fn note_spelled(
+        &mut self,
+        alloc: Global,
+        change: Change,
+        spelling: &[u8],
+    ) -> Result<(), JournalFault>
+        requires synced { IsSynced D.reads D.may_leave self.old }
+        requires change { IsChange change }
+        requires follows { CanFollow (state_of self.old) change }
+        requires spelled { spelling.now ≡ change_spelling change }
+
+        // However this returns, every image stands for the state before or for the one after: its records are those before,
+        // or those and the record of this change.
+        ensures images { EachStandsEither (D.may_leave (disk_of self.new))
+            (state_of self.old) (after (state_of self.old) change) }
+        ensures one_record { EachDecodesEither (D.may_leave (disk_of self.new))
+            (Encodes (bodies_on D.reads self.old))
+            (Encodes (bodies_on D.reads self.old ++ change_spelling change ∷ [])) }
+
+        // If the disk failed, nothing has changed in memory.
+        ensures stopped { IsErrOf result JournalFault.Stopped → state_of self.new ≡ state_of self.old }
+        ensures stopped_class { IsErrOf result JournalFault.Stopped → class_in self.new ≡ class_in self.old }
+
+        ensures noted { OnOk result (EachStands (D.may_leave (disk_of self.new)) (after (state_of self.old) change)) }
+        ensures state { OnOk result (state_of self.new ≡ after (state_of self.old) change) }
+        ensures class { OnOk result (class_in self.new ≡ class_after change (class_in self.old)) }
+        ensures bodies { OnOk result (bodies_on D.reads self.new ≡ bodies_on D.reads self.old ++ change_spelling change ∷ []) }
+        ensures records { OnOk result (records_of self.new ≡ records_of self.old + 1) }
+        ensures synced { OnOk result (IsSynced D.reads D.may_leave self.new) }
+
+        ensures faults { CountsJournalFault result
+            (D.faults (disk_of self.old)) (D.faults (disk_of self.new)) }
+        ensures arms { D.arms (disk_of self.new) ≡ D.arms (disk_of self.old) }
+    {
+        self.journal.append(spelling)?;
+        Ok(self.memory.note(alloc, change)?)
     }
 
     /// Puts the running transaction, if there is one, into this class. Writes nothing.
@@ -221,4 +272,13 @@ impl<D: Disk> Kept<D> {
     {
         self.journal.into_disk()
     }
+}
+
+/// Makes the text the record of this change, and nothing else.
+fn spell(change: &Change, out: &mut Text) -> Result<(), NoMemory>
+    requires { IsChange change.now }
+    ensures { OnOk result (out.new ≡ change_spelling change.now) }
+{
+    out.clear();
+    put_change(change, out)
 }
