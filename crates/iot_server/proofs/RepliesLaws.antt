@@ -1,5 +1,5 @@
 -- Which bytes answer a request.
-use Rattle.std.proofs.Common.{◌≡◌, ℕ, List, Option, None, Result, Ok, Err, IfOk, refl, sym, ap, subst, ◌∙◌}
+use Rattle.std.proofs.Common.{◌≡◌, ◌++◌, ◌∷◌, ℕ, List, Option, None, Result, Ok, Err, IfOk, refl, sym, ap, subst, ◌∙◌}
 use Rattle.iot_certify.specs.declared.verdict.Verdict.TheVariants.{Differs}
 use Rattle.iot_server.specs.Replies.{IsAnswered, IsJudged, Submits}
 use Rattle.iot_server.proofs.PrunedLaws.{prune_same}
@@ -9,6 +9,7 @@ use Rattle.iot_acts.specs.Turns.{turns, DiffersAt}
 use Rattle.iot_certify.specs.Verdicts.{IsVerdictOnActs, IfDiffers}
 use Rattle.iot_certify.specs.declared.verdict.Verdict.{Verdict}
 use Rattle.iot_codec.specs.Rules.{AreActs, IsAnswer}
+use Rattle.iot_codec.specs.Spelling.{label_spelling, acts_spelling}
 use Rattle.iot_limits.specs.Spelled.{IsSpelledTree}
 use Rattle.iot_store.specs.Numbers.{number_in}
 use Rattle.iot_store.specs.States.{State}
@@ -19,8 +20,9 @@ use Rattle.iot_tree.specs.declared.labels.Label.{Label}
 use Rattle.iot_tree.specs.declared.questions.Answer.{Answer}
 use Rattle.iot_tree.specs.declared.want.Want.{Want}
 use Rattle.iot_wire.specs.Rules.{IsReply}
-use Rattle.iot_wire.specs.Spelling.{reply_spelling}
+use Rattle.iot_wire.specs.Spelling.{request_spelling, reply_spelling}
 use Rattle.iot_wire.specs.declared.replies.Reply.TheVariants.{Objects, Conflict}
+use Rattle.iot_wire.specs.declared.requests.Request.{Request}
 use Rattle.iot_wire.specs.declared.requests.Request.TheVariants.{Refresh, Commit}
 
 -- what follows from a clause about Ok
@@ -70,3 +72,11 @@ judged_so here tree acts verdict read answer same is verdict_is guarded =
 pub judged_answer : (tree : Nodes) (acts : List Act) (read : ℕ) (answer : Answer) → AreActs acts → IsSpelledTree tree
     → IsJudged tree acts (Differs read answer) → IsAnswer answer
 judged_answer tree acts read answer are spelled judged = verdict_answer tree acts read answer are.each spelled judged.is
+
+-- what follows the tag of a commit's request
+pub commit_after_tag : (bytes rest : List ℕ) (request : Request) (label : Label) (acts : List Act) → request ≡ Commit label acts
+    → request_spelling request ≡ bytes → ((tag : ℕ) (after : List ℕ) → bytes ≡ tag ∷ after → rest ≡ after)
+    → rest ≡ label_spelling label ++ acts_spelling acts
+unfolding request_spelling
+commit_after_tag bytes rest request label acts is spelled follows =
+    follows 2 (label_spelling label ++ acts_spelling acts) (sym spelled ∙ ap request_spelling is)

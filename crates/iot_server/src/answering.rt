@@ -1,6 +1,7 @@
 //! The reply to a request.
-ghost use Rattle.std.specs.Prelude.{◌≡◌, ◌+◌, IfOk, OnOk, IsErrOf, None};
+ghost use Rattle.std.specs.Prelude.{◌≡◌, ◌+◌, ◌++◌, ◌∷◌, ℕ, List, IfOk, OnOk, IsErrOf, None};
 ghost use Rattle.iot_codec.specs.Rules.{ArePaths, IsLabel, AreActs};
+ghost use Rattle.iot_codec.specs.Spelling.{label_spelling, acts_spelling};
 ghost use Rattle.iot_disk.specs.Faults.{CountsJournalFault};
 ghost use Rattle.iot_journal.specs.Decoding.{Encodes};
 ghost use Rattle.iot_journal.specs.Images.{EachDecodes};
@@ -11,7 +12,7 @@ ghost use Rattle.iot_store.specs.Standing.{EachStands};
 ghost use Rattle.iot_store.specs.Store.{state_of, disk_of, bodies_on, IsSynced};
 ghost use Rattle.iot_wire.specs.Messages.{IsMessage};
 ghost use Rattle.iot_wire.specs.Rules.{IsRequest, IsReply};
-ghost use Rattle.iot_wire.specs.Spelling.{reply_spelling};
+ghost use Rattle.iot_wire.specs.Spelling.{request_spelling, reply_spelling};
 ghost use Rattle.iot_wire.specs.declared.requests.Request.{Request as Asked};
 ghost use Rattle.iot_wire.specs.declared.requests.Request.TheVariants.{Refresh, Commit};
 ghost use Rattle.iot_wire.specs.declared.replies.Reply.TheVariants.{Committed};
@@ -25,14 +26,16 @@ use iot_tree::{Acts, Label, Paths, Want};
 use iot_wire::{Reply, Request, write_reply};
 use std::alloc::Global;
 
-/// Answers the request, whose commit is on the disk when this gives its reply.
+/// Answers the request with these bytes. A commit is on the disk when this gives its reply.
 pub(crate) fn answer<D: Disk>(
     alloc: Global,
     store: &mut Store<D>,
     request: Request,
+    bytes: &[u8],
 ) -> Result<Vec<u8>, JournalFault>
     requires synced { IsSynced D.reads D.may_leave store.old }
     requires request { IsRequest request }
+    requires bytes { request_spelling request ≡ bytes.now }
     ensures answered { IfOk result (λ bytes. IsAnswered (state_of store.old) (bodies_on D.reads store.old) request bytes.items
         (state_of store.new) (bodies_on D.reads store.new)) }
     ensures synced { OnOk result (IsSynced D.reads D.may_leave store.new) }
@@ -50,7 +53,17 @@ pub(crate) fn answer<D: Disk>(
             known,
             want,
         } => Ok(lend(alloc, store, known, &want)?),
-        Request::Commit { label, acts } => submit(alloc, store, label, &acts),
+        Request::Commit { label, acts } => submit(alloc, store, label, &acts, after_tag(bytes)),
+    }
+}
+
+/// The bytes after the tag of a message.
+fn after_tag(bytes: &[u8]) -> &[u8]
+    ensures { (tag : ℕ) (rest : List ℕ) → bytes.now ≡ tag ∷ rest → result.now ≡ rest }
+{
+    match bytes.split_first() {
+        Some((_, rest)) => rest,
+        None => bytes,
     }
 }
 
@@ -81,10 +94,12 @@ fn submit<D: Disk>(
     store: &mut Store<D>,
     label: Label,
     acts: &Acts,
+    spelling: &[u8],
 ) -> Result<Vec<u8>, JournalFault>
     requires synced { IsSynced D.reads D.may_leave store.old }
     requires label { IsLabel label }
     requires acts { AreActs acts.now }
+    requires spelled { spelling.now ≡ label_spelling label ++ acts_spelling acts.now }
     ensures answered { IfOk result (λ bytes.
         IsAnswered (state_of store.old) (bodies_on D.reads store.old) (Commit label acts.now) bytes.items
         (state_of store.new) (bodies_on D.reads store.new)) }
@@ -99,7 +114,7 @@ fn submit<D: Disk>(
 {
     match store.number_of(label.client, label.tid) {
         Some(number) => Ok(write_reply(alloc, &Reply::Already { number })?),
-        None => judge(alloc, store, label, acts),
+        None => judge(alloc, store, label, acts, spelling),
     }
 }
 
@@ -109,10 +124,12 @@ fn judge<D: Disk>(
     store: &mut Store<D>,
     label: Label,
     acts: &Acts,
+    spelling: &[u8],
 ) -> Result<Vec<u8>, JournalFault>
     requires synced { IsSynced D.reads D.may_leave store.old }
     requires label { IsLabel label }
     requires acts { AreActs acts.now }
+    requires spelled { spelling.now ≡ label_spelling label ++ acts_spelling acts.now }
     requires new { number_in (state_of store.old).labels label.client label.tid ≡ None }
     ensures answered { IfOk result (λ bytes.
         IsAnswered (state_of store.old) (bodies_on D.reads store.old) (Commit label acts.now) bytes.items
@@ -127,7 +144,7 @@ fn judge<D: Disk>(
     ensures arms { D.arms (disk_of store.new) ≡ D.arms (disk_of store.old) }
 {
     match certify_acts(alloc, store.tree(), acts)? {
-        Verdict::Holds => commit(alloc, store, label, acts),
+        Verdict::Holds => commit(alloc, store, label, acts, spelling),
         Verdict::Differs { read, answer } => {
             Ok(write_reply(alloc, &Reply::Conflict { read, answer })?)
         }
@@ -140,10 +157,12 @@ fn commit<D: Disk>(
     store: &mut Store<D>,
     label: Label,
     acts: &Acts,
+    spelling: &[u8],
 ) -> Result<Vec<u8>, JournalFault>
     requires synced { IsSynced D.reads D.may_leave store.old }
     requires label { IsLabel label }
     requires acts { AreActs acts.now }
+    requires spelled { spelling.now ≡ label_spelling label ++ acts_spelling acts.now }
     requires new { number_in (state_of store.old).labels label.client label.tid ≡ None }
     requires holds { IsJudged (state_of store.old).tree acts.now Verdict.Holds }
     ensures answered { IfOk result (λ bytes.
@@ -159,7 +178,7 @@ fn commit<D: Disk>(
     ensures arms { D.arms (disk_of store.new) ≡ D.arms (disk_of store.old) }
 {
     let bytes = committed(alloc, store.number())?;
-    store.commit(alloc, label, acts)?;
+    store.commit_spelled(alloc, label, acts, spelling)?;
     Ok(bytes)
 }
 

@@ -129,7 +129,7 @@ impl<D: Disk> Server<D> {
         ensures traffic { traffic_of self.new ≡ traffic_after result (length request.now) (traffic_of self.old) }
     {
         let asked = read_request(alloc, request)?;
-        let reply = answer(alloc, &mut self.store, asked)?;
+        let reply = answer(alloc, &mut self.store, asked, request)?;
         self.traffic.count(request.len(), reply.len());
         Ok(reply)
     }

@@ -1,5 +1,5 @@
 //! The records on the server's disk.
-ghost use Rattle.std.specs.Prelude.{◌≡◌, ℕ, List, Ok, OnOk, IfOk};
+ghost use Rattle.std.specs.Prelude.{◌≡◌, ◌∷◌, ℕ, List, Ok, OnOk, IfOk};
 ghost use Rattle.iot_tree.specs.declared.acts.Act.{Act as Acted};
 ghost use Rattle.iot_tree.specs.declared.labels.Label.{Label as Labelled};
 ghost use Rattle.iot_codec.specs.Outcomes.{IsOutcome};
@@ -24,6 +24,15 @@ pub(crate) fn spell(out: &mut Text, label: &Label, acts: &Acts) -> Result<(), No
     out.push(COMMIT)?;
     put_label(label, out)?;
     put_acts(acts, out)
+}
+
+/// Makes the text the record of the commit whose label and acts have this spelling, and nothing else.
+pub(crate) fn take_spelling(out: &mut Text, spelling: &[u8]) -> Result<(), NoMemory>
+    ensures { OnOk result (out.new ≡ 1 ∷ spelling.now) }
+{
+    out.clear();
+    out.push(COMMIT)?;
+    out.append(spelling)
 }
 
 /// The commit whose record the body is, if it is one.

@@ -7,6 +7,7 @@ ghost use Rattle.iot_journal.specs.Decoding.{Encodes, decoded, records, is_start
 ghost use Rattle.iot_journal.specs.Images.{EachDecodes, EachDecodesEither};
 ghost use Rattle.iot_journal.specs.Start.{ChangesNothing};
 ghost use Rattle.iot_codec.specs.Rules.{IsLabel, AreActs};
+ghost use Rattle.iot_codec.specs.Spelling.{label_spelling, acts_spelling};
 ghost use Rattle.iot_store.specs.States.{State, opening, CanFollow, after_commit};
 ghost use Rattle.iot_store.specs.Commits.{ReplaysIf};
 ghost use Rattle.iot_store.specs.Records.{record_spelling};
@@ -15,7 +16,7 @@ ghost use Rattle.iot_store.specs.Numbers.{number_in};
 ghost use Rattle.iot_store.specs.Causes.{HasCause, TakesBytes, IsReason};
 
 use crate::commits::Commits;
-use crate::records::{read, spell};
+use crate::records::{read, spell, take_spelling};
 use iot_disk::{Disk, JournalFault, Pick, StartFault};
 use iot_journal::{FIRST_GATE, Journal, RECORD};
 use iot_text::{NoMemory, Text};
@@ -139,6 +140,92 @@ impl<D: Disk> Store<D> {
         ensures arms { D.arms (disk_of self.new) ≡ D.arms (disk_of self.old) }
     {
         spell(&mut self.buffer, &label, acts)?;
+        self.commit_buffer(alloc, label, acts)
+    }
+
+    /// The same, if the spellings of the label and of the acts are at hand, one after the other: these are copied, and not made again.
+    ///
+    /// # Errors
+    ///
+    /// As of `commit`.
+    pub fn commit_spelled(
+        &mut self,
+        alloc: Global,
+        label: Label,
+        acts: &Acts,
+        spelling: &[u8],
+    ) -> Result<u64, JournalFault>
+        requires synced { IsSynced D.reads D.may_leave self.old }
+        requires label { IsLabel label }
+        requires acts { AreActs acts.now }
+        requires spelled { spelling.now ≡ label_spelling label ++ acts_spelling acts.now }
+        requires follows { CanFollow (state_of self.old) label acts.now }
+
+        // However this returns, every image stands for the commits before or for those with the new one: its records are
+        // those before, or those and the record of this commit.
+        ensures images { EachStandsEither (D.may_leave (disk_of self.new))
+            (state_of self.old) (after_commit (state_of self.old) label acts.now) }
+        ensures one_record { EachDecodesEither (D.may_leave (disk_of self.new))
+            (Encodes (bodies_on D.reads self.old))
+            (Encodes (bodies_on D.reads self.old ++ record_spelling label acts.now ∷ [])) }
+        ensures no_memory { IsErrOf result JournalFault.NoMemory
+            → EachStands (D.may_leave (disk_of self.new)) (state_of self.old) }
+        ensures no_record { IsErrOf result JournalFault.NoMemory
+            → EachDecodes (D.may_leave (disk_of self.new)) (Encodes (bodies_on D.reads self.old)) }
+        ensures committed { OnOk result (EachStands (D.may_leave (disk_of self.new))
+            (after_commit (state_of self.old) label acts.now)) }
+
+        ensures state { OnOk result (state_of self.new ≡ after_commit (state_of self.old) label acts.now) }
+        ensures recorded { OnOk result (bodies_on D.reads self.new
+            ≡ bodies_on D.reads self.old ++ record_spelling label acts.now ∷ []) }
+        ensures synced { OnOk result (IsSynced D.reads D.may_leave self.new) }
+        ensures number { IfOk result (λ number. number ≡ length (state_of self.old).labels + 1) }
+
+        ensures faults { CountsJournalFault result
+            (D.faults (disk_of self.old)) (D.faults (disk_of self.new)) }
+        ensures arms { D.arms (disk_of self.new) ≡ D.arms (disk_of self.old) }
+    {
+        take_spelling(&mut self.buffer, spelling)?;
+        self.commit_buffer(alloc, label, acts)
+    }
+
+    /// Adds the commit whose record the buffer is.
+    fn commit_buffer(
+        &mut self,
+        alloc: Global,
+        label: Label,
+        acts: &Acts,
+    ) -> Result<u64, JournalFault>
+        requires synced { IsSynced D.reads D.may_leave self.old }
+        requires label { IsLabel label }
+        requires acts { AreActs acts.now }
+        requires spelled { self.old.buffer ≡ record_spelling label acts.now }
+        requires follows { CanFollow (state_of self.old) label acts.now }
+
+        // However this returns, every image stands for the commits before or for those with the new one: its records are
+        // those before, or those and the record of this commit.
+        ensures images { EachStandsEither (D.may_leave (disk_of self.new))
+            (state_of self.old) (after_commit (state_of self.old) label acts.now) }
+        ensures one_record { EachDecodesEither (D.may_leave (disk_of self.new))
+            (Encodes (bodies_on D.reads self.old))
+            (Encodes (bodies_on D.reads self.old ++ record_spelling label acts.now ∷ [])) }
+        ensures no_memory { IsErrOf result JournalFault.NoMemory
+            → EachStands (D.may_leave (disk_of self.new)) (state_of self.old) }
+        ensures no_record { IsErrOf result JournalFault.NoMemory
+            → EachDecodes (D.may_leave (disk_of self.new)) (Encodes (bodies_on D.reads self.old)) }
+        ensures committed { OnOk result (EachStands (D.may_leave (disk_of self.new))
+            (after_commit (state_of self.old) label acts.now)) }
+
+        ensures state { OnOk result (state_of self.new ≡ after_commit (state_of self.old) label acts.now) }
+        ensures recorded { OnOk result (bodies_on D.reads self.new
+            ≡ bodies_on D.reads self.old ++ record_spelling label acts.now ∷ []) }
+        ensures synced { OnOk result (IsSynced D.reads D.may_leave self.new) }
+        ensures number { IfOk result (λ number. number ≡ length (state_of self.old).labels + 1) }
+
+        ensures faults { CountsJournalFault result
+            (D.faults (disk_of self.old)) (D.faults (disk_of self.new)) }
+        ensures arms { D.arms (disk_of self.new) ≡ D.arms (disk_of self.old) }
+    {
         self.commits.add(alloc, label, acts.as_slice())?;
         self.journal.append(self.buffer.as_bytes())?;
         Ok(self.number())

@@ -5,7 +5,7 @@ use Rattle.iot_store.specs.Records.{IsRecord}
 use Rattle.iot_store.specs.Standing.{Leads}
 use Rattle.iot_store.specs.States.{State, opening, CanFollow, after_commit}
 use Rattle.iot_store.proofs.StandingLaws.{each_stands, either_stands, leads_push}
-use Rattle.iot_store.proofs.store.Store.commit.Goals as goal
+use Rattle.iot_store.proofs.store.Store.commit_buffer.Goals as goal
 
 -- the records lead to the state after a commit
 synced_leads : (bodies now : List (List ℕ)) (before after : State) (body : List ℕ) (label : Label) (acts made : List Act) →
@@ -19,7 +19,7 @@ synced_leads bodies now before after body label acts made leads is follows pushe
 pub returns-in_err-append-clause-images : goal.returns-in_err-append-clause-images
 returns-in_err-append-clause-images g c =
     let given = c.requires in
-    let spelled = c.as_bytes.ensures ∙ c.in_ok-spell.ensures in
+    let spelled = c.as_bytes.ensures ∙ given.spelled in
     let is : IsRecord c.as_bytes.result.now c.args.label c.args.acts.now =
     record { has_label = given.label; has_acts = given.acts; spelled = spelled } in
     either_stands _ _ _ c.as_bytes.result.now c.args.label c.args.acts.now given.synced.leads is given.follows
@@ -28,7 +28,7 @@ returns-in_err-append-clause-images g c =
 pub returns-clause-images : goal.returns-clause-images
 returns-clause-images g c =
     let given = c.requires in
-    let spelled = c.as_bytes.ensures ∙ c.in_ok-spell.ensures in
+    let spelled = c.as_bytes.ensures ∙ given.spelled in
     let is : IsRecord c.as_bytes.result.now c.args.label c.args.acts.now =
     record { has_label = given.label; has_acts = given.acts; spelled = spelled } in
     either_stands _ _ _ c.as_bytes.result.now c.args.label c.args.acts.now given.synced.leads is given.follows c.in_ok-append.ensures.images
@@ -36,7 +36,7 @@ returns-clause-images g c =
 pub returns-clause-committed : goal.returns-clause-committed
 returns-clause-committed g c =
     let given = c.requires in
-    let spelled = c.as_bytes.ensures ∙ c.in_ok-spell.ensures in
+    let spelled = c.as_bytes.ensures ∙ given.spelled in
     let is : IsRecord c.as_bytes.result.now c.args.label c.args.acts.now =
     record { has_label = given.label; has_acts = given.acts; spelled = spelled } in
     let more = leads_push _ opening _ c.as_bytes.result.now c.args.label c.args.acts.now given.synced.leads is given.follows in
@@ -45,7 +45,7 @@ returns-clause-committed g c =
 pub returns-clause-synced : goal.returns-clause-synced
 returns-clause-synced g c =
     let given = c.requires in
-    let spelled = c.as_bytes.ensures ∙ c.in_ok-spell.ensures in
+    let spelled = c.as_bytes.ensures ∙ given.spelled in
     let is : IsRecord c.as_bytes.result.now c.args.label c.args.acts.now =
     record { has_label = given.label; has_acts = given.acts; spelled = spelled } in
     let done = c.in_ok-append.ensures in
