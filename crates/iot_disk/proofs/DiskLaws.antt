@@ -2,8 +2,8 @@
 use Rattle.std.proofs.Common.{◌≡◌, ◌≤◌, ◌<◌, ◌⊎◌, inl, inr, ℕ, ◌+◌, ◌-◌, max, List, [], ◌∷◌, ◌++◌, length, get_or, take, drop}
 use Rattle.std.proofs.Common.{refl, sym, ◌∙◌, ap, arith, append_assoc, length-append, length-drop, take-append-drop}
 use Rattle.std.proofs.lemmas.Bool.{cases_lt}
-use Rattle.std.proofs.lemmas.List.{append-nil, drop_all, drop_at, drop_more, drop-drop, ext_get_or, get_or_append_left}
-use Rattle.std.proofs.lemmas.List.{get_or-append_right, get_or-drop, get_or-take, length-take-le, nil_from_length, take-append-le, take_at}
+use Rattle.std.proofs.lemmas.List.{drop_at, drop_more, drop-drop, ext_get_or, get_or_append_left}
+use Rattle.std.proofs.lemmas.List.{get_or-append_right, get_or-drop, get_or-take, length-take-le, take_at}
 use Rattle.iot_disk.specs.Disk.{overwritten, Torn}
 
 -- a place is inside from a to e, or outside
@@ -50,20 +50,6 @@ module _ {X : Type 0} (xs ys : List X) (a : ℕ) (d : X) (inside : a ≤ length 
   length-overwritten =
       let rest = drop (a + length ys) xs in
       omega (arith, length-append (take a xs) (ys ++ rest), length-append ys rest, length-drop (a + length ys) xs, front)
-
--- writing over a list that was made longer, as far as the write goes
-pub overwritten-append : {X : Type 0} (xs zs ys : List X) (a n : ℕ) → a ≤ length xs → n ≡ length zs →
-    length xs + n ≤ max (length xs) (a + length ys) → overwritten (xs ++ zs) a ys ≡ overwritten xs a ys
-overwritten-append {X = X} xs zs ys a n inside size within =
-    ap (λ (l : List X). l ++ (ys ++ drop (a + length ys) (xs ++ zs))) (take-append-le a xs zs inside)
-    ∙ ap (λ (l : List X). take a xs ++ (ys ++ l)) (elim (cases_lt (length xs) (a + length ys)) [
-      | inl past ↦
-          drop_all (a + length ys) (xs ++ zs) (omega (arith, length-append xs zs))
-          ∙ sym (drop_all (a + length ys) xs (omega arith))
-      | inr not_past ↦
-          let none : zs ≡ [] = nil_from_length zs (omega arith) in
-          ap (λ (l : List X). drop (a + length ys) (xs ++ l)) none ∙ ap (λ (l : List X). drop (a + length ys) l) (append-nil xs)
-    ])
 
 module _ (at end : ℕ) (old new : List ℕ) (torn : Torn at end old new) where
   -- before the range

@@ -1,4 +1,5 @@
 mod BodiesLaws
 pub mod DiskLaws
+mod MarksLaws
 mod MemoryLaws
 mod UnsyncedLaws

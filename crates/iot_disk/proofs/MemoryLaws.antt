@@ -1,14 +1,14 @@
 -- A disk in memory keeps what is true of each, and its images are as a disk's are.
 use Rattle.std.proofs.Common.{◌≡◌, ◌≤◌, ◌<◌, ◌⊎◌, inl, inr, ℕ, zero, suc, ◌+◌, ◌-◌, ◌^◌, min, max, Bool, true, false, cond}
 use Rattle.std.proofs.Common.{Option, None, Some, Result, Err, List, [], ◌∷◌, ◌++◌, length, get_or, set, take, drop}
-use Rattle.std.proofs.Common.{replicate, refl, sym, ◌∙◌, ap, subst, arith}
+use Rattle.std.proofs.Common.{rules, replicate, refl, sym, ◌∙◌, ap, subst, arith}
 use Rattle.std.specs.Prelude.{IsErrOf}
 use Rattle.std.proofs.lemmas.Bool.{cases_lt, true≢false}
 use Rattle.std.proofs.lemmas.List.{append_assoc, get_or-replicate, length-replicate, ext_get_or, take_more_set, drop-set-lt, drop_more}
 use Rattle.iot_disk.specs.Disk.{overwritten, Torn, IsTornFrom, Only}
 use Rattle.iot_disk.specs.Unsynced.{is_marked}
 use Rattle.iot_disk.specs.Memory.{Memory, IsImage, IsSound, filled, picked, images_of, reads_is_image, after_refusal, after_write}
-use Rattle.iot_disk.specs.Failures.{answer}
+use Rattle.iot_disk.specs.Failures.{answer, after_call}
 use Rattle.iot_disk.specs.declared.disk.DiskFault.{DiskFault}
 use Rattle.iot_disk.specs.declared.disk.DiskFault.TheVariants.{NoMemory, Failed}
 use Rattle.iot_disk.specs.declared.disk.Pick.{Pick}
@@ -192,6 +192,12 @@ torn_same : (at end : ℕ) (images : List ℕ → Type 0) → IsTornFrom at end 
 torn_same at end images = record {
   from = λ image left. (image, left, record { no_shorter = omega arith; no_longer = omega arith; outside = λ k below out. refl });
 }
+
+-- a disk each of whose parts is as after a write
+pub written_memory : (at : ℕ) (bytes : List ℕ) (old new : Memory) → new.written ≡ overwritten old.written at bytes →
+    new.synced ≡ old.synced → new.unsynced ≡ overwritten old.unsynced at (replicate (length bytes) true) →
+    new.failures ≡ after_call old.failures → new ≡ after_write at bytes old
+written_memory at bytes old new written synced unsynced failures = search (rules, written, synced, unsynced, failures)
 
 -- what a write makes of the images, however it ends
 pub write_images : (at : ℕ) (bytes : List ℕ) (old new : Memory) (result : Result (Unit {0}) DiskFault) → at ≤ length old.written →

@@ -129,16 +129,3 @@ widened span rest wider spans one other = record {
   new = λ k h. in_rest wider spans k (other k h);
   old = λ k h. in_wider rest wider spans k (one k) h;
 }
-
--- marks that were set in a span which the spans took in
-pub hold_more : (span rest new_rest : Span) (spans new_spans : List Span) (marks set_marks : List Bool) → span.start ≤ span.end →
-    span.end ≤ length marks → span.start + length set_marks ≡ span.end → Hold spans rest marks →
-    TakeIn span spans rest new_spans new_rest → Hold new_spans new_rest (overwritten marks span.start set_marks)
-hold_more span rest new_rest spans new_spans marks set_marks ordered inside size hold take_in = record {
-  each = λ k h. elim (side span.start span.end k) [
-    | Inside l r ↦ take_in.new k (record { from = l; to = r })
-    | Outside out ↦
-        let aside = subst (λ (n : ℕ). (k < span.start) ⊎ (n ≤ k)) (sym size) out in
-        take_in.old k (hold.each k (sym (get_or-overwritten_out marks set_marks span.start false (omega arith) k aside) ∙ h))
-  ];
-}

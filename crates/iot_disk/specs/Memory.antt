@@ -4,7 +4,7 @@ use Rattle.std.specs.Prelude.{Option, Some, None, refl}
 use Rattle.std.proofs.Math.Nat.{min-le_right, le_refl}
 use Rattle.iot_disk.specs.Disk.{overwritten}
 use Rattle.iot_disk.specs.Failures.{fails, after_call, after_fault, after_restart}
-use Rattle.iot_disk.specs.Unsynced.{is_marked}
+use Rattle.iot_disk.specs.Unsynced.{Marks, is_marked}
 use Rattle.iot_disk.specs.declared.disk.Pick.{Pick}
 use Rattle.iot_disk.specs.declared.disk.Pick.TheVariants.{Old, New, Fill}
 use Rattle.iot_disk.specs.declared.failures.Failures.{Failures}
@@ -83,6 +83,13 @@ pub record IsSound (written synced : List ℕ) (unsynced : List Bool) : Type 0 w
   pub grown : length synced ≤ length written
   pub alike : (k : ℕ) → k < length synced → is_marked unsynced k ≡ false → slice_index synced k ≡ slice_index written k
   pub past : (k : ℕ) → length synced ≤ k → k < length written → is_marked unsynced k ≡ true
+
+-- what a disk in memory has ready, so that a sync takes no memory: marks for the bytes of the last sync, and room for as
+-- many bytes and marks as were written
+pub record IsReady (written synced : List ℕ) (room : ℕ) (marks : Marks) : Type 0 where
+  pub known : length marks.known ≡ length synced
+  pub room_bytes : length written ≤ room
+  pub room_marks : length written ≤ marks.room
 
 -- a disk as it reads is one of its images
 pub reads_is_image : (written synced : List ℕ) (unsynced : List Bool) → IsImage written synced unsynced written

@@ -1,6 +1,16 @@
 -- Which bytes of a disk in memory a write since the last sync covered.
-use Rattle.std.specs.Prelude.{◌≡◌, ◌≤◌, ◌<◌, ◌⊎◌, ℕ, Bool, true, false, List, [], ◌∷◌, length, slice_index, slice_index_or}
+use Rattle.std.specs.Prelude.{◌≡◌, ◌≤◌, ◌<◌, ◌⊎◌, ℕ, ◌-◌, Bool, true, false, List, [], ◌∷◌, ◌++◌, length, replicate}
+use Rattle.std.specs.Prelude.{slice_index, slice_index_or}
 use Rattle.iot_disk.specs.declared.unsynced.Span.{Span}
+
+-- a mark for each byte that was there at the last sync, and how many marks there is room for
+pub record Marks : Type 0 where
+  pub known : List Bool
+  pub room : ℕ
+
+-- the marks of all bytes of a disk, as many as `count`: a byte that was not there at the last sync is marked
+abbrev pub all_marks : List Bool → ℕ → List Bool
+all_marks known count = known ++ replicate (count - length known) true
 
 -- the byte at place k is marked
 abbrev pub is_marked : List Bool → ℕ → Bool
@@ -34,3 +44,9 @@ pub record Clears (span : Span) (old new : List Bool) : Type 0 where
   pub length : length new ≡ length old
   pub other : (k : ℕ) → is_marked new k ≡ true → is_marked old k ≡ true
   pub gone : (k : ℕ) → is_marked new k ≡ true → IsIn span k → ⊥
+
+-- the bytes in the span are marked, as far as there are marks, and the other marks are as they were
+pub record Covers (span : Span) (old new : List Bool) : Type 0 where
+  pub size : length new ≡ length old
+  pub inside : (k : ℕ) → k < length old → IsIn span k → is_marked new k ≡ true
+  pub outside : (k : ℕ) → (k < span.start) ⊎ (span.end ≤ k) → is_marked new k ≡ is_marked old k

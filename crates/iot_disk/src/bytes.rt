@@ -1,7 +1,8 @@
 //! Vectors that change within the room that they have.
-ghost use Rattle.std.specs.Prelude.{◌≡◌, ◌≤◌, ◌+◌, ◌++◌, length, vec_len, vec_capacity};
+ghost use Rattle.std.specs.Prelude.{◌≡◌, ◌≤◌, ◌+◌, ◌++◌, true, length, slice_index_or, vec_len, vec_capacity};
 ghost use Rattle.iot_disk.specs.Disk.{overwritten};
 ghost use Rattle.iot_disk.specs.Memory.{picked, filled};
+ghost use Rattle.iot_disk.specs.Unsynced.{all_marks};
 
 use crate::Pick;
 
@@ -35,11 +36,12 @@ pub fn overwrite(to: &mut Vec<u8>, at: usize, bytes: &[u8])
     append(to, &bytes[inside..]);
 }
 
-/// Turns a disk's bytes into what a restart leaves.
+/// Turns a disk's bytes into what a restart leaves. The marks are those of the bytes that were there at the last sync.
 pub fn leave(pick: Option<Pick>, written: &mut Vec<u8>, synced: &[u8], marks: &[bool])
-    requires marks { length marks.now ≡ length written.old.items }
+    requires marks { length marks.now ≤ length written.old.items }
     requires grown { length synced.now ≤ length written.old.items }
-    ensures picked { written.new.items ≡ picked pick written.old.items synced.now marks.now }
+    ensures picked { written.new.items
+        ≡ picked pick written.old.items synced.now (all_marks marks.now (length written.old.items)) }
     ensures length { length written.new.items ≤ length written.old.items }
 {
     match pick {
@@ -50,12 +52,19 @@ pub fn leave(pick: Option<Pick>, written: &mut Vec<u8>, synced: &[u8], marks: &[
 }
 
 fn fill(byte: u8, marks: &[bool], bytes: &mut [u8])
-    requires { length marks.now ≡ length bytes.old }
-    ensures { bytes.new ≡ filled byte marks.now bytes.old }
+    requires { length marks.now ≤ length bytes.old }
+    ensures { bytes.new ≡ filled byte (all_marks marks.now (length bytes.old)) bytes.old }
 {
     for i in 0..bytes.len() {
-        if marks[i] {
+        if is_marked(marks, i) {
             bytes[i] = byte;
         }
     }
+}
+
+/// A byte that was not there at the last sync is marked.
+fn is_marked(marks: &[bool], i: usize) -> bool
+    ensures { result ≡ slice_index_or marks.now i true }
+{
+    i >= marks.len() || marks[i]
 }

@@ -1,7 +1,8 @@
 //! A disk in memory.
-ghost use Rattle.std.specs.Prelude.{◌≡◌, ◌≤◌, ◌<◌, ◌⊎◌, ◌+◌, ◌-◌, ◌^◌, [], ◌++◌, false, length, replicate};
+ghost use Rattle.std.specs.Prelude.{◌≡◌, ◌≤◌, ◌<◌, ◌⊎◌, ◌+◌, ◌^◌, [], false, length, replicate};
 ghost use Rattle.std.specs.Prelude.{slice_range, vec_capacity, IfOk, OnOk, OnErr, IsErrOf};
 ghost use Rattle.iot_disk.specs.Disk.{Only};
+ghost use Rattle.iot_disk.specs.Unsynced.{AreAlike};
 
 use crate::bytes::{append, copy_over, leave, overwrite};
 use crate::failures::Failures;
@@ -21,25 +22,27 @@ pub struct MemDisk {
     written: Vec<u8>,
     /// It has room for as many bytes as `written` has, so that a sync takes no memory.
     synced: Vec<u8>,
+    /// It has marks for the bytes of `synced`, and room for as many as `written` has.
     unsynced: Unsynced,
     failures: Failures,
 }
 
 impl Model for MemDisk {
-    ghost use Rattle.std.specs.Prelude.{◌≤◌, length, vec_capacity};
-    ghost use Rattle.iot_disk.specs.Memory.{Memory, IsSound};
+    ghost use Rattle.std.specs.Prelude.{length, vec_capacity};
+    ghost use Rattle.iot_disk.specs.Memory.{Memory, IsSound, IsReady};
+    ghost use Rattle.iot_disk.specs.Unsynced.{all_marks};
 
     ghost Value = { Memory };
 
     ghost view = { λ d. record {
       written = d.written.items;
       synced = d.synced.items;
-      unsynced = d.unsynced;
+      unsynced = all_marks d.unsynced.known (length d.written.items);
       failures = d.failures;
     } };
 
-    ghost invariant = { λ d. IsSound d.written.items d.synced.items d.unsynced
-        × (length d.written.items ≤ vec_capacity d.synced) };
+    ghost invariant = { λ d. IsSound d.written.items d.synced.items (all_marks d.unsynced.known (length d.written.items))
+        × IsReady d.written.items d.synced.items (vec_capacity d.synced) d.unsynced };
 }
 
 impl MemDisk {
@@ -69,7 +72,8 @@ impl MemDisk {
         }
         let synced = bytes.as_slice().to_vec(alloc)?;
         let mut unsynced = Unsynced::new(alloc);
-        unsynced.lengthen(bytes.len())?;
+        unsynced.reserve(bytes.len())?;
+        unsynced.clear(bytes.len());
         Ok(MemDisk {
             written: bytes,
             synced,
@@ -148,9 +152,7 @@ impl MemDisk {
     {
         let answer = self.failures.call();
         if answer.is_ok() {
-            let known = self.synced.len();
-            append(&mut self.synced, &self.written[known..]);
-            self.unsynced.sync(&self.written, &mut self.synced);
+            sync_all(&self.written, &mut self.synced, &mut self.unsynced);
         }
         answer
     }
@@ -176,6 +178,24 @@ impl MemDisk {
     }
 }
 
+/// Makes the bytes of the last sync those that were written, within the room that there is.
+fn sync_all(written: &[u8], synced: &mut Vec<u8>, unsynced: &mut Unsynced)
+    requires known { length unsynced.old.known ≡ length synced.old.items }
+    requires grown { length synced.old.items ≤ length written.now }
+    requires alike { AreAlike unsynced.old.known synced.old.items written.now }
+    requires room { length written.now ≤ vec_capacity synced.old }
+    requires room_marks { length written.now ≤ unsynced.old.room }
+    ensures synced { synced.new.items ≡ written.now }
+    ensures marks { unsynced.new.known ≡ replicate (length written.now) false }
+    ensures room { vec_capacity synced.old ≤ vec_capacity synced.new }
+    ensures room_marks { unsynced.old.room ≤ unsynced.new.room }
+{
+    let known = synced.len();
+    unsynced.sync(&written[..known], synced);
+    append(synced, &written[known..]);
+    unsynced.lengthen(written.len());
+}
+
 /// Makes room for a write up to this end, or leaves everything as it was.
 fn make_room(
     written: &mut Vec<u8>,
@@ -183,23 +203,24 @@ fn make_room(
     unsynced: &mut Unsynced,
     end: usize,
 ) -> Result<(), AllocError>
-    requires marks { length unsynced.old ≡ length written.old.items }
+    requires known { length unsynced.old.known ≤ length written.old.items }
     requires grown { length synced.old.items ≤ length written.old.items }
     requires room { length written.old.items ≤ vec_capacity synced.old }
+    requires room_marks { length written.old.items ≤ unsynced.old.room }
     ensures written { written.new.items ≡ written.old.items }
     ensures synced { synced.new.items ≡ synced.old.items }
-    ensures marks { OnOk result
-        (unsynced.new ≡ unsynced.old ++ replicate (end - length unsynced.old) false) }
+    ensures known { unsynced.new.known ≡ unsynced.old.known }
     ensures room_written { OnOk result (end ≤ vec_capacity written.new) }
     ensures room_synced { OnOk result (end ≤ vec_capacity synced.new) }
+    ensures room_marks { OnOk result (end ≤ unsynced.new.room) }
     ensures same_room { vec_capacity synced.old ≤ vec_capacity synced.new }
-    ensures err { OnErr result (unsynced.new ≡ unsynced.old) }
+    ensures same_room_marks { unsynced.old.room ≤ unsynced.new.room }
     ensures longer { OnErr result (length written.old.items < end) }
 {
     if end > written.len() {
         written.reserve(end - written.len())?;
         synced.reserve(end - synced.len())?;
-        unsynced.lengthen(end)?;
+        unsynced.reserve(end)?;
     }
     Ok(())
 }

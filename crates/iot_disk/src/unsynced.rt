@@ -1,7 +1,7 @@
 //! Which bytes a write since the last sync covered.
-ghost use Rattle.std.specs.Prelude.{◌≡◌, ◌≤◌, ◌-◌, ◌++◌, [], ℕ, List, Bool, true, false, length, replicate, IfOk, OnOk, OnErr};
+ghost use Rattle.std.specs.Prelude.{◌≡◌, ◌≤◌, ◌-◌, ◌++◌, [], ℕ, true, false, length, replicate, OnOk, OnErr};
 ghost use Rattle.iot_disk.specs.Disk.{overwritten};
-ghost use Rattle.iot_disk.specs.Unsynced.{Hold, IsIn, TakeIn, AreAlike, Clears};
+ghost use Rattle.iot_disk.specs.Unsynced.{Hold, IsIn, TakeIn, AreAlike, Clears, Covers};
 
 use std::alloc::{AllocError, Global};
 use std::marker::Model;
@@ -17,9 +17,10 @@ impl Span {
     const EMPTY: Span = Span { start: 0, end: 0 };
 }
 
-/// A mark for each byte of a disk, in a form whose use costs as much as was marked.
+/// A mark for each byte of a disk that was there at the last sync, in a form whose use costs as much as was marked.
 ///
-/// Each mark lies in a span that was covered. If there is no memory for one more span, `rest` takes it in.
+/// A byte that was not there is marked without one. Each mark lies in a span that was covered. If there is no memory for
+/// one more span, `rest` takes it in.
 #[derive(Debug, Drop)]
 pub struct Unsynced {
     marks: Vec<bool>,
@@ -28,13 +29,12 @@ pub struct Unsynced {
 }
 
 impl Model for Unsynced {
-    ghost use Rattle.std.specs.Prelude.{List, Bool};
+    ghost use Rattle.std.specs.Prelude.{vec_capacity};
+    ghost use Rattle.iot_disk.specs.Unsynced.{Marks, Hold};
 
-    ghost Value = { List Bool };
+    ghost Value = { Marks };
 
-    ghost use Rattle.iot_disk.specs.Unsynced.{Hold};
-
-    ghost view = { λ u. u.marks.items };
+    ghost view = { λ u. record { known = u.marks.items; room = vec_capacity u.marks } };
 
     ghost invariant = { λ u. Hold u.spans.items u.rest u.marks.items };
 }
@@ -42,7 +42,7 @@ impl Model for Unsynced {
 impl Unsynced {
     /// For an empty disk. Does not allocate.
     pub fn new(alloc: Global) -> Self
-        ensures { result ≡ [] }
+        ensures { result.known ≡ [] }
     {
         Unsynced {
             marks: Vec::new(alloc),
@@ -51,64 +51,85 @@ impl Unsynced {
         }
     }
 
-    /// Makes room for a disk of `count` bytes, of which no new one is marked.
-    pub fn lengthen(&mut self, count: usize) -> Result<(), AllocError>
-        requires { length self.old ≤ count }
-        ensures ok { OnOk result (self.new ≡ self.old ++ replicate (count - length self.old) false) }
+    /// Makes room for the marks of a disk of `count` bytes.
+    pub fn reserve(&mut self, count: usize) -> Result<(), AllocError>
+        requires { length self.old.known ≤ count }
+        ensures known { self.new.known ≡ self.old.known }
+        ensures more { self.old.room ≤ self.new.room }
+        ensures ok { OnOk result (count ≤ self.new.room) }
         ensures err { OnErr result (self.new ≡ self.old) }
     {
-        self.marks.resize(count, false)
+        self.marks.reserve(count - self.marks.len())
     }
 
     /// Marks a span. It takes memory if there is some, and does without if there is none.
     pub fn cover(&mut self, span: Span)
-        requires ordered { span.start ≤ span.end }
-        requires inside { span.end ≤ length self.old }
-        ensures { self.new
-            ≡ overwritten self.old span.start (replicate (span.end - span.start) true) }
+        requires { span.start ≤ span.end }
+        ensures covers { Covers span self.old.known self.new.known }
+        ensures room { self.new.room ≡ self.old.room }
     {
-        note(&mut self.spans, &mut self.rest, span);
-        mark(&mut self.marks, span);
+        let known = self.marks.len();
+        if span.start < known {
+            let inside = Span {
+                start: span.start,
+                end: span.end.min(known),
+            };
+            note(&mut self.spans, &mut self.rest, inside);
+            mark(&mut self.marks, inside);
+        }
     }
 
-    /// The marks, one for each byte.
+    /// The marks, one for each byte that was there at the last sync.
     pub fn marks(&self) -> &[bool]
-        ensures { result.now ≡ self.now }
+        ensures { result.now ≡ self.now.known }
     {
         &self.marks
     }
 
-    /// Copies the bytes that are marked, and takes the marks away.
+    /// Copies the bytes that are marked, of those that were there at the last sync, and takes their marks away.
     pub fn sync(&mut self, written: &[u8], synced: &mut [u8])
-        requires written { length written.now ≡ length self.old }
-        requires synced { length synced.old ≡ length self.old }
-        requires alike { AreAlike self.old synced.old written.now }
+        requires written { length written.now ≡ length self.old.known }
+        requires synced { length synced.old ≡ length self.old.known }
+        requires alike { AreAlike self.old.known synced.old written.now }
         ensures synced { synced.new ≡ written.now }
-        ensures marks { self.new ≡ replicate (length self.old) false }
+        ensures marks { self.new.known ≡ replicate (length self.old.known) false }
+        ensures room { self.new.room ≡ self.old.room }
     {
         sync_spans(&self.spans, self.rest, written, synced, &mut self.marks);
         self.spans.clear();
         self.rest = Span::EMPTY;
     }
 
-    /// Takes all marks away, for a disk that is now of `count` bytes.
-    pub fn clear(&mut self, count: usize)
-        requires { count ≤ length self.old }
-        ensures { self.new ≡ replicate count false }
+    /// Has a mark from now on for each of `count` bytes, and sets no new one.
+    pub fn lengthen(&mut self, count: usize)
+        requires known { length self.old.known ≤ count }
+        requires room { count ≤ self.old.room }
+        ensures known { self.new.known
+            ≡ self.old.known ++ replicate (count - length self.old.known) false }
+        ensures room { self.old.room ≤ self.new.room }
     {
-        self.marks.truncate(count);
-        self.marks.fill(false);
+        self.marks.resize(count, false).unwrap();
+    }
+
+    /// Has no mark from now on, for a disk of `count` bytes that are all synced.
+    pub fn clear(&mut self, count: usize)
+        requires { count ≤ self.old.room }
+        ensures known { self.new.known ≡ replicate count false }
+        ensures room { self.old.room ≤ self.new.room }
+    {
+        self.marks.clear();
         self.spans.clear();
         self.rest = Span::EMPTY;
+        self.lengthen(count);
     }
 }
 
 /// Sets the marks of a span.
-fn mark(marks: &mut Vec<bool>, span: Span)
+fn mark(marks: &mut [bool], span: Span)
     requires ordered { span.start ≤ span.end }
-    requires inside { span.end ≤ length marks.old.items }
-    ensures { marks.new.items
-        ≡ overwritten marks.old.items span.start (replicate (span.end - span.start) true) }
+    requires inside { span.end ≤ length marks.old }
+    ensures { marks.new
+        ≡ overwritten marks.old span.start (replicate (span.end - span.start) true) }
 {
     marks[span.start..span.end].fill(true);
 }
