@@ -10,9 +10,9 @@ ghost use Rattle.iot_codec.specs.Laws.Values.{name_laws};
 
 use crate::CodecFault;
 use crate::numbers::number_at;
-use crate::parts::{bytes_at, malformed, put_counted};
+use crate::parts::{bytes_at, malformed};
 use crate::spelled::{Spelled, read};
-use iot_text::{Name, NoMemory, Text};
+use iot_text::{NAME_LIMIT, Name, NoMemory, Text};
 use std::alloc::Global;
 
 impl Spelled for Name {
@@ -22,8 +22,14 @@ impl Spelled for Name {
 
     ghost decoding = { name_at };
 
+    /// In one piece, since a path has many of them.
     fn put(&self, out: &mut Text) -> Result<(), NoMemory> {
-        put_counted(self.as_bytes(), out)
+        let text = self.as_bytes();
+        let mut spelled = [0; 8 + NAME_LIMIT];
+        let end = 8 + text.len();
+        spelled[..8].copy_from_slice(&(text.len() as u64).to_be_bytes());
+        spelled[8..end].copy_from_slice(text);
+        out.append(&spelled[..end])
     }
 
     #[tactic(auto, unfolding(crate::specs::Decoding::name_at))]
