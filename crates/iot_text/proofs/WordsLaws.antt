@@ -1,6 +1,6 @@
 -- Names are in the order of the words of eight bytes that their arrays are made of.
 use Rattle.std.proofs.Common.{◌≡◌, ◌≢◌, ◌<◌, ◌≤◌, ℕ, zero, suc, ◌+◌, ◌*◌, ◌-◌, Bool, true, false, List, [], ◌∷◌, ◌++◌, length, get_or}
-use Rattle.std.proofs.Common.{Ordering, Less, Equal, Greater, ◌^◌, ◌&&◌, length-take-le, length-drop, take, drop, replicate}
+use Rattle.std.proofs.Common.{Ordering, Less, Equal, Greater, ◌^◌, ◌%◌, ◌&&◌, length-take-le, length-drop, take, drop, replicate}
 use Rattle.std.proofs.Common.{refl, sym, ◌∙◌, ap, subst, arith}
 use Rattle.std.specs.Ordering.{ordering_then, nat_cmp}
 use Rattle.std.specs.Cmp.Lexicographic.{slice_cmp}
@@ -8,7 +8,8 @@ use Rattle.std.specs.Cmp.{nat_cmp_is}
 use Rattle.std.specs.Int.{w64, from_be_bytes}
 use Rattle.std.specs.List.{list_all}
 use Rattle.std.proofs.Math.Nat.{pow-suc}
-use Rattle.std.proofs.lemmas.List.{drop-drop}
+use Rattle.std.proofs.Math.Seq.{drop-append-add}
+use Rattle.std.proofs.lemmas.List.{drop-drop, drop-replicate, get_or-take, get_or-drop}
 use Rattle.std.proofs.lemmas.Bool.{false≢true}
 use Rattle.std.proofs.lemmas.Bool.Decides.{nat_tests}
 use Rattle.iot_text.specs.Names.{is_name_byte}
@@ -204,6 +205,39 @@ in_part (suc n) zero (x ∷ xs) small (suc k) = in_part n zero xs (λ j. small (
 in_part (suc n) (suc m) [] small k = omega arith
 in_part (suc n) (suc m) (x ∷ xs) small k = in_part (suc n) m xs (λ j. small (suc j)) k
 
+-- the last of the bytes that a word spells
+last_byte : (a b c d e f g h : ℕ) → h < 256 → (a * 72057594037927936 + b * 281474976710656 + c * 1099511627776 + d * 4294967296
+    + e * 16777216 + f * 65536 + g * 256 + h) % 256 ≡ 0 → h ≡ 0
+last_byte a b c d e f g h small is = omega (arith, small, is)
+
+ends_in_zero : (xs : List ℕ) → get_or xs 7 0 < 256 → from_be_bytes w64 xs % 256 ≡ 0 → get_or xs 7 0 ≡ 0
+ends_in_zero xs small is = last_byte (get_or xs 0 0) (get_or xs 1 0) (get_or xs 2 0) (get_or xs 3 0) (get_or xs 4 0) (get_or xs 5 0)
+    (get_or xs 6 0) (get_or xs 7 0) small is
+
+zero_past : (xs : List ℕ) (i j : ℕ) → list_all is_name_byte xs ≡ true → get_or (xs ++ replicate i 0) j 0 ≡ 0 → length xs ≤ j
+zero_past [] i j all is = omega arith
+zero_past (zero ∷ xs) i zero all is = absurd (false≢true all)
+zero_past (suc x ∷ xs) i zero all is = absurd (omega (arith, is))
+zero_past (x ∷ xs) i (suc j) all is = omega (arith, zero_past xs i j (and_right _ _ all) is)
+
+zeros_left : (xs : List ℕ) (i m : ℕ) → length xs ≤ m → drop m (xs ++ replicate i 0) ≡ replicate (length xs + i - m) 0
+zeros_left xs i m past =
+    ap (λ (n : ℕ). drop n (xs ++ replicate i 0)) (omega (arith, past))
+    ∙ drop-append-add xs (replicate i 0) (m - length xs)
+    ∙ drop-replicate (m - length xs) i 0
+    ∙ ap (λ (n : ℕ). replicate n 0) (omega (arith, past))
+
+-- after a zero come zeros alone
+rest_is : (n : ℕ) (xs : List ℕ) → IsStored n xs → (w : ℕ) → w < 4 → get_or xs (8 * w + 7) 0 ≡ 0
+    → drop (8 * (w + 1)) xs ≡ replicate (32 - 8 * (w + 1)) 0
+rest_is n xs stored w within is =
+    let name = name_parts _ stored.name in
+    let zero_is = ap (λ (l : List ℕ). get_or l (8 * w + 7) 0) (sym stored.padded) ∙ is in
+    let past = zero_past (take n xs) (32 - n) (8 * w + 7) name.name_bytes zero_is in
+    ap (drop (8 * (w + 1))) stored.padded
+    ∙ zeros_left (take n xs) (32 - n) (8 * (w + 1)) (omega (arith, past))
+    ∙ ap (λ (k : ℕ). replicate k 0) (omega (arith, stored.len_is, name.within_limit))
+
 -- two names, and the arrays that they are stored in
 module _ (n m : ℕ) (xs ys : List ℕ) (one : IsStored n xs) (other : IsStored m ys) where
   as_long : length (take n xs) + (32 - n) ≡ length (take m ys) + (32 - m)
@@ -240,3 +274,23 @@ module _ (n m : ℕ) (xs ys : List ℕ) (one : IsStored n xs) (other : IsStored 
     pub word_decides : (word (drop (8 * w) xs) ≢ word (drop (8 * w) ys)) → slice_cmp nat_cmp (drop (8 * w) xs) (drop (8 * w) ys)
         ≡ nat_cmp (word (drop (8 * w) xs)) (word (drop (8 * w) ys))
     word_decides differ = other_word _ _ long far (in_part 8 (8 * w) xs bytes_one) (in_part 8 (8 * w) ys bytes_other) differ
+
+    byte_is : get_or (take 8 (drop (8 * w) xs)) 7 0 ≡ get_or xs (8 * w + 7) 0
+    byte_is = get_or-take 8 (drop (8 * w) xs) 7 0 (omega arith) ∙ get_or-drop (8 * w) xs 7 0
+
+    other_byte_is : get_or (take 8 (drop (8 * w) ys)) 7 0 ≡ get_or ys (8 * w + 7) 0
+    other_byte_is = get_or-take 8 (drop (8 * w) ys) 7 0 (omega arith) ∙ get_or-drop (8 * w) ys 7 0
+
+    -- where a word of both ends in a zero, nothing but zeros comes after it
+    pub ended : word (drop (8 * w) xs) ≡ word (drop (8 * w) ys) → word (drop (8 * w) xs) % 256 ≡ 0
+        → slice_cmp nat_cmp (drop (8 * w) xs) (drop (8 * w) ys) ≡ Equal
+    ended same is =
+        let mine = sym byte_is ∙ ends_in_zero (take 8 (drop (8 * w) xs)) (in_part 8 (8 * w) xs bytes_one 7) is in
+        let theirs = sym other_byte_is
+        ∙ ends_in_zero (take 8 (drop (8 * w) ys)) (in_part 8 (8 * w) ys bytes_other 7) (ap (λ (n : ℕ). n % 256) (sym same) ∙ is) in
+        let left = rest_is n xs one w within mine in
+        let right = rest_is m ys other w within theirs in
+        next_word same
+        ∙ ap (λ (l : List ℕ). slice_cmp nat_cmp l (drop (8 * (w + 1)) ys)) left
+        ∙ ap (slice_cmp nat_cmp (replicate (32 - 8 * (w + 1)) 0)) right
+        ∙ zeros_equal (32 - 8 * (w + 1))

@@ -218,6 +218,10 @@ impl Ord for Name {
             if mine != theirs {
                 return mine.cmp(&theirs);
             }
+            // Where a word ends in a zero, both names have ended.
+            if mine % 256 == 0 {
+                return Ordering::Equal;
+            }
         }
         Ordering::Equal
     }

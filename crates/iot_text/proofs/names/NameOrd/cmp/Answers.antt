@@ -1,8 +1,8 @@
-use Rattle.std.proofs.Common.{◌≡◌, ◌*◌, ℕ, List, take, drop, [], ◌∙◌, sym, ap, arith}
+use Rattle.std.proofs.Common.{◌≡◌, ◌*◌, ◌%◌, ℕ, List, take, drop, [], ◌∙◌, sym, ap, arith}
 use Rattle.std.proofs.lemmas.List.{drop_all}
 use Rattle.std.specs.Ordering.{nat_cmp}
 use Rattle.std.specs.Cmp.Lexicographic.{slice_cmp}
-use Rattle.iot_text.proofs.WordsLaws.{word, as_arrays, next_word, word_decides}
+use Rattle.iot_text.proofs.WordsLaws.{word, as_arrays, next_word, word_decides, ended}
 use Rattle.iot_text.proofs.names.NameOrd.cmp.Goals as goal
 
 pub words-preserved : goal.words-preserved
@@ -42,3 +42,16 @@ returns c =
     ∙ c.words.invariant
     ∙ ap (λ (l : List ℕ). slice_cmp nat_cmp l (drop (8 * c.words.word) ys)) mine
     ∙ ap (slice_cmp nat_cmp []) theirs)
+
+pub returns-then-mine-eq0 : goal.returns-then-mine-eq0
+returns-then-mine-eq0 c =
+    let ys = c.other.inside.bytes in
+    let same = sym c.word_at-mine.ensures ∙ c.if-mine-theirs.false ∙ c.word_at-theirs.ensures in
+    let zero = ap (λ (n : ℕ). n % 256) (sym c.word_at-mine.ensures) ∙ c.if-mine-eq0.true in
+    sym
+    (sym
+    (ap (λ (l : List ℕ). slice_cmp nat_cmp l (take c.other.inside.len ys)) c.self.view_is
+    ∙ ap (slice_cmp nat_cmp c.args.self.now) c.other.view_is)
+    ∙ as_arrays _ _ _ _ c.self.invariant c.other.invariant
+    ∙ c.words.invariant
+    ∙ ended _ _ _ _ c.self.invariant c.other.invariant c.words.word c.words-test.true c.self.told c.other.told same zero)
