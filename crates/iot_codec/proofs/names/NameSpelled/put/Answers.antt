@@ -1,4 +1,5 @@
-use Rattle.std.proofs.Common.{◌≡◌, ◌≤◌, ◌+◌, ◌-◌, ◌++◌, List, ℕ, OnOk, length, take, drop, replicate, length-append, append_assoc, sym, ap, subst, ◌∙◌, arith}
+use Rattle.std.proofs.Common.{◌≡◌, ◌≤◌, ◌+◌, ◌-◌, ◌++◌, List, ℕ, OnOk, length, take, drop, replicate, length-append}
+use Rattle.std.proofs.Common.{append_assoc, sym, ap, subst, ◌∙◌, arith}
 use Rattle.std.proofs.lemmas.List.{take_at}
 use Rattle.iot_text.proofs.NamesLaws.{name_parts}
 use Rattle.iot_codec.specs.Spelling.{number_spelling, counted}
@@ -9,7 +10,8 @@ slice_bounds-spelled-end-2 c =
     let limit = (name_parts _ c.as_bytes-text.ensures.valid).within_limit in
     let size : length (c.copy_from_slice.new.self ++ replicate 32 0) ≡ 40
     = omega (arith, c.copy_from_slice.ensures.len, length-append c.copy_from_slice.new.self (replicate 32 0)) in
-    let within : 8 + length c.as_bytes-text.result.now ≤ length (c.copy_from_slice.new.self ++ replicate 32 0) = omega (arith, limit, size) in
+    let within : 8 + length c.as_bytes-text.result.now ≤ length (c.copy_from_slice.new.self ++ replicate 32 0)
+    = omega (arith, limit, size) in
     within
 
 -- the front of the array is the number, and then the bytes
