@@ -1,5 +1,5 @@
 -- Changes keep that all acts hold in turn and are guarded; and what they make of the view.
-use Rattle.std.proofs.Common.{◌≡◌, List, [], ◌∷◌, ◌++◌, Option, Some, None, Result, Ok, Err, OnOk, refl, sym, ap, subst, ◌∙◌}
+use Rattle.std.proofs.Common.{◌≡◌, ℕ, List, [], ◌∷◌, ◌++◌, Option, Some, None, Result, Ok, Err, OnOk, refl, sym, ap, subst, ◌∙◌}
 use Rattle.std.specs.Prelude.{IsSome}
 use Rattle.std.specs.declared.alloc.AllocError.{AllocError as NoMemory}
 use Rattle.iot_tree.specs.Tree.{Nodes}
@@ -38,6 +38,21 @@ hold_fit (act ∷ acts) t hold = (hold.1, hold_fit acts (after_update t act.upda
 -- those of the head
 pub head_fits : (item : Item) (items queue : List Item) (t : Nodes) → queue ≡ item ∷ items → EachHold t queue → UpdatesFit t item.acts
 head_fits item items queue t is hold = hold_fit item.acts t (subst (EachHold t) is hold).0
+
+-- what the head leaves behind if nothing else waits or runs: the held tree is the view then
+pub left_alone : (held tree : Nodes) (items rest : List Item) (running : Option Transaction) (last : ℕ) (head : Item) → items ≡ head ∷ rest
+    → rest ≡ [] → running ≡ None → tree ≡ view (record { held = held; items = items; running = running; last = last })
+    → record { held = tree; items = rest; running = running; last = last }
+    ≡ left (record { held = held; items = items; running = running; last = last }) items
+left_alone held tree items rest running last head is none idle sees =
+    let state : List Item → Option Transaction → State =
+    λ items running. record { held = held; items = items; running = running; last = last } in
+    let made : tree ≡ after_acts held head.acts =
+    sees
+    ∙ ap (λ items. view (state items running)) (is ∙ ap (λ rest. head ∷ rest) none)
+    ∙ ap (λ running. view (state (head ∷ []) running)) idle in
+    ap (λ (t : Nodes). record { held = t; items = rest; running = running; last = last }) made
+    ∙ sym (ap (λ queue. left (state items running) queue) is)
 
 each_more : (items more : List Item) (t : Nodes) → EachHold t items → EachHold (after_each t items) more → EachHold t (items ++ more)
 each_more [] more t hold own = own

@@ -1,7 +1,7 @@
 //! What is durable of a client, in memory, and the one place where it changes.
-ghost use Rattle.std.specs.Prelude.{◌≡◌, ◌<◌, OnOk, false, None, Some};
-ghost use Rattle.iot_kept.specs.States.{AllHold};
-ghost use Rattle.iot_kept.specs.Changes.{CanFollow, HeadIs, MayLeave, stage_by, after};
+ghost use Rattle.std.specs.Prelude.{◌≡◌, ◌<◌, [], OnOk, true, false, None, Some};
+ghost use Rattle.iot_kept.specs.States.{AllHold, view};
+ghost use Rattle.iot_kept.specs.Changes.{CanFollow, HeadIs, MayLeave, stage_by, after, seen};
 ghost use Rattle.iot_kept.specs.Memory.{durable_state, class_of, class_after, classed, item_of};
 
 use crate::running::Running;
@@ -24,10 +24,17 @@ pub(crate) struct Durable {
 }
 
 impl Durable {
-    /// Makes the change. A transaction that begins is second class. After an error nothing is said of it.
-    pub(crate) fn note(&mut self, alloc: Global, change: Change) -> Result<(), NoMemory>
+    /// Makes the change, after which scripts read the tree `visible`. A transaction that begins is second class. After an error nothing
+    /// is said of it.
+    pub(crate) fn note(
+        &mut self,
+        alloc: Global,
+        change: Change,
+        visible: &Tree,
+    ) -> Result<(), NoMemory>
         requires follows { CanFollow (durable_state self.old) change }
         requires hold { AllHold (durable_state self.old) }
+        requires sees { visible.now ≡ seen (view (durable_state self.old)) change }
         ensures state { OnOk result (durable_state self.new ≡ after (durable_state self.old) change) }
         ensures class { OnOk result (class_of self.new.running ≡ class_after change (class_of self.old.running)) }
     {
@@ -51,7 +58,7 @@ impl Durable {
             Change::Acted(act) => self.add(act),
             Change::Ended => self.end(),
             Change::Cut => self.cut(),
-            Change::Conflicted => self.conflict(alloc),
+            Change::Conflicted => self.conflict(alloc, visible),
             Change::Resolved(done) => {
                 self.resolve(done);
                 Ok(())
@@ -60,7 +67,7 @@ impl Durable {
                 self.repair(script);
                 Ok(())
             }
-            Change::Left => self.leave(alloc),
+            Change::Left => self.leave(alloc, visible),
         }
     }
 
@@ -141,9 +148,10 @@ impl Durable {
 
 // What becomes of the first transaction that waits.
 impl Durable {
-    fn conflict(&mut self, alloc: Global) -> Result<(), NoMemory>
+    fn conflict(&mut self, alloc: Global, visible: &Tree) -> Result<(), NoMemory>
         requires waits { CanFollow (durable_state self.old) Change.Conflicted }
         requires hold { AllHold (durable_state self.old) }
+        requires sees { visible.now ≡ view (durable_state self.old) }
         ensures state { OnOk result (durable_state self.new ≡ after (durable_state self.old) Change.Conflicted) }
         ensures class { OnOk result (class_of self.new.running ≡ class_of self.old.running) }
     {
@@ -155,7 +163,7 @@ impl Durable {
                 self.queue.set_stage(stage);
                 Ok(())
             }
-            None => self.leave(alloc),
+            None => self.leave(alloc, visible),
         }
     }
 
@@ -176,15 +184,32 @@ impl Durable {
         self.queue.set_stage(Stage::Conflict);
     }
 
-    fn leave(&mut self, alloc: Global) -> Result<(), NoMemory>
+    /// Lets the first one leave. If nothing else waits or runs, the tree after its updates is there already: it is the one that scripts read.
+    fn leave(&mut self, alloc: Global, visible: &Tree) -> Result<(), NoMemory>
         requires waits { HeadIs MayLeave self.old.queue }
         requires hold { AllHold (durable_state self.old) }
+        requires sees { visible.now ≡ view (durable_state self.old) }
         ensures state { OnOk result (durable_state self.new ≡ after (durable_state self.old) Change.Left) }
         ensures class { OnOk result (class_of self.new.running ≡ class_of self.old.running) }
     {
-        match self.queue.leave_head() {
-            Some(head) => self.held.pass(alloc, &head.acts),
-            None => unreachable!(),
+        let Some(head) = self.queue.leave_head() else {
+            unreachable!();
+        };
+        if self.is_quiet() {
+            self.held.merge(visible.copy(alloc)?);
+            return Ok(());
+        }
+        self.held.pass(alloc, &head.acts)
+    }
+
+    /// Whether nothing waits and nothing runs.
+    fn is_quiet(&self) -> bool
+        ensures waits { result ≡ true → self.now.queue ≡ [] }
+        ensures runs { result ≡ true → self.now.running ≡ None }
+    {
+        match (self.queue.head(), &self.running) {
+            (None, None) => true,
+            _ => false,
         }
     }
 }

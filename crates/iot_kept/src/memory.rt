@@ -50,7 +50,7 @@ impl Memory {
         ensures sees { OnOk result (Sees self.new) }
     {
         see(alloc, &mut self.view, &change)?;
-        self.durable.note(alloc, change)
+        self.durable.note(alloc, change, &self.view)
     }
 
     /// Makes the change if it can follow, and says whether it can.
