@@ -184,7 +184,8 @@ impl Durable {
         self.queue.set_stage(Stage::Conflict);
     }
 
-    /// Lets the first one leave. If nothing else waits or runs, the tree after its updates is there already: it is the one that scripts read.
+    /// Lets the first one leave. If nothing else waits or runs, the tree after its updates is there already: it is the one that
+    /// scripts read.
     fn leave(&mut self, alloc: Global, visible: &Tree) -> Result<(), NoMemory>
         requires waits { HeadIs MayLeave self.old.queue }
         requires hold { AllHold (durable_state self.old) }

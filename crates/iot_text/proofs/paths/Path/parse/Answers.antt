@@ -21,7 +21,8 @@ returns-in_default-clause-refused c =
 pub returns-then-start-text-clause-ok : goal.returns-then-start-text-clause-ok
 returns-then-start-text-clause-ok c =
     rw (c.in_ok-from_names.ensures, c.in_ok-push.ensures.items)
-    (completed c.parts.names.items c.args.text.now c.parts.start c.part_len-len.result c.in-Ok.name c.parts.invariant.names c.parts.invariant.stepped.spelled c.if-start-text.true c.in-Ok.ensures.ok.1
+    (completed c.parts.names.items c.args.text.now c.parts.start c.part_len-len.result c.in-Ok.name c.parts.invariant.names
+    c.parts.invariant.stepped.spelled c.if-start-text.true c.in-Ok.ensures.ok.1
     (rw (c.in-Ok.ensures.ok.1) (c.in-Ok.ensures.ok.0)))
 
 pub parts-preserved : goal.parts-preserved
