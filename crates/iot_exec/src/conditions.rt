@@ -11,7 +11,7 @@ use crate::endings::Stop;
 use crate::env::Env;
 use iot_lang::{Cond, Word};
 use iot_text::{Name, NoMemory, Path};
-use iot_tree::{Kind, Question, Sequence};
+use iot_tree::{Blob, Kind, Question, Sequence};
 use std::alloc::{AllocError, Global};
 
 /// The path whose text is the value of a word, if there is one.
@@ -79,11 +79,11 @@ impl<'t> Asking<'t> {
     }
 
     /// The contents of a file, if they are known, lent out of the tree.
-    fn content(&mut self, path: &Path) -> Result<Option<&'t [u8]>, NoMemory>
+    fn content(&mut self, path: &Path) -> Result<Option<&'t Blob>, NoMemory>
         ensures content { IfOk result (λ bytes. option_copied bytes ≡ content_of self.old.tree.now path.now) }
         ensures asked { OnOk result (self.new ≡ asked self.old (Question.Content path.now)) }
     {
-        let bytes = self.tree.content(path);
+        let bytes = self.file(path);
         match bytes {
             Some(bytes) => self.record_contents(path, bytes)?,
             None => {

@@ -1,6 +1,7 @@
 //! The contents of files, and the names in directories.
 ghost use Rattle.std.specs.Prelude.{◌≡◌, Some, None, Err, OnOk, IfOk};
-ghost use Rattle.iot_tree.specs.Questions.{content_of, answer_of};
+ghost use Rattle.std.specs.Option.{option_copied};
+ghost use Rattle.iot_tree.specs.Questions.{content_at, content_of, answer_of};
 ghost use Rattle.iot_exec.specs.Asking.{Answered, Finds, Passes, asked, lent, names_in, last_names, with_names};
 ghost use Rattle.iot_exec.specs.Commands.{contents, contents_or, no_contents_reason, names_or, empty_dir};
 ghost use Rattle.iot_exec.specs.declared.endings.Refusal.TheVariants.{At};
@@ -8,7 +9,7 @@ ghost use Rattle.iot_exec.specs.declared.endings.Refusal.TheVariants.{At};
 use crate::asking::Asking;
 use crate::endings::{Reason, Stop};
 use iot_text::{Name, NoMemory, Path};
-use iot_tree::{Answer, Blob, Kind, Question};
+use iot_tree::{Answer, Blob, Duplicate, Kind, Node, Question};
 
 /// Why an answer without contents has none.
 fn reason_of(answer: &Answer) -> Reason
@@ -17,6 +18,16 @@ fn reason_of(answer: &Answer) -> Reason
     match answer {
         Answer::Absent => Reason::NoFile,
         _ => Reason::NotCached,
+    }
+}
+
+/// The contents of the object, if it is a file whose contents are known.
+fn contents_in(node: &Node) -> Option<&Blob>
+    ensures { option_copied result ≡ content_at (Some node.now) }
+{
+    match node {
+        Node::File(bytes) => Some(bytes),
+        _ => None,
     }
 }
 
@@ -35,10 +46,10 @@ impl<'t> Asking<'t> {
     pub(crate) fn contents(&mut self, path: &Path) -> Result<&'t [u8], Stop>
         ensures { Finds self.old (contents path.now) self.new (lent result) }
     {
-        match self.tree.content(path) {
+        match self.file(path) {
             Some(bytes) => {
                 self.record_contents(path, bytes)?;
-                Ok(bytes)
+                Ok(bytes.as_slice())
             }
             None => {
                 let reason = self.no_contents(path)?;
@@ -47,14 +58,23 @@ impl<'t> Asking<'t> {
         }
     }
 
-    /// Keeps the question for the contents of a file, which are these.
-    pub(crate) fn record_contents(&mut self, path: &Path, bytes: &[u8]) -> Result<(), NoMemory>
+    /// The contents of a file, if they are known, lent out of the tree. Does not allocate.
+    pub(crate) fn file(&self, path: &Path) -> Option<&'t Blob>
+        ensures { option_copied result ≡ content_of self.now.tree.now path.now }
+    {
+        match self.tree.node(path.names()) {
+            Some(node) => contents_in(node),
+            None => None,
+        }
+    }
+
+    /// Keeps the question for the contents of a file, which are these: the read shares them.
+    pub(crate) fn record_contents(&mut self, path: &Path, bytes: &Blob) -> Result<(), NoMemory>
         requires { content_of self.old.tree.now path.now ≡ Some bytes.now }
         ensures { OnOk result (self.new ≡ asked self.old (Question.Content path.now)) }
     {
         let question = Question::Content(path.copy(self.alloc)?);
-        let copy = Blob::from_vec(Vec::from_slice(self.alloc, bytes)?)?;
-        self.record(question, Answer::Bytes(copy))
+        self.record(question, Answer::Bytes(bytes.copy(self.alloc)?))
     }
 
     /// Asks for the contents of a file that the tree does not have: why there are none.
