@@ -6,8 +6,12 @@ use Rattle.std.specs.Prelude.{IfSome}
 use Rattle.iot_disk.specs.declared.disk.Pick.{Pick}
 use Rattle.iot_event.specs.declared.event.Event.{Event}
 use Rattle.iot_event.specs.declared.event.Event.TheVariants as events
-use Rattle.iot_world.specs.Allowed.{is_of_disks}
-use Rattle.iot_world.specs.Deciding.{Begins, DecidesIfAny, decides_client_by, DecidesClient, Decides}
+use Rattle.iot_world.specs.Allowed.{arms_a_disk, is_of_disks}
+use Rattle.std.proofs.lemmas.Option.{IfSome_then}
+use Rattle.iot_machine.specs.Serving.{server_name}
+use Rattle.iot_world.specs.Deciding.{Begins, DecidesBy, DecidesIfAny, decides_client_by, DecidesClient, DecidesServer, Decides}
+use Rattle.iot_world.specs.declared.server.ServerNode.{ServerNode}
+use Rattle.iot_world.specs.declared.server.ServerNode.TheVariants as servers
 use Rattle.iot_world.specs.Nodes.{is_alive, alive_by}
 use Rattle.iot_world.specs.World.{ClientIs}
 use Rattle.iot_world.specs.declared.laptop.Laptop.{Laptop}
@@ -76,63 +80,73 @@ module _ {D : Type 0} (may_leave : D → List ℕ → Type 0) (world : World D) 
       by None is = tt
       by (Some laptop) is = here laptop is
 
+-- ---- a text that was said apart, and then stands behind another
+
+begins_behind : (text x y said : List ℕ) → y ≡ x ++ said → Begins text [] said → Begins text x y
+begins_behind text x y said wrote begins = record {
+  rest = begins.rest;
+  is = wrote ∙ ap (λ (t : List ℕ). x ++ t) begins.is;
+}
+
+module _ (x y said : List ℕ) (wrote : y ≡ x ++ said) where
+  either_behind : (one other : List ℕ) → Begins one [] said ⊎ Begins other [] said → Begins one x y ⊎ Begins other x y
+  either_behind one other (inl begins) = inl (begins_behind one x y said wrote begins)
+  either_behind one other (inr begins) = inr (begins_behind other x y said wrote begins)
+
+  by_behind : (images : List ℕ → Type 0) (count : ℕ) (name : List ℕ) → DecidesBy images count name [] said
+      → DecidesBy images count name x y
+  by_behind images count name decides = record {
+    kept = λ all. either_behind _ _ (decides.kept all);
+    lost = λ all. either_behind _ _ (decides.lost all);
+  }
+
+  if_any_behind : (images : List ℕ → Type 0) (doubt : Option ℕ) (name : List ℕ) → DecidesIfAny images doubt name [] said
+      → DecidesIfAny images doubt name x y
+  if_any_behind images None name decides = tt
+  if_any_behind images (Some count) name decides = by_behind images count name decides
+
+  node_behind : {D : Type 0} (may_leave : D → List ℕ → Type 0) (node : ClientNode D) (name : List ℕ)
+      → decides_client_by may_leave node name [] said → decides_client_by may_leave node name x y
+  node_behind may_leave (Up it) name decides = tt
+  node_behind may_leave (Down disk doubt) name decides = if_any_behind (may_leave disk) doubt name decides
+  node_behind may_leave Between name decides = tt
+
+  server_behind : {D : Type 0} (may_leave : D → List ℕ → Type 0) (node : ServerNode D) → DecidesServer may_leave node [] said
+      → DecidesServer may_leave node x y
+  server_behind may_leave (servers.Up it) decides = tt
+  server_behind may_leave (servers.Down disk None) decides = tt
+  server_behind may_leave (servers.Down disk (Some doubt)) decides = by_behind (may_leave disk) doubt.count server_name decides
+  server_behind may_leave servers.Between decides = tt
+
+  -- what is decided in the text of its own still is
+  pub decides_behind : {D : Type 0} (may_leave : D → List ℕ → Type 0) (event : Event) (old : World D)
+      → Decides may_leave event old [] said → Decides may_leave event old x y
+  decides_behind may_leave events.RestartServer old decides = server_behind may_leave old.server decides
+  decides_behind may_leave (events.RestartClient client) old decides =
+      IfSome_then (slice_get old.clients.items client) decides (λ laptop d. node_behind may_leave laptop.node laptop.name d)
+  decides_behind may_leave other old decides = tt
+
 -- of another event nothing is decided
 pub decides_none : {D : Type 0} (may_leave : D → List ℕ → Type 0) (event : Event) (old : World D) (x y : List ℕ)
     → is_of_disks event ≡ false → Decides may_leave event old x y
-decides_none may_leave (events.Client name) old x y another = tt
-decides_none may_leave (events.Script name code) old x y another = tt
-decides_none may_leave (events.Run client script option) old x y another = tt
-decides_none may_leave (events.Hoard client path) old x y another = tt
-decides_none may_leave (events.Refresh client) old x y another = tt
-decides_none may_leave (events.Begin client script option) old x y another = tt
-decides_none may_leave (events.Step client count) old x y another = tt
-decides_none may_leave (events.End client) old x y another = tt
-decides_none may_leave (events.Connect client) old x y another = tt
-decides_none may_leave (events.Disconnect client) old x y another = tt
-decides_none may_leave (events.Lose client loss) old x y another = tt
-decides_none may_leave (events.Sync client) old x y another = tt
-decides_none may_leave (events.Drain client) old x y another = tt
-decides_none may_leave (events.Repair client script) old x y another = tt
-decides_none may_leave (events.Discard client) old x y another = tt
-decides_none may_leave events.ShowServer old x y another = tt
-decides_none may_leave (events.ShowClient client) old x y another = tt
 decides_none may_leave (events.StopServer calls pick) old x y another = absurd cc
 decides_none may_leave (events.StopClient client calls pick) old x y another = absurd cc
-decides_none may_leave events.CrashServer old x y another = tt
-decides_none may_leave (events.CrashClient client) old x y another = tt
 decides_none may_leave events.RestartServer old x y another = absurd cc
 decides_none may_leave (events.RestartClient client) old x y another = absurd cc
-decides_none may_leave (events.Queue client) old x y another = tt
-decides_none may_leave (events.Reads client item) old x y another = tt
-decides_none may_leave events.Log old x y another = tt
+decides_none may_leave other old x y another = tt
 
--- which is one that is none of these
-pub is_another : (event : Event) → ((calls : ℕ) (pick : Pick) → event ≡ events.StopServer calls pick → ⊥)
-    → ((client calls : ℕ) (pick : Pick) → event ≡ events.StopClient client calls pick → ⊥) → (event ≡ events.RestartServer → ⊥)
+-- an event that is no stop arms no disk
+pub arms_none : (event : Event) → ((calls : ℕ) (pick : Pick) → event ≡ events.StopServer calls pick → ⊥)
+    → ((client calls : ℕ) (pick : Pick) → event ≡ events.StopClient client calls pick → ⊥) → arms_a_disk event ≡ false
+arms_none (events.StopServer calls pick) server client = absurd (server calls pick refl)
+arms_none (events.StopClient one calls pick) server client = absurd (client one calls pick refl)
+arms_none other server client = refl
+
+-- and if it is no restart either, it is none of those
+pub is_another : (event : Event) → arms_a_disk event ≡ false → (event ≡ events.RestartServer → ⊥)
     → ((client : ℕ) → event ≡ events.RestartClient client → ⊥) → is_of_disks event ≡ false
-is_another (events.Client name) one two three four = refl
-is_another (events.Script name code) one two three four = refl
-is_another (events.Run client script option) one two three four = refl
-is_another (events.Hoard client path) one two three four = refl
-is_another (events.Refresh client) one two three four = refl
-is_another (events.Begin client script option) one two three four = refl
-is_another (events.Step client count) one two three four = refl
-is_another (events.End client) one two three four = refl
-is_another (events.Connect client) one two three four = refl
-is_another (events.Disconnect client) one two three four = refl
-is_another (events.Lose client loss) one two three four = refl
-is_another (events.Sync client) one two three four = refl
-is_another (events.Drain client) one two three four = refl
-is_another (events.Repair client script) one two three four = refl
-is_another (events.Discard client) one two three four = refl
-is_another events.ShowServer one two three four = refl
-is_another (events.ShowClient client) one two three four = refl
-is_another (events.StopServer calls pick) one two three four = absurd (one calls pick refl)
-is_another (events.StopClient client calls pick) one two three four = absurd (two client calls pick refl)
-is_another events.CrashServer one two three four = refl
-is_another (events.CrashClient client) one two three four = refl
-is_another events.RestartServer one two three four = absurd (three refl)
-is_another (events.RestartClient client) one two three four = absurd (four client refl)
-is_another (events.Queue client) one two three four = refl
-is_another (events.Reads client item) one two three four = refl
-is_another events.Log one two three four = refl
+is_another (events.StopServer calls pick) unarmed server client = absurd cc
+is_another (events.StopClient one calls pick) unarmed server client = absurd cc
+is_another events.RestartServer unarmed server client = absurd (server refl)
+is_another (events.RestartClient one) unarmed server client = absurd (client one refl)
+is_another other unarmed server client = refl

@@ -19,6 +19,15 @@ module _ {W M : Type 0} {stands : W → M → Type 0} where
         );
   }
 
+  -- a step that said its text apart, if that stands behind another then
+  pub behind : {A : Type 0} {call : Call M A} (u v : W) (x y said : List ℕ) (a : A) → Refines stands call u v [] said a → y ≡ x ++ said
+      → Refines stands call u v x y a
+  behind u v x y said a one wrote = record {
+    step = λ m here.
+        let s = one.step m here in
+        (s.0, s.1, wrote ∙ ap (λ (l : List ℕ). x ++ l) s.2, s.3, s.4);
+  }
+
   pub asks : {A : Type 0} {ask : M → A} (u : W) (x : List ℕ) (a : A) → ((m : M) → stands u m → a ≡ ask m)
       → Refines stands (Asks ask) u u x x a
   asks u x a is = record { step = λ m here. ([], m, sym (append-nil x), (refl, is m here, refl), here) }

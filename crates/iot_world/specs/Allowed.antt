@@ -38,7 +38,13 @@ IsAllowed (events.Queue client) clients scripts = client < clients
 IsAllowed (events.Reads client item) clients scripts = (client < clients) × (1 ≤ item)
 IsAllowed events.Log clients scripts = Unit {0}
 
--- it makes a later call of a disk fail, or starts a node again from its disk
+-- it makes a later call of a disk fail
+abbrev pub arms_a_disk : Event → Bool
+arms_a_disk (events.StopServer calls pick) = true
+arms_a_disk (events.StopClient client calls pick) = true
+arms_a_disk other = false
+
+-- it does so, or starts a node again from its disk
 abbrev pub is_of_disks : Event → Bool
 is_of_disks (events.StopServer calls pick) = true
 is_of_disks (events.StopClient client calls pick) = true

@@ -4,6 +4,7 @@ ghost use Rattle.std.specs.Prelude.{◌≡◌, ◌++◌, List, Option, None, Som
 ghost use Rattle.iot_client.specs.Faults.{MayFail};
 ghost use Rattle.iot_client.specs.declared.fault.ClientFault.TheVariants.{Stopped};
 ghost use Rattle.iot_machine.specs.Clients.{Declared};
+ghost use Rattle.iot_text.specs.Texts.{Extends};
 ghost use Rattle.iot_machine.specs.Texts.{stopped_line};
 ghost use Rattle.iot_world.specs.Disks.{medium, IsEmpty, SameDisk};
 ghost use Rattle.iot_world.specs.Laptops.{back_said};
@@ -112,6 +113,7 @@ impl<D: Disk> Laptop<D> {
         ensures arms { IfOk result (λ _.
             IsArmed (medium D.reads D.may_leave D.faults D.arms) calls pick self.old self.new out.old out.new) }
         ensures disk { IfErr result (λ _. SameDisk D.arms (disk_in self.old) (disk_in self.new)) }
+        ensures text { Extends out.old out.new }
     {
         say_stop(self.name.as_bytes(), calls, pick, out)?;
         match &mut self.node {

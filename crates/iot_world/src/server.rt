@@ -2,6 +2,7 @@
 ghost use Rattle.std.specs.Prelude.{◌≡◌, ◌+◌, ◌++◌, [], ℕ, List, true, false, Some, IfOk, IfErr, OnOk, is_some};
 ghost use Rattle.std.specs.Option.{option_copied};
 ghost use Rattle.iot_client.specs.Messages.{IsRefresh};
+ghost use Rattle.iot_text.specs.Texts.{Extends};
 ghost use Rattle.iot_tree.specs.Tree.{Nodes};
 ghost use Rattle.iot_tree.specs.declared.want.Want.{Want};
 ghost use Rattle.iot_machine.specs.Refining.{Refines};
@@ -72,6 +73,7 @@ impl<D: Disk> ServerNode<D> {
             (OpensNode server_name) self.old self.new out.old out.new on) }
         ensures requests { OnOk result (HasAnswered 0 self.new) }
         ensures disk { SameDisk D.arms (disk_of self.old) (disk_of self.new) }
+        ensures text { Extends out.old out.new }
     {
         match mem::replace(self, ServerNode::Between) {
             ServerNode::Down { disk, doubt } => match Server::start(alloc, disk) {
@@ -258,6 +260,7 @@ impl<D: Disk> ServerNode<D> {
         ensures requests { OnOk result ((n : ℕ) → HasAnswered n self.old → HasAnswered n self.new) }
         ensures has { HasDisk self.new }
         ensures disk { IfErr result (λ _. SameDisk D.arms (disk_of self.old) (disk_of self.new)) }
+        ensures text { Extends out.old out.new }
     {
         say_stop(b"server", calls, pick, out)?;
         match self {

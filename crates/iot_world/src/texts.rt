@@ -1,6 +1,7 @@
 //! The lines that events print.
 ghost use Rattle.std.specs.Prelude.{◌≡◌, ◌++◌, ◌∷◌, [], codes, IfOk, OnOk};
 ghost use Rattle.std.specs.FinMap.{entries};
+ghost use Rattle.iot_text.specs.Texts.{Extends};
 ghost use Rattle.iot_machine.specs.Texts.{line, client_line, end_line, commit_line, settled_line, transaction_name, output, acts_output};
 ghost use Rattle.iot_machine.specs.Texts.{output_line, row_line, row_text, tree_text};
 ghost use Rattle.iot_machine.specs.Texts.{hoard_line, refresh_line, begin_line, fetch_line, step_line, conflict_line, question_text};
@@ -127,6 +128,7 @@ pub(crate) fn say_failed_start(
     requires { TakesBytes fault }
     ensures stopped { OnOk result (fault ≡ Stopped) }
     ensures says { OnOk result (out.new ≡ out.old ++ stopped_line name.now) }
+    ensures text { Extends out.old out.new }
 {
     match fault {
         StartFault::Stopped => {
@@ -140,7 +142,8 @@ pub(crate) fn say_failed_start(
 
 /// `stop C K PICK`, or `stop server K PICK`
 pub(crate) fn say_stop(name: &[u8], calls: u64, pick: Pick, out: &mut Text) -> Result<(), NoMemory>
-    ensures { OnOk result (out.new ≡ out.old ++ stop_line name.now calls pick) }
+    ensures says { OnOk result (out.new ≡ out.old ++ stop_line name.now calls pick) }
+    ensures text { Extends out.old out.new }
 {
     out.append(b"stop ")?;
     out.append(name)?;
@@ -152,7 +155,8 @@ pub(crate) fn say_stop(name: &[u8], calls: u64, pick: Pick, out: &mut Text) -> R
 }
 
 fn say_pick(pick: Pick, out: &mut Text) -> Result<(), NoMemory>
-    ensures { OnOk result (out.new ≡ out.old ++ pick_text pick) }
+    ensures says { OnOk result (out.new ≡ out.old ++ pick_text pick) }
+    ensures text { Extends out.old out.new }
 {
     match pick {
         Pick::Old => out.append(b"old"),

@@ -44,7 +44,8 @@ pub struct World<D: Disk> {
 }
 
 impl<D: Disk> World<D> {
-    ghost use Rattle.iot_world.specs.Allowed.{IsAllowed, is_of_disks};
+    ghost use Rattle.iot_text.specs.Texts.{Extends};
+    ghost use Rattle.iot_world.specs.Allowed.{IsAllowed, arms_a_disk, is_of_disks};
     ghost use Rattle.iot_world.specs.World.{StandsFor, StandsForSome, IsWorldOfSome, Steps, EventSteps, DeclaredOn, Opens};
     ghost use Rattle.iot_world.specs.World.{HasDisks, SameDisks, KeepsDisks, SameArms, disks_of, DeclaresClient, AddsScript, SetsServer};
     ghost use Rattle.iot_world.specs.World.{IsInside, ClientIs, IsAlive, IsDown, SameDeclared};
@@ -65,6 +66,9 @@ impl<D: Disk> World<D> {
         ensures opens { IfOk result (Opens (medium D.reads D.may_leave D.faults D.arms) disks.items out.old out.new) }
         ensures arms { IfOk result (λ world. map D.arms (disks_of world) ≡ map D.arms disks.items) }
         ensures refused { IfErr result (λ back. map D.arms back.items ≡ map D.arms disks.items) }
+
+        // What was said before stays, also if memory runs out.
+        ensures text { Extends out.old out.new }
     {
         let mut disks = disks;
         let mut server = ServerNode::unopened(take_first(&mut disks));
@@ -106,6 +110,9 @@ impl<D: Disk> World<D> {
 
         // For the events after it.
         ensures declared { OnOk result ((later : List Event) → DeclaredOn (event.now ∷ later) self.old → DeclaredOn later self.new) }
+
+        // What was said before stays, also if memory runs out.
+        ensures text { Extends out.old out.new }
     {
         match event {
             Event::StopServer { calls, pick } => self.stop_server(*calls, *pick, out)?,
@@ -114,9 +121,7 @@ impl<D: Disk> World<D> {
                 calls,
                 pick,
             } => self.stop_client(*client, *calls, *pick, out)?,
-            Event::RestartServer => self.restart(alloc, out)?,
-            Event::RestartClient { client } => self.restart_client(alloc, *client, out)?,
-            _another => self.perform(alloc, event, out)?,
+            _another => self.act_after(alloc, event, out)?,
         }
         Ok(())
     }
@@ -146,6 +151,48 @@ impl<D: Disk> World<D> {
     }
 
     // ---- events
+
+    /// Does one event that arms no disk, and appends what it says. If a text stands there already, the event speaks into one of its own,
+    /// which is appended at its end.
+    fn act_after(&mut self, alloc: Global, event: &Event, out: &mut Text) -> Result<(), NoMemory>
+        requires unarmed { arms_a_disk event.now ≡ false }
+        requires allowed { IsAllowed event.now (client_count self.old) (script_names self.old) }
+        requires stands { IsWorldOfSome (medium D.reads D.may_leave D.faults D.arms) self.old }
+        ensures step { OnOk result
+            (EventSteps (medium D.reads D.may_leave D.faults D.arms) event.now self.old self.new out.old out.new) }
+        ensures decided { OnOk result (Decides D.may_leave event.now self.old out.old out.new) }
+        ensures disks { SameDisks D.arms self.old self.new }
+        ensures declared { OnOk result ((later : List Event) → DeclaredOn (event.now ∷ later) self.old → DeclaredOn later self.new) }
+        ensures text { Extends out.old out.new }
+    {
+        if out.is_empty() {
+            self.act(alloc, event, out)?;
+            return Ok(());
+        }
+        let mut said = Text::new(alloc);
+        self.act(alloc, event, &mut said)?;
+        out.append_text(&said)?;
+        Ok(())
+    }
+
+    /// Does one event that arms no disk, and appends what it says.
+    fn act(&mut self, alloc: Global, event: &Event, out: &mut Text) -> Result<(), NoMemory>
+        requires unarmed { arms_a_disk event.now ≡ false }
+        requires allowed { IsAllowed event.now (client_count self.old) (script_names self.old) }
+        requires stands { IsWorldOfSome (medium D.reads D.may_leave D.faults D.arms) self.old }
+        ensures step { OnOk result
+            (EventSteps (medium D.reads D.may_leave D.faults D.arms) event.now self.old self.new out.old out.new) }
+        ensures decided { OnOk result (Decides D.may_leave event.now self.old out.old out.new) }
+        ensures disks { SameDisks D.arms self.old self.new }
+        ensures declared { OnOk result ((later : List Event) → DeclaredOn (event.now ∷ later) self.old → DeclaredOn later self.new) }
+    {
+        match event {
+            Event::RestartServer => self.restart(alloc, out)?,
+            Event::RestartClient { client } => self.restart_client(alloc, *client, out)?,
+            _another => self.perform(alloc, event, out)?,
+        }
+        Ok(())
+    }
 
     /// Does one event that neither arms a disk nor starts from one again: what its part of the machine does with the nodes.
     fn perform(&mut self, alloc: Global, event: &Event, out: &mut Text) -> Result<(), NoMemory>
@@ -383,6 +430,7 @@ impl<D: Disk> World<D> {
             self.old self.new out.old out.new tt) }
         ensures disks { KeepsDisks self.old self.new }
         ensures arms { IfErr result (λ _. SameArms D.arms self.old self.new) }
+        ensures text { Extends out.old out.new }
     {
         self.server.arm(calls, pick, out)?;
         Ok(())
@@ -402,6 +450,7 @@ impl<D: Disk> World<D> {
         ensures counts { OnOk result (SameDeclared self.old self.new) }
         ensures disks { KeepsDisks self.old self.new }
         ensures arms { IfErr result (λ _. SameArms D.arms self.old self.new) }
+        ensures text { Extends out.old out.new }
     {
         self.clients[client as usize].arm(calls, pick, out)?;
         Ok(())

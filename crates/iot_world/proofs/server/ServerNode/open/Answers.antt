@@ -1,5 +1,6 @@
 use Rattle.std.proofs.Common.{refl, ap, sym, ◌∙◌}
 use Rattle.iot_store.specs.States.{opening}
+use Rattle.iot_text.proofs.TextsLaws.{extends_none}
 use Rattle.iot_server.specs.Servers as servers
 use Rattle.iot_world.specs.Disks.{medium}
 use Rattle.iot_world.specs.declared.server.ServerNode.TheVariants.{Down}
@@ -31,3 +32,6 @@ returns-in_ok-say_failed_start-in-Err-clause-step g c = λ names.
     (has_failed _ c.in-Down.disk c.in-Down.disk c.in-Err.disk c.in-Err.fault c.in_ok-say_failed_start-in-Err.ensures.stopped
     c.in-Err.ensures.cause refl c.in-Err.ensures.arms) c.args.out.now c.say_failed_start.new.out
     c.in_ok-say_failed_start-in-Err.ensures.says)
+
+pub returns-in-Ok-clause-text : goal.returns-in-Ok-clause-text
+returns-in-Ok-clause-text g c = extends_none _ _ refl
