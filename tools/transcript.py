@@ -21,6 +21,14 @@ def nothing_more(_):
 
 
 @dataclass
+class Event:
+    """The lines of an event, or of comments that follow one another, and the number that the first of them has in the file."""
+
+    lines: list
+    number: int
+
+
+@dataclass
 class Item:
     """A transaction that waits. Its slot is a place beside its client's lane that no other one has meanwhile."""
 
@@ -68,8 +76,9 @@ class Node:
 
 @dataclass
 class Row:
-    """One moment of the day: what was asked, what was printed, and what there is to be seen of it."""
+    """One moment of the day: what was asked, on which line, what was printed, and what there is to be seen of it."""
 
+    number: int = 0
     asked: list = field(default_factory=list)
     said: list = field(default_factory=list)
     caption: str = ''
@@ -80,9 +89,9 @@ class Row:
 
 
 def read_events(text):
-    """The events as lists of lines: a script has several, and so have comments that follow one another."""
+    """The events of a script."""
     events, block, depth = [], None, 0
-    for line in text.splitlines():
+    for number, line in enumerate(text.split('\n'), 1):
         words = line.split()
         if block is not None:
             block.append(line)
@@ -92,15 +101,15 @@ def read_events(text):
                 block = block if depth else None
         elif words[:1] == ['script']:
             block, depth = [line], 1
-            events.append(block)
+            events.append(Event(block, number))
         elif line.strip().startswith('#'):
             note = line.strip().lstrip('#').strip()
-            if events and events[-1][0].startswith('#'):
-                events[-1].append(note)
+            if events and events[-1].lines[0].startswith('#'):
+                events[-1].lines.append(note)
             else:
-                events.append(['#' + note])
+                events.append(Event(['#' + note], number))
         elif words:
-            events.append([' '.join(words)])
+            events.append(Event([' '.join(words)], number))
     return events
 
 
@@ -116,7 +125,11 @@ class Day:
             self.stop(self.server)
             self.close()
         for event in events:
-            self.do(event)
+            try:
+                self.do(event)
+            except (Strange, IndexError) as fault:
+                why = fault if isinstance(fault, Strange) else 'the lines of the output are not those of this event'
+                raise Strange(f'line {event.number} of the script: {why}') from None
         if self.at < len(lines):
             raise Strange(f'line {self.at + 1} of the output belongs to no event: {lines[self.at]}')
 
@@ -139,7 +152,7 @@ class Day:
         last = self.rows[-1]
         if last.exchange or last.said:
             self.close()
-            self.rows.append(Row(node=node))
+            self.rows.append(Row(last.number, node=node))
 
     def mark(self, what, node, text=''):
         self.rows[-1].marks.append((what, node, text))
@@ -171,17 +184,18 @@ class Day:
     # ---- events
 
     def do(self, event):
-        words = event[0].split()
-        if event[0].startswith('#'):
-            self.rows.append(Row(caption=' '.join([event[0][1:], *event[1:]])))
+        first = event.lines[0]
+        words = first.split()
+        if first.startswith('#'):
+            self.rows.append(Row(event.number, caption=' '.join([first[1:], *event.lines[1:]])))
         elif words[0] == 'script':
-            self.rows.append(Row(asked=event))
+            self.rows.append(Row(event.number, event.lines))
         else:
             node = words[1] if len(words) > 1 and words[0] != 'client' else ''
-            self.rows.append(Row(asked=event, node=node))
+            self.rows.append(Row(event.number, event.lines, node=node))
             method = getattr(self, 'on_' + words[0], None)
             if method is None:
-                raise Strange(f'no such event: {event[0]}')
+                raise Strange(f'no such event: {first}')
             # A `run` that is not at its end has begun all the same.
             refused = self.next() in REFUSALS and (words[0], self.next()) != ('run', 'not at end')
             if refused and words[0] not in NEVER_REFUSED:
