@@ -131,7 +131,7 @@ class Day:
                 why = fault if isinstance(fault, Strange) else 'the lines of the output are not those of this event'
                 raise Strange(f'line {event.number} of the script: {why}') from None
         if self.at < len(lines):
-            raise Strange(f'line {self.at + 1} of the output belongs to no event: {lines[self.at]}')
+            raise Strange(f'line {self.at + 1} of the output belongs to no event: {lines[self.at]!r}')
 
     # ---- lines and rows
 
@@ -195,7 +195,7 @@ class Day:
             self.rows.append(Row(event.number, event.lines, node=node))
             method = getattr(self, 'on_' + words[0], None)
             if method is None:
-                raise Strange(f'no such event: {first}')
+                raise Strange(f'no such event: {first!r}')
             # A `run` that is not at its end has begun all the same.
             refused = self.next() in REFUSALS and (words[0], self.next()) != ('run', 'not at end')
             if refused and words[0] not in NEVER_REFUSED:
@@ -264,7 +264,7 @@ class Day:
             arrived = self.exchange(client, 'fetch') == 'both'
             line = self.take()
             if line.endswith(' away') == arrived:
-                raise Strange(f'line {self.at} of the output: the link says otherwise: {line}')
+                raise Strange(f'line {self.at} of the output: the link says otherwise: {line!r}')
         self.row(client.name)
         self.halts(client)
         self.take(f'step {client.name}.{client.running} ')
