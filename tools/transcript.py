@@ -113,6 +113,14 @@ def read_events(text):
     return events
 
 
+def kind(line):
+    """The word that says what a printed line is about: mostly its first one."""
+    if line.startswith('|'):
+        return 'output'
+    words = line.split() or ['']
+    return words[-1] if words[-1] in ('away', 'stopped') and words[0] != 'client' else words[0]
+
+
 class Day:
     """Goes through the events and the lines together."""
 
