@@ -3,29 +3,50 @@
 from itertools import groupby
 from xml.sax.saxutils import escape
 
-# Lengths are in pixels. A line of text, a letter of it, the way from lane to lane, and that from one waiting transaction to the next.
+from transcript import kind
+
+# Lengths are in pixels. A line of text, a letter of it, one of a lane's name, one of a number at the left, the way from lane to lane, and
+# that from one waiting transaction to the next.
 LINE = 16
 CHAR = 7.3
+NAME_CHAR = 7.9
+NUMBER_CHAR = 6.1
 GAP = 130
 SLOT = 17
 EDGE = 16
-# How many lines of a script or of what an event prints are shown.
+# How many lines of a script or of what an event prints are shown, and how many letters of a line.
 MOST = 8
+LETTERS = 100
 
-DARK, TEXT, GREY, PALE, RED, GREEN = '#34495e', '#1f2a33', '#7b8691', '#eef1f4', '#c0392b', '#1e8449'
-STAGES = {'waiting': '#c98500', 'conflict': RED, 'manual': '#7d3c98', 'resolved': '#2874a6'}
-WORDS = {'commit': GREEN, 'settled': GREEN, 'conflict': RED, 'abort': RED, 'away': RED, 'crash': RED, 'cut': RED,
-         'pending': STAGES['waiting'], 'manual': STAGES['manual'], 'resolve': STAGES['resolved']}
+# In the light and in the dark: the ground, two pale ones that bear no text, and the colours of what stands on the ground. What is written
+# on one of those has the ground's colour.
+LIGHT = {'ground': '#ffffff', 'pale': '#eef1f4', 'fault': '#fbe9e7', 'ink': '#1f2a33', 'grey': '#5c6873', 'lane': '#34495e',
+         'red': '#c0392b', 'green': '#1b7a40', 'amber': '#966000', 'violet': '#7d3c98', 'blue': '#2471a3'}
+DARK = {'ground': '#161b22', 'pale': '#2b333d', 'fault': '#47241f', 'ink': '#e3e9ef', 'grey': '#9aa7b4', 'lane': '#93aac2',
+        'red': '#ff8577', 'green': '#5cc98a', 'amber': '#e5a93c', 'violet': '#cf9be6', 'blue': '#76b7ec'}
+STAGES = {'waiting': 'amber', 'conflict': 'red', 'manual': 'violet', 'resolved': 'blue'}
+KINDS = {'commit': 'green', 'settled': 'green', 'conflict': 'red', 'abort': 'red', 'away': 'red', 'crash': 'red', 'stopped': 'red',
+         'cut': 'red', 'pending': 'amber', 'manual': 'violet', 'resolve': 'blue', 'output': 'grey', 'dir': 'grey', 'file': 'grey',
+         '..': 'grey'}
 KEY = [('up', 'connected'), ('away', 'link down'), ('down', 'crashed'), ('runs', 'runs'), ('waiting', 'waits'),
        ('conflict', 'in conflict'), ('manual', 'waits for a decision'), ('resolved', 'resolved'), ('commit', 'commit'),
        ('lost', 'lost, or given up')]
 KEY_WIDTHS = [len(words) * 6.2 + 40 for _, words in KEY]
-STYLE = '''text { font: 12px "DejaVu Sans Mono", Menlo, Consolas, monospace }
+FONTS = '''text { font: 12px "DejaVu Sans Mono", Menlo, Consolas, monospace }
 .caption { font: italic 13px "DejaVu Sans", Helvetica, Arial, sans-serif }
-.name { font: bold 13px "DejaVu Sans", Helvetica, Arial, sans-serif; text-anchor: middle }
+.name { font: bold 13px "DejaVu Sans Mono", Menlo, Consolas, monospace; text-anchor: middle }
+.place { font: 10px "DejaVu Sans Mono", Menlo, Consolas, monospace; text-anchor: end }
 .small { font: 10px "DejaVu Sans", Helvetica, Arial, sans-serif; text-anchor: middle }
 .number { font: bold 10px "DejaVu Sans", Helvetica, Arial, sans-serif; text-anchor: middle }
 .key { font: 11px "DejaVu Sans", Helvetica, Arial, sans-serif }'''
+
+
+def rules(colours):
+    """The classes of what is filled with a colour, and of lines in it."""
+    return '\n'.join(f'.{name} {{ fill: {colour} }} .{name}-line {{ stroke: {colour} }}' for name, colour in colours.items())
+
+
+STYLE = f'{FONTS}\n{rules(LIGHT)}\n@media (prefers-color-scheme: dark) {{\n{rules(DARK)}\n}}'
 
 
 # ---- SVG
@@ -39,42 +60,56 @@ def tag(name, content=None, **attributes):
     return f'<{name}{pairs}/>' if content is None else f'<{name}{pairs}>{escape(content)}</{name}>'
 
 
-def text(x, y, content, fill=TEXT, **more):
-    return tag('text', content, x=x, y=y, fill=fill, **more)
+def text(x, y, content, look='ink'):
+    return tag('text', content, x=x, y=y, class_=look)
 
 
 def line(x, y, to_x, to_y, colour, width, **more):
-    return tag('line', x1=x, y1=y, x2=to_x, y2=to_y, stroke=colour, stroke_width=width, **more)
+    return tag('line', x1=x, y1=y, x2=to_x, y2=to_y, class_=f'{colour}-line', stroke_width=width, **more)
 
 
-def box(x, y, width, height, fill, **more):
+def box(x, y, width, height, look, **more):
     """A box around the vertical at x."""
-    return tag('rect', x=x - width / 2, y=y, width=width, height=height, fill=fill, rx=3, **more)
+    return tag('rect', x=x - width / 2, y=y, width=width, height=height, class_=look, rx=3, **more)
 
 
-def polygon(points, fill):
-    return tag('polygon', points=' '.join(f'{shown(x)},{shown(y)}' for x, y in points), fill=fill)
+def polygon(points, look):
+    return tag('polygon', points=' '.join(f'{shown(x)},{shown(y)}' for x, y in points), class_=look)
+
+
+def circle(x, y, radius, look, **more):
+    return tag('circle', cx=x, cy=y, r=radius, class_=look, **more)
 
 
 def cross(x, y, size):
-    return line(x - size, y - size, x + size, y + size, RED, 2.5) + line(x - size, y + size, x + size, y - size, RED, 2.5)
+    return line(x - size, y - size, x + size, y + size, 'red', 2.5) + line(x - size, y + size, x + size, y - size, 'red', 2.5)
 
 
 def arrow(x, y, to_x, to_y):
     back = 8 if to_x > x else -8
     head = [(to_x, to_y), (to_x - back, to_y - 4), (to_x - back, to_y + 3.5)]
-    return line(x, y, to_x - back / 2, to_y, TEXT, 1.4) + polygon(head, TEXT)
+    return line(x, y, to_x - back / 2, to_y, 'ink', 1.4) + polygon(head, 'ink')
 
 
 def broken(x, y, to_x, to_y):
     """An arrow that gets no farther than this."""
-    return line(x, y, to_x, to_y, TEXT, 1.4) + cross(to_x, to_y, 4)
+    return line(x, y, to_x, to_y, 'ink', 1.4) + cross(to_x, to_y, 4)
 
 
 # ---- lines of text, and rows of states
 
+def cut(words, most=LETTERS):
+    return words if len(words) <= most else words[:most - 2] + '..'
+
+
 def shortened(lines):
-    return lines if len(lines) <= MOST else lines[:MOST - 1] + [f'.. {len(lines) - MOST + 1} more lines']
+    few = lines if len(lines) <= MOST else lines[:MOST - 1] + [f'.. {len(lines) - MOST + 1} more lines']
+    return [cut(words) for words in few]
+
+
+def name_of_script(asked):
+    """What is left of a script without its text; of another event it is everything."""
+    return [' '.join(asked[0].split()[:2])] if len(asked) > 1 else asked
 
 
 def wrapped(words, width):
@@ -82,12 +117,32 @@ def wrapped(words, width):
     for word in words.split():
         if lines[-1] and len(lines[-1]) + 1 + len(word) > width:
             lines.append('')
-        lines[-1] += f' {word}' if lines[-1] else word
+        lines[-1] += f' {word}' if lines[-1] else cut(word, width)
     return lines
 
 
 def longest(blocks):
-    return max((len(words) for lines in blocks for words in shortened(lines)), default=0)
+    return max((len(words) for lines in blocks for words in lines), default=0)
+
+
+def name_width(name):
+    """The width of the box with a lane's name."""
+    return len(name) * NAME_CHAR + 16
+
+
+def arrival(row, name):
+    """How far below the top of its row something happens to a node: where the request arrives at the server, or the reply at a client."""
+    return (7 if name == 'server' else 14) if row.exchange else 0
+
+
+def commit_reach(number):
+    return 3.5 * len(number) + 7
+
+
+def reach(row, name):
+    """How far from a node's lane its arrows of this row end: at the sign that stands there, if there is one."""
+    signs = {'crash': lambda _: 10, 'conflict': lambda _: 9, 'commit': commit_reach}
+    return max((signs[what](words) for what, node, words in row.marks if node == name and what in signs), default=3)
 
 
 def stretches(values):
@@ -100,8 +155,11 @@ def stretches(values):
 
 
 class Picture:
-    def __init__(self, day):
-        self.rows, self.parts = day.rows, []
+    """The picture of a day with this title. Scripts may be left out, but for their names."""
+
+    def __init__(self, day, title, scripts=True):
+        self.rows, self.title, self.parts = day.rows, title, []
+        self.asked = [shortened(row.asked if scripts else name_of_script(row.asked)) for row in day.rows]
         half = (len(day.clients) + 1) // 2
         self.left, self.right = list(day.clients)[:half], list(day.clients)[half:]
         self.place_lanes()
@@ -109,18 +167,24 @@ class Picture:
 
     def draw(self):
         """The picture as a text."""
-        width, height = shown(self.width), shown(self.bottom + 48)
-        self.put(tag('rect', width=width, height=height, fill='white'))
+        width, height = shown(self.width), shown(self.foot + 70)
+        self.put(tag('rect', width=width, height=height, class_='ground'))
         for index, row in enumerate(self.rows):
             self.draw_words(index, row)
         for name in self.x:
             self.draw_lane(name, [row.lanes.get(name) for row in self.rows])
         for index, row in enumerate(self.rows):
             self.draw_row(self.top(index), row)
-        self.draw_key(self.bottom + 28)
+        self.draw_key(self.foot + 50)
         size = f'width="{width}" height="{height}" viewBox="0 0 {width} {height}"'
-        head = f'<svg xmlns="http://www.w3.org/2000/svg" xml:space="preserve" {size}>\n<style>\n{STYLE}\n</style>'
-        return '\n'.join([head, *self.parts, '</svg>', ''])
+        head = [f'<svg xmlns="http://www.w3.org/2000/svg" xml:space="preserve" role="img" {size}>', tag('title', self.title),
+                tag('desc', self.description()), f'<style>\n{STYLE}\n</style>']
+        return '\n'.join([*head, *self.parts, '</svg>', ''])
+
+    def description(self):
+        """A line that says what is drawn."""
+        nodes = ', '.join(['the server', *self.left, *self.right])
+        return f'A lane for each node ({nodes}), time downwards: on the left what was asked, on the right what was printed.'
 
     def put(self, *parts):
         self.parts.extend(parts)
@@ -128,21 +192,17 @@ class Picture:
     # ---- where everything stands
 
     def place_lanes(self):
-        """The server stands in the middle, and what waits at a client on the side away from it."""
-        self.asked_to = x = EDGE + max(longest(row.asked for row in self.rows), 34) * CHAR
-        self.x = {}
-        for name in self.left:
-            x += 40 + self.room(name)
-            self.x[name] = x
-            x += GAP - 40
-        x += 40
-        self.x['server'] = x
-        for name in self.right:
-            x += GAP
-            self.x[name] = x
-            x += self.room(name)
-        self.said_at = x + 46
-        self.width = max(self.said_at + longest(row.said for row in self.rows) * CHAR, sum(KEY_WIDTHS)) + EDGE
+        """The server stands in the middle, and what waits at a client on the side away from it. No name gets into another one."""
+        self.asked_at = EDGE + len(str(max((row.number for row in self.rows), default=0))) * NUMBER_CHAR + 8
+        self.asked_to = self.asked_at + max(longest(self.asked), 34) * CHAR
+        names = [*self.left, 'server', *self.right]
+        self.x = {names[0]: self.asked_to + max(40 + self.room(names[0]), name_width(names[0]) / 2 + 14)}
+        for name, other in zip(names, names[1:]):
+            between = self.room(other) if other in self.left else self.room(name) if name in self.right else 0
+            self.x[other] = self.x[name] + max(GAP + between, (name_width(name) + name_width(other)) / 2 + 14)
+        self.said_at = self.x[names[-1]] + max(46 + self.room(names[-1]), name_width(names[-1]) / 2 + 14)
+        said = longest(shortened(row.said) for row in self.rows)
+        self.width = max(self.said_at + said * CHAR, sum(KEY_WIDTHS)) + EDGE
 
     def room(self, name):
         """The width of what waits at this client at the same time."""
@@ -152,20 +212,21 @@ class Picture:
     def place_rows(self):
         self.tops, self.captions = [], []
         y = 46
-        for row in self.rows:
-            caption = wrapped(row.caption, int((self.asked_to - EDGE) / CHAR)) if row.caption else []
+        for asked, row in zip(self.asked, self.rows):
+            caption = wrapped(row.caption, int((self.asked_to - self.asked_at) / CHAR)) if row.caption else []
             self.captions.append(caption)
             self.tops.append(y)
-            lines = max(len(shortened(row.asked)), len(shortened(row.said)), len(caption), 1)
+            lines = max(len(asked), len(shortened(row.said)), len(caption), 1)
             y += max(lines * LINE + (16 if caption else 6), 36 if row.exchange else 0)
         self.bottom = y + 4
+        self.foot = self.bottom + 8
 
     def top(self, index):
-        return self.tops[index] + 12 if index < len(self.rows) else self.bottom
+        return self.tops[index] + 12
 
-    def moment(self, index):
-        """When a row has done what it does: its reply has come."""
-        return self.top(index) + (14 if index < len(self.rows) and self.rows[index].exchange else 0)
+    def turn(self, name, index):
+        """Where a lane gets the look that it has after a row; behind the last row it is where the rows end."""
+        return self.top(index) + arrival(self.rows[index], name) if index < len(self.rows) else self.bottom
 
     def slot(self, name, slot):
         return self.x[name] + (-1 if name in self.left else 1) * (24 + int(slot) * SLOT)
@@ -175,98 +236,109 @@ class Picture:
     def draw_words(self, index, row):
         top = self.tops[index]
         if row.asked:
-            self.put(line(EDGE, top - 1, self.width - EDGE, top - 1, PALE, 1))
+            self.put(line(EDGE, top - 1, self.width - EDGE, top - 1, 'pale', 1))
+            self.put(text(self.asked_at - 8, top + 15.5, str(row.number), 'grey place'))
         for place, words in enumerate(self.captions[index]):
-            self.put(text(EDGE, top + 21 + place * LINE, words, class_='caption'))
-        for place, words in enumerate(shortened(row.asked)):
-            self.put(text(EDGE, top + 16 + place * LINE, words, GREY if len(row.asked) > 1 else TEXT))
-        for place, words in enumerate(shortened(row.said)):
-            plain = words.startswith(('|', 'dir ', 'file ', '..'))
-            word = 'crash' if words.endswith(' stopped') else words.split()[0]
-            self.put(text(self.said_at, top + 16 + place * LINE, words, GREY if plain else WORDS.get(word, TEXT)))
+            self.put(text(self.asked_at, top + 21 + place * LINE, words, 'ink caption'))
+        for place, words in enumerate(self.asked[index]):
+            self.put(text(self.asked_at, top + 16 + place * LINE, words, 'grey' if len(row.asked) > 1 else 'ink'))
+        for place, (words, whole) in enumerate(zip(shortened(row.said), row.said)):
+            look = KINDS.get(kind(words if words.startswith('..') else whole), 'ink')
+            self.put(text(self.said_at, top + 16 + place * LINE, words, look))
 
     # ---- lanes
 
     def draw_lane(self, name, lanes):
         x = self.x[name]
         declared = next(index for index, lane in enumerate(lanes) if lane)
-        self.put(line(x, 34, x, self.moment(declared), PALE if declared else DARK, 3))
+        self.put(line(x, 34, x, self.turn(name, declared), 'pale' if declared else 'lane', 3))
         states = list(stretches([lane and lane[0] for lane in lanes]))
         for state, start, end in states:
-            self.draw_state(x, self.moment(start), self.moment(end), state)
+            self.draw_state(x, self.turn(name, start), self.turn(name, end) if end < len(lanes) else self.foot, state)
         for running, start, end in stretches([lane and lane[1] for lane in lanes]):
-            self.draw_running(x, self.moment(start), self.moment(end), *running)
+            self.draw_running(x, self.turn(name, start), self.turn(name, end), *running)
         for state, start, end in states:
             if state == 'down':
-                self.draw_stop(x, self.moment(start), self.moment(end))
+                self.draw_stop(x, self.turn(name, start), self.turn(name, end))
         for number in dict.fromkeys(number for lane in lanes if lane for number in lane[2]):
             self.draw_waiting(name, number, [lane[2].get(number) if lane else None for lane in lanes])
-        fill, ink = (DARK, 'white') if name == 'server' else ('white', TEXT)
-        self.put(box(x, 10, len(name) * 8.5 + 16, 24, fill, stroke=DARK, stroke_width=1.5), text(x, 27, name, ink, class_='name'))
+        self.draw_name(name, 10)
+        self.draw_name(name, self.foot)
+
+    def draw_name(self, name, y):
+        x = self.x[name]
+        look, ink = ('lane lane-line', 'ground name') if name == 'server' else ('ground lane-line', 'ink name')
+        self.put(box(x, y, name_width(name), 24, look, stroke_width=1.5), text(x, y + 17, name, ink))
 
     def draw_state(self, x, y, to_y, state):
         if state == 'up':
-            self.put(line(x, y, x, to_y, DARK, 3))
+            self.put(line(x, y, x, to_y, 'lane', 3))
         elif state == 'away':
-            self.put(box(x, y, 24, to_y - y, PALE), line(x, y, x, to_y, GREY, 2.5, stroke_dasharray='5 4'))
+            self.put(box(x, y, 24, to_y - y, 'pale'), line(x, y, x, to_y, 'grey', 2.5, stroke_dasharray='5 4'))
         else:
-            self.put(box(x, y, 24, to_y - y, '#fbe9e7'))
+            self.put(box(x, y, 24, to_y - y, 'fault'))
 
     def draw_stop(self, x, y, to_y):
-        self.put(line(x, y, x, to_y, RED, 2, stroke_dasharray='1.5 5'))
+        self.put(line(x, y, x, to_y, 'red', 2, stroke_dasharray='1.5 5'))
 
     def draw_running(self, x, y, to_y, number, first):
         dashes = {} if first == 'first' else {'stroke_dasharray': '3 2'}
-        self.put(box(x, y, 18, max(to_y - y, 14), 'white', stroke=DARK, stroke_width=1.5, **dashes))
-        self.put(text(x, y + 14.5, number, DARK, class_='number'))
+        self.put(box(x, y, 18, max(to_y - y, 14), 'ground lane-line', stroke_width=1.5, **dashes))
+        self.put(text(x, y + 14.5, number, 'lane number'))
 
     def draw_waiting(self, name, number, items):
         begun = False
         for (slot, stage), start, end in stretches(items):
-            x, y = self.slot(name, slot), self.moment(start)
-            self.put(box(x, y, 14, max(self.moment(end) - y, 14), STAGES[stage]))
+            x, y = self.slot(name, slot), self.turn(name, start)
+            self.put(box(x, y, 14, max(self.turn(name, end) - y, 14), STAGES[stage]))
             if not begun:
-                self.put(text(x, y + 11, number, 'white', class_='number'))
+                self.put(text(x, y + 11, number, 'ground number'))
             begun = True
 
     # ---- what happens in a row
 
-    def draw_row(self, y, row):
+    def draw_row(self, top, row):
         if row.exchange:
-            self.draw_exchange(y, *row.exchange)
+            self.draw_exchange(top, row, *row.exchange)
         elif row.node:
-            self.put(tag('circle', cx=self.x[row.node], cy=y, r=4, fill=DARK))
+            self.put(circle(self.x[row.node], top, 4, 'lane'))
         for what, node, words in row.marks:
+            x, y = self.x[node], top + arrival(row, node)
             if what == 'given up':
-                self.put(cross(self.slot(node, words), y + (14 if row.exchange else 0), 5))
+                self.put(cross(self.slot(node, words), y, 5))
             elif what == 'commit':
-                self.draw_commit(self.x[node], y + 7, words)
+                self.draw_commit(x, y, words)
             elif what == 'conflict':
-                self.draw_conflict(self.x[node], y + 14)
+                self.draw_conflict(x, y)
             elif what == 'crash':
-                self.put(tag('circle', cx=self.x[node], cy=y, r=9, fill='white'), cross(self.x[node], y, 6))
+                self.put(circle(x, y, 9, 'ground'), cross(x, y, 6))
             elif what == 'restart':
-                self.put(tag('circle', cx=self.x[node], cy=y, r=6, fill='white', stroke=GREEN, stroke_width=2.5))
+                self.put(circle(x, y, 6, 'ground green-line', stroke_width=2.5))
 
-    def draw_exchange(self, y, name, what, passage):
-        side = 3 if name in self.left else -3
-        start, end = self.x[name] + side, self.x['server'] - side
+    def draw_exchange(self, y, row, name, what, passage):
+        side = 1 if name in self.left else -1
+        start = self.x[name] + 3 * side
+        back = self.x[name] + reach(row, name) * side
+        server = self.x['server'] - reach(row, 'server') * side
         nearest = self.left[-1] if name in self.left else self.right[0]
         label = (self.x[nearest] + self.x['server']) / 2
-        self.put(text(label, y - 1, what, GREY, class_='small'))
+        self.put(text(label, y - 1, what, 'grey small'))
         if passage == 'request':
             self.put(broken(start, y, label, y + 4))
-        elif passage == 'reply':
-            self.put(arrow(start, y, end, y + 7), broken(end, y + 7, label, y + 11))
-        else:
-            self.put(arrow(start, y, end, y + 7), arrow(end, y + 7, start, y + 14))
+            return
+        self.put(arrow(start, y, server, y + 7))
+        if passage == 'reply':
+            self.put(broken(server, y + 7, label, y + 11))
+        elif passage == 'both':
+            self.put(arrow(server, y + 7, back, y + 14))
 
     def draw_commit(self, x, y, number):
-        self.put(tag('rect', x=x - 3.5 * len(number) - 7, y=y - 10, width=7 * len(number) + 14, height=20, rx=10, fill=GREEN))
-        self.put(text(x, y + 4, number, 'white', class_='number'))
+        reached = commit_reach(number)
+        self.put(tag('rect', x=x - reached, y=y - 10, width=2 * reached, height=20, rx=10, class_='green'))
+        self.put(text(x, y + 4, number, 'ground number'))
 
     def draw_conflict(self, x, y):
-        self.put(polygon([(x, y - 9), (x + 9, y), (x, y + 9), (x - 9, y)], RED), text(x, y + 4, '!', 'white', class_='number'))
+        self.put(polygon([(x, y - 9), (x + 9, y), (x, y + 9), (x - 9, y)], 'red'), text(x, y + 4, '!', 'ground number'))
 
     # ---- what the signs mean
 
@@ -285,5 +357,5 @@ class Picture:
                 self.put(cross(x + 10, y - 3, 4.5))
             else:
                 self.put(box(x + 8, y - 11, 14, 16, STAGES[what]))
-            self.put(text(x + 22, y + 1, words, class_='key'))
+            self.put(text(x + 22, y + 1, words, 'ink key'))
             x += width

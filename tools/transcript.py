@@ -353,7 +353,7 @@ class Day:
         if passage in ('request', 'reply'):
             client.up, client.loss = False, ''
         if passage in ('both', 'reply') and self.next() == 'server stopped':
-            passage, client.up, client.loss = 'reply', False, ''
+            passage, client.up, client.loss = 'stopped', False, ''
             self.stop(self.server, lambda kept: kept and self.commit_kept())
         client.first = client.first and passage == 'both'
         if passage != 'away':
