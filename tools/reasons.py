@@ -1,0 +1,312 @@
+"""Why a line of an event script is refused: a look at the line and at what stands before it."""
+
+import re
+from dataclasses import dataclass, field
+from difflib import get_close_matches
+from itertools import zip_longest
+
+from statements import STATEMENTS, block_of, statement_fault
+
+LINE_LIMIT = 4096
+CLIENT_LIMIT, SCRIPT_LIMIT, DEPTH_LIMIT = 8, 256, 16
+LIMITS = {'k': 100_000, 'i': 1_000_000, 'K': 1_000_000}
+OPTIONS = 'reexec, resolver S, abort or manual'
+SPELLED = (('LOSS', 'request'), ('LOSS', 'reply'), ('NODE', 'server'), ('NODE', 'C'))
+
+# The forms of each event. Capital letters are slots: N a new name, C a client, S a script, NODE a client or the server.
+FORMS = {
+    'client': ['client N'],
+    'script': ['script N {'],
+    'connect': ['connect C'],
+    'disconnect': ['disconnect C'],
+    'lose': ['lose C LOSS'],
+    'hoard': ['hoard C P'],
+    'refresh': ['refresh C'],
+    'begin': ['begin C S OPTION', 'begin C S resolver S'],
+    'step': ['step C', 'step C k'],
+    'end': ['end C'],
+    'sync': ['sync C'],
+    'repair': ['repair C S'],
+    'discard': ['discard C'],
+    'drain': ['drain C'],
+    'run': ['run C S OPTION', 'run C S resolver S'],
+    'show': ['show NODE'],
+    'queue': ['queue C'],
+    'reads': ['reads C i'],
+    'log': ['log'],
+    'stop': ['stop NODE K PICK'],
+    'crash': ['crash NODE'],
+    'restart': ['restart NODE'],
+}
+
+
+@dataclass
+class Script:
+    """An event script, and what its lines have declared before a line."""
+
+    given: bytes
+    clients: dict = field(default_factory=dict)
+    scripts: dict = field(default_factory=dict)
+
+    # The number of the line by which the script is opened that is open, its blocks, and the last one that was closed.
+    opened: int = 0
+    blocks: list = field(default_factory=list)
+    closed: tuple = ()
+
+    def __post_init__(self):
+        self.lines = self.given.split(b'\n')
+
+    def read_until(self, number):
+        """Takes the lines before that of this number."""
+        for at, line in enumerate(self.lines[: number - 1], 1):
+            words = words_of(line)
+            if self.opened:
+                self.take_inside(at, words)
+            elif words[:1] in (['client'], ['script']) and len(words) > 1:
+                (self.clients if words[0] == 'client' else self.scripts).setdefault(words[1], at)
+                if words[0] == 'script':
+                    self.opened, self.blocks, self.closed = at, [], ()
+
+    def take_inside(self, at, words):
+        if words == ['}']:
+            self.closed = (at, *(self.blocks.pop() if self.blocks else ('script', self.opened)))
+            if self.closed[1] == 'script':
+                self.opened = 0
+        elif words[:2] == ['}', 'else'] and self.blocks:
+            self.blocks[-1] = ('else', at)
+        elif words and block_of(words[0]):
+            self.blocks.append((words[0], at))
+
+    def later(self, kind, name, number):
+        """The line after that of this number that declares this name, or 0."""
+        for at, line in enumerate(self.lines[number:], number + 1):
+            if words_of(line)[:2] == [kind, name]:
+                return at
+        return 0
+
+
+def words_of(line):
+    return re.findall(r'[^ \t]+', line.decode('latin-1'))
+
+
+def column_of(line, place):
+    """The column of the word at a place; behind the last word, that of the end."""
+    starts = [found.start() for found in re.finditer(rb'[^ \t]+', line)]
+    return (starts[place] if place < len(starts) else len(line)) + 1
+
+
+def near(word, known, otherwise=''):
+    found = get_close_matches(word.lower(), known, 1, 0.5)
+    return f': did you mean `{found[0]}`?' if found else otherwise
+
+
+def is_name(word):
+    return re.fullmatch(r'[A-Za-z0-9_.-]{1,32}', word) and word not in ('.', '..')
+
+
+def byte_fault(line, number):
+    """The first byte that no line may have."""
+    found = re.search(rb'[^ -~\t]', line)
+    if not found:
+        return None
+    byte, column = found[0][0], found.start() + 1
+    if byte == 13 and column == len(line):
+        return column, 'byte 13: save with Unix line ends'
+    if number == 1 and line.startswith((b'\xef\xbb\xbf', b'\xff\xfe', b'\xfe\xff')):
+        return column, f'byte {byte}: save without a byte order mark, as plain text'
+    letter = line[found.start():].decode('utf-8', 'replace')[0]
+    named = f' (`{letter}`)' if letter.isprintable() and letter != '\ufffd' else ''
+    return column, f'byte {byte}{named}: a line has only bytes 32 to 126, and tabs'
+
+
+def line_fault(line, number):
+    """What breaks the rule on bytes and length."""
+    if len(line) > LINE_LIMIT:
+        return byte_fault(line, number) or (LINE_LIMIT + 1, f'the line has {len(line)} bytes, and may have {LINE_LIMIT}')
+    return byte_fault(line, number)
+
+
+def path_fault(word):
+    if word[0] in '"\'':
+        return 'a path is not quoted here'
+    if not word.startswith('/'):
+        return 'a path begins with `/`'
+    if word.endswith('/'):
+        return 'a path does not end with `/`'
+    return 'a name in a path has 1 to 32 letters, digits, `_`, `-` and `.`, and is neither `.` nor `..`'
+
+
+def slot_fault(slot, word):
+    """Why this word does not belong in this slot, or nothing."""
+    if slot in LIMITS:
+        fits = re.fullmatch('[1-9][0-9]{0,6}', word) and int(word) <= LIMITS[slot]
+        return '' if fits else f'a number is 1 to {LIMITS[slot]}, without a leading zero'
+    if slot == 'P':
+        names = word[1:].split('/')
+        return '' if word == '/' or word.startswith('/') and all(map(is_name, names)) else path_fault(word)
+    if slot == 'OPTION':
+        return '' if word in ('reexec', 'abort', 'manual') else f'`{word}` is no option: {OPTIONS}'
+    if slot == 'LOSS':
+        return '' if word in ('request', 'reply') else f'`{word}` is no message: request or reply'
+    if slot == 'PICK':
+        fits = word in ('old', 'new', '0') or re.fullmatch('[1-9][0-9]{0,2}', word) and int(word) <= 255
+        return '' if fits else f'`{word}` is none of old, new and 0 to 255'
+    if slot in ('N', 'C', 'S', 'NODE'):
+        return '' if is_name(word) else f'`{word}` is no name: 1 to 32 letters, digits, `_`, `-` and `.`'
+    return '' if word == slot else f'`{slot}` belongs here, not `{word}`'
+
+
+def form_of(words):
+    """The form that the words are likely to be meant for, and whether they are as many."""
+    forms = [form.split() for form in FORMS[words[0]]]
+    resolving = [form for form in forms if 'resolver' in form]
+    if resolving and words[3:4] == ['resolver']:
+        return resolving[0], len(words) == 5
+    plain = [form for form in forms if form not in resolving]
+    fitting = [form for form in plain if len(form) == len(words)]
+    return (fitting or [max(plain, key=len) if len(words) > 2 else plain[0]])[0], bool(fitting)
+
+
+def shown_forms(event):
+    """The forms of an event as the pages spell them."""
+    plain = [form for form in FORMS[event] if 'resolver' not in form]
+    spelled = [form.replace(slot, word) for form in plain for slot, word in SPELLED if slot in form] or plain
+    return ' or '.join(f'`{form}`' for form in spelled)
+
+
+def count_fault(line, words, form):
+    """An event with another number of words than its form has."""
+    shown = shown_forms(words[0])
+    if len(words) >= len(form):
+        return column_of(line, len(form)), f'a word too many; the form is {shown}'
+    what = {'OPTION': f'the option is missing: {OPTIONS}', '{': 'a blank and `{` are missing'}.get(form[len(words)], 'a word is missing')
+    if words[3:] == ['resolver']:
+        what = 'the script after `resolver` is missing'
+    return column_of(line, len(words)), f'{what}; the form is {shown}'
+
+
+def form_fault(script, line):
+    """Why the words of this line have none of the forms."""
+    words = words_of(line)
+    if not words:
+        return None
+    if words[0] == '}' or words[0] in STATEMENTS and words[0] not in FORMS:
+        ends = f'the `script` of line {script.closed[2]} ends in line {script.closed[0]}' if script.closed else 'no script is open'
+        return column_of(line, 0), f'`{words[0]}` belongs in a script, and {ends}'
+    if words[0] not in FORMS:
+        return column_of(line, 0), f'no event `{words[0]}`{near(words[0], FORMS)}'
+    form, fits = form_of(words)
+    for place, (word, slot) in enumerate(zip_longest(words, form, fillvalue='')):
+        if word.startswith('#'):
+            return column_of(line, place), 'a `#` after an event begins no comment'
+        if place and word and slot and slot_fault(slot, word):
+            return column_of(line, place), slot_fault(slot, word)
+    return None if fits else count_fault(line, words, form)
+
+
+def closing_lookalike(script, number):
+    """A line of the script that begins like a closing one, and is none."""
+    for at, line in enumerate(script.lines[number:], number + 1):
+        if line.strip(b' \t').startswith(b'}') and words_of(line) not in (['}'], ['}', 'else', '{']):
+            return at
+    return 0
+
+
+def open_fault(script, number):
+    """A script that no line closes."""
+    script = Script(script.given)
+    script.read_until(len(script.lines) + 1)
+    if script.opened != number:
+        return None
+    told = f'the `script` of line {number} is never closed by a line `}}`'
+    if script.blocks:
+        name, at = script.blocks[-1]
+        return 1, f'the `{name}` of line {at} is never closed, and so neither is the `script` of line {number}'
+    if closing_lookalike(script, number):
+        return 1, f'{told}: line {closing_lookalike(script, number)} has more than that'
+    if script.closed:
+        return 1, f'{told}: that of line {script.closed[0]} closes the `{script.closed[1]}` of line {script.closed[2]}'
+    return 1, told
+
+
+def bad_line(script, number, line):
+    return line_fault(line, number) or form_fault(script, line) or open_fault(script, number)
+
+
+def name_slots(words):
+    """Each word that has to be declared, with its place and with what declares it."""
+    form, _ = form_of(words)
+    for place, slot in enumerate(form):
+        kind = {'C': 'client', 'NODE': 'client', 'S': 'script'}.get(slot)
+        if kind and not (slot == 'NODE' and words[place] == 'server'):
+            yield place, kind, words[place]
+
+
+def unknown_name(script, number, line):
+    for place, kind, name in name_slots(words_of(line)):
+        known, others = (script.clients, script.scripts) if kind == 'client' else (script.scripts, script.clients)
+        if name in known:
+            continue
+        if name == 'server':
+            reason = '`server` is no client: only `show`, `stop`, `crash` and `restart` take it'
+        elif script.later(kind, name, number):
+            reason = f'no {kind} `{name}` yet: line {script.later(kind, name, number)} declares it'
+        elif name in others:
+            reason = f'no {kind} `{name}`: that is a {"script" if kind == "client" else "client"}'
+        else:
+            reason = f'no {kind} `{name}`{near(name, known, ";")} declared: {", ".join(known) or "none"}'
+        return column_of(line, place), reason
+    return None
+
+
+def named_twice(script, number, line):
+    kind, name = words_of(line)[:2]
+    if name == 'server' and kind == 'client':
+        return column_of(line, 1), '`server` is the server: no client has this name'
+    known = script.clients if kind == 'client' else script.scripts
+    return column_of(line, 1), f'the {kind} `{name}` is declared by line {known[name]} already'
+
+
+def too_many(script, number, line):
+    if words_of(line)[0] == 'client':
+        return column_of(line, 0), f'a ninth client: at most {CLIENT_LIMIT} are declared'
+    return column_of(line, 0), f'a script too many: at most {SCRIPT_LIMIT} are declared'
+
+
+def event_inside(script, line):
+    """An event where a statement belongs: something before it is not closed."""
+    told = f'`{words_of(line)[0]}` is an event, and the `script` of line {script.opened} is open'
+    if script.blocks:
+        return column_of(line, 0), f'{told}: the `{script.blocks[-1][0]}` of line {script.blocks[-1][1]} is not closed'
+    if script.closed:
+        return column_of(line, 0), f'{told}: line {script.closed[0]} closes the `{script.closed[1]}` of line {script.closed[2]}'
+    return column_of(line, 0), f'{told}: a line `}}` closes it'
+
+
+def bad_statement(script, number, line):
+    words = words_of(line)
+    if words[0] in FORMS and (words[0] not in STATEMENTS or words[0] == 'stop' and len(words) == 4):
+        return event_inside(script, line)
+    return statement_fault(line.decode('latin-1'), script.blocks, near)
+
+
+def too_deep(script, number, line):
+    return column_of(line, 0), f'a block number {DEPTH_LIMIT + 1} in others, of which the first begins in line {script.blocks[0][1]}'
+
+
+REASONS = {
+    'bad line': bad_line,
+    'unknown name': unknown_name,
+    'named twice': named_twice,
+    'too many': too_many,
+    'bad statement': bad_statement,
+    'nested too deep': too_deep,
+}
+
+
+def reason_of(script, number, said):
+    """The column and the likely reason of what the program said of this line, or nothing."""
+    if said not in REASONS or not 1 <= number <= len(script.lines):
+        return None
+    script.read_until(number)
+    return REASONS[said](script, number, script.lines[number - 1])
