@@ -1,4 +1,4 @@
-//! Stops at every device call, and what the starts after them find.
+//! A start that stops at every device call, and checkpoints that come when they are due.
 ghost use Rattle.std.specs.Prelude.{◌≡◌, false, IfOk, OnOk};
 ghost use Rattle.iot_slots.specs.Layouts.{is_due};
 ghost use Rattle.iot_slots.specs.Slots.{IsSynced, layout_of, state_on};
@@ -63,44 +63,6 @@ fn a_start_can_stop_and_start_again(rt: HostRuntime) -> Result<(), Fail> {
                 let (slots, _) = restarted(alloc, disk)?;
                 assert_eq!(rt; slots.into_disk().bytes(), FRESH.as_slice(), "call {calls}");
             }
-        }
-    }
-    Ok(())
-}
-
-#[test]
-fn an_append_is_whole_or_not_at_all(rt: HostRuntime) -> Result<(), Fail> {
-    let alloc = rt.alloc();
-    for calls in 0..5 {
-        for pick in PICKS {
-            let (mut slots, _) = restarted(alloc, MemDisk::new(alloc))?;
-            slots.arm(calls, pick);
-            assert!(rt; !slots.due(2));
-            assert_eq!(rt; slots.append(b"xy").is_ok(), calls == 0);
-            let written = u64::from(calls == 0 || calls > 2 && pick != Pick::Old);
-            let want = (2, written as usize, written);
-            // A start that stops in between finds nothing else.
-            let (disk, _) = stopped(alloc, slots.into_disk(), 1, pick);
-            assert_eq!(rt; found(alloc, disk)?, want, "call {calls}");
-        }
-    }
-    Ok(())
-}
-
-#[test]
-fn a_checkpoint_is_whole_or_not_at_all(rt: HostRuntime) -> Result<(), Fail> {
-    let alloc = rt.alloc();
-    for calls in 0..8 {
-        for pick in PICKS {
-            let (mut slots, _) = restarted(alloc, MemDisk::new(alloc))?;
-            assert!(rt; !slots.due(2));
-            slots.append(b"xy")?;
-            slots.arm(calls, pick);
-            assert_eq!(rt; slots.checkpoint(b"abc").is_ok(), calls == 0);
-            let written = calls == 0 || calls > 5 && pick != Pick::Old;
-            let want = if written { (3, 0, 1) } else { (2, 1, 1) };
-            let (disk, _) = stopped(alloc, slots.into_disk(), 1, pick);
-            assert_eq!(rt; found(alloc, disk)?, want, "call {calls}");
         }
     }
     Ok(())
