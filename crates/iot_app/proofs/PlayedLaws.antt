@@ -7,7 +7,7 @@ use Rattle.std.proofs.lemmas.Simd.{map-map}
 use Rattle.std.proofs.Math.Seq.{drop-cons, take-suc}
 use Rattle.std.specs.Io.KnownBytes.{Appends}
 use Rattle.std.proofs.KnownBytes.{Appends-trans}
-use Rattle.iot_disk.specs.Disk.{Arms}
+use Rattle.iot_disk.specs.Disk.{Medium, Arms}
 use Rattle.iot_event.specs.Declarations.{AreDeclared}
 use Rattle.iot_event.specs.declared.event.Event.{Event}
 use Rattle.iot_event.specs.declared.event.Event.TheVariants as events
@@ -16,7 +16,7 @@ use Rattle.iot_machine.specs.Nodes.{Counts, opened}
 use Rattle.iot_machine.specs.Events.{event_part}
 use Rattle.iot_machine.specs.Transcript.{Opening, InTurn, Transcript}
 use Rattle.iot_world.specs.Allowed.{IsAllowed}
-use Rattle.iot_world.specs.Disks.{Medium, AreFresh}
+use Rattle.iot_world.specs.Disks.{AreFresh, counts_on}
 use Rattle.iot_world.specs.Holding.{counts_in}
 use Rattle.iot_world.specs.World.{StandsFor, IsWorldOf, IsWorldOfSome, EventSteps, DeclaredOn, client_count, script_names, disks_of}
 use Rattle.iot_world.specs.World.{Opens, KeepsDisks, SameArms}
@@ -124,12 +124,12 @@ keeps_then old mid new first second = record {
 
 module _ {D : Type 0} (medium : Medium D) where
   abbrev pub arms_in : D → Arms
-  arms_in disk = (medium.counts disk).arms
+  arms_in disk = (counts_on medium disk).arms
 
   -- the disks of a world were armed as those of its machine
   pub armed_as : (world : World D) (m : Machine) → StandsFor medium world m → IsArmed arms_in world m
   armed_as world m stands =
-      sym (map-map (λ (counts : Counts). counts.arms) medium.counts (disks_of world))
+      sym (map-map (λ (counts : Counts). counts.arms) (counts_on medium) (disks_of world))
       ∙ ap (map (λ (counts : Counts). counts.arms)) (disks_count medium world m stands)
 
   -- and still are, if none was armed since
@@ -138,11 +138,11 @@ module _ {D : Type 0} (medium : Medium D) where
 
 -- a new world has opened over its disks
 pub opened_on : {D : Type 0} (medium : Medium D) (disks : List D) (before after : List ℕ) (world : World D) → before ≡ []
-    → Opens medium disks before after world → IsOpened medium (map medium.counts disks) after world
+    → Opens medium disks before after world → IsOpened medium (map (counts_on medium) disks) after world
 opened_on medium disks before after world none opens = record {
   machine = opens.machine;
   step =
-      subst (λ (t : List ℕ). Opening (before_all (map medium.counts disks)) t tt opens.machine)
+      subst (λ (t : List ℕ). Opening (before_all (map (counts_on medium) disks)) t tt opens.machine)
       (sym (opens.wrote ∙ ap (λ (t : List ℕ). t ++ opens.text) none)) opens.step;
   stands = opens.stands;
   no_clients = opens.no_clients;
@@ -378,24 +378,24 @@ starts counts =
 -- no event was done, and the disks came back as they were armed
 module _ {D : Type 0} (medium : Medium D) (disks back : List D) (events : List Event) (fresh : AreFresh medium disks)
     (arms : map (arms_in medium) back ≡ map (arms_in medium) disks) where
-  counts_started : (ds : List D) → length ds ≡ 9 → counts_in (started (map medium.counts ds)) ≡ map medium.counts ds
+  counts_started : (ds : List D) → length ds ≡ 9 → counts_in (started (map (counts_on medium) ds)) ≡ map (counts_on medium) ds
   counts_started [] nine = absurd (omega (arith, nine))
   counts_started (d ∷ ds) nine = refl
 
-  pub none_did : DidFirst (map medium.counts disks) (AreArmed medium back) events
+  pub none_did : DidFirst (map (counts_on medium) disks) (AreArmed medium back) events
   none_did = record {
     done = 0;
     text = [];
-    machine = started (map medium.counts disks);
-    transcript = starts (map medium.counts disks);
+    machine = started (map (counts_on medium) disks);
+    transcript = starts (map (counts_on medium) disks);
     arms =
         arms
-        ∙ sym (map-map (λ (counts : Counts). counts.arms) medium.counts disks)
+        ∙ sym (map-map (λ (counts : Counts). counts.arms) (counts_on medium) disks)
         ∙ ap (map (λ (counts : Counts). counts.arms)) (sym (counts_started disks fresh.nine));
   }
 
   pub none_played : (written : Option (List ℕ))
-      → WroteFirst (map medium.counts disks) (Appends written written) (AreArmed medium back) events
+      → WroteFirst (map (counts_on medium) disks) (Appends written written) (AreArmed medium back) events
   unfolding none_did
   none_played written = record { did = none_did; written = appends_none written }
 

@@ -4,7 +4,7 @@ use Rattle.std.specs.Prelude.{Result, Ok, Err, IfOk, IfErr, Option, None, Some}
 use Rattle.std.proofs.lemmas.List.{take_all}
 use Rattle.std.proofs.lemmas.Simd.{map-map}
 use Rattle.iot_count.specs.Counts.{Counted, Stayed, Rose}
-use Rattle.iot_disk.specs.Disk.{CountsFault, SameImages}
+use Rattle.iot_disk.specs.Disk.{Medium, CountsFault, SameImages}
 use Rattle.iot_disk.specs.declared.disk.DiskFault.{DiskFault}
 use Rattle.iot_disk.specs.declared.disk.DiskFault.TheVariants as reading
 use Rattle.iot_event.specs.declared.event.Event.{Event}
@@ -13,7 +13,7 @@ use Rattle.iot_machine.specs.Nodes.{Counts as DiskCounts}
 use Rattle.iot_machine.specs.Transcript.{Transcript}
 use Rattle.iot_words.specs.declared.jobs.Job.{Job}
 use Rattle.iot_words.specs.declared.jobs.Job.TheVariants.{Transcript as Plays, Json, Generate, Save}
-use Rattle.iot_world.specs.Disks.{Medium}
+use Rattle.iot_world.specs.Disks.{counts_on}
 use Rattle.iot_world.specs.Holding.{DisksHold, HoldsList, counts_in}
 use Rattle.iot_world.specs.World.{StandsFor, IsWorldOfSome}
 use Rattle.iot_world.specs.declared.world.World.{World}
@@ -183,7 +183,7 @@ some_disk {D = D} medium handed old m keeps = subst (λ (ds : List D). 0 < lengt
 
 -- after a run the first disk is another one, with the same images and arms
 module _ {D : Type 0} (medium : Medium D) (handed old : List D) (was now : D) (here : was ≡ get_or old 0 was)
-    (images : SameImages (medium.may_leave was) (medium.may_leave now)) (arms : (medium.counts now).arms ≡ (medium.counts was).arms)
+    (images : SameImages (medium.may_leave was) (medium.may_leave now)) (arms : (counts_on medium now).arms ≡ (counts_on medium was).arms)
     (m : Machine) (keeps : DisksKeep medium handed old m) where
   abbrev held : DisksHold medium handed old m
   held = keeps.holds
@@ -216,67 +216,67 @@ module _ {D : Type 0} (medium : Medium D) (handed old : List D) (was now : D) (h
   }
 
   -- what the first one and the others have counted
-  first_counted : medium.counts was ≡ m.server.counts
-  first_counted = ap medium.counts first ∙ ap first_of (sym (ap (map medium.counts) held.is) ∙ keeps.counted)
+  first_counted : counts_on medium was ≡ m.server.counts
+  first_counted = ap (counts_on medium) first ∙ ap first_of (sym (ap (map (counts_on medium)) held.is) ∙ keeps.counted)
 
-  rest_counted : map medium.counts (held.clients ++ held.spare) ≡ drop 1 (counts_in m)
-  rest_counted = ap (drop 1) (sym (ap (map medium.counts) held.is) ∙ keeps.counted)
+  rest_counted : map (counts_on medium) (held.clients ++ held.spare) ≡ drop 1 (counts_in m)
+  rest_counted = ap (drop 1) (sym (ap (map (counts_on medium)) held.is) ∙ keeps.counted)
 
   -- no read of it failed
-  pub keeps_read : Stayed (medium.counts was).faults (medium.counts now).faults → DisksKeep medium handed (slice_set old 0 now) m
+  pub keeps_read : Stayed (counts_on medium was).faults (counts_on medium now).faults → DisksKeep medium handed (slice_set old 0 now) m
   keeps_read stayed =
-      let same : medium.counts now ≡ medium.counts was = (λ i. record { faults = stayed i; arms = arms i }) in
+      let same : counts_on medium now ≡ counts_on medium was = (λ i. record { faults = stayed i; arms = arms i }) in
       record {
         holds = holds_changed;
         counted =
-            ap (map medium.counts) changed
+            ap (map (counts_on medium)) changed
             ∙ (λ i. (same ∙ first_counted) i ∷ rest_counted i);
       }
 
   -- or one did
-  pub keeps_unread : Rose (medium.counts was).faults (medium.counts now).faults
+  pub keeps_unread : Rose (counts_on medium was).faults (counts_on medium now).faults
       → DisksKeepUnread medium handed (slice_set old 0 now) m
   keeps_unread rose = record {
     holds = holds_changed;
     first = now;
     rest = held.clients ++ held.spare;
     is = changed;
-    rose = subst (λ (c : DiskCounts). Rose c.faults (medium.counts now).faults) first_counted rose;
+    rose = subst (λ (c : DiskCounts). Rose c.faults (counts_on medium now).faults) first_counted rose;
     arms = arms ∙ ap (λ (c : DiskCounts). c.arms) first_counted;
     counted = rest_counted;
   }
 
-  pub reads_changed : medium.reads now ≡ first_reads medium.reads (slice_set old 0 now)
-  reads_changed = sym (ap (first_reads medium.reads) changed)
+  pub reads_changed : medium.reads now ≡ first_reads medium (slice_set old 0 now)
+  reads_changed = sym (ap (first_reads medium) changed)
 
 -- disks that have counted what a machine's have were armed as they were
 pub keeps_armed : {D : Type 0} (medium : Medium D) (handed back : List D) (m : Machine) → DisksKeep medium handed back m
     → AreArmed medium back m
 keeps_armed medium handed back m keeps =
-    sym (map-map (λ (c : DiskCounts). c.arms) medium.counts back) ∙ ap (map (λ (c : DiskCounts). c.arms)) keeps.counted
+    sym (map-map (λ (c : DiskCounts). c.arms) (counts_on medium) back) ∙ ap (map (λ (c : DiskCounts). c.arms)) keeps.counted
 
 -- and then the disk could not be read
 module _ {D : Type 0} (medium : Medium D) (handed old : List D) (was now : D) (here : was ≡ get_or old 0 was)
-    (images : SameImages (medium.may_leave was) (medium.may_leave now)) (arms : (medium.counts now).arms ≡ (medium.counts was).arms)
+    (images : SameImages (medium.may_leave was) (medium.may_leave now)) (arms : (counts_on medium now).arms ≡ (counts_on medium was).arms)
     (wrote : List ℕ → Type 0) (disk : List ℕ) (events : List Event)
-    (ran : RanAll (map medium.counts handed) (DisksKeep medium handed old) events) (written : wrote []) where
+    (ran : RanAll (map (counts_on medium) handed) (DisksKeep medium handed old) events) (written : wrote []) where
   abbrev now_in : List D
   now_in = slice_set old 0 now
 
   pub unsaved_did : (T : Type 0) (fault : DiskFault)
-      → CountsFault {T = T} (Err fault) (medium.counts was).faults (medium.counts now).faults
-      → Did (map medium.counts handed) wrote (DisksKeep medium handed now_in) (AreArmed medium now_in)
+      → CountsFault {T = T} (Err fault) (counts_on medium was).faults (counts_on medium now).faults
+      → Did (map (counts_on medium) handed) wrote (DisksKeep medium handed now_in) (AreArmed medium now_in)
       (DisksKeepUnread medium handed now_in) disk Save (ended_by_read fault) events
   unsaved_did T reading.NoMemory stayed = record {
     did =
-        all_did (map medium.counts handed) (DisksKeep medium handed old) (AreArmed medium now_in) events ran
+        all_did (map (counts_on medium) handed) (DisksKeep medium handed old) (AreArmed medium now_in) events ran
         (λ m keeps.
         keeps_armed medium handed now_in m (keeps_read medium handed old was now here images arms m keeps stayed));
     written = written;
   }
   unsaved_did T reading.Failed rose = record {
     ran =
-        ran_as (map medium.counts handed) (DisksKeep medium handed old) (DisksKeepUnread medium handed now_in) events ran
+        ran_as (map (counts_on medium) handed) (DisksKeep medium handed old) (DisksKeepUnread medium handed now_in) events ran
         (λ m keeps. keeps_unread medium handed old was now here images arms m keeps rose);
     written = written;
   }

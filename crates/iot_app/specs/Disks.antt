@@ -3,13 +3,12 @@ use Rattle.std.specs.Prelude.{◌≡◌, List}
 use Rattle.std.specs.List.{AllByRecursion}
 use Rattle.iot_disk.specs.Disk.{never_armed}
 use Rattle.iot_disk.specs.Failures.{arms_of}
-use Rattle.iot_disk.specs.Memory.{Memory, images_of}
-use Rattle.iot_world.specs.Disks.{medium, AreFresh}
+use Rattle.iot_disk.specs.Memory.{Memory, in_memory}
+use Rattle.iot_world.specs.Disks.{AreFresh}
 
 -- nine empty disks in memory
 abbrev pub AreEmptyDisks : List Memory → Type 0
-AreEmptyDisks disks =
-    AreFresh (medium (λ disk. disk.written) images_of (λ disk. disk.failures.faults) (λ disk. arms_of disk.failures)) disks
+AreEmptyDisks disks = AreFresh in_memory disks
 
 -- none was ever armed
 abbrev pub AreUnarmed : List Memory → Type 0

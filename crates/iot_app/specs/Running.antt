@@ -2,14 +2,13 @@
 use Rattle.std.specs.Prelude.{◌≡◌, ℕ, List, [], map}
 use Rattle.iot_event.specs.declared.event.Event.{Event}
 use Rattle.iot_machine.specs.Json.{json_text, row_count}
-use Rattle.iot_disk.specs.Disk.{Arms}
+use Rattle.iot_disk.specs.Disk.{Medium, Arms}
 use Rattle.iot_machine.specs.Machine.{Machine, handed as before_all}
 use Rattle.iot_machine.specs.Nodes.{Counts as DiskCounts}
 use Rattle.iot_machine.specs.Texts.{line}
 use Rattle.iot_machine.specs.Transcript.{Opening, Transcript}
 use Rattle.iot_words.specs.declared.jobs.Job.{Job}
 use Rattle.iot_words.specs.declared.jobs.Job.TheVariants.{Transcript as plays, Json, Generate, Save}
-use Rattle.iot_world.specs.Disks.{Medium}
 use Rattle.iot_world.specs.Holding.{counts_in}
 use Rattle.iot_world.specs.World.{IsWorldOf, client_count, script_names, disks_of}
 use Rattle.iot_world.specs.declared.world.World.{World}

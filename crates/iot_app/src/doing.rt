@@ -2,7 +2,7 @@
 ghost use Rattle.std.specs.Prelude.{[], map};
 ghost use Rattle.std.specs.Io.KnownBytes.{Appends};
 ghost use Rattle.iot_event.specs.Declarations.{AreDeclared};
-ghost use Rattle.iot_world.specs.Disks.{medium, AreFresh};
+ghost use Rattle.iot_world.specs.Disks.{AreFresh, counts_on};
 ghost use Rattle.iot_app.specs.Keeping.{DisksKeep, DisksKeepUnread, AreArmed};
 ghost use Rattle.iot_app.specs.Doing.{Did};
 ghost use Rattle.iot_app.specs.Running.{IsTold};
@@ -29,13 +29,13 @@ pub(crate) fn do_events<K: Sink, D: Disk>(
     disks: Vec<D>,
 ) -> (Status, Vec<D>)
     requires declared { AreDeclared events.now 0 [] }
-    requires fresh { AreFresh (medium D.reads D.may_leave D.faults D.arms) disks.items }
-    ensures ends { Did (map (medium D.reads D.may_leave D.faults D.arms).counts disks.items)
+    requires fresh { AreFresh D.medium disks.items }
+    ensures ends { Did (map (counts_on D.medium) disks.items)
         (Appends (K.written sink.old) (K.written sink.new))
-        (DisksKeep (medium D.reads D.may_leave D.faults D.arms) disks.items result.1.items)
-        (AreArmed (medium D.reads D.may_leave D.faults D.arms) result.1.items)
-        (DisksKeepUnread (medium D.reads D.may_leave D.faults D.arms) disks.items result.1.items)
-        (first_reads D.reads result.1.items)
+        (DisksKeep D.medium disks.items result.1.items)
+        (AreArmed D.medium result.1.items)
+        (DisksKeepUnread D.medium disks.items result.1.items)
+        (first_reads D.medium result.1.items)
         job result.0 events.now }
     ensures sink_faults { SinkCounts result.0
         (record { before = K.faults sink.old; after = K.faults sink.new })
@@ -58,14 +58,14 @@ fn report<K: Sink, D: Disk>(
     disks: Vec<D>,
 ) -> (Status, Vec<D>)
     requires declared { AreDeclared events.now 0 [] }
-    requires fresh { AreFresh (medium D.reads D.may_leave D.faults D.arms) disks.items }
+    requires fresh { AreFresh D.medium disks.items }
     requires told { IsTold job }
-    ensures ends { Did (map (medium D.reads D.may_leave D.faults D.arms).counts disks.items)
+    ensures ends { Did (map (counts_on D.medium) disks.items)
         (Appends (K.written sink.old) (K.written sink.new))
-        (DisksKeep (medium D.reads D.may_leave D.faults D.arms) disks.items result.1.items)
-        (AreArmed (medium D.reads D.may_leave D.faults D.arms) result.1.items)
-        (DisksKeepUnread (medium D.reads D.may_leave D.faults D.arms) disks.items result.1.items)
-        (first_reads D.reads result.1.items)
+        (DisksKeep D.medium disks.items result.1.items)
+        (AreArmed D.medium result.1.items)
+        (DisksKeepUnread D.medium disks.items result.1.items)
+        (first_reads D.medium result.1.items)
         job result.0 events.now }
     ensures sink_faults { SinkCounts result.0
         (record { before = K.faults sink.old; after = K.faults sink.new })

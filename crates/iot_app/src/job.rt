@@ -2,7 +2,7 @@
 ghost use Rattle.std.specs.Prelude.{◌≡◌, map};
 ghost use Rattle.std.specs.Io.KnownBytes.{Appends, IsAtEnd};
 ghost use Rattle.iot_io.specs.ReadAll.{Took};
-ghost use Rattle.iot_world.specs.Disks.{medium, AreFresh};
+ghost use Rattle.iot_world.specs.Disks.{AreFresh, counts_on};
 ghost use Rattle.iot_app.specs.Keeping.{DisksKeep, DisksKeepUnread, AreArmed};
 ghost use Rattle.iot_app.specs.Endings.{Ends, JobEnds};
 ghost use Rattle.iot_app.specs.Saving.{first_reads};
@@ -66,18 +66,18 @@ pub fn run<S: Source, K: Sink, D: Disk>(
     sink: &mut K,
     disks: Vec<D>,
 ) -> Outcome<D>
-    requires { AreFresh (medium D.reads D.may_leave D.faults D.arms) disks.items }
+    requires { AreFresh D.medium disks.items }
 
     // What was read and written and what the disks hold, by the words and the status.
     ensures ends { HasStatus result.status (Ends (map (λ word. word.now) words.now) (record {
       took = Took S.left S.taken source.old source.new;
       at_end = IsAtEnd (S.left source.new);
       wrote = Appends (K.written sink.old) (K.written sink.new);
-      handed = map (medium D.reads D.may_leave D.faults D.arms).counts disks.items;
-      holds = DisksKeep (medium D.reads D.may_leave D.faults D.arms) disks.items result.disks.items;
-      unread = DisksKeepUnread (medium D.reads D.may_leave D.faults D.arms) disks.items result.disks.items;
-      armed = AreArmed (medium D.reads D.may_leave D.faults D.arms) result.disks.items;
-      disk = first_reads D.reads result.disks.items;
+      handed = map (counts_on D.medium) disks.items;
+      holds = DisksKeep D.medium disks.items result.disks.items;
+      unread = DisksKeepUnread D.medium disks.items result.disks.items;
+      armed = AreArmed D.medium result.disks.items;
+      disk = first_reads D.medium result.disks.items;
       untouched = result.disks.items ≡ disks.items;
     })) }
 
@@ -103,16 +103,16 @@ fn status_of<S: Source, K: Sink, D: Disk>(
     sink: &mut K,
     disks: Vec<D>,
 ) -> (Status, Vec<D>)
-    requires { AreFresh (medium D.reads D.may_leave D.faults D.arms) disks.items }
+    requires { AreFresh D.medium disks.items }
     ensures ends { Ends (map (λ word. word.now) words.now) (record {
       took = Took S.left S.taken source.old source.new;
       at_end = IsAtEnd (S.left source.new);
       wrote = Appends (K.written sink.old) (K.written sink.new);
-      handed = map (medium D.reads D.may_leave D.faults D.arms).counts disks.items;
-      holds = DisksKeep (medium D.reads D.may_leave D.faults D.arms) disks.items result.1.items;
-      unread = DisksKeepUnread (medium D.reads D.may_leave D.faults D.arms) disks.items result.1.items;
-      armed = AreArmed (medium D.reads D.may_leave D.faults D.arms) result.1.items;
-      disk = first_reads D.reads result.1.items;
+      handed = map (counts_on D.medium) disks.items;
+      holds = DisksKeep D.medium disks.items result.1.items;
+      unread = DisksKeepUnread D.medium disks.items result.1.items;
+      armed = AreArmed D.medium result.1.items;
+      disk = first_reads D.medium result.1.items;
       untouched = result.1.items ≡ disks.items;
     }) result.0 }
     ensures source_faults { SourceCounts result.0 (record { before = S.faults source.old; after = S.faults source.new }) }
@@ -134,16 +134,16 @@ fn do_job<S: Source, K: Sink, D: Disk>(
     sink: &mut K,
     disks: Vec<D>,
 ) -> (Status, Vec<D>)
-    requires { AreFresh (medium D.reads D.may_leave D.faults D.arms) disks.items }
+    requires { AreFresh D.medium disks.items }
     ensures ends { JobEnds (record {
       took = Took S.left S.taken source.old source.new;
       at_end = IsAtEnd (S.left source.new);
       wrote = Appends (K.written sink.old) (K.written sink.new);
-      handed = map (medium D.reads D.may_leave D.faults D.arms).counts disks.items;
-      holds = DisksKeep (medium D.reads D.may_leave D.faults D.arms) disks.items result.1.items;
-      unread = DisksKeepUnread (medium D.reads D.may_leave D.faults D.arms) disks.items result.1.items;
-      armed = AreArmed (medium D.reads D.may_leave D.faults D.arms) result.1.items;
-      disk = first_reads D.reads result.1.items;
+      handed = map (counts_on D.medium) disks.items;
+      holds = DisksKeep D.medium disks.items result.1.items;
+      unread = DisksKeepUnread D.medium disks.items result.1.items;
+      armed = AreArmed D.medium result.1.items;
+      disk = first_reads D.medium result.1.items;
       untouched = result.1.items ≡ disks.items;
     }) job result.0 }
     ensures source_faults { SourceCounts result.0 (record { before = S.faults source.old; after = S.faults source.new }) }

@@ -2,7 +2,7 @@
 ghost use Rattle.std.specs.Prelude.{[], List, map};
 ghost use Rattle.std.specs.Io.KnownBytes.{Appends};
 ghost use Rattle.iot_event.specs.Declarations.{AreDeclared};
-ghost use Rattle.iot_world.specs.Disks.{medium, AreFresh};
+ghost use Rattle.iot_world.specs.Disks.{AreFresh, counts_on};
 ghost use Rattle.iot_app.specs.Keeping.{DisksKeep, AreArmed};
 ghost use Rattle.iot_machine.specs.Nodes.{Counts};
 ghost use Rattle.iot_world.specs.World.{StandsFor, KeepsDisks};
@@ -26,11 +26,11 @@ pub(crate) fn play<K: Sink, D: Disk>(
     disks: Vec<D>,
 ) -> (Status, Vec<D>)
     requires declared { AreDeclared events.now 0 [] }
-    requires fresh { AreFresh (medium D.reads D.may_leave D.faults D.arms) disks.items }
-    ensures ends { Played (map (medium D.reads D.may_leave D.faults D.arms).counts disks.items) result.0
+    requires fresh { AreFresh D.medium disks.items }
+    ensures ends { Played (map (counts_on D.medium) disks.items) result.0
         (Appends (K.written sink.old) (K.written sink.new))
-        (DisksKeep (medium D.reads D.may_leave D.faults D.arms) disks.items result.1.items)
-        (AreArmed (medium D.reads D.may_leave D.faults D.arms) result.1.items)
+        (DisksKeep D.medium disks.items result.1.items)
+        (AreArmed D.medium result.1.items)
         events.now }
     ensures sink_faults { SinkCounts result.0
         (record { before = K.faults sink.old; after = K.faults sink.new })
@@ -55,12 +55,12 @@ fn play_on<K: Sink, D: Disk>(
     world: &mut World<D>,
 ) -> Status
     requires declared { AreDeclared events.now 0 [] }
-    requires opened { IsOpenedSome (medium D.reads D.may_leave D.faults D.arms) opening.now world.old }
-    ensures ends { (handed : List Counts) → IsOpened (medium D.reads D.may_leave D.faults D.arms) handed opening.now world.old
+    requires opened { IsOpenedSome D.medium opening.now world.old }
+    ensures ends { (handed : List Counts) → IsOpened D.medium handed opening.now world.old
         → Played handed result
         (Appends (K.written sink.old) (K.written sink.new))
-        (StandsFor (medium D.reads D.may_leave D.faults D.arms) world.new)
-        (IsArmed D.arms world.new)
+        (StandsFor D.medium world.new)
+        (IsArmed D.medium.arms world.new)
         events.now }
     ensures sink_faults { SinkCounts result
         (record { before = K.faults sink.old; after = K.faults sink.new })

@@ -4,7 +4,7 @@ ghost use Rattle.iot_event.specs.Declarations.{AreDeclared};
 ghost use Rattle.iot_machine.specs.Json.{json_text};
 ghost use Rattle.iot_machine.specs.Machine.{Machine};
 ghost use Rattle.iot_machine.specs.Texts.{line};
-ghost use Rattle.iot_world.specs.Disks.{medium, AreFresh};
+ghost use Rattle.iot_world.specs.Disks.{AreFresh, counts_on};
 ghost use Rattle.iot_app.specs.Keeping.{DisksKeep, AreArmed};
 ghost use Rattle.iot_machine.specs.Nodes.{Counts as DiskCounts};
 ghost use Rattle.iot_world.specs.World.{StandsFor, IsWorldOfSome, KeepsDisks};
@@ -29,12 +29,12 @@ pub(crate) fn run_events<D: Disk>(
     disks: Vec<D>,
 ) -> (Result<Text, NoMemory>, Vec<D>)
     requires declared { AreDeclared events.now 0 [] }
-    requires fresh { AreFresh (medium D.reads D.may_leave D.faults D.arms) disks.items }
+    requires fresh { AreFresh D.medium disks.items }
     ensures told { IfOk result.0 (λ text.
-        Reported (map (medium D.reads D.may_leave D.faults D.arms).counts disks.items) (λ told. text ≡ told)
-        (DisksKeep (medium D.reads D.may_leave D.faults D.arms) disks.items result.1.items) (tells job) events.now) }
-    ensures failed { IfErr result.0 (λ _. DidFirst (map (medium D.reads D.may_leave D.faults D.arms).counts disks.items)
-        (AreArmed (medium D.reads D.may_leave D.faults D.arms) result.1.items) events.now) }
+        Reported (map (counts_on D.medium) disks.items) (λ told. text ≡ told)
+        (DisksKeep D.medium disks.items result.1.items) (tells job) events.now) }
+    ensures failed { IfErr result.0 (λ _. DidFirst (map (counts_on D.medium) disks.items)
+        (AreArmed D.medium result.1.items) events.now) }
 {
     let mut opening = Text::new(alloc);
     match World::new(alloc, disks, &mut opening) {
@@ -55,13 +55,13 @@ fn run_in<D: Disk>(
     world: &mut World<D>,
 ) -> Result<Text, NoMemory>
     requires declared { AreDeclared events.now 0 [] }
-    requires opened { IsOpenedSome (medium D.reads D.may_leave D.faults D.arms) opening world.old }
+    requires opened { IsOpenedSome D.medium opening world.old }
     ensures told { IfOk result (λ text. (handed : List DiskCounts)
-        → IsOpened (medium D.reads D.may_leave D.faults D.arms) handed opening world.old
-        → Reported handed (λ told. text ≡ told) (StandsFor (medium D.reads D.may_leave D.faults D.arms) world.new) (tells job) events.now) }
+        → IsOpened D.medium handed opening world.old
+        → Reported handed (λ told. text ≡ told) (StandsFor D.medium world.new) (tells job) events.now) }
     ensures failed { IfErr result (λ _. (handed : List DiskCounts)
-        → IsOpened (medium D.reads D.may_leave D.faults D.arms) handed opening world.old
-        → DidFirst handed (IsArmed D.arms world.new) events.now) }
+        → IsOpened D.medium handed opening world.old
+        → DidFirst handed (IsArmed D.medium.arms world.new) events.now) }
     ensures disks { KeepsDisks world.old world.new }
 {
     let counts = do_all(alloc, opening, events, world)?;
@@ -76,13 +76,13 @@ fn do_all<D: Disk>(
     world: &mut World<D>,
 ) -> Result<Counts, NoMemory>
     requires declared { AreDeclared events.now 0 [] }
-    requires opened { IsOpenedSome (medium D.reads D.may_leave D.faults D.arms) opening world.old }
+    requires opened { IsOpenedSome D.medium opening world.old }
     ensures ran { IfOk result (λ counts. (handed : List DiskCounts)
-        → IsOpened (medium D.reads D.may_leave D.faults D.arms) handed opening world.old
-        → RanIn (medium D.reads D.may_leave D.faults D.arms) handed events.now counts world.new) }
+        → IsOpened D.medium handed opening world.old
+        → RanIn D.medium handed events.now counts world.new) }
     ensures failed { IfErr result (λ _. (handed : List DiskCounts)
-        → IsOpened (medium D.reads D.may_leave D.faults D.arms) handed opening world.old
-        → DidFirst handed (IsArmed D.arms world.new) events.now) }
+        → IsOpened D.medium handed opening world.old
+        → DidFirst handed (IsArmed D.medium.arms world.new) events.now) }
     ensures disks { KeepsDisks world.old world.new }
 {
     let mut counts = Counts::new();
@@ -101,9 +101,9 @@ fn tell<D: Disk>(
     counts: &Counts,
     world: &World<D>,
 ) -> Result<Text, NoMemory>
-    requires { IsWorldOfSome (medium D.reads D.may_leave D.faults D.arms) world.now }
+    requires { IsWorldOfSome D.medium world.now }
     ensures { IfOk result (λ text. (m : Machine)
-        → StandsFor (medium D.reads D.may_leave D.faults D.arms) world.now m → text ≡ told_of job counts.now m) }
+        → StandsFor D.medium world.now m → text ≡ told_of job counts.now m) }
 {
     match job {
         Job::Transcript => Ok(Text::new(alloc)),
@@ -115,9 +115,9 @@ fn tell<D: Disk>(
 
 /// The last state as JSON, and a newline.
 fn json_line<D: Disk>(alloc: Global, world: &World<D>) -> Result<Text, NoMemory>
-    requires { IsWorldOfSome (medium D.reads D.may_leave D.faults D.arms) world.now }
+    requires { IsWorldOfSome D.medium world.now }
     ensures { IfOk result (λ text. (m : Machine)
-        → StandsFor (medium D.reads D.may_leave D.faults D.arms) world.now m → text ≡ line (json_text m)) }
+        → StandsFor D.medium world.now m → text ≡ line (json_text m)) }
 {
     let mut text = world.json(alloc)?;
     text.push(b'\n')?;

@@ -3,7 +3,7 @@ ghost use Rattle.std.specs.Prelude.{◌≡◌, [], map, IfOk};
 ghost use Rattle.std.specs.Io.KnownBytes.{Appends};
 ghost use Rattle.iot_disk.specs.Disk.{CountsFault, SameImages};
 ghost use Rattle.iot_event.specs.Declarations.{AreDeclared};
-ghost use Rattle.iot_world.specs.Disks.{medium, AreFresh};
+ghost use Rattle.iot_world.specs.Disks.{AreFresh, counts_on};
 ghost use Rattle.iot_app.specs.Keeping.{DisksKeep, DisksKeepUnread, AreArmed};
 ghost use Rattle.iot_words.specs.declared.jobs.Job.TheVariants.{Save};
 ghost use Rattle.iot_app.specs.Doing.{Did};
@@ -27,13 +27,13 @@ pub(crate) fn save<K: Sink, D: Disk>(
     disks: Vec<D>,
 ) -> (Status, Vec<D>)
     requires declared { AreDeclared events.now 0 [] }
-    requires fresh { AreFresh (medium D.reads D.may_leave D.faults D.arms) disks.items }
-    ensures ends { Did (map (medium D.reads D.may_leave D.faults D.arms).counts disks.items)
+    requires fresh { AreFresh D.medium disks.items }
+    ensures ends { Did (map (counts_on D.medium) disks.items)
         (Appends (K.written sink.old) (K.written sink.new))
-        (DisksKeep (medium D.reads D.may_leave D.faults D.arms) disks.items result.1.items)
-        (AreArmed (medium D.reads D.may_leave D.faults D.arms) result.1.items)
-        (DisksKeepUnread (medium D.reads D.may_leave D.faults D.arms) disks.items result.1.items)
-        (first_reads D.reads result.1.items)
+        (DisksKeep D.medium disks.items result.1.items)
+        (AreArmed D.medium result.1.items)
+        (DisksKeepUnread D.medium disks.items result.1.items)
+        (first_reads D.medium result.1.items)
         Save result.0 events.now }
     ensures sink_faults { SinkCounts result.0
         (record { before = K.faults sink.old; after = K.faults sink.new })
@@ -51,10 +51,10 @@ pub(crate) fn save<K: Sink, D: Disk>(
 
 /// What a disk reads as, by one device call.
 fn read_whole<D: Disk>(alloc: Global, disk: &mut D) -> Result<Vec<u8>, DiskFault>
-    ensures bytes { IfOk result (λ bytes. bytes.items ≡ D.reads disk.new) }
-    ensures images { SameImages (D.may_leave disk.old) (D.may_leave disk.new) }
-    ensures faults { CountsFault result (D.faults disk.old) (D.faults disk.new) }
-    ensures arms { D.arms disk.new ≡ D.arms disk.old }
+    ensures bytes { IfOk result (λ bytes. bytes.items ≡ D.medium.reads disk.new) }
+    ensures images { SameImages (D.medium.may_leave disk.old) (D.medium.may_leave disk.new) }
+    ensures faults { CountsFault result (D.medium.faults disk.old) (D.medium.faults disk.new) }
+    ensures arms { D.medium.arms disk.new ≡ D.medium.arms disk.old }
 {
     let mut bytes = vec![in alloc; 0; disk.len() as usize]?;
     disk.read_at(0, &mut bytes)?;

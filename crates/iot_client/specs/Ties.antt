@@ -1,6 +1,7 @@
 -- What contracts see of a client, and what ties its state to the run of its script.
 use Rattle.std.specs.Prelude.{◌≡◌, ℕ, ◌≤◌, Bool, true, false, List, [], length, Option, Some, None}
 use Rattle.std.specs.FinMap.{empty}
+use Rattle.iot_disk.specs.Disk.{Medium}
 use Rattle.iot_tree.specs.declared.limits.TheConstants.{ACT_LIMIT}
 use Rattle.iot_lang.specs.Code.{Code}
 use Rattle.iot_lang.specs.Scripts.{IsScript}
@@ -27,8 +28,8 @@ abbrev pub disk_of : {D : Type 0} → Client D → D
 disk_of client = kept.disk_of client.kept
 
 -- the bodies of the records on its disk
-abbrev pub bodies_on : {D : Type 0} → (D → List ℕ) → Client D → List (List ℕ)
-bodies_on reads client = kept.bodies_on reads client.kept
+abbrev pub bodies_on : {D : Type 0} → Medium D → Client D → List (List ℕ)
+bodies_on medium client = kept.bodies_on medium client.kept
 
 -- the number of records that were read and appended
 abbrev pub records_of : {D : Type 0} → Client D → ℕ
@@ -103,6 +104,6 @@ IsRunIfAny state (Some running) class (Some interpreter) =
     (first : Bool) × (class ≡ Some first) × IsRun state running first interpreter
 
 -- what each call keeps: nothing is under way on the disk, which stands for the state, and the interpreter runs what runs
-pub record IsTied {D : Type 0} (reads : D → List ℕ) (may_leave : D → List ℕ → Type 0) (client : Client D) : Type 0 where
-  pub synced : kept.IsSynced reads may_leave client.kept
+pub record IsTied {D : Type 0} (medium : Medium D) (client : Client D) : Type 0 where
+  pub synced : kept.IsSynced medium client.kept
   pub runs : IsRunIfAny (state_of client) (state_of client).running (class_in client) client.interpreter

@@ -44,14 +44,14 @@ impl<D: Disk> Client<D> {
     /// `Foreign` if something else wrote the disk, and `Damaged` with the place of its gate if a record is the spelling of no change
     /// or cannot follow the ones before it. `Stopped` if the disk failed in this call, and `NoMemory`.
     pub fn start(alloc: Global, disk: D, me: u64) -> Result<Client<D>, (D, StartFault)>
-        requires { Only (D.reads disk) (D.may_leave disk) }
-        ensures stands { IfOk result (λ client. StandFor (D.reads disk) (state_of client)) }
-        ensures records { IfOk result (λ client. decoded (D.reads disk) ≡ Encodes (bodies_on D.reads client)) }
+        requires { Only (D.medium.reads disk) (D.medium.may_leave disk) }
+        ensures stands { IfOk result (λ client. StandFor (D.medium.reads disk) (state_of client)) }
+        ensures records { IfOk result (λ client. decoded (D.medium.reads disk) ≡ Encodes (bodies_on D.medium client)) }
 
         // The disk stands for no other state.
-        ensures only { (state : State) → StandFor (D.reads disk) state
+        ensures only { (state : State) → StandFor (D.medium.reads disk) state
             → IfOk result (λ client. state_of client ≡ state) }
-        ensures tied { IfOk result (λ client. IsTied D.reads D.may_leave client) }
+        ensures tied { IfOk result (λ client. IsTied D.medium client) }
         ensures live { IfOk result (λ client. live_of client ≡ None) }
         ensures place { IfOk result (λ client. place_of client ≡ me) }
 
@@ -63,35 +63,35 @@ impl<D: Disk> Client<D> {
         // However this returns, every image encodes what the disk encoded before. So each stands for the state for which
         // the disk stood; and if it stood for one, its bytes are not refused.
         ensures bodies { MatchResult result
-            (λ client. EachDecodes (D.may_leave (disk_of client)) (decoded (D.reads disk)))
-            (λ refused. EachDecodes (D.may_leave refused.0) (decoded (D.reads disk))) }
-        ensures images { (state : State) → StandFor (D.reads disk) state → MatchResult result
-            (λ client. EachStands (D.may_leave (disk_of client)) state)
-            (λ refused. EachStands (D.may_leave refused.0) state) }
-        ensures never { (state : State) → StandFor (D.reads disk) state
+            (λ client. EachDecodes (D.medium.may_leave (disk_of client)) (decoded (D.medium.reads disk)))
+            (λ refused. EachDecodes (D.medium.may_leave refused.0) (decoded (D.medium.reads disk))) }
+        ensures images { (state : State) → StandFor (D.medium.reads disk) state → MatchResult result
+            (λ client. EachStands (D.medium.may_leave (disk_of client)) state)
+            (λ refused. EachStands (D.medium.may_leave refused.0) state) }
+        ensures never { (state : State) → StandFor (D.medium.reads disk) state
             → IfErr result (λ refused. TakesBytes refused.1) }
 
-        ensures steady { IfOk result (λ client. D.faults (disk_of client) ≡ D.faults disk) }
+        ensures steady { IfOk result (λ client. D.medium.faults (disk_of client) ≡ D.medium.faults disk) }
         ensures cause { IfErr result (λ refused.
-            HasCause refused.1 (D.reads disk) (D.faults disk) (D.faults refused.0)) }
+            HasCause refused.1 (D.medium.reads disk) (D.medium.faults disk) (D.medium.faults refused.0)) }
 
         // A refusal of the bytes changes nothing.
         ensures refused_reads { IfErr result (λ refused.
-            ChangesNothing refused.1 (D.reads refused.0 ≡ D.reads disk)) }
+            ChangesNothing refused.1 (D.medium.reads refused.0 ≡ D.medium.reads disk)) }
         ensures refused_images { IfErr result (λ refused.
-            ChangesNothing refused.1 (SameImages (D.may_leave disk) (D.may_leave refused.0))) }
+            ChangesNothing refused.1 (SameImages (D.medium.may_leave disk) (D.medium.may_leave refused.0))) }
 
         // A disk on which a journal was started is only read, whatever the answer, and so is each whose bytes are refused.
-        ensures only_read { is_started (D.reads disk) ≡ true → MatchResult result
-            (λ client. D.reads (disk_of client) ≡ D.reads disk)
-            (λ refused. D.reads refused.0 ≡ D.reads disk) }
-        ensures only_read_images { is_started (D.reads disk) ≡ true → MatchResult result
-            (λ client. SameImages (D.may_leave disk) (D.may_leave (disk_of client)))
-            (λ refused. SameImages (D.may_leave disk) (D.may_leave refused.0)) }
+        ensures only_read { is_started (D.medium.reads disk) ≡ true → MatchResult result
+            (λ client. D.medium.reads (disk_of client) ≡ D.medium.reads disk)
+            (λ refused. D.medium.reads refused.0 ≡ D.medium.reads disk) }
+        ensures only_read_images { is_started (D.medium.reads disk) ≡ true → MatchResult result
+            (λ client. SameImages (D.medium.may_leave disk) (D.medium.may_leave (disk_of client)))
+            (λ refused. SameImages (D.medium.may_leave disk) (D.medium.may_leave refused.0)) }
 
         ensures arms { MatchResult result
-            (λ client. D.arms (disk_of client) ≡ D.arms disk)
-            (λ refused. D.arms refused.0 ≡ D.arms disk) }
+            (λ client. D.medium.arms (disk_of client) ≡ D.medium.arms disk)
+            (λ refused. D.medium.arms refused.0 ≡ D.medium.arms disk) }
     {
         match Kept::start(alloc, disk) {
             Ok(kept) => Ok(Client {
@@ -112,7 +112,7 @@ impl<D: Disk> Client<D> {
 
     /// The tree that scripts read: the held one after all that waits and runs.
     pub fn view(&self) -> &Tree
-        requires { IsTied D.reads D.may_leave self.now }
+        requires { IsTied D.medium self.now }
         ensures view { result.now ≡ view (state_of self.now) }
 
         // The running acts are those of the transaction's script.
@@ -137,7 +137,7 @@ impl<D: Disk> Client<D> {
 
     /// The transaction that runs, if one does.
     pub fn running(&self) -> Option<&Running>
-        requires { IsTied D.reads D.may_leave self.now }
+        requires { IsTied D.medium self.now }
         ensures running { transaction_of (option_copied result) ≡ (state_of self.now).running }
         ensures class { class_of (option_copied result) ≡ class_by (state_of self.now).running (live_of self.now) }
     {
@@ -146,7 +146,7 @@ impl<D: Disk> Client<D> {
 
     /// Whether a transaction runs whose script has ended.
     pub fn at_end(&self) -> bool
-        requires tied { IsTied D.reads D.may_leave self.now }
+        requires tied { IsTied D.medium self.now }
         requires begun { IsBegunIfAny (state_of self.now).running (live_of self.now) }
         ensures { result ≡ is_over_if_any (state_of self.now) (live_of self.now) }
     {
@@ -165,15 +165,15 @@ impl<D: Disk> Client<D> {
 
     /// Makes a later device call of the disk fail, and does nothing else.
     pub fn arm(&mut self, calls: u64, pick: Pick)
-        ensures arms { D.arms (disk_of self.new) ≡ armed_with (D.arms (disk_of self.old)) calls pick }
-        ensures reads { D.reads (disk_of self.new) ≡ D.reads (disk_of self.old) }
-        ensures images { SameImages (D.may_leave (disk_of self.old)) (D.may_leave (disk_of self.new)) }
-        ensures faults { D.faults (disk_of self.new) ≡ D.faults (disk_of self.old) }
+        ensures arms { D.medium.arms (disk_of self.new) ≡ armed_with (D.medium.arms (disk_of self.old)) calls pick }
+        ensures reads { D.medium.reads (disk_of self.new) ≡ D.medium.reads (disk_of self.old) }
+        ensures images { SameImages (D.medium.may_leave (disk_of self.old)) (D.medium.may_leave (disk_of self.new)) }
+        ensures faults { D.medium.faults (disk_of self.new) ≡ D.medium.faults (disk_of self.old) }
         ensures state { state_of self.new ≡ state_of self.old }
         ensures place { place_of self.new ≡ place_of self.old }
         ensures live { live_of self.new ≡ live_of self.old }
         ensures records { records_of self.new ≡ records_of self.old }
-        ensures tied { IsTied D.reads D.may_leave self.old → IsTied D.reads D.may_leave self.new }
+        ensures tied { IsTied D.medium self.old → IsTied D.medium self.new }
     {
         self.kept.arm(calls, pick);
     }
@@ -181,7 +181,7 @@ impl<D: Disk> Client<D> {
     /// Gives the disk back. Each image of a tied client's disk stands for its state.
     pub fn into_disk(self) -> D
         ensures disk { result ≡ disk_of self }
-        ensures stands { IsTied D.reads D.may_leave self → EachStands (D.may_leave result) (state_of self) }
+        ensures stands { IsTied D.medium self → EachStands (D.medium.may_leave result) (state_of self) }
     {
         self.kept.into_disk()
     }

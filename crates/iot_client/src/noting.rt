@@ -20,18 +20,18 @@ impl<D: Disk> Client<D> {
 
     /// Makes a change that can follow: appends its record first.
     pub(crate) fn note(&mut self, alloc: Global, change: Change) -> Result<(), ClientFault>
-        requires synced { IsSynced D.reads D.may_leave self.old.kept }
+        requires synced { IsSynced D.medium self.old.kept }
         requires change { IsChange change }
         requires follows { CanFollow (state_of self.old) change }
         ensures notes { OnOk result (Notes change self.old self.new) }
         ensures class { OnOk result (class_in self.new ≡ class_after change (class_in self.old)) }
-        ensures synced { OnOk result (IsSynced D.reads D.may_leave self.new.kept) }
+        ensures synced { OnOk result (IsSynced D.medium self.new.kept) }
         ensures interpreter { self.new.interpreter ≡ self.old.interpreter }
         ensures fails { IfErr result MayFail }
-        ensures counts { CountsFault result (D.faults (disk_of self.old)) (D.faults (disk_of self.new)) }
-        ensures arms { D.arms (disk_of self.new) ≡ D.arms (disk_of self.old) }
+        ensures counts { CountsFault result (D.medium.faults (disk_of self.old)) (D.medium.faults (disk_of self.new)) }
+        ensures arms { D.medium.arms (disk_of self.new) ≡ D.medium.arms (disk_of self.old) }
         ensures stopped { IsErrOf result ClientFault.Stopped → CutsOff change
-            (state_of self.old) (bodies_on D.reads self.old) (D.may_leave (disk_of self.new)) }
+            (state_of self.old) (bodies_on D.medium self.old) (D.medium.may_leave (disk_of self.new)) }
     {
         self.kept.note(alloc, change)?;
         Ok(())
@@ -44,19 +44,19 @@ impl<D: Disk> Client<D> {
         change: Change,
         spelling: &[u8],
     ) -> Result<(), ClientFault>
-        requires synced { IsSynced D.reads D.may_leave self.old.kept }
+        requires synced { IsSynced D.medium self.old.kept }
         requires change { IsChange change }
         requires follows { CanFollow (state_of self.old) change }
         requires spelled { spelling.now ≡ change_spelling change }
         ensures notes { OnOk result (Notes change self.old self.new) }
         ensures class { OnOk result (class_in self.new ≡ class_after change (class_in self.old)) }
-        ensures synced { OnOk result (IsSynced D.reads D.may_leave self.new.kept) }
+        ensures synced { OnOk result (IsSynced D.medium self.new.kept) }
         ensures interpreter { self.new.interpreter ≡ self.old.interpreter }
         ensures fails { IfErr result MayFail }
-        ensures counts { CountsFault result (D.faults (disk_of self.old)) (D.faults (disk_of self.new)) }
-        ensures arms { D.arms (disk_of self.new) ≡ D.arms (disk_of self.old) }
+        ensures counts { CountsFault result (D.medium.faults (disk_of self.old)) (D.medium.faults (disk_of self.new)) }
+        ensures arms { D.medium.arms (disk_of self.new) ≡ D.medium.arms (disk_of self.old) }
         ensures stopped { IsErrOf result ClientFault.Stopped → CutsOff change
-            (state_of self.old) (bodies_on D.reads self.old) (D.may_leave (disk_of self.new)) }
+            (state_of self.old) (bodies_on D.medium self.old) (D.medium.may_leave (disk_of self.new)) }
     {
         self.kept.note_spelled(alloc, change, spelling)?;
         Ok(())
@@ -64,19 +64,19 @@ impl<D: Disk> Client<D> {
 
     /// Makes a change of the first transaction that waits.
     pub(crate) fn settle(&mut self, alloc: Global, change: Change) -> Result<(), ClientFault>
-        requires tied { IsTied D.reads D.may_leave self.old }
+        requires tied { IsTied D.medium self.old }
         requires change { IsChange change }
         requires follows { CanFollow (state_of self.old) change }
         requires head { ChangesHead change }
         ensures notes { OnOk result (Notes change self.old self.new) }
         ensures view { OnOk result (view (state_of self.new) ≡ view (state_of self.old)) }
         ensures live { OnOk result (live_of self.new ≡ live_of self.old) }
-        ensures tied { OnOk result (IsTied D.reads D.may_leave self.new) }
+        ensures tied { OnOk result (IsTied D.medium self.new) }
         ensures fails { IfErr result MayFail }
-        ensures counts { CountsFault result (D.faults (disk_of self.old)) (D.faults (disk_of self.new)) }
-        ensures arms { D.arms (disk_of self.new) ≡ D.arms (disk_of self.old) }
+        ensures counts { CountsFault result (D.medium.faults (disk_of self.old)) (D.medium.faults (disk_of self.new)) }
+        ensures arms { D.medium.arms (disk_of self.new) ≡ D.medium.arms (disk_of self.old) }
         ensures stopped { IsErrOf result ClientFault.Stopped → CutsOff change
-            (state_of self.old) (bodies_on D.reads self.old) (D.may_leave (disk_of self.new)) }
+            (state_of self.old) (bodies_on D.medium self.old) (D.medium.may_leave (disk_of self.new)) }
     {
         self.note(alloc, change)
     }

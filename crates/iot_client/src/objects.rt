@@ -44,17 +44,17 @@ impl<D: Disk> Client<D> {
     /// `Busy` if a transaction runs, `Pending` if one waits, `BadReply` if the bytes are no reply that brings a tree, `NoMemory`,
     /// `Stopped`.
     pub fn take_objects(&mut self, alloc: Global, reply: &[u8]) -> Result<(), ClientFault>
-        requires { IsTied D.reads D.may_leave self.old }
+        requires { IsTied D.medium self.old }
         ensures brings { OnOk result (Brings (λ tree. Change.Held tree) reply.now self.old self.new) }
         ensures only { ReadsObjects reply.now }
         ensures live { OnOk result (live_of self.new ≡ None) }
-        ensures tied { OnOk result (IsTied D.reads D.may_leave self.new) }
+        ensures tied { OnOk result (IsTied D.medium self.new) }
         ensures refuses { RefusesReply (unready (state_of self.old).running (state_of self.old).items) (objects_in reply.now)
             self.old self.new result }
-        ensures counts { CountsFault result (D.faults (disk_of self.old)) (D.faults (disk_of self.new)) }
-        ensures arms { D.arms (disk_of self.new) ≡ D.arms (disk_of self.old) }
+        ensures counts { CountsFault result (D.medium.faults (disk_of self.old)) (D.medium.faults (disk_of self.new)) }
+        ensures arms { D.medium.arms (disk_of self.new) ≡ D.medium.arms (disk_of self.old) }
         ensures stopped { IsErrOf result ClientFault.Stopped → CutsOffByTree (λ tree. Change.Held tree) reply.now
-            (state_of self.old) (bodies_on D.reads self.old) (D.may_leave (disk_of self.new)) }
+            (state_of self.old) (bodies_on D.medium self.old) (D.medium.may_leave (disk_of self.new)) }
     {
         match self.unready() {
             Some(refusal) => Err(refusal),
@@ -67,17 +67,17 @@ impl<D: Disk> Client<D> {
 
     /// Holds the tree. The reply that brings it is the record of that, as it stands.
     fn hold(&mut self, alloc: Global, tree: Tree, reply: &[u8]) -> Result<(), ClientFault>
-        requires tied { IsTied D.reads D.may_leave self.old }
+        requires tied { IsTied D.medium self.old }
         requires spelled { IsMessage IsReply reply_spelling reply.now (Objects tree) }
         requires follows { CanFollow (state_of self.old) (Change.Held tree) }
         ensures notes { OnOk result (Notes (Change.Held tree) self.old self.new) }
         ensures live { OnOk result (live_of self.new ≡ None) }
-        ensures tied { OnOk result (IsTied D.reads D.may_leave self.new) }
+        ensures tied { OnOk result (IsTied D.medium self.new) }
         ensures fails { IfErr result MayFail }
-        ensures counts { CountsFault result (D.faults (disk_of self.old)) (D.faults (disk_of self.new)) }
-        ensures arms { D.arms (disk_of self.new) ≡ D.arms (disk_of self.old) }
+        ensures counts { CountsFault result (D.medium.faults (disk_of self.old)) (D.medium.faults (disk_of self.new)) }
+        ensures arms { D.medium.arms (disk_of self.new) ≡ D.medium.arms (disk_of self.old) }
         ensures stopped { IsErrOf result ClientFault.Stopped → CutsOff (Change.Held tree)
-            (state_of self.old) (bodies_on D.reads self.old) (D.may_leave (disk_of self.new)) }
+            (state_of self.old) (bodies_on D.medium self.old) (D.medium.may_leave (disk_of self.new)) }
     {
         self.note_spelled(alloc, Change::Held(tree), reply)
     }

@@ -45,7 +45,7 @@ impl<D: Disk> Client<D> {
     }
 
     pub(crate) fn unended(&self) -> Option<ClientFault>
-        requires tied { IsTied D.reads D.may_leave self.now }
+        requires tied { IsTied D.medium self.now }
         requires begun { IsBegunIfAny (state_of self.now).running (live_of self.now) }
         ensures cause { result ≡ unended (state_of self.now).running (may_end (state_of self.now) (live_of self.now)) }
         ensures fault { IfSome result IsNoStop }

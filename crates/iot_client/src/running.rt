@@ -42,17 +42,17 @@ impl<D: Disk> Client<D> {
         option: OnConflict,
         first: bool,
     ) -> Result<u64, ClientFault>
-        requires tied { IsTied D.reads D.may_leave self.old }
+        requires tied { IsTied D.medium self.old }
         requires alone { first ≡ true → (state_of self.old).items ≡ [] }
         ensures number { IfOk result (λ number. number ≡ (state_of self.old).last + 1) }
         ensures notes { IfOk result (λ number. Notes (Change.Begun number name.now option) self.old self.new) }
         ensures live { OnOk result (live_of self.new ≡ Some (record { first = first; code = script.value })) }
-        ensures tied { OnOk result (IsTied D.reads D.may_leave self.new) }
+        ensures tied { OnOk result (IsTied D.medium self.new) }
         ensures refuses { Refuses (busy (state_of self.old).running) self.old self.new result }
-        ensures counts { CountsFault result (D.faults (disk_of self.old)) (D.faults (disk_of self.new)) }
-        ensures arms { D.arms (disk_of self.new) ≡ D.arms (disk_of self.old) }
+        ensures counts { CountsFault result (D.medium.faults (disk_of self.old)) (D.medium.faults (disk_of self.new)) }
+        ensures arms { D.medium.arms (disk_of self.new) ≡ D.medium.arms (disk_of self.old) }
         ensures stopped { IsErrOf result ClientFault.Stopped → CutsOff (Change.Begun ((state_of self.old).last + 1) name.now option)
-            (state_of self.old) (bodies_on D.reads self.old) (D.may_leave (disk_of self.new)) }
+            (state_of self.old) (bodies_on D.medium self.old) (D.medium.may_leave (disk_of self.new)) }
     {
         match self.busy() {
             Some(fault) => Err(fault),
@@ -68,17 +68,17 @@ impl<D: Disk> Client<D> {
     ///
     /// `Idle` if no transaction runs, `NoMemory`, `Stopped`.
     pub fn step(&mut self, alloc: Global) -> Result<Step, ClientFault>
-        requires tied { IsTied D.reads D.may_leave self.old }
+        requires tied { IsTied D.medium self.old }
         requires begun { IsBegunIfAny (state_of self.old).running (live_of self.old) }
         requires place { place_of self.old ≤ 7 }
         ensures step { IfOk result (λ step. StepIsIfAny self.old (live_of self.old) step self.new) }
         ensures live { OnOk result (live_of self.new ≡ live_of self.old) }
-        ensures tied { OnOk result (IsTied D.reads D.may_leave self.new) }
+        ensures tied { OnOk result (IsTied D.medium self.new) }
         ensures refuses { Refuses (idle (state_of self.old).running) self.old self.new result }
-        ensures counts { CountsFault result (D.faults (disk_of self.old)) (D.faults (disk_of self.new)) }
-        ensures arms { D.arms (disk_of self.new) ≡ D.arms (disk_of self.old) }
+        ensures counts { CountsFault result (D.medium.faults (disk_of self.old)) (D.medium.faults (disk_of self.new)) }
+        ensures arms { D.medium.arms (disk_of self.new) ≡ D.medium.arms (disk_of self.old) }
         ensures stopped { IsErrOf result ClientFault.Stopped → CutsOffNextIfAny (live_of self.old)
-            (state_of self.old) (bodies_on D.reads self.old) (D.may_leave (disk_of self.new)) }
+            (state_of self.old) (bodies_on D.medium self.old) (D.medium.may_leave (disk_of self.new)) }
     {
         match self.idle() {
             Some(fault) => Err(fault),
@@ -93,18 +93,18 @@ impl<D: Disk> Client<D> {
     ///
     /// `Idle` if no transaction runs, `BadReply` if the bytes are no reply that brings a tree, `NoMemory`, `Stopped`.
     pub fn fetched(&mut self, alloc: Global, reply: &[u8]) -> Result<(), ClientFault>
-        requires tied { IsTied D.reads D.may_leave self.old }
+        requires tied { IsTied D.medium self.old }
         requires begun { IsBegunIfAny (state_of self.old).running (live_of self.old) }
         requires first { IsFirstIfAny (live_of self.old) }
         ensures brings { OnOk result (Brings (λ tree. Change.Fetched tree) reply.now self.old self.new) }
         ensures only { ReadsObjects reply.now }
         ensures live { OnOk result (live_of self.new ≡ live_of self.old) }
-        ensures tied { OnOk result (IsTied D.reads D.may_leave self.new) }
+        ensures tied { OnOk result (IsTied D.medium self.new) }
         ensures refuses { RefusesReply (idle (state_of self.old).running) (objects_in reply.now) self.old self.new result }
-        ensures counts { CountsFault result (D.faults (disk_of self.old)) (D.faults (disk_of self.new)) }
-        ensures arms { D.arms (disk_of self.new) ≡ D.arms (disk_of self.old) }
+        ensures counts { CountsFault result (D.medium.faults (disk_of self.old)) (D.medium.faults (disk_of self.new)) }
+        ensures arms { D.medium.arms (disk_of self.new) ≡ D.medium.arms (disk_of self.old) }
         ensures stopped { IsErrOf result ClientFault.Stopped → CutsOffByTree (λ tree. Change.Fetched tree) reply.now
-            (state_of self.old) (bodies_on D.reads self.old) (D.may_leave (disk_of self.new)) }
+            (state_of self.old) (bodies_on D.medium self.old) (D.medium.may_leave (disk_of self.new)) }
     {
         match self.idle() {
             Some(fault) => Err(fault),
@@ -117,13 +117,13 @@ impl<D: Disk> Client<D> {
 
     /// Makes the running transaction, if there is one, second class. Writes nothing, and does not allocate.
     pub fn second(&mut self)
-        requires { IsTied D.reads D.may_leave self.old }
+        requires { IsTied D.medium self.old }
         ensures state { state_of self.new ≡ state_of self.old }
         ensures place { place_of self.new ≡ place_of self.old }
         ensures disk { disk_of self.new ≡ disk_of self.old }
         ensures records { records_of self.new ≡ records_of self.old }
         ensures live { live_of self.new ≡ second_class (live_of self.old) }
-        ensures tied { IsTied D.reads D.may_leave self.new }
+        ensures tied { IsTied D.medium self.new }
     {
         self.kept.set_class(false);
     }
@@ -134,19 +134,19 @@ impl<D: Disk> Client<D> {
     ///
     /// `Idle` if no transaction runs, `NotAtEnd` if its script has not ended and may do more acts, `NoMemory`, `Stopped`.
     pub fn end(&mut self, alloc: Global) -> Result<Ended, ClientFault>
-        requires tied { IsTied D.reads D.may_leave self.old }
+        requires tied { IsTied D.medium self.old }
         requires begun { IsBegunIfAny (state_of self.old).running (live_of self.old) }
         ensures notes { OnOk result (Notes Change.Ended self.old self.new) }
         ensures ends { IfOk result (EndsIfAny (state_of self.old) (state_of self.old).running (live_of self.old)) }
         ensures view { OnOk result (view (state_of self.new) ≡ view (state_of self.old)) }
         ensures live { OnOk result (live_of self.new ≡ None) }
-        ensures tied { OnOk result (IsTied D.reads D.may_leave self.new) }
+        ensures tied { OnOk result (IsTied D.medium self.new) }
         ensures refuses { Refuses (unended (state_of self.old).running (may_end (state_of self.old) (live_of self.old)))
             self.old self.new result }
-        ensures counts { CountsFault result (D.faults (disk_of self.old)) (D.faults (disk_of self.new)) }
-        ensures arms { D.arms (disk_of self.new) ≡ D.arms (disk_of self.old) }
+        ensures counts { CountsFault result (D.medium.faults (disk_of self.old)) (D.medium.faults (disk_of self.new)) }
+        ensures arms { D.medium.arms (disk_of self.new) ≡ D.medium.arms (disk_of self.old) }
         ensures stopped { IsErrOf result ClientFault.Stopped → CutsOff Change.Ended
-            (state_of self.old) (bodies_on D.reads self.old) (D.may_leave (disk_of self.new)) }
+            (state_of self.old) (bodies_on D.medium self.old) (D.medium.may_leave (disk_of self.new)) }
     {
         match self.unended() {
             Some(fault) => Err(fault),
@@ -161,16 +161,16 @@ impl<D: Disk> Client<D> {
     ///
     /// `NoMemory`, `Stopped`.
     pub fn cut(&mut self, alloc: Global) -> Result<Option<u64>, ClientFault>
-        requires { IsTied D.reads D.may_leave self.old }
+        requires { IsTied D.medium self.old }
         ensures cuts { IfOk result (λ told. CutsIfAny (state_of self.old).running told self.old self.new) }
         ensures view { OnOk result (view (state_of self.new) ≡ view (state_of self.old)) }
         ensures live { OnOk result (live_of self.new ≡ None) }
-        ensures tied { OnOk result (IsTied D.reads D.may_leave self.new) }
+        ensures tied { OnOk result (IsTied D.medium self.new) }
         ensures refuses { Refuses None self.old self.new result }
-        ensures counts { CountsFault result (D.faults (disk_of self.old)) (D.faults (disk_of self.new)) }
-        ensures arms { D.arms (disk_of self.new) ≡ D.arms (disk_of self.old) }
+        ensures counts { CountsFault result (D.medium.faults (disk_of self.old)) (D.medium.faults (disk_of self.new)) }
+        ensures arms { D.medium.arms (disk_of self.new) ≡ D.medium.arms (disk_of self.old) }
         ensures stopped { IsErrOf result ClientFault.Stopped → CutsOff Change.Cut
-            (state_of self.old) (bodies_on D.reads self.old) (D.may_leave (disk_of self.new)) }
+            (state_of self.old) (bodies_on D.medium self.old) (D.medium.may_leave (disk_of self.new)) }
     {
         let Some(running) = self.kept.running() else {
             return Ok(None);
@@ -194,18 +194,18 @@ impl<D: Disk> Client<D> {
         option: OnConflict,
         first: bool,
     ) -> Result<u64, ClientFault>
-        requires tied { IsTied D.reads D.may_leave self.old }
+        requires tied { IsTied D.medium self.old }
         requires idle { (state_of self.old).running ≡ None }
         requires alone { first ≡ true → (state_of self.old).items ≡ [] }
         ensures number { IfOk result (λ number. number ≡ (state_of self.old).last + 1) }
         ensures notes { IfOk result (λ number. Notes (Change.Begun number script option) self.old self.new) }
         ensures live { OnOk result (live_of self.new ≡ Some (record { first = first; code = code.value })) }
-        ensures tied { OnOk result (IsTied D.reads D.may_leave self.new) }
+        ensures tied { OnOk result (IsTied D.medium self.new) }
         ensures fails { IfErr result MayFail }
-        ensures counts { CountsFault result (D.faults (disk_of self.old)) (D.faults (disk_of self.new)) }
-        ensures arms { D.arms (disk_of self.new) ≡ D.arms (disk_of self.old) }
+        ensures counts { CountsFault result (D.medium.faults (disk_of self.old)) (D.medium.faults (disk_of self.new)) }
+        ensures arms { D.medium.arms (disk_of self.new) ≡ D.medium.arms (disk_of self.old) }
         ensures stopped { IsErrOf result ClientFault.Stopped → CutsOff (Change.Begun ((state_of self.old).last + 1) script option)
-            (state_of self.old) (bodies_on D.reads self.old) (D.may_leave (disk_of self.new)) }
+            (state_of self.old) (bodies_on D.medium self.old) (D.medium.may_leave (disk_of self.new)) }
     {
         names_are_names(&script, &option);
         let interpreter = Interpreter::start(alloc, code)?;
@@ -224,17 +224,17 @@ impl<D: Disk> Client<D> {
     }
 
     fn begin_again(&mut self, alloc: Global, tree: Tree) -> Result<(), ClientFault>
-        requires tied { IsTied D.reads D.may_leave self.old }
+        requires tied { IsTied D.medium self.old }
         requires spelled { IsTreeOfRows tree }
         requires follows { CanFollow (state_of self.old) (Change.Fetched tree) }
         ensures notes { OnOk result (Notes (Change.Fetched tree) self.old self.new) }
         ensures live { OnOk result (live_of self.new ≡ live_of self.old) }
-        ensures tied { OnOk result (IsTied D.reads D.may_leave self.new) }
+        ensures tied { OnOk result (IsTied D.medium self.new) }
         ensures fails { IfErr result MayFail }
-        ensures counts { CountsFault result (D.faults (disk_of self.old)) (D.faults (disk_of self.new)) }
-        ensures arms { D.arms (disk_of self.new) ≡ D.arms (disk_of self.old) }
+        ensures counts { CountsFault result (D.medium.faults (disk_of self.old)) (D.medium.faults (disk_of self.new)) }
+        ensures arms { D.medium.arms (disk_of self.new) ≡ D.medium.arms (disk_of self.old) }
         ensures stopped { IsErrOf result ClientFault.Stopped → CutsOff (Change.Fetched tree)
-            (state_of self.old) (bodies_on D.reads self.old) (D.may_leave (disk_of self.new)) }
+            (state_of self.old) (bodies_on D.medium self.old) (D.medium.may_leave (disk_of self.new)) }
     {
         let again = again_by(&self.interpreter, alloc)?;
         self.note(alloc, Change::Fetched(tree))?;
@@ -243,18 +243,18 @@ impl<D: Disk> Client<D> {
     }
 
     fn go_on(&mut self, alloc: Global) -> Result<Step, ClientFault>
-        requires tied { IsTied D.reads D.may_leave self.old }
+        requires tied { IsTied D.medium self.old }
         requires begun { IsBegunIfAny (state_of self.old).running (live_of self.old) }
         requires place { place_of self.old ≤ 7 }
         requires runs { IsSome (state_of self.old).running }
         ensures step { IfOk result (λ step. StepIsIfAny self.old (live_of self.old) step self.new) }
         ensures live { OnOk result (live_of self.new ≡ live_of self.old) }
-        ensures tied { OnOk result (IsTied D.reads D.may_leave self.new) }
+        ensures tied { OnOk result (IsTied D.medium self.new) }
         ensures fails { IfErr result MayFail }
-        ensures counts { CountsFault result (D.faults (disk_of self.old)) (D.faults (disk_of self.new)) }
-        ensures arms { D.arms (disk_of self.new) ≡ D.arms (disk_of self.old) }
+        ensures counts { CountsFault result (D.medium.faults (disk_of self.old)) (D.medium.faults (disk_of self.new)) }
+        ensures arms { D.medium.arms (disk_of self.new) ≡ D.medium.arms (disk_of self.old) }
         ensures stopped { IsErrOf result ClientFault.Stopped → CutsOffNextIfAny (live_of self.old)
-            (state_of self.old) (bodies_on D.reads self.old) (D.may_leave (disk_of self.new)) }
+            (state_of self.old) (bodies_on D.medium self.old) (D.medium.may_leave (disk_of self.new)) }
     {
         match self.pause() {
             Some(step) => Ok(step),
@@ -264,7 +264,7 @@ impl<D: Disk> Client<D> {
 
     /// Why no act is done, whatever it asks, if that is so.
     fn pause(&self) -> Option<Step>
-        requires tied { IsTied D.reads D.may_leave self.now }
+        requires tied { IsTied D.medium self.now }
         requires begun { IsBegunIfAny (state_of self.now).running (live_of self.now) }
         requires runs { IsSome (state_of self.now).running }
         ensures pauses { IfSome result (λ step. StepIsIfAny self.now (live_of self.now) step self.now) }
@@ -294,18 +294,18 @@ impl<D: Disk> Client<D> {
     }
 
     fn act(&mut self, alloc: Global) -> Result<Step, ClientFault>
-        requires tied { IsTied D.reads D.may_leave self.old }
+        requires tied { IsTied D.medium self.old }
         requires place { place_of self.old ≤ 7 }
         requires runs { IsSome (state_of self.old).running }
         requires able { IsAble self.old.interpreter }
         ensures step { IfOk result (λ step. StepIsIfAny self.old (live_of self.old) step self.new) }
         ensures live { OnOk result (live_of self.new ≡ live_of self.old) }
-        ensures tied { OnOk result (IsTied D.reads D.may_leave self.new) }
+        ensures tied { OnOk result (IsTied D.medium self.new) }
         ensures fails { IfErr result MayFail }
-        ensures counts { CountsFault result (D.faults (disk_of self.old)) (D.faults (disk_of self.new)) }
-        ensures arms { D.arms (disk_of self.new) ≡ D.arms (disk_of self.old) }
+        ensures counts { CountsFault result (D.medium.faults (disk_of self.old)) (D.medium.faults (disk_of self.new)) }
+        ensures arms { D.medium.arms (disk_of self.new) ≡ D.medium.arms (disk_of self.old) }
         ensures stopped { IsErrOf result ClientFault.Stopped → CutsOffNextIfAny (live_of self.old)
-            (state_of self.old) (bodies_on D.reads self.old) (D.may_leave (disk_of self.new)) }
+            (state_of self.old) (bodies_on D.medium self.old) (D.medium.may_leave (disk_of self.new)) }
     {
         let first = self.is_first();
         let decided = decide_by(&mut self.interpreter, alloc, self.kept.view(), first)?;
@@ -326,19 +326,19 @@ impl<D: Disk> Client<D> {
     }
 
     fn retire(&mut self, alloc: Global) -> Result<Ended, ClientFault>
-        requires tied { IsTied D.reads D.may_leave self.old }
+        requires tied { IsTied D.medium self.old }
         requires runs { IsSome (state_of self.old).running }
         requires over { may_end (state_of self.old) (live_of self.old) ≡ true }
         ensures notes { OnOk result (Notes Change.Ended self.old self.new) }
         ensures ends { IfOk result (EndsIfAny (state_of self.old) (state_of self.old).running (live_of self.old)) }
         ensures view { OnOk result (view (state_of self.new) ≡ view (state_of self.old)) }
         ensures live { OnOk result (live_of self.new ≡ None) }
-        ensures tied { OnOk result (IsTied D.reads D.may_leave self.new) }
+        ensures tied { OnOk result (IsTied D.medium self.new) }
         ensures fails { IfErr result MayFail }
-        ensures counts { CountsFault result (D.faults (disk_of self.old)) (D.faults (disk_of self.new)) }
-        ensures arms { D.arms (disk_of self.new) ≡ D.arms (disk_of self.old) }
+        ensures counts { CountsFault result (D.medium.faults (disk_of self.old)) (D.medium.faults (disk_of self.new)) }
+        ensures arms { D.medium.arms (disk_of self.new) ≡ D.medium.arms (disk_of self.old) }
         ensures stopped { IsErrOf result ClientFault.Stopped → CutsOff Change.Ended
-            (state_of self.old) (bodies_on D.reads self.old) (D.may_leave (disk_of self.new)) }
+            (state_of self.old) (bodies_on D.medium self.old) (D.medium.may_leave (disk_of self.new)) }
     {
         let Some(running) = self.kept.running() else {
             unreachable!();

@@ -36,7 +36,7 @@ impl<D: Disk> Client<D> {
     ///
     /// `Nothing` if none waits, `NoMemory`.
     pub fn submission(&self, alloc: Global) -> Result<Ask, ClientFault>
-        requires tied { IsTied D.reads D.may_leave self.now }
+        requires tied { IsTied D.medium self.now }
         requires place { place_of self.now ≤ 7 }
         ensures request { IfOk result (IsSubmission (place_of self.now) (state_of self.now).items) }
         ensures refuses { RefusesFor (empty_queue (state_of self.now).items) result }
@@ -55,7 +55,7 @@ impl<D: Disk> Client<D> {
     ///
     /// `Nothing` if none waits, `BadReply` if the bytes are no reply to a submission, `NoMemory`, `Stopped`.
     pub fn take_verdict(&mut self, alloc: Global, reply: &[u8]) -> Result<Noted, ClientFault>
-        requires tied { IsTied D.reads D.may_leave self.old }
+        requires tied { IsTied D.medium self.old }
         requires submitted { HeadIsIfAny IsSubmitted (state_of self.old).items }
         ensures noted { IfOk result (λ noted. noted_in reply.now ≡ Ok noted) }
         ensures told { IfOk result (IsToldBy reply.now) }
@@ -63,12 +63,12 @@ impl<D: Disk> Client<D> {
         ensures notes { IfOk result (λ noted. Notes (verdict_change noted) self.old self.new) }
         ensures view { OnOk result (view (state_of self.new) ≡ view (state_of self.old)) }
         ensures live { OnOk result (live_of self.new ≡ live_of self.old) }
-        ensures tied { OnOk result (IsTied D.reads D.may_leave self.new) }
+        ensures tied { OnOk result (IsTied D.medium self.new) }
         ensures refuses { RefusesReply (empty_queue (state_of self.old).items) (noted_in reply.now) self.old self.new result }
-        ensures counts { CountsFault result (D.faults (disk_of self.old)) (D.faults (disk_of self.new)) }
-        ensures arms { D.arms (disk_of self.new) ≡ D.arms (disk_of self.old) }
+        ensures counts { CountsFault result (D.medium.faults (disk_of self.old)) (D.medium.faults (disk_of self.new)) }
+        ensures arms { D.medium.arms (disk_of self.new) ≡ D.medium.arms (disk_of self.old) }
         ensures stopped { IsErrOf result ClientFault.Stopped → CutsOffByVerdict reply.now
-            (state_of self.old) (bodies_on D.reads self.old) (D.may_leave (disk_of self.new)) }
+            (state_of self.old) (bodies_on D.medium self.old) (D.medium.may_leave (disk_of self.new)) }
     {
         match self.empty_queue() {
             Some(fault) => Err(fault),
@@ -92,18 +92,18 @@ impl<D: Disk> Client<D> {
         reply: &[u8],
         script: Rc<Script>,
     ) -> Result<(), ClientFault>
-        requires tied { IsTied D.reads D.may_leave self.old }
+        requires tied { IsTied D.medium self.old }
         requires planned { HeadIsIfAny IsPlanned (state_of self.old).items }
         ensures resolves { OnOk result (Resolves reply.now script.value self.old self.new) }
         ensures only { ReadsObjects reply.now }
         ensures view { OnOk result (view (state_of self.new) ≡ view (state_of self.old)) }
         ensures live { OnOk result (live_of self.new ≡ live_of self.old) }
-        ensures tied { OnOk result (IsTied D.reads D.may_leave self.new) }
+        ensures tied { OnOk result (IsTied D.medium self.new) }
         ensures refuses { RefusesReply (empty_queue (state_of self.old).items) (whole_in reply.now) self.old self.new result }
-        ensures counts { CountsFault result (D.faults (disk_of self.old)) (D.faults (disk_of self.new)) }
-        ensures arms { D.arms (disk_of self.new) ≡ D.arms (disk_of self.old) }
+        ensures counts { CountsFault result (D.medium.faults (disk_of self.old)) (D.medium.faults (disk_of self.new)) }
+        ensures arms { D.medium.arms (disk_of self.new) ≡ D.medium.arms (disk_of self.old) }
         ensures stopped { IsErrOf result ClientFault.Stopped → CutsOffByRun reply.now script.value
-            (state_of self.old) (bodies_on D.reads self.old) (D.may_leave (disk_of self.new)) }
+            (state_of self.old) (bodies_on D.medium self.old) (D.medium.may_leave (disk_of self.new)) }
     {
         match self.empty_queue() {
             Some(fault) => Err(fault),
@@ -120,16 +120,16 @@ impl<D: Disk> Client<D> {
     ///
     /// `Nothing` if none waits, `NotManual` if the first is not to be decided by hand, `NoMemory`, `Stopped`.
     pub fn repair(&mut self, alloc: Global, script: &Name) -> Result<(), ClientFault>
-        requires tied { IsTied D.reads D.may_leave self.old }
+        requires tied { IsTied D.medium self.old }
         ensures notes { OnOk result (Notes (Change.Repaired script.now) self.old self.new) }
         ensures view { OnOk result (view (state_of self.new) ≡ view (state_of self.old)) }
         ensures live { OnOk result (live_of self.new ≡ live_of self.old) }
-        ensures tied { OnOk result (IsTied D.reads D.may_leave self.new) }
+        ensures tied { OnOk result (IsTied D.medium self.new) }
         ensures refuses { Refuses (not_manual (state_of self.old).items) self.old self.new result }
-        ensures counts { CountsFault result (D.faults (disk_of self.old)) (D.faults (disk_of self.new)) }
-        ensures arms { D.arms (disk_of self.new) ≡ D.arms (disk_of self.old) }
+        ensures counts { CountsFault result (D.medium.faults (disk_of self.old)) (D.medium.faults (disk_of self.new)) }
+        ensures arms { D.medium.arms (disk_of self.new) ≡ D.medium.arms (disk_of self.old) }
         ensures stopped { IsErrOf result ClientFault.Stopped → CutsOff (Change.Repaired script.now)
-            (state_of self.old) (bodies_on D.reads self.old) (D.may_leave (disk_of self.new)) }
+            (state_of self.old) (bodies_on D.medium self.old) (D.medium.may_leave (disk_of self.new)) }
     {
         // A `Name` is always one, as its bytes say.
         let _ = script.as_bytes();
@@ -145,16 +145,16 @@ impl<D: Disk> Client<D> {
     ///
     /// `Nothing` if none waits, `NotManual` if the first is not to be decided by hand, `NoMemory`, `Stopped`.
     pub fn discard(&mut self, alloc: Global) -> Result<(), ClientFault>
-        requires tied { IsTied D.reads D.may_leave self.old }
+        requires tied { IsTied D.medium self.old }
         ensures notes { OnOk result (Notes Change.Left self.old self.new) }
         ensures view { OnOk result (view (state_of self.new) ≡ view (state_of self.old)) }
         ensures live { OnOk result (live_of self.new ≡ live_of self.old) }
-        ensures tied { OnOk result (IsTied D.reads D.may_leave self.new) }
+        ensures tied { OnOk result (IsTied D.medium self.new) }
         ensures refuses { Refuses (not_manual (state_of self.old).items) self.old self.new result }
-        ensures counts { CountsFault result (D.faults (disk_of self.old)) (D.faults (disk_of self.new)) }
-        ensures arms { D.arms (disk_of self.new) ≡ D.arms (disk_of self.old) }
+        ensures counts { CountsFault result (D.medium.faults (disk_of self.old)) (D.medium.faults (disk_of self.new)) }
+        ensures arms { D.medium.arms (disk_of self.new) ≡ D.medium.arms (disk_of self.old) }
         ensures stopped { IsErrOf result ClientFault.Stopped → CutsOff Change.Left
-            (state_of self.old) (bodies_on D.reads self.old) (D.may_leave (disk_of self.new)) }
+            (state_of self.old) (bodies_on D.medium self.old) (D.medium.may_leave (disk_of self.new)) }
     {
         match self.not_manual() {
             Some(fault) => Err(fault),
@@ -169,18 +169,18 @@ impl<D: Disk> Client<D> {
         script: Rc<Script>,
         server: &Tree,
     ) -> Result<(), ClientFault>
-        requires tied { IsTied D.reads D.may_leave self.old }
+        requires tied { IsTied D.medium self.old }
         requires planned { HeadIs IsPlanned (state_of self.old).items }
         requires spelled { IsTreeOfRows server.now }
         ensures reruns { OnOk result (Reruns script.value server.now self.old self.new) }
         ensures view { OnOk result (view (state_of self.new) ≡ view (state_of self.old)) }
         ensures live { OnOk result (live_of self.new ≡ live_of self.old) }
-        ensures tied { OnOk result (IsTied D.reads D.may_leave self.new) }
+        ensures tied { OnOk result (IsTied D.medium self.new) }
         ensures fails { IfErr result MayFail }
-        ensures counts { CountsFault result (D.faults (disk_of self.old)) (D.faults (disk_of self.new)) }
-        ensures arms { D.arms (disk_of self.new) ≡ D.arms (disk_of self.old) }
+        ensures counts { CountsFault result (D.medium.faults (disk_of self.old)) (D.medium.faults (disk_of self.new)) }
+        ensures arms { D.medium.arms (disk_of self.new) ≡ D.medium.arms (disk_of self.old) }
         ensures stopped { IsErrOf result ClientFault.Stopped → CutsOffRerun script.value server.now
-            (state_of self.old) (bodies_on D.reads self.old) (D.may_leave (disk_of self.new)) }
+            (state_of self.old) (bodies_on D.medium self.old) (D.medium.may_leave (disk_of self.new)) }
     {
         let done = self.resolution(alloc, script, server)?;
         self.settle(alloc, Change::Resolved(done))
@@ -192,7 +192,7 @@ impl<D: Disk> Client<D> {
         script: Rc<Script>,
         server: &Tree,
     ) -> Result<Resolution, NoMemory>
-        requires tied { IsTied D.reads D.may_leave self.now }
+        requires tied { IsTied D.medium self.now }
         requires planned { HeadIs IsPlanned (state_of self.now).items }
         requires spelled { IsTreeOfRows server.now }
         ensures run { IfOk result (IsHeadsRun (state_of self.now).held (state_of self.now).items script.value server.now) }

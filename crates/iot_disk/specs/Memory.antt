@@ -2,8 +2,8 @@
 use Rattle.std.specs.Prelude.{◌≡◌, ◌≤◌, ◌<◌, ℕ, ◌^◌, min, Bool, true, false, cond, List, [], ◌∷◌, length, replicate, slice_index}
 use Rattle.std.specs.Prelude.{Option, Some, None, refl}
 use Rattle.std.proofs.Math.Nat.{min-le_right, le_refl}
-use Rattle.iot_disk.specs.Disk.{overwritten}
-use Rattle.iot_disk.specs.Failures.{fails, after_call, after_fault, after_restart}
+use Rattle.iot_disk.specs.Disk.{Medium, overwritten}
+use Rattle.iot_disk.specs.Failures.{arms_of, fails, after_call, after_fault, after_restart}
 use Rattle.iot_disk.specs.Unsynced.{Marks, is_marked}
 use Rattle.iot_disk.specs.declared.disk.Pick.{Pick}
 use Rattle.iot_disk.specs.declared.disk.Pick.TheVariants.{Old, New, Fill}
@@ -97,4 +97,13 @@ reads_is_image written synced unsynced = record {
   no_shorter = min-le_right (length synced) (length written);
   no_longer = le_refl (length written);
   kept = λ k below clean. refl;
+}
+
+-- what is so of a disk in memory
+abbrev pub in_memory : Medium Memory
+in_memory = record {
+  reads = λ disk. disk.written;
+  may_leave = images_of;
+  faults = λ disk. disk.failures.faults;
+  arms = λ disk. arms_of disk.failures;
 }

@@ -1,6 +1,6 @@
 //! The disk that the layers above stand on: its device calls may fail.
 ghost use Rattle.std.specs.Prelude.{◌≡◌, ◌<◌, ◌≤◌, ◌+◌, ◌^◌, List, ℕ, length, slice_range, OnOk, OnErr, IsErrOf};
-ghost use Rattle.iot_disk.specs.Disk.{Arms, armed_with, CountsFault, overwritten, IsTornFrom, Only, SameImages};
+ghost use Rattle.iot_disk.specs.Disk.{Medium, armed_with, CountsFault, overwritten, IsTornFrom, Only, SameImages};
 ghost use Rattle.iot_disk.specs.declared.disk.DiskFault.TheVariants.{NoMemory};
 
 use std::alloc::AllocError;
@@ -60,83 +60,74 @@ impl From<AllocError> for DiskFault {
 /// of each image, however the function returns, is therefore true of a crash at every moment inside the function,
 /// provided that the function makes no device call after a failed one.
 pub trait Disk {
-    /// The bytes that a read gives.
-    ghost reads: { Self → List ℕ };
-
-    /// The images: what a crash now may leave.
-    ghost may_leave: { Self → List ℕ → Type 0 };
-
-    /// How often a device call has failed.
-    ghost faults: { Self → ℕ };
-
-    /// How often the disk was armed, and with what the last time.
-    ghost arms: { Self → Arms };
+    /// What a read gives, what a crash now may leave, how often a device call has failed, and how the disk was armed.
+    ghost medium: { Medium Self };
 
     /// The number of bytes, at most `LIMIT`.
     fn len(&self) -> u64
-        ensures length { result ≡ length (reads self.now) }
+        ensures length { result ≡ length (medium.reads self.now) }
         ensures limit { result ≤ 2 ^ 62 };
 
     /// Reads as many bytes as `buf` has, from a place on.
     fn read_at(&mut self, at: u64, buf: &mut [u8]) -> Result<(), DiskFault>
-        requires { at + length buf.old ≤ length (reads self.old) }
+        requires { at + length buf.old ≤ length (medium.reads self.old) }
         ensures bytes { OnOk result
-            (buf.new ≡ slice_range (reads self.old) at (at + length buf.old)) }
-        ensures reads { OnOk result (reads self.new ≡ reads self.old) }
-        ensures images { SameImages (may_leave self.old) (may_leave self.new) }
+            (buf.new ≡ slice_range (medium.reads self.old) at (at + length buf.old)) }
+        ensures reads { OnOk result (medium.reads self.new ≡ medium.reads self.old) }
+        ensures images { SameImages (medium.may_leave self.old) (medium.may_leave self.new) }
         ensures no_memory { IsErrOf result DiskFault.NoMemory → ⊥ }
-        ensures faults { CountsFault result (faults self.old) (faults self.new) }
-        ensures arms { arms self.new ≡ arms self.old };
+        ensures faults { CountsFault result (medium.faults self.old) (medium.faults self.new) }
+        ensures arms { medium.arms self.new ≡ medium.arms self.old };
 
     /// Writes bytes over those that are there, and past the end. Until a sync a crash may leave any bytes in the
     /// range that was written, also if the call failed. It writes nothing if the range ends past `LIMIT`.
     fn write_at(&mut self, at: u64, bytes: &[u8]) -> Result<(), DiskFault>
-        requires { at ≤ length (reads self.old) }
-        ensures written { OnOk result (reads self.new ≡ overwritten (reads self.old) at bytes.now) }
+        requires { at ≤ length (medium.reads self.old) }
+        ensures written { OnOk result (medium.reads self.new ≡ overwritten (medium.reads self.old) at bytes.now) }
         ensures images { IsTornFrom at (at + length bytes.now)
-            (may_leave self.old) (may_leave self.new) }
+            (medium.may_leave self.old) (medium.may_leave self.new) }
 
         // Only a write that makes the disk longer takes memory, and without memory it changes nothing.
         ensures longer { IsErrOf result DiskFault.NoMemory
-            → length (reads self.old) < at + length bytes.now }
+            → length (medium.reads self.old) < at + length bytes.now }
         ensures no_memory_reads { IsErrOf result DiskFault.NoMemory
-            → reads self.new ≡ reads self.old }
+            → medium.reads self.new ≡ medium.reads self.old }
         ensures no_memory_images { IsErrOf result DiskFault.NoMemory
-            → SameImages (may_leave self.old) (may_leave self.new) }
+            → SameImages (medium.may_leave self.old) (medium.may_leave self.new) }
 
         // A disk does not grow past its limit.
         ensures limit { 2 ^ 62 < at + length bytes.now → IsErrOf result DiskFault.Failed }
-        ensures limit_reads { 2 ^ 62 < at + length bytes.now → reads self.new ≡ reads self.old }
+        ensures limit_reads { 2 ^ 62 < at + length bytes.now → medium.reads self.new ≡ medium.reads self.old }
         ensures limit_images { 2 ^ 62 < at + length bytes.now
-            → SameImages (may_leave self.old) (may_leave self.new) }
+            → SameImages (medium.may_leave self.old) (medium.may_leave self.new) }
 
-        ensures faults { CountsFault result (faults self.old) (faults self.new) }
-        ensures arms { arms self.new ≡ arms self.old };
+        ensures faults { CountsFault result (medium.faults self.old) (medium.faults self.new) }
+        ensures arms { medium.arms self.new ≡ medium.arms self.old };
 
     /// Makes what was written durable: after it a crash leaves what a read gives.
     fn sync(&mut self) -> Result<(), DiskFault>
-        ensures durable { OnOk result (Only (reads self.new) (may_leave self.new)) }
-        ensures reads { OnOk result (reads self.new ≡ reads self.old) }
-        ensures images { OnErr result (SameImages (may_leave self.old) (may_leave self.new)) }
+        ensures durable { OnOk result (Only (medium.reads self.new) (medium.may_leave self.new)) }
+        ensures reads { OnOk result (medium.reads self.new ≡ medium.reads self.old) }
+        ensures images { OnErr result (SameImages (medium.may_leave self.old) (medium.may_leave self.new)) }
         ensures no_memory { IsErrOf result DiskFault.NoMemory → ⊥ }
-        ensures faults { CountsFault result (faults self.old) (faults self.new) }
-        ensures arms { arms self.new ≡ arms self.old };
+        ensures faults { CountsFault result (medium.faults self.old) (medium.faults self.new) }
+        ensures arms { medium.arms self.new ≡ medium.arms self.old };
 
     /// Makes a later device call fail: the one with this number, counted from 1. How a real disk takes it is its own
     /// affair; it is no device call, and changes neither bytes nor images.
     fn arm(&mut self, calls: u64, pick: Pick)
-        ensures arms { arms self.new ≡ armed_with (arms self.old) calls pick }
-        ensures reads { reads self.new ≡ reads self.old }
-        ensures images { SameImages (may_leave self.old) (may_leave self.new) }
-        ensures faults { faults self.new ≡ faults self.old };
+        ensures arms { medium.arms self.new ≡ armed_with (medium.arms self.old) calls pick }
+        ensures reads { medium.reads self.new ≡ medium.reads self.old }
+        ensures images { SameImages (medium.may_leave self.old) (medium.may_leave self.new) }
+        ensures faults { medium.faults self.new ≡ medium.faults self.old };
 
     /// Starts the disk again, as after a crash: it reads as one of its images, which is then the only one.
     fn restart(&mut self)
-        ensures image { may_leave self.old (reads self.new) }
-        ensures only { Only (reads self.new) (may_leave self.new) }
-        ensures faults { faults self.new ≡ faults self.old }
-        ensures arms { arms self.new ≡ arms self.old };
+        ensures image { medium.may_leave self.old (medium.reads self.new) }
+        ensures only { Only (medium.reads self.new) (medium.may_leave self.new) }
+        ensures faults { medium.faults self.new ≡ medium.faults self.old }
+        ensures arms { medium.arms self.new ≡ medium.arms self.old };
 
     /// A disk as it reads is one of its images.
-    ghost reads_is_image: { (disk : Self) → may_leave disk (reads disk) };
+    ghost reads_is_image: { (disk : Self) → medium.may_leave disk (medium.reads disk) };
 }

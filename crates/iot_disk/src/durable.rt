@@ -6,21 +6,21 @@ use crate::{Disk, DiskFault};
 
 /// Writes bytes and syncs. If one of the two fails, a crash may leave any bytes in the range.
 pub fn keep<D: Disk>(disk: &mut D, at: u64, bytes: &[u8]) -> Result<(), DiskFault>
-    requires { at ≤ length (D.reads disk.old) }
-    ensures written { OnOk result (D.reads disk.new ≡ overwritten (D.reads disk.old) at bytes.now) }
+    requires { at ≤ length (D.medium.reads disk.old) }
+    ensures written { OnOk result (D.medium.reads disk.new ≡ overwritten (D.medium.reads disk.old) at bytes.now) }
     ensures limit { OnOk result (at + length bytes.now ≤ 2 ^ 62) }
-    ensures durable { OnOk result (Only (D.reads disk.new) (D.may_leave disk.new)) }
+    ensures durable { OnOk result (Only (D.medium.reads disk.new) (D.medium.may_leave disk.new)) }
     ensures images { OnErr result (IsTornFrom at (at + length bytes.now)
-        (D.may_leave disk.old) (D.may_leave disk.new)) }
+        (D.medium.may_leave disk.old) (D.medium.may_leave disk.new)) }
 
     // Only a write that makes the disk longer takes memory, and without memory it changes nothing.
     ensures longer { IsErrOf result DiskFault.NoMemory
-        → length (D.reads disk.old) < at + length bytes.now }
+        → length (D.medium.reads disk.old) < at + length bytes.now }
     ensures no_memory { IsErrOf result DiskFault.NoMemory
-        → SameImages (D.may_leave disk.old) (D.may_leave disk.new) }
+        → SameImages (D.medium.may_leave disk.old) (D.medium.may_leave disk.new) }
 
-    ensures faults { CountsFault result (D.faults disk.old) (D.faults disk.new) }
-    ensures arms { D.arms disk.new ≡ D.arms disk.old }
+    ensures faults { CountsFault result (D.medium.faults disk.old) (D.medium.faults disk.new) }
+    ensures arms { D.medium.arms disk.new ≡ D.medium.arms disk.old }
 {
     disk.write_at(at, bytes)?;
     disk.sync()

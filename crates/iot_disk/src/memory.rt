@@ -226,16 +226,10 @@ fn make_room(
 }
 
 impl Disk for MemDisk {
-    ghost use Rattle.iot_disk.specs.Memory.{images_of, reads_is_image};
+    ghost use Rattle.iot_disk.specs.Memory.{in_memory, images_of, reads_is_image};
     ghost use Rattle.iot_disk.specs.Failures.{arms_of};
 
-    ghost reads = { λ d. d.written };
-
-    ghost may_leave = { images_of };
-
-    ghost faults = { λ d. d.failures.faults };
-
-    ghost arms = { λ d. arms_of d.failures };
+    ghost medium = { in_memory };
 
     ghost reads_is_image = { λ d. reads_is_image d.written d.synced d.unsynced };
 

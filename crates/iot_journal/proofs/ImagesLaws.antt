@@ -1,7 +1,7 @@
 -- What the images of a laid out disk encode, and what each step of an append leaves of them.
 use Rattle.std.proofs.Common.{◌≡◌, ◌≤◌, ◌<◌, ◌⊎◌, inr, ℕ, ◌+◌, ◌^◌, List, [], ◌∷◌, ◌++◌, length, drop, sym, ◌∙◌, ap, subst, arith}
 use Rattle.std.proofs.Common.{append_assoc, length-append, length-drop}
-use Rattle.iot_disk.specs.Disk.{overwritten, Torn, IsTornFrom, Only}
+use Rattle.iot_disk.specs.Disk.{Medium, overwritten, Torn, IsTornFrom, Only}
 use Rattle.iot_journal.specs.Journal.{IsSynced, bodies_on}
 use Rattle.iot_journal.specs.declared.journal.Journal.{Journal}
 use Rattle.iot_journal.specs.Decoding.{Decoded, Encodes, decoded, started, records, spelled, bodies_decoded}
@@ -124,22 +124,21 @@ module _ (bytes : List ℕ) (bodies : List (List ℕ)) (gate : ℕ) (layout : Is
         )
 
 -- a journal whose disk has one image, which is laid out, is synced
-pub synced : {D : Type 0} (reads : D → List ℕ) (may_leave : D → List ℕ → Type 0) (journal : Journal D) (bodies : List (List ℕ))
-    → Only (reads journal.disk) (may_leave journal.disk) → IsLaidOut (reads journal.disk) bodies journal.gate
-    → length (reads journal.disk) ≤ 2 ^ 62 → journal.count ≡ length bodies
-    → IsSynced reads may_leave journal × (bodies_on reads journal ≡ bodies)
-synced reads may_leave journal bodies only layout limit count =
-    let is : decoded (reads journal.disk)
-    ≡ Encodes bodies = layout_encodes (reads journal.disk) bodies journal.gate layout (omega (arith, limit)) in
-    let on : bodies_on reads journal ≡ bodies = ap bodies_decoded is in (
-      record {
-        only = only;
-        encodes = is ∙ ap Encodes (sym on);
-        layout = subst (λ (bs : List (List ℕ)). IsLaidOut (reads journal.disk) bs journal.gate) (sym on) layout;
-        limit = limit;
-        count = count ∙ ap length (sym on);
-      },
-      on,
+pub synced : {D : Type 0} (medium : Medium D) (journal : Journal D) (bodies : List (List ℕ))
+    → Only (medium.reads journal.disk) (medium.may_leave journal.disk) → IsLaidOut (medium.reads journal.disk) bodies journal.gate
+    → length (medium.reads journal.disk) ≤ 2 ^ 62 → journal.count ≡ length bodies
+    → IsSynced medium journal
+synced medium journal bodies only layout limit count =
+    let is : decoded (medium.reads journal.disk)
+    ≡ Encodes bodies = layout_encodes (medium.reads journal.disk) bodies journal.gate layout (omega (arith, limit)) in
+    let on : bodies_on medium journal ≡ bodies = ap bodies_decoded is in (
+    record {
+      only = only;
+      encodes = is ∙ ap Encodes (sym on);
+      layout = subst (λ (bs : List (List ℕ)). IsLaidOut (medium.reads journal.disk) bs journal.gate) (sym on) layout;
+      limit = limit;
+      count = count ∙ ap length (sym on);
+    }
     )
 
 -- each image of a disk that has one decodes as that one

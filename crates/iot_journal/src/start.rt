@@ -12,29 +12,29 @@ use std::alloc::Global;
 
 /// Reads the disk, and makes it a journal with no records if none was started on it.
 pub fn open<D: Disk>(alloc: Global, disk: &mut D) -> Result<Found, StartFault>
-    requires { Only (D.reads disk.old) (D.may_leave disk.old) }
-    ensures bodies { IfOk result (λ found. decoded (D.reads disk.old) ≡ Encodes found.bodies) }
-    ensures layout { IfOk result (λ found. IsLaidOut (D.reads disk.new) found.bodies found.gate) }
-    ensures durable { OnOk result (Only (D.reads disk.new) (D.may_leave disk.new)) }
-    ensures limit { OnOk result (length (D.reads disk.new) ≤ 2 ^ 62) }
-    ensures bytes { OnOk result (D.reads disk.new ≡ after_start (D.reads disk.old)) }
+    requires { Only (D.medium.reads disk.old) (D.medium.may_leave disk.old) }
+    ensures bodies { IfOk result (λ found. decoded (D.medium.reads disk.old) ≡ Encodes found.bodies) }
+    ensures layout { IfOk result (λ found. IsLaidOut (D.medium.reads disk.new) found.bodies found.gate) }
+    ensures durable { OnOk result (Only (D.medium.reads disk.new) (D.medium.may_leave disk.new)) }
+    ensures limit { OnOk result (length (D.medium.reads disk.new) ≤ 2 ^ 62) }
+    ensures bytes { OnOk result (D.medium.reads disk.new ≡ after_start (D.medium.reads disk.old)) }
 
     // However this returns, every image encodes what the disk encoded before.
-    ensures images { EachDecodes (D.may_leave disk.new) (decoded (D.reads disk.old)) }
+    ensures images { EachDecodes (D.medium.may_leave disk.new) (decoded (D.medium.reads disk.old)) }
 
-    ensures steady { OnOk result (D.faults disk.new ≡ D.faults disk.old) }
+    ensures steady { OnOk result (D.medium.faults disk.new ≡ D.medium.faults disk.old) }
     ensures cause { IfErr result (λ fault.
-        HasCause fault (decoded (D.reads disk.old)) (D.faults disk.old) (D.faults disk.new)) }
+        HasCause fault (decoded (D.medium.reads disk.old)) (D.medium.faults disk.old) (D.medium.faults disk.new)) }
     ensures refused_reads { IfErr result (λ fault.
-        ChangesNothing fault (D.reads disk.new ≡ D.reads disk.old)) }
+        ChangesNothing fault (D.medium.reads disk.new ≡ D.medium.reads disk.old)) }
     ensures refused_images { IfErr result (λ fault.
-        ChangesNothing fault (SameImages (D.may_leave disk.old) (D.may_leave disk.new))) }
+        ChangesNothing fault (SameImages (D.medium.may_leave disk.old) (D.medium.may_leave disk.new))) }
 
     // A disk on which a journal was started is only read, also if this fails.
-    ensures only_read { is_started (D.reads disk.old) ≡ true → D.reads disk.new ≡ D.reads disk.old }
-    ensures only_read_images { is_started (D.reads disk.old) ≡ true
-        → SameImages (D.may_leave disk.old) (D.may_leave disk.new) }
-    ensures arms { D.arms disk.new ≡ D.arms disk.old }
+    ensures only_read { is_started (D.medium.reads disk.old) ≡ true → D.medium.reads disk.new ≡ D.medium.reads disk.old }
+    ensures only_read_images { is_started (D.medium.reads disk.old) ≡ true
+        → SameImages (D.medium.may_leave disk.old) (D.medium.may_leave disk.new) }
+    ensures arms { D.medium.arms disk.new ≡ D.medium.arms disk.old }
 {
     let bytes = read_disk(alloc, disk)?;
     if has_start(&bytes) {
@@ -49,16 +49,16 @@ pub fn open<D: Disk>(alloc: Global, disk: &mut D) -> Result<Found, StartFault>
 
 /// Makes a disk on which no journal was started, and which reads as these bytes, a journal with no records.
 fn begin<D: Disk>(disk: &mut D, bytes: &[u8]) -> Result<(), DiskFault>
-    requires bytes { bytes.now ≡ D.reads disk.old }
-    requires not_started { is_started (D.reads disk.old) ≡ false }
-    requires limit { length (D.reads disk.old) ≤ 2 ^ 62 }
-    requires only { Only (D.reads disk.old) (D.may_leave disk.old) }
-    ensures bytes { OnOk result (D.reads disk.new ≡ started (0 ∷ drop 10 (D.reads disk.old))) }
-    ensures limit { OnOk result (length (D.reads disk.new) ≤ 2 ^ 62) }
-    ensures durable { OnOk result (Only (D.reads disk.new) (D.may_leave disk.new)) }
-    ensures images { EachDecodes (D.may_leave disk.new) (Encodes []) }
-    ensures faults { CountsFault result (D.faults disk.old) (D.faults disk.new) }
-    ensures arms { D.arms disk.new ≡ D.arms disk.old }
+    requires bytes { bytes.now ≡ D.medium.reads disk.old }
+    requires not_started { is_started (D.medium.reads disk.old) ≡ false }
+    requires limit { length (D.medium.reads disk.old) ≤ 2 ^ 62 }
+    requires only { Only (D.medium.reads disk.old) (D.medium.may_leave disk.old) }
+    ensures bytes { OnOk result (D.medium.reads disk.new ≡ started (0 ∷ drop 10 (D.medium.reads disk.old))) }
+    ensures limit { OnOk result (length (D.medium.reads disk.new) ≤ 2 ^ 62) }
+    ensures durable { OnOk result (Only (D.medium.reads disk.new) (D.medium.may_leave disk.new)) }
+    ensures images { EachDecodes (D.medium.may_leave disk.new) (Encodes []) }
+    ensures faults { CountsFault result (D.medium.faults disk.old) (D.medium.faults disk.new) }
+    ensures arms { D.medium.arms disk.new ≡ D.medium.arms disk.old }
 {
     close_first(disk, bytes)?;
     put_header(disk)
@@ -66,17 +66,17 @@ fn begin<D: Disk>(disk: &mut D, bytes: &[u8]) -> Result<(), DiskFault>
 
 /// Makes the first byte a closed gate, unless it is one.
 fn close_first<D: Disk>(disk: &mut D, bytes: &[u8]) -> Result<(), DiskFault>
-    requires bytes { bytes.now ≡ D.reads disk.old }
-    requires not_started { is_started (D.reads disk.old) ≡ false }
-    requires limit { length (D.reads disk.old) ≤ 2 ^ 62 }
-    requires only { Only (D.reads disk.old) (D.may_leave disk.old) }
-    ensures closed { OnOk result (is_closed (D.reads disk.new) ≡ true) }
-    ensures rest { OnOk result (drop 1 (D.reads disk.new) ≡ drop 1 (D.reads disk.old)) }
-    ensures limit { OnOk result (length (D.reads disk.new) ≤ 2 ^ 62) }
-    ensures durable { OnOk result (Only (D.reads disk.new) (D.may_leave disk.new)) }
-    ensures images { EachDecodes (D.may_leave disk.new) (Encodes []) }
-    ensures faults { CountsFault result (D.faults disk.old) (D.faults disk.new) }
-    ensures arms { D.arms disk.new ≡ D.arms disk.old }
+    requires bytes { bytes.now ≡ D.medium.reads disk.old }
+    requires not_started { is_started (D.medium.reads disk.old) ≡ false }
+    requires limit { length (D.medium.reads disk.old) ≤ 2 ^ 62 }
+    requires only { Only (D.medium.reads disk.old) (D.medium.may_leave disk.old) }
+    ensures closed { OnOk result (is_closed (D.medium.reads disk.new) ≡ true) }
+    ensures rest { OnOk result (drop 1 (D.medium.reads disk.new) ≡ drop 1 (D.medium.reads disk.old)) }
+    ensures limit { OnOk result (length (D.medium.reads disk.new) ≤ 2 ^ 62) }
+    ensures durable { OnOk result (Only (D.medium.reads disk.new) (D.medium.may_leave disk.new)) }
+    ensures images { EachDecodes (D.medium.may_leave disk.new) (Encodes []) }
+    ensures faults { CountsFault result (D.medium.faults disk.old) (D.medium.faults disk.new) }
+    ensures arms { D.medium.arms disk.new ≡ D.medium.arms disk.old }
 {
     if has_closed_gate(bytes) {
         return Ok(());
@@ -86,15 +86,15 @@ fn close_first<D: Disk>(disk: &mut D, bytes: &[u8]) -> Result<(), DiskFault>
 
 /// Writes the header and the first record's gate after the closed gate, and then opens that.
 fn put_header<D: Disk>(disk: &mut D) -> Result<(), DiskFault>
-    requires closed { is_closed (D.reads disk.old) ≡ true }
-    requires limit { length (D.reads disk.old) ≤ 2 ^ 62 }
-    requires only { Only (D.reads disk.old) (D.may_leave disk.old) }
-    ensures bytes { OnOk result (D.reads disk.new ≡ started (0 ∷ drop 10 (D.reads disk.old))) }
-    ensures limit { OnOk result (length (D.reads disk.new) ≤ 2 ^ 62) }
-    ensures durable { OnOk result (Only (D.reads disk.new) (D.may_leave disk.new)) }
-    ensures images { EachDecodes (D.may_leave disk.new) (Encodes []) }
-    ensures faults { CountsFault result (D.faults disk.old) (D.faults disk.new) }
-    ensures arms { D.arms disk.new ≡ D.arms disk.old }
+    requires closed { is_closed (D.medium.reads disk.old) ≡ true }
+    requires limit { length (D.medium.reads disk.old) ≤ 2 ^ 62 }
+    requires only { Only (D.medium.reads disk.old) (D.medium.may_leave disk.old) }
+    ensures bytes { OnOk result (D.medium.reads disk.new ≡ started (0 ∷ drop 10 (D.medium.reads disk.old))) }
+    ensures limit { OnOk result (length (D.medium.reads disk.new) ≤ 2 ^ 62) }
+    ensures durable { OnOk result (Only (D.medium.reads disk.new) (D.medium.may_leave disk.new)) }
+    ensures images { EachDecodes (D.medium.may_leave disk.new) (Encodes []) }
+    ensures faults { CountsFault result (D.medium.faults disk.old) (D.medium.faults disk.new) }
+    ensures arms { D.medium.arms disk.new ≡ D.medium.arms disk.old }
 {
     let mut opening = [CLOSED; 9];
     opening[..8].copy_from_slice(&HEADER);

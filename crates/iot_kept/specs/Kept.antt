@@ -1,5 +1,6 @@
 -- What is kept of a client, over its disk.
 use Rattle.std.specs.Prelude.{ℕ, Bool, List, Option}
+use Rattle.iot_disk.specs.Disk.{Medium}
 use Rattle.iot_journal.specs.Journal as journal
 use Rattle.iot_kept.specs.States.{State, opening}
 use Rattle.iot_kept.specs.Memory.{memory_state, class_of, Sees}
@@ -19,15 +20,15 @@ abbrev pub disk_of : {D : Type 0} → Kept D → D
 disk_of kept = journal.disk_of kept.journal
 
 -- the bodies of the records on its disk
-abbrev pub bodies_on : {D : Type 0} → (D → List ℕ) → Kept D → List (List ℕ)
-bodies_on reads kept = journal.bodies_on reads kept.journal
+abbrev pub bodies_on : {D : Type 0} → Medium D → Kept D → List (List ℕ)
+bodies_on medium kept = journal.bodies_on medium kept.journal
 
 -- the number of records that were read and appended
 abbrev pub records_of : {D : Type 0} → Kept D → ℕ
 records_of kept = journal.count_of kept.journal
 
 -- nothing is under way: the disk has one image, its records lead to the state, and the tree beside the state is its view
-pub record IsSynced {D : Type 0} (reads : D → List ℕ) (may_leave : D → List ℕ → Type 0) (kept : Kept D) : Type 0 where
-  pub journal : journal.IsSynced reads may_leave kept.journal
-  pub leads : Leads (bodies_on reads kept) opening (state_of kept)
+pub record IsSynced {D : Type 0} (medium : Medium D) (kept : Kept D) : Type 0 where
+  pub journal : journal.IsSynced medium kept.journal
+  pub leads : Leads (bodies_on medium kept) opening (state_of kept)
   pub sees : Sees kept.memory

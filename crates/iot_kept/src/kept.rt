@@ -50,14 +50,14 @@ impl<D: Disk> Kept<D> {
     /// `Foreign` if something else wrote the disk, and `Damaged` with the place of its gate if a record is the spelling of no change
     /// or cannot follow the ones before it. `Stopped` if the disk failed in this call, and `NoMemory`.
     pub fn start(alloc: Global, disk: D) -> Result<Kept<D>, (D, StartFault)>
-        requires { Only (D.reads disk) (D.may_leave disk) }
-        ensures stands { IfOk result (λ kept. StandFor (D.reads disk) (state_of kept)) }
-        ensures records { IfOk result (λ kept. decoded (D.reads disk) ≡ Encodes (bodies_on D.reads kept)) }
+        requires { Only (D.medium.reads disk) (D.medium.may_leave disk) }
+        ensures stands { IfOk result (λ kept. StandFor (D.medium.reads disk) (state_of kept)) }
+        ensures records { IfOk result (λ kept. decoded (D.medium.reads disk) ≡ Encodes (bodies_on D.medium kept)) }
 
         // The disk stands for no other state.
-        ensures only { (state : State) → StandFor (D.reads disk) state
+        ensures only { (state : State) → StandFor (D.medium.reads disk) state
             → IfOk result (λ kept. state_of kept ≡ state) }
-        ensures synced { IfOk result (λ kept. IsSynced D.reads D.may_leave kept) }
+        ensures synced { IfOk result (λ kept. IsSynced D.medium kept) }
 
         // A transaction that runs is second class. All acts hold in turn, are guarded by their reads, and have spellings.
         ensures class { IfOk result (λ kept. IsSecond (class_in kept)) }
@@ -68,35 +68,35 @@ impl<D: Disk> Kept<D> {
         // However this returns, every image encodes what the disk encoded before. So each stands for the state for which
         // the disk stood; and if it stood for one, its bytes are not refused.
         ensures bodies { MatchResult result
-            (λ kept. EachDecodes (D.may_leave (disk_of kept)) (decoded (D.reads disk)))
-            (λ refused. EachDecodes (D.may_leave refused.0) (decoded (D.reads disk))) }
-        ensures images { (state : State) → StandFor (D.reads disk) state → MatchResult result
-            (λ kept. EachStands (D.may_leave (disk_of kept)) state)
-            (λ refused. EachStands (D.may_leave refused.0) state) }
-        ensures never { (state : State) → StandFor (D.reads disk) state
+            (λ kept. EachDecodes (D.medium.may_leave (disk_of kept)) (decoded (D.medium.reads disk)))
+            (λ refused. EachDecodes (D.medium.may_leave refused.0) (decoded (D.medium.reads disk))) }
+        ensures images { (state : State) → StandFor (D.medium.reads disk) state → MatchResult result
+            (λ kept. EachStands (D.medium.may_leave (disk_of kept)) state)
+            (λ refused. EachStands (D.medium.may_leave refused.0) state) }
+        ensures never { (state : State) → StandFor (D.medium.reads disk) state
             → IfErr result (λ refused. TakesBytes refused.1) }
 
-        ensures steady { IfOk result (λ kept. D.faults (disk_of kept) ≡ D.faults disk) }
+        ensures steady { IfOk result (λ kept. D.medium.faults (disk_of kept) ≡ D.medium.faults disk) }
         ensures cause { IfErr result (λ refused.
-            HasCause refused.1 (D.reads disk) (D.faults disk) (D.faults refused.0)) }
+            HasCause refused.1 (D.medium.reads disk) (D.medium.faults disk) (D.medium.faults refused.0)) }
 
         // A refusal of the bytes changes nothing.
         ensures refused_reads { IfErr result (λ refused.
-            ChangesNothing refused.1 (D.reads refused.0 ≡ D.reads disk)) }
+            ChangesNothing refused.1 (D.medium.reads refused.0 ≡ D.medium.reads disk)) }
         ensures refused_images { IfErr result (λ refused.
-            ChangesNothing refused.1 (SameImages (D.may_leave disk) (D.may_leave refused.0))) }
+            ChangesNothing refused.1 (SameImages (D.medium.may_leave disk) (D.medium.may_leave refused.0))) }
 
         // A disk on which a journal was started is only read, whatever the answer, and so is each whose bytes are refused.
-        ensures only_read { is_started (D.reads disk) ≡ true → MatchResult result
-            (λ kept. D.reads (disk_of kept) ≡ D.reads disk)
-            (λ refused. D.reads refused.0 ≡ D.reads disk) }
-        ensures only_read_images { is_started (D.reads disk) ≡ true → MatchResult result
-            (λ kept. SameImages (D.may_leave disk) (D.may_leave (disk_of kept)))
-            (λ refused. SameImages (D.may_leave disk) (D.may_leave refused.0)) }
+        ensures only_read { is_started (D.medium.reads disk) ≡ true → MatchResult result
+            (λ kept. D.medium.reads (disk_of kept) ≡ D.medium.reads disk)
+            (λ refused. D.medium.reads refused.0 ≡ D.medium.reads disk) }
+        ensures only_read_images { is_started (D.medium.reads disk) ≡ true → MatchResult result
+            (λ kept. SameImages (D.medium.may_leave disk) (D.medium.may_leave (disk_of kept)))
+            (λ refused. SameImages (D.medium.may_leave disk) (D.medium.may_leave refused.0)) }
 
         ensures arms { MatchResult result
-            (λ kept. D.arms (disk_of kept) ≡ D.arms disk)
-            (λ refused. D.arms refused.0 ≡ D.arms disk) }
+            (λ kept. D.medium.arms (disk_of kept) ≡ D.medium.arms disk)
+            (λ refused. D.medium.arms refused.0 ≡ D.medium.arms disk) }
     {
         let (journal, bodies) = match Journal::start(alloc, disk) {
             Ok(started) => started,
@@ -120,32 +120,32 @@ impl<D: Disk> Kept<D> {
     /// `Stopped` if the disk failed in this call, and `NoMemory`: each image of the disk then stands for the state before the change
     /// or for the one after it.
     pub fn note(&mut self, alloc: Global, change: Change) -> Result<(), JournalFault>
-        requires synced { IsSynced D.reads D.may_leave self.old }
+        requires synced { IsSynced D.medium self.old }
         requires change { IsChange change }
         requires follows { CanFollow (state_of self.old) change }
 
         // However this returns, every image stands for the state before or for the one after: its records are those before,
         // or those and the record of this change.
-        ensures images { EachStandsEither (D.may_leave (disk_of self.new))
+        ensures images { EachStandsEither (D.medium.may_leave (disk_of self.new))
             (state_of self.old) (after (state_of self.old) change) }
-        ensures one_record { EachDecodesEither (D.may_leave (disk_of self.new))
-            (Encodes (bodies_on D.reads self.old))
-            (Encodes (bodies_on D.reads self.old ++ change_spelling change ∷ [])) }
+        ensures one_record { EachDecodesEither (D.medium.may_leave (disk_of self.new))
+            (Encodes (bodies_on D.medium self.old))
+            (Encodes (bodies_on D.medium self.old ++ change_spelling change ∷ [])) }
 
         // If the disk failed, nothing has changed in memory.
         ensures stopped { IsErrOf result JournalFault.Stopped → state_of self.new ≡ state_of self.old }
         ensures stopped_class { IsErrOf result JournalFault.Stopped → class_in self.new ≡ class_in self.old }
 
-        ensures noted { OnOk result (EachStands (D.may_leave (disk_of self.new)) (after (state_of self.old) change)) }
+        ensures noted { OnOk result (EachStands (D.medium.may_leave (disk_of self.new)) (after (state_of self.old) change)) }
         ensures state { OnOk result (state_of self.new ≡ after (state_of self.old) change) }
         ensures class { OnOk result (class_in self.new ≡ class_after change (class_in self.old)) }
-        ensures bodies { OnOk result (bodies_on D.reads self.new ≡ bodies_on D.reads self.old ++ change_spelling change ∷ []) }
+        ensures bodies { OnOk result (bodies_on D.medium self.new ≡ bodies_on D.medium self.old ++ change_spelling change ∷ []) }
         ensures records { OnOk result (records_of self.new ≡ records_of self.old + 1) }
-        ensures synced { OnOk result (IsSynced D.reads D.may_leave self.new) }
+        ensures synced { OnOk result (IsSynced D.medium self.new) }
 
         ensures faults { CountsJournalFault result
-            (D.faults (disk_of self.old)) (D.faults (disk_of self.new)) }
-        ensures arms { D.arms (disk_of self.new) ≡ D.arms (disk_of self.old) }
+            (D.medium.faults (disk_of self.old)) (D.medium.faults (disk_of self.new)) }
+        ensures arms { D.medium.arms (disk_of self.new) ≡ D.medium.arms (disk_of self.old) }
     {
         spell(&change, &mut self.buffer)?;
         self.journal.append(self.buffer.as_bytes())?;
@@ -164,33 +164,33 @@ impl<D: Disk> Kept<D> {
         change: Change,
         spelling: &[u8],
     ) -> Result<(), JournalFault>
-        requires synced { IsSynced D.reads D.may_leave self.old }
+        requires synced { IsSynced D.medium self.old }
         requires change { IsChange change }
         requires follows { CanFollow (state_of self.old) change }
         requires spelled { spelling.now ≡ change_spelling change }
 
         // However this returns, every image stands for the state before or for the one after: its records are those before,
         // or those and the record of this change.
-        ensures images { EachStandsEither (D.may_leave (disk_of self.new))
+        ensures images { EachStandsEither (D.medium.may_leave (disk_of self.new))
             (state_of self.old) (after (state_of self.old) change) }
-        ensures one_record { EachDecodesEither (D.may_leave (disk_of self.new))
-            (Encodes (bodies_on D.reads self.old))
-            (Encodes (bodies_on D.reads self.old ++ change_spelling change ∷ [])) }
+        ensures one_record { EachDecodesEither (D.medium.may_leave (disk_of self.new))
+            (Encodes (bodies_on D.medium self.old))
+            (Encodes (bodies_on D.medium self.old ++ change_spelling change ∷ [])) }
 
         // If the disk failed, nothing has changed in memory.
         ensures stopped { IsErrOf result JournalFault.Stopped → state_of self.new ≡ state_of self.old }
         ensures stopped_class { IsErrOf result JournalFault.Stopped → class_in self.new ≡ class_in self.old }
 
-        ensures noted { OnOk result (EachStands (D.may_leave (disk_of self.new)) (after (state_of self.old) change)) }
+        ensures noted { OnOk result (EachStands (D.medium.may_leave (disk_of self.new)) (after (state_of self.old) change)) }
         ensures state { OnOk result (state_of self.new ≡ after (state_of self.old) change) }
         ensures class { OnOk result (class_in self.new ≡ class_after change (class_in self.old)) }
-        ensures bodies { OnOk result (bodies_on D.reads self.new ≡ bodies_on D.reads self.old ++ change_spelling change ∷ []) }
+        ensures bodies { OnOk result (bodies_on D.medium self.new ≡ bodies_on D.medium self.old ++ change_spelling change ∷ []) }
         ensures records { OnOk result (records_of self.new ≡ records_of self.old + 1) }
-        ensures synced { OnOk result (IsSynced D.reads D.may_leave self.new) }
+        ensures synced { OnOk result (IsSynced D.medium self.new) }
 
         ensures faults { CountsJournalFault result
-            (D.faults (disk_of self.old)) (D.faults (disk_of self.new)) }
-        ensures arms { D.arms (disk_of self.new) ≡ D.arms (disk_of self.old) }
+            (D.medium.faults (disk_of self.old)) (D.medium.faults (disk_of self.new)) }
+        ensures arms { D.medium.arms (disk_of self.new) ≡ D.medium.arms (disk_of self.old) }
     {
         self.journal.append(spelling)?;
         Ok(self.memory.note(alloc, change)?)
@@ -202,7 +202,7 @@ impl<D: Disk> Kept<D> {
         ensures state { state_of self.new ≡ state_of self.old }
         ensures disk { disk_of self.new ≡ disk_of self.old }
         ensures records { records_of self.new ≡ records_of self.old }
-        ensures synced { IsSynced D.reads D.may_leave self.old → IsSynced D.reads D.may_leave self.new }
+        ensures synced { IsSynced D.medium self.old → IsSynced D.medium self.new }
     {
         self.memory.durable.set_class(first);
     }
@@ -216,7 +216,7 @@ impl<D: Disk> Kept<D> {
 
     /// The tree that scripts read: the held one after all that waits and runs.
     pub fn view(&self) -> &Tree
-        requires { IsSynced D.reads D.may_leave self.now }
+        requires { IsSynced D.medium self.now }
         ensures { result.now ≡ view (state_of self.now) }
     {
         &self.memory.view
@@ -253,14 +253,14 @@ impl<D: Disk> Kept<D> {
 
     /// Makes a later device call of the disk fail, and does nothing else.
     pub fn arm(&mut self, calls: u64, pick: Pick)
-        ensures arms { D.arms (disk_of self.new) ≡ armed_with (D.arms (disk_of self.old)) calls pick }
-        ensures reads { D.reads (disk_of self.new) ≡ D.reads (disk_of self.old) }
-        ensures images { SameImages (D.may_leave (disk_of self.old)) (D.may_leave (disk_of self.new)) }
-        ensures faults { D.faults (disk_of self.new) ≡ D.faults (disk_of self.old) }
+        ensures arms { D.medium.arms (disk_of self.new) ≡ armed_with (D.medium.arms (disk_of self.old)) calls pick }
+        ensures reads { D.medium.reads (disk_of self.new) ≡ D.medium.reads (disk_of self.old) }
+        ensures images { SameImages (D.medium.may_leave (disk_of self.old)) (D.medium.may_leave (disk_of self.new)) }
+        ensures faults { D.medium.faults (disk_of self.new) ≡ D.medium.faults (disk_of self.old) }
         ensures state { state_of self.new ≡ state_of self.old }
         ensures class { class_in self.new ≡ class_in self.old }
         ensures records { records_of self.new ≡ records_of self.old }
-        ensures synced { IsSynced D.reads D.may_leave self.old → IsSynced D.reads D.may_leave self.new }
+        ensures synced { IsSynced D.medium self.old → IsSynced D.medium self.new }
     {
         self.journal.arm(calls, pick);
     }
@@ -268,7 +268,7 @@ impl<D: Disk> Kept<D> {
     /// Gives the disk back. Unless `note` failed, each image of it stands for the state.
     pub fn into_disk(self) -> D
         ensures disk { result ≡ disk_of self }
-        ensures stands { IsSynced D.reads D.may_leave self → EachStands (D.may_leave result) (state_of self) }
+        ensures stands { IsSynced D.medium self → EachStands (D.medium.may_leave result) (state_of self) }
     {
         self.journal.into_disk()
     }

@@ -14,12 +14,12 @@ pub const CLOSED: u8 = 0;
 
 /// All bytes of a disk, by one device call, or by none if it is empty.
 pub fn read_disk<D: Disk>(alloc: Global, disk: &mut D) -> Result<Vec<u8>, DiskFault>
-    ensures bytes { IfOk result (λ bytes. bytes.items ≡ D.reads disk.old) }
-    ensures limit { OnOk result (length (D.reads disk.old) ≤ 2 ^ 62) }
-    ensures reads { OnOk result (D.reads disk.new ≡ D.reads disk.old) }
-    ensures images { SameImages (D.may_leave disk.old) (D.may_leave disk.new) }
-    ensures faults { CountsFault result (D.faults disk.old) (D.faults disk.new) }
-    ensures arms { D.arms disk.new ≡ D.arms disk.old }
+    ensures bytes { IfOk result (λ bytes. bytes.items ≡ D.medium.reads disk.old) }
+    ensures limit { OnOk result (length (D.medium.reads disk.old) ≤ 2 ^ 62) }
+    ensures reads { OnOk result (D.medium.reads disk.new ≡ D.medium.reads disk.old) }
+    ensures images { SameImages (D.medium.may_leave disk.old) (D.medium.may_leave disk.new) }
+    ensures faults { CountsFault result (D.medium.faults disk.old) (D.medium.faults disk.new) }
+    ensures arms { D.medium.arms disk.new ≡ D.medium.arms disk.old }
 {
     let mut bytes = vec![in alloc; 0; disk.len() as usize]?;
     if !bytes.is_empty() {

@@ -1,6 +1,7 @@
 -- What a store holds has a spelling, and so has each answer of its tree.
 use Rattle.std.proofs.Common.{◌+◌, ℕ, suc, List, [], ◌∷◌, length, inl, inr, sym, subst}
 use Rattle.std.specs.List.{AllByRecursion}
+use Rattle.iot_disk.specs.Disk.{Medium}
 use Rattle.iot_acts.specs.Traces.{after_update, after_acts}
 use Rattle.iot_acts.specs.Turns.{ReadDiffers, ActDiffers}
 use Rattle.iot_certify.specs.Verdicts.{IsVerdictOnActs}
@@ -30,13 +31,13 @@ leads_spelled (body ∷ bodies) before after leads spelled =
     leads_spelled bodies (after_commit before leads.0 leads.1) after leads.4
     (acts_spelled leads.1 before.tree leads.2.has_acts.each spelled)
 
-module _ {D : Type 0} (reads : D → List ℕ) (may_leave : D → List ℕ → Type 0) (store : Store D)
-    (synced : IsSynced reads may_leave store) where
+module _ {D : Type 0} (medium : Medium D) (store : Store D)
+    (synced : IsSynced medium store) where
   pub store_spelled : IsSpelledTree (state_of store).tree
   store_spelled = leads_spelled _ opening (state_of store) synced.leads root_tree
 
   -- its disk has one image, which stands for its state
-  pub store_stands : EachStands (may_leave (disk_of store)) (state_of store)
+  pub store_stands : EachStands (medium.may_leave (disk_of store)) (state_of store)
   store_stands = record {
     each = λ image left. subst (λ (bytes : List ℕ). StandFor bytes (state_of store)) (sym (synced.journal.only.is image left))
         (record { bodies = _; read = synced.journal.encodes; leads = synced.leads });

@@ -1,5 +1,6 @@
 -- A server over its disk.
 use Rattle.std.specs.Prelude.{ℕ, List}
+use Rattle.iot_disk.specs.Disk.{Medium}
 use Rattle.iot_store.specs.States.{State}
 use Rattle.iot_store.specs.Store as store
 use Rattle.iot_store.specs.declared.store.Store.{Store}
@@ -21,9 +22,9 @@ abbrev pub disk_of : {D : Type 0} → Server D → D
 disk_of server = store.disk_of server.store
 
 -- the bodies of the records on its disk
-abbrev pub bodies_on : {D : Type 0} → (D → List ℕ) → Server D → List (List ℕ)
-bodies_on reads server = store.bodies_on reads server.store
+abbrev pub bodies_on : {D : Type 0} → Medium D → Server D → List (List ℕ)
+bodies_on medium server = store.bodies_on medium server.store
 
 -- nothing is under way: the disk has one image, and its records lead to the state
-abbrev pub IsSynced : {D : Type 0} → (D → List ℕ) → (D → List ℕ → Type 0) → Server D → Type 0
-IsSynced reads may_leave server = store.IsSynced reads may_leave server.store
+abbrev pub IsSynced : {D : Type 0} → Medium D → Server D → Type 0
+IsSynced medium server = store.IsSynced medium server.store

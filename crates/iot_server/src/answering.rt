@@ -33,19 +33,19 @@ pub(crate) fn answer<D: Disk>(
     request: Request,
     bytes: &[u8],
 ) -> Result<Vec<u8>, JournalFault>
-    requires synced { IsSynced D.reads D.may_leave store.old }
+    requires synced { IsSynced D.medium store.old }
     requires request { IsRequest request }
     requires bytes { request_spelling request ≡ bytes.now }
-    ensures answered { IfOk result (λ bytes. IsAnswered (state_of store.old) (bodies_on D.reads store.old) request bytes.items
-        (state_of store.new) (bodies_on D.reads store.new)) }
-    ensures synced { OnOk result (IsSynced D.reads D.may_leave store.new) }
+    ensures answered { IfOk result (λ bytes. IsAnswered (state_of store.old) (bodies_on D.medium store.old) request bytes.items
+        (state_of store.new) (bodies_on D.medium store.new)) }
+    ensures synced { OnOk result (IsSynced D.medium store.new) }
     ensures stopped { IsErrOf result JournalFault.Stopped → CutsOff (λ (asked : Asked). asked ≡ request)
-        (state_of store.old) (bodies_on D.reads store.old) (D.may_leave (disk_of store.new)) }
-    ensures no_memory { IsErrOf result JournalFault.NoMemory → EachStands (D.may_leave (disk_of store.new)) (state_of store.old) }
+        (state_of store.old) (bodies_on D.medium store.old) (D.medium.may_leave (disk_of store.new)) }
+    ensures no_memory { IsErrOf result JournalFault.NoMemory → EachStands (D.medium.may_leave (disk_of store.new)) (state_of store.old) }
     ensures no_record { IsErrOf result JournalFault.NoMemory
-        → EachDecodes (D.may_leave (disk_of store.new)) (Encodes (bodies_on D.reads store.old)) }
-    ensures faults { CountsJournalFault result (D.faults (disk_of store.old)) (D.faults (disk_of store.new)) }
-    ensures arms { D.arms (disk_of store.new) ≡ D.arms (disk_of store.old) }
+        → EachDecodes (D.medium.may_leave (disk_of store.new)) (Encodes (bodies_on D.medium store.old)) }
+    ensures faults { CountsJournalFault result (D.medium.faults (disk_of store.old)) (D.medium.faults (disk_of store.new)) }
+    ensures arms { D.medium.arms (disk_of store.new) ≡ D.medium.arms (disk_of store.old) }
 {
     match request {
         Request::Refresh {
@@ -74,11 +74,11 @@ fn lend<D: Disk>(
     known: Paths,
     want: &Want,
 ) -> Result<Vec<u8>, NoMemory>
-    requires synced { IsSynced D.reads D.may_leave store.now }
+    requires synced { IsSynced D.medium store.now }
     requires known { ArePaths known }
     ensures { (client : _) → IfOk result (λ bytes.
-        IsAnswered (state_of store.now) (bodies_on D.reads store.now) (Refresh client known want.now) bytes.items
-        (state_of store.now) (bodies_on D.reads store.now)) }
+        IsAnswered (state_of store.now) (bodies_on D.medium store.now) (Refresh client known want.now) bytes.items
+        (state_of store.now) (bodies_on D.medium store.now)) }
 {
     let tree = store.tree();
     let paths = widen(alloc, known, tree, want)?;
@@ -96,21 +96,21 @@ fn submit<D: Disk>(
     acts: &Acts,
     spelling: &[u8],
 ) -> Result<Vec<u8>, JournalFault>
-    requires synced { IsSynced D.reads D.may_leave store.old }
+    requires synced { IsSynced D.medium store.old }
     requires label { IsLabel label }
     requires acts { AreActs acts.now }
     requires spelled { spelling.now ≡ label_spelling label ++ acts_spelling acts.now }
     ensures answered { IfOk result (λ bytes.
-        IsAnswered (state_of store.old) (bodies_on D.reads store.old) (Commit label acts.now) bytes.items
-        (state_of store.new) (bodies_on D.reads store.new)) }
-    ensures synced { OnOk result (IsSynced D.reads D.may_leave store.new) }
+        IsAnswered (state_of store.old) (bodies_on D.medium store.old) (Commit label acts.now) bytes.items
+        (state_of store.new) (bodies_on D.medium store.new)) }
+    ensures synced { OnOk result (IsSynced D.medium store.new) }
     ensures stopped { IsErrOf result JournalFault.Stopped → CutsOff (λ (asked : Asked). asked ≡ Commit label acts.now)
-        (state_of store.old) (bodies_on D.reads store.old) (D.may_leave (disk_of store.new)) }
-    ensures no_memory { IsErrOf result JournalFault.NoMemory → EachStands (D.may_leave (disk_of store.new)) (state_of store.old) }
+        (state_of store.old) (bodies_on D.medium store.old) (D.medium.may_leave (disk_of store.new)) }
+    ensures no_memory { IsErrOf result JournalFault.NoMemory → EachStands (D.medium.may_leave (disk_of store.new)) (state_of store.old) }
     ensures no_record { IsErrOf result JournalFault.NoMemory
-        → EachDecodes (D.may_leave (disk_of store.new)) (Encodes (bodies_on D.reads store.old)) }
-    ensures faults { CountsJournalFault result (D.faults (disk_of store.old)) (D.faults (disk_of store.new)) }
-    ensures arms { D.arms (disk_of store.new) ≡ D.arms (disk_of store.old) }
+        → EachDecodes (D.medium.may_leave (disk_of store.new)) (Encodes (bodies_on D.medium store.old)) }
+    ensures faults { CountsJournalFault result (D.medium.faults (disk_of store.old)) (D.medium.faults (disk_of store.new)) }
+    ensures arms { D.medium.arms (disk_of store.new) ≡ D.medium.arms (disk_of store.old) }
 {
     match store.number_of(label.client, label.tid) {
         Some(number) => Ok(write_reply(alloc, &Reply::Already { number })?),
@@ -126,22 +126,22 @@ fn judge<D: Disk>(
     acts: &Acts,
     spelling: &[u8],
 ) -> Result<Vec<u8>, JournalFault>
-    requires synced { IsSynced D.reads D.may_leave store.old }
+    requires synced { IsSynced D.medium store.old }
     requires label { IsLabel label }
     requires acts { AreActs acts.now }
     requires spelled { spelling.now ≡ label_spelling label ++ acts_spelling acts.now }
     requires new { number_in (state_of store.old).labels label.client label.tid ≡ None }
     ensures answered { IfOk result (λ bytes.
-        IsAnswered (state_of store.old) (bodies_on D.reads store.old) (Commit label acts.now) bytes.items
-        (state_of store.new) (bodies_on D.reads store.new)) }
-    ensures synced { OnOk result (IsSynced D.reads D.may_leave store.new) }
+        IsAnswered (state_of store.old) (bodies_on D.medium store.old) (Commit label acts.now) bytes.items
+        (state_of store.new) (bodies_on D.medium store.new)) }
+    ensures synced { OnOk result (IsSynced D.medium store.new) }
     ensures stopped { IsErrOf result JournalFault.Stopped → CutsOff (λ (asked : Asked). asked ≡ Commit label acts.now)
-        (state_of store.old) (bodies_on D.reads store.old) (D.may_leave (disk_of store.new)) }
-    ensures no_memory { IsErrOf result JournalFault.NoMemory → EachStands (D.may_leave (disk_of store.new)) (state_of store.old) }
+        (state_of store.old) (bodies_on D.medium store.old) (D.medium.may_leave (disk_of store.new)) }
+    ensures no_memory { IsErrOf result JournalFault.NoMemory → EachStands (D.medium.may_leave (disk_of store.new)) (state_of store.old) }
     ensures no_record { IsErrOf result JournalFault.NoMemory
-        → EachDecodes (D.may_leave (disk_of store.new)) (Encodes (bodies_on D.reads store.old)) }
-    ensures faults { CountsJournalFault result (D.faults (disk_of store.old)) (D.faults (disk_of store.new)) }
-    ensures arms { D.arms (disk_of store.new) ≡ D.arms (disk_of store.old) }
+        → EachDecodes (D.medium.may_leave (disk_of store.new)) (Encodes (bodies_on D.medium store.old)) }
+    ensures faults { CountsJournalFault result (D.medium.faults (disk_of store.old)) (D.medium.faults (disk_of store.new)) }
+    ensures arms { D.medium.arms (disk_of store.new) ≡ D.medium.arms (disk_of store.old) }
 {
     match certify_acts(alloc, store.tree(), acts)? {
         Verdict::Holds => commit(alloc, store, label, acts, spelling),
@@ -159,23 +159,23 @@ fn commit<D: Disk>(
     acts: &Acts,
     spelling: &[u8],
 ) -> Result<Vec<u8>, JournalFault>
-    requires synced { IsSynced D.reads D.may_leave store.old }
+    requires synced { IsSynced D.medium store.old }
     requires label { IsLabel label }
     requires acts { AreActs acts.now }
     requires spelled { spelling.now ≡ label_spelling label ++ acts_spelling acts.now }
     requires new { number_in (state_of store.old).labels label.client label.tid ≡ None }
     requires holds { IsJudged (state_of store.old).tree acts.now Verdict.Holds }
     ensures answered { IfOk result (λ bytes.
-        IsAnswered (state_of store.old) (bodies_on D.reads store.old) (Commit label acts.now) bytes.items
-        (state_of store.new) (bodies_on D.reads store.new)) }
-    ensures synced { OnOk result (IsSynced D.reads D.may_leave store.new) }
+        IsAnswered (state_of store.old) (bodies_on D.medium store.old) (Commit label acts.now) bytes.items
+        (state_of store.new) (bodies_on D.medium store.new)) }
+    ensures synced { OnOk result (IsSynced D.medium store.new) }
     ensures stopped { IsErrOf result JournalFault.Stopped → CutsOff (λ (asked : Asked). asked ≡ Commit label acts.now)
-        (state_of store.old) (bodies_on D.reads store.old) (D.may_leave (disk_of store.new)) }
-    ensures no_memory { IsErrOf result JournalFault.NoMemory → EachStands (D.may_leave (disk_of store.new)) (state_of store.old) }
+        (state_of store.old) (bodies_on D.medium store.old) (D.medium.may_leave (disk_of store.new)) }
+    ensures no_memory { IsErrOf result JournalFault.NoMemory → EachStands (D.medium.may_leave (disk_of store.new)) (state_of store.old) }
     ensures no_record { IsErrOf result JournalFault.NoMemory
-        → EachDecodes (D.may_leave (disk_of store.new)) (Encodes (bodies_on D.reads store.old)) }
-    ensures faults { CountsJournalFault result (D.faults (disk_of store.old)) (D.faults (disk_of store.new)) }
-    ensures arms { D.arms (disk_of store.new) ≡ D.arms (disk_of store.old) }
+        → EachDecodes (D.medium.may_leave (disk_of store.new)) (Encodes (bodies_on D.medium store.old)) }
+    ensures faults { CountsJournalFault result (D.medium.faults (disk_of store.old)) (D.medium.faults (disk_of store.new)) }
+    ensures arms { D.medium.arms (disk_of store.new) ≡ D.medium.arms (disk_of store.old) }
 {
     let bytes = committed(alloc, store.number())?;
     store.commit_spelled(alloc, label, acts, spelling)?;

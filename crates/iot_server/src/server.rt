@@ -44,43 +44,43 @@ impl<D: Disk> Server<D> {
     /// `Foreign` if something else wrote the disk, and `Damaged` with the place of its gate if a record is none or cannot follow
     /// the ones before it. `Stopped` if the disk failed in this call, and `NoMemory`.
     pub fn start(alloc: Global, disk: D) -> Result<Server<D>, (D, StartFault)>
-        requires { Only (D.reads disk) (D.may_leave disk) }
-        ensures stands { IfOk result (λ server. StandFor (D.reads disk) (state_of server)) }
-        ensures records { IfOk result (λ server. decoded (D.reads disk) ≡ Encodes (bodies_on D.reads server)) }
+        requires { Only (D.medium.reads disk) (D.medium.may_leave disk) }
+        ensures stands { IfOk result (λ server. StandFor (D.medium.reads disk) (state_of server)) }
+        ensures records { IfOk result (λ server. decoded (D.medium.reads disk) ≡ Encodes (bodies_on D.medium server)) }
 
         // The disk stands for no other state.
-        ensures only { (state : State) → StandFor (D.reads disk) state → IfOk result (λ server. state_of server ≡ state) }
-        ensures synced { IfOk result (λ server. IsSynced D.reads D.may_leave server) }
+        ensures only { (state : State) → StandFor (D.medium.reads disk) state → IfOk result (λ server. state_of server ≡ state) }
+        ensures synced { IfOk result (λ server. IsSynced D.medium server) }
         ensures traffic { IfOk result (λ server. traffic_of server ≡ no_traffic) }
 
         // However this returns, every image encodes what the disk encoded before, and stands for the state for which it stood.
         ensures bodies { MatchResult result
-            (λ server. EachDecodes (D.may_leave (disk_of server)) (decoded (D.reads disk)))
-            (λ refused. EachDecodes (D.may_leave refused.0) (decoded (D.reads disk))) }
-        ensures images { (state : State) → StandFor (D.reads disk) state → MatchResult result
-            (λ server. EachStands (D.may_leave (disk_of server)) state)
-            (λ refused. EachStands (D.may_leave refused.0) state) }
-        ensures never { (state : State) → StandFor (D.reads disk) state → IfErr result (λ refused. TakesBytes refused.1) }
+            (λ server. EachDecodes (D.medium.may_leave (disk_of server)) (decoded (D.medium.reads disk)))
+            (λ refused. EachDecodes (D.medium.may_leave refused.0) (decoded (D.medium.reads disk))) }
+        ensures images { (state : State) → StandFor (D.medium.reads disk) state → MatchResult result
+            (λ server. EachStands (D.medium.may_leave (disk_of server)) state)
+            (λ refused. EachStands (D.medium.may_leave refused.0) state) }
+        ensures never { (state : State) → StandFor (D.medium.reads disk) state → IfErr result (λ refused. TakesBytes refused.1) }
 
-        ensures steady { IfOk result (λ server. D.faults (disk_of server) ≡ D.faults disk) }
-        ensures cause { IfErr result (λ refused. HasCause refused.1 (D.reads disk) (D.faults disk) (D.faults refused.0)) }
+        ensures steady { IfOk result (λ server. D.medium.faults (disk_of server) ≡ D.medium.faults disk) }
+        ensures cause { IfErr result (λ it. HasCause it.1 (D.medium.reads disk) (D.medium.faults disk) (D.medium.faults it.0)) }
 
         // A refusal of the bytes changes nothing.
-        ensures refused_reads { IfErr result (λ refused. ChangesNothing refused.1 (D.reads refused.0 ≡ D.reads disk)) }
+        ensures refused_reads { IfErr result (λ refused. ChangesNothing refused.1 (D.medium.reads refused.0 ≡ D.medium.reads disk)) }
         ensures refused_images { IfErr result (λ refused.
-            ChangesNothing refused.1 (SameImages (D.may_leave disk) (D.may_leave refused.0))) }
+            ChangesNothing refused.1 (SameImages (D.medium.may_leave disk) (D.medium.may_leave refused.0))) }
 
         // A disk on which a journal was started is only read, whatever the answer, and so is each whose bytes are refused.
-        ensures only_read { is_started (D.reads disk) ≡ true → MatchResult result
-            (λ server. D.reads (disk_of server) ≡ D.reads disk)
-            (λ refused. D.reads refused.0 ≡ D.reads disk) }
-        ensures only_read_images { is_started (D.reads disk) ≡ true → MatchResult result
-            (λ server. SameImages (D.may_leave disk) (D.may_leave (disk_of server)))
-            (λ refused. SameImages (D.may_leave disk) (D.may_leave refused.0)) }
+        ensures only_read { is_started (D.medium.reads disk) ≡ true → MatchResult result
+            (λ server. D.medium.reads (disk_of server) ≡ D.medium.reads disk)
+            (λ refused. D.medium.reads refused.0 ≡ D.medium.reads disk) }
+        ensures only_read_images { is_started (D.medium.reads disk) ≡ true → MatchResult result
+            (λ server. SameImages (D.medium.may_leave disk) (D.medium.may_leave (disk_of server)))
+            (λ refused. SameImages (D.medium.may_leave disk) (D.medium.may_leave refused.0)) }
 
         ensures arms { MatchResult result
-            (λ server. D.arms (disk_of server) ≡ D.arms disk)
-            (λ refused. D.arms refused.0 ≡ D.arms disk) }
+            (λ server. D.medium.arms (disk_of server) ≡ D.medium.arms disk)
+            (λ refused. D.medium.arms refused.0 ≡ D.medium.arms disk) }
     {
         match Store::start(alloc, disk) {
             Ok(store) => Ok(Server {
@@ -102,14 +102,14 @@ impl<D: Disk> Server<D> {
     /// which was to append a commit: each image then stands for the commits before or for those with the new one. `NoMemory`: each
     /// stands for the commits before, and has their records.
     pub fn handle(&mut self, alloc: Global, request: &[u8]) -> Result<Vec<u8>, ServerFault>
-        requires { IsSynced D.reads D.may_leave self.old }
+        requires { IsSynced D.medium self.old }
 
         // The bytes are the spelling of a request, and what is answered is that of its reply. The records are those from before,
         // and that of the commit if one was made.
-        ensures replies { IfOk result (λ bytes. IsHandled (state_of self.old) (bodies_on D.reads self.old) request.now bytes.items
-            (state_of self.new) (bodies_on D.reads self.new)) }
-        ensures synced { OnOk result (IsSynced D.reads D.may_leave self.new) }
-        ensures images { OnOk result (EachStands (D.may_leave (disk_of self.new)) (state_of self.new)) }
+        ensures replies { IfOk result (λ bytes. IsHandled (state_of self.old) (bodies_on D.medium self.old) request.now bytes.items
+            (state_of self.new) (bodies_on D.medium self.new)) }
+        ensures synced { OnOk result (IsSynced D.medium self.new) }
+        ensures images { OnOk result (EachStands (D.medium.may_leave (disk_of self.new)) (state_of self.new)) }
 
         // The bytes are refused exactly if they are the spelling of no request, and at their first fault.
         ensures exact { EndsBy result (whole request_at request.now) }
@@ -117,13 +117,13 @@ impl<D: Disk> Server<D> {
         ensures malformed { (at : ℕ) → IsErrOf result (Malformed at) → self.new ≡ self.old }
 
         ensures stopped { IsErrOf result Stopped → CutsOff (IsMessage IsRequest request_spelling request.now)
-            (state_of self.old) (bodies_on D.reads self.old) (D.may_leave (disk_of self.new)) }
-        ensures no_memory { IsErrOf result NoMemory → EachStands (D.may_leave (disk_of self.new)) (state_of self.old) }
+            (state_of self.old) (bodies_on D.medium self.old) (D.medium.may_leave (disk_of self.new)) }
+        ensures no_memory { IsErrOf result NoMemory → EachStands (D.medium.may_leave (disk_of self.new)) (state_of self.old) }
         ensures no_record { IsErrOf result NoMemory
-            → EachDecodes (D.may_leave (disk_of self.new)) (Encodes (bodies_on D.reads self.old)) }
+            → EachDecodes (D.medium.may_leave (disk_of self.new)) (Encodes (bodies_on D.medium self.old)) }
 
-        ensures faults { CountsServerFault result (D.faults (disk_of self.old)) (D.faults (disk_of self.new)) }
-        ensures arms { D.arms (disk_of self.new) ≡ D.arms (disk_of self.old) }
+        ensures faults { CountsServerFault result (D.medium.faults (disk_of self.old)) (D.medium.faults (disk_of self.new)) }
+        ensures arms { D.medium.arms (disk_of self.new) ≡ D.medium.arms (disk_of self.old) }
 
         // A request that has a reply counts, and no other.
         ensures traffic { traffic_of self.new ≡ traffic_after result (length request.now) (traffic_of self.old) }
@@ -150,12 +150,12 @@ impl<D: Disk> Server<D> {
 
     /// Makes a later device call of the disk fail, and does nothing else.
     pub fn arm(&mut self, calls: u64, pick: Pick)
-        ensures arms { D.arms (disk_of self.new) ≡ armed_with (D.arms (disk_of self.old)) calls pick }
-        ensures reads { D.reads (disk_of self.new) ≡ D.reads (disk_of self.old) }
-        ensures images { SameImages (D.may_leave (disk_of self.old)) (D.may_leave (disk_of self.new)) }
-        ensures faults { D.faults (disk_of self.new) ≡ D.faults (disk_of self.old) }
+        ensures arms { D.medium.arms (disk_of self.new) ≡ armed_with (D.medium.arms (disk_of self.old)) calls pick }
+        ensures reads { D.medium.reads (disk_of self.new) ≡ D.medium.reads (disk_of self.old) }
+        ensures images { SameImages (D.medium.may_leave (disk_of self.old)) (D.medium.may_leave (disk_of self.new)) }
+        ensures faults { D.medium.faults (disk_of self.new) ≡ D.medium.faults (disk_of self.old) }
         ensures state { state_of self.new ≡ state_of self.old }
-        ensures synced { IsSynced D.reads D.may_leave self.old → IsSynced D.reads D.may_leave self.new }
+        ensures synced { IsSynced D.medium self.old → IsSynced D.medium self.new }
         ensures traffic { traffic_of self.new ≡ traffic_of self.old }
     {
         self.store.arm(calls, pick);

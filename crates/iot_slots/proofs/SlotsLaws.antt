@@ -1,6 +1,6 @@
 -- Slots over a disk with one image.
 use Rattle.std.proofs.Common.{◌≡◌, inl, inr, ℕ, List, sym, ◌∙◌, ap, subst}
-use Rattle.iot_disk.specs.Disk.{Only}
+use Rattle.iot_disk.specs.Disk.{Medium, Only}
 use Rattle.iot_records.proofs.ImagesLaws.{each_only}
 use Rattle.iot_slots.specs.Decoding.{Encodes, State, decoded, state_of}
 use Rattle.iot_slots.specs.Layouts.{IsLaidOut}
@@ -10,19 +10,18 @@ use Rattle.iot_slots.specs.declared.slots.Slots.{Slots}
 use Rattle.iot_slots.proofs.LayoutsLaws.{laid_encodes}
 
 -- if it is laid out, nothing is under way
-pub synced : {D : Type 0} (reads : D → List ℕ) (may_leave : D → List ℕ → Type 0) (slots : Slots D) (state : State) →
-    Only (reads slots.disk) (may_leave slots.disk) → IsLaidOut slots.header (reads slots.disk) state slots.layout →
-    IsSynced reads may_leave slots × (state_on reads slots ≡ state)
-synced reads may_leave slots state only laid =
-    let is : decoded slots.header (reads slots.disk)
-    ≡ Encodes state = laid_encodes slots.header (reads slots.disk) state slots.layout laid in
-    let on : state_on reads slots ≡ state = ap state_of is in (
-      record {
-        only = only;
-        encodes = is ∙ ap Encodes (sym on);
-        layout = subst (λ (s : State). IsLaidOut slots.header (reads slots.disk) s slots.layout) (sym on) laid;
-      },
-      on,
+pub synced : {D : Type 0} (medium : Medium D) (slots : Slots D) (state : State) →
+    Only (medium.reads slots.disk) (medium.may_leave slots.disk) → IsLaidOut slots.header (medium.reads slots.disk) state slots.layout →
+    IsSynced medium slots
+synced medium slots state only laid =
+    let is : decoded slots.header (medium.reads slots.disk)
+    ≡ Encodes state = laid_encodes slots.header (medium.reads slots.disk) state slots.layout laid in
+    let on : state_on medium slots ≡ state = ap state_of is in (
+    record {
+      only = only;
+      encodes = is ∙ ap Encodes (sym on);
+      layout = subst (λ (s : State). IsLaidOut slots.header (medium.reads slots.disk) s slots.layout) (sym on) laid;
+    }
     )
 
 pub each_laid : (header bytes : List ℕ) (images : List ℕ → Type 0) (state : State) (layout : Layout) → Only bytes images →

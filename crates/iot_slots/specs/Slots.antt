@@ -1,6 +1,6 @@
 -- Slots over their disk.
 use Rattle.std.specs.Prelude.{◌≡◌, ◌⊎◌, ℕ, List, [], ◌∷◌, ◌++◌}
-use Rattle.iot_disk.specs.Disk.{Only}
+use Rattle.iot_disk.specs.Disk.{Medium, Only}
 use Rattle.iot_records.specs.Images.{Each}
 use Rattle.iot_slots.specs.Cells.{next}
 use Rattle.iot_slots.specs.Decoding.{Encodes, State, decoded, state_of}
@@ -43,11 +43,11 @@ abbrev pub count_of : {D : Type 0} → Slots D → ℕ
 count_of slots = slots.layout.count
 
 -- the state that their disk encodes
-abbrev pub state_on : {D : Type 0} → (D → List ℕ) → Slots D → State
-state_on reads slots = state_of (decoded slots.header (reads slots.disk))
+abbrev pub state_on : {D : Type 0} → Medium D → Slots D → State
+state_on medium slots = state_of (decoded slots.header (medium.reads slots.disk))
 
 -- nothing is under way: the disk has one image, and it encodes a state
-pub record IsSynced {D : Type 0} (reads : D → List ℕ) (may_leave : D → List ℕ → Type 0) (slots : Slots D) : Type 0 where
-  pub only : Only (reads slots.disk) (may_leave slots.disk)
-  pub encodes : decoded slots.header (reads slots.disk) ≡ Encodes (state_on reads slots)
-  pub layout : IsLaidOut slots.header (reads slots.disk) (state_on reads slots) slots.layout
+pub record IsSynced {D : Type 0} (medium : Medium D) (slots : Slots D) : Type 0 where
+  pub only : Only (medium.reads slots.disk) (medium.may_leave slots.disk)
+  pub encodes : decoded slots.header (medium.reads slots.disk) ≡ Encodes (state_on medium slots)
+  pub layout : IsLaidOut slots.header (medium.reads slots.disk) (state_on medium slots) slots.layout

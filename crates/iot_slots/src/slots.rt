@@ -39,40 +39,40 @@ impl<D: Disk> Slots<D> {
         disk: D,
         header: [u8; 8],
     ) -> Result<(Slots<D>, Started), (D, StartFault)>
-        requires { Only (D.reads disk) (D.may_leave disk) }
-        ensures state { IfOk result (λ made. opened [] (decoded header (D.reads disk))
+        requires { Only (D.medium.reads disk) (D.medium.may_leave disk) }
+        ensures state { IfOk result (λ made. opened [] (decoded header (D.medium.reads disk))
             ≡ Encodes (state_in made.1.body made.1.records (count_of made.0))) }
-        ensures same { IfOk result (λ made. state_on D.reads made.0
+        ensures same { IfOk result (λ made. state_on D.medium made.0
             ≡ state_in made.1.body made.1.records (count_of made.0)) }
-        ensures synced { IfOk result (λ made. IsSynced D.reads D.may_leave made.0) }
+        ensures synced { IfOk result (λ made. IsSynced D.medium made.0) }
         ensures header { IfOk result (λ made. header_of made.0 ≡ header) }
 
         // However this returns, every image encodes what the disk encoded before.
         ensures images { MatchResult result
-            (λ made. EachEncodesAs header [] (D.reads disk) (D.may_leave (disk_of made.0)))
-            (λ refused. EachEncodesAs header [] (D.reads disk) (D.may_leave refused.0)) }
+            (λ made. EachEncodesAs header [] (D.medium.reads disk) (D.medium.may_leave (disk_of made.0)))
+            (λ refused. EachEncodesAs header [] (D.medium.reads disk) (D.medium.may_leave refused.0)) }
 
-        ensures steady { IfOk result (λ made. D.faults (disk_of made.0) ≡ D.faults disk) }
+        ensures steady { IfOk result (λ made. D.medium.faults (disk_of made.0) ≡ D.medium.faults disk) }
         ensures cause { IfErr result (λ refused.
-            HasCause refused.1 (decoded header (D.reads disk)) (D.faults disk) (D.faults refused.0)) }
+            HasCause refused.1 (decoded header (D.medium.reads disk)) (D.medium.faults disk) (D.medium.faults refused.0)) }
 
         // A refusal of the bytes changes nothing.
         ensures refused_reads { IfErr result (λ refused.
-            ChangesNothing refused.1 (D.reads refused.0 ≡ D.reads disk)) }
+            ChangesNothing refused.1 (D.medium.reads refused.0 ≡ D.medium.reads disk)) }
         ensures refused_images { IfErr result (λ refused.
-            ChangesNothing refused.1 (SameImages (D.may_leave disk) (D.may_leave refused.0))) }
+            ChangesNothing refused.1 (SameImages (D.medium.may_leave disk) (D.medium.may_leave refused.0))) }
 
         // A disk that is started is only read, whatever the answer, and so is each whose bytes are refused.
-        ensures only_read { decoded header (D.reads disk) ≢ NotStarted → MatchResult result
-            (λ made. D.reads (disk_of made.0) ≡ D.reads disk)
-            (λ refused. D.reads refused.0 ≡ D.reads disk) }
-        ensures only_read_images { decoded header (D.reads disk) ≢ NotStarted → MatchResult result
-            (λ made. SameImages (D.may_leave disk) (D.may_leave (disk_of made.0)))
-            (λ refused. SameImages (D.may_leave disk) (D.may_leave refused.0)) }
+        ensures only_read { decoded header (D.medium.reads disk) ≢ NotStarted → MatchResult result
+            (λ made. D.medium.reads (disk_of made.0) ≡ D.medium.reads disk)
+            (λ refused. D.medium.reads refused.0 ≡ D.medium.reads disk) }
+        ensures only_read_images { decoded header (D.medium.reads disk) ≢ NotStarted → MatchResult result
+            (λ made. SameImages (D.medium.may_leave disk) (D.medium.may_leave (disk_of made.0)))
+            (λ refused. SameImages (D.medium.may_leave disk) (D.medium.may_leave refused.0)) }
 
         ensures arms { MatchResult result
-            (λ made. D.arms (disk_of made.0) ≡ D.arms disk)
-            (λ refused. D.arms refused.0 ≡ D.arms disk) }
+            (λ made. D.medium.arms (disk_of made.0) ≡ D.medium.arms disk)
+            (λ refused. D.medium.arms refused.0 ≡ D.medium.arms disk) }
     {
         Self::start_with(alloc, disk, header, &[])
     }
@@ -84,40 +84,40 @@ impl<D: Disk> Slots<D> {
         header: [u8; 8],
         body: &[u8],
     ) -> Result<(Slots<D>, Started), (D, StartFault)>
-        requires { Only (D.reads disk) (D.may_leave disk) }
-        ensures state { IfOk result (λ made. opened body.now (decoded header (D.reads disk))
+        requires { Only (D.medium.reads disk) (D.medium.may_leave disk) }
+        ensures state { IfOk result (λ made. opened body.now (decoded header (D.medium.reads disk))
             ≡ Encodes (state_in made.1.body made.1.records (count_of made.0))) }
-        ensures same { IfOk result (λ made. state_on D.reads made.0
+        ensures same { IfOk result (λ made. state_on D.medium made.0
             ≡ state_in made.1.body made.1.records (count_of made.0)) }
-        ensures synced { IfOk result (λ made. IsSynced D.reads D.may_leave made.0) }
+        ensures synced { IfOk result (λ made. IsSynced D.medium made.0) }
         ensures header { IfOk result (λ made. header_of made.0 ≡ header) }
 
         // However this returns, every image encodes what the disk encoded before.
         ensures images { MatchResult result
-            (λ made. EachEncodesAs header body.now (D.reads disk) (D.may_leave (disk_of made.0)))
-            (λ refused. EachEncodesAs header body.now (D.reads disk) (D.may_leave refused.0)) }
+            (λ made. EachEncodesAs header body.now (D.medium.reads disk) (D.medium.may_leave (disk_of made.0)))
+            (λ refused. EachEncodesAs header body.now (D.medium.reads disk) (D.medium.may_leave refused.0)) }
 
-        ensures steady { IfOk result (λ made. D.faults (disk_of made.0) ≡ D.faults disk) }
+        ensures steady { IfOk result (λ made. D.medium.faults (disk_of made.0) ≡ D.medium.faults disk) }
         ensures cause { IfErr result (λ refused.
-            HasCause refused.1 (decoded header (D.reads disk)) (D.faults disk) (D.faults refused.0)) }
+            HasCause refused.1 (decoded header (D.medium.reads disk)) (D.medium.faults disk) (D.medium.faults refused.0)) }
 
         // A refusal of the bytes changes nothing.
         ensures refused_reads { IfErr result (λ refused.
-            ChangesNothing refused.1 (D.reads refused.0 ≡ D.reads disk)) }
+            ChangesNothing refused.1 (D.medium.reads refused.0 ≡ D.medium.reads disk)) }
         ensures refused_images { IfErr result (λ refused.
-            ChangesNothing refused.1 (SameImages (D.may_leave disk) (D.may_leave refused.0))) }
+            ChangesNothing refused.1 (SameImages (D.medium.may_leave disk) (D.medium.may_leave refused.0))) }
 
         // A disk that is started is only read, whatever the answer, and so is each whose bytes are refused.
-        ensures only_read { decoded header (D.reads disk) ≢ NotStarted → MatchResult result
-            (λ made. D.reads (disk_of made.0) ≡ D.reads disk)
-            (λ refused. D.reads refused.0 ≡ D.reads disk) }
-        ensures only_read_images { decoded header (D.reads disk) ≢ NotStarted → MatchResult result
-            (λ made. SameImages (D.may_leave disk) (D.may_leave (disk_of made.0)))
-            (λ refused. SameImages (D.may_leave disk) (D.may_leave refused.0)) }
+        ensures only_read { decoded header (D.medium.reads disk) ≢ NotStarted → MatchResult result
+            (λ made. D.medium.reads (disk_of made.0) ≡ D.medium.reads disk)
+            (λ refused. D.medium.reads refused.0 ≡ D.medium.reads disk) }
+        ensures only_read_images { decoded header (D.medium.reads disk) ≢ NotStarted → MatchResult result
+            (λ made. SameImages (D.medium.may_leave disk) (D.medium.may_leave (disk_of made.0)))
+            (λ refused. SameImages (D.medium.may_leave disk) (D.medium.may_leave refused.0)) }
 
         ensures arms { MatchResult result
-            (λ made. D.arms (disk_of made.0) ≡ D.arms disk)
-            (λ refused. D.arms refused.0 ≡ D.arms disk) }
+            (λ made. D.medium.arms (disk_of made.0) ≡ D.medium.arms disk)
+            (λ refused. D.medium.arms refused.0 ≡ D.medium.arms disk) }
     {
         match open(alloc, &mut disk, &header, body) {
             Ok(found) => {
@@ -140,28 +140,28 @@ impl<D: Disk> Slots<D> {
     /// Appends a record: it is on the disk when this answers Ok. Makes four device calls, a write and a sync for
     /// the record, and a write and a sync for its gate. Costs as much as the body is long.
     pub fn append(&mut self, body: &[u8]) -> Result<(), JournalFault>
-        requires synced { IsSynced D.reads D.may_leave self.old }
-        requires not_due { is_due (state_on D.reads self.old).bodies (layout_of self.old)
+        requires synced { IsSynced D.medium self.old }
+        requires not_due { is_due (state_on D.medium self.old).bodies (layout_of self.old)
             (length body.now) ≡ false }
 
         // However this returns, every image encodes the state before or the one with the new record: without memory the
         // former, and after Ok the latter.
-        ensures images { EachEncodesEither (header_of self.old) (D.may_leave (disk_of self.new))
-            (state_on D.reads self.old) (appended (state_on D.reads self.old) body.now) }
+        ensures images { EachEncodesEither (header_of self.old) (D.medium.may_leave (disk_of self.new))
+            (state_on D.medium self.old) (appended (state_on D.medium self.old) body.now) }
         ensures no_memory { IsErrOf result JournalFault.NoMemory
-            → EachEncodes (header_of self.old) (D.may_leave (disk_of self.new)) (state_on D.reads self.old) }
-        ensures appended { OnOk result (EachEncodes (header_of self.old) (D.may_leave (disk_of self.new))
-            (appended (state_on D.reads self.old) body.now)) }
+            → EachEncodes (header_of self.old) (D.medium.may_leave (disk_of self.new)) (state_on D.medium self.old) }
+        ensures appended { OnOk result (EachEncodes (header_of self.old) (D.medium.may_leave (disk_of self.new))
+            (appended (state_on D.medium self.old) body.now)) }
 
         ensures state { OnOk result
-            (state_on D.reads self.new ≡ appended (state_on D.reads self.old) body.now) }
-        ensures synced { OnOk result (IsSynced D.reads D.may_leave self.new) }
+            (state_on D.medium self.new ≡ appended (state_on D.medium self.old) body.now) }
+        ensures synced { OnOk result (IsSynced D.medium self.new) }
         ensures count { OnOk result (count_of self.new ≡ next (count_of self.old)) }
         ensures header { header_of self.new ≡ header_of self.old }
 
         ensures faults { CountsJournalFault result
-            (D.faults (disk_of self.old)) (D.faults (disk_of self.new)) }
-        ensures arms { D.arms (disk_of self.new) ≡ D.arms (disk_of self.old) }
+            (D.medium.faults (disk_of self.old)) (D.medium.faults (disk_of self.new)) }
+        ensures arms { D.medium.arms (disk_of self.new) ≡ D.medium.arms (disk_of self.old) }
     {
         spell_record(&mut self.buffer, body)?;
         keep(&mut self.disk, self.layout.gate + 1, &self.buffer)?;
@@ -173,8 +173,8 @@ impl<D: Disk> Slots<D> {
 
     /// Whether a checkpoint is to come before an append of a body of so many bytes. Does not allocate.
     pub fn due(&self, size: u64) -> bool
-        requires { IsSynced D.reads D.may_leave self.now }
-        ensures { result ≡ is_due (state_on D.reads self.now).bodies (layout_of self.now) size }
+        requires { IsSynced D.medium self.now }
+        ensures { result ≡ is_due (state_on D.medium self.now).bodies (layout_of self.now) size }
     {
         self.layout.gate - self.layout.first > MANY || self.layout.reaches_other(size)
     }
@@ -182,31 +182,31 @@ impl<D: Disk> Slots<D> {
     /// Puts a new body in the place of the old one and its records: it is on the disk when this answers Ok. Makes
     /// seven device calls. Costs as much as the body is long.
     pub fn checkpoint(&mut self, body: &[u8]) -> Result<(), JournalFault>
-        requires { IsSynced D.reads D.may_leave self.old }
+        requires { IsSynced D.medium self.old }
 
         // However this returns, every image encodes the old body with its records or the new body with none: without
         // memory the former, and after Ok the latter.
-        ensures images { EachEncodesEither (header_of self.old) (D.may_leave (disk_of self.new))
-            (state_on D.reads self.old) (renewed (state_on D.reads self.old) body.now) }
+        ensures images { EachEncodesEither (header_of self.old) (D.medium.may_leave (disk_of self.new))
+            (state_on D.medium self.old) (renewed (state_on D.medium self.old) body.now) }
         ensures no_memory { IsErrOf result JournalFault.NoMemory
-            → EachEncodes (header_of self.old) (D.may_leave (disk_of self.new)) (state_on D.reads self.old) }
-        ensures renewed { OnOk result (EachEncodes (header_of self.old) (D.may_leave (disk_of self.new))
-            (renewed (state_on D.reads self.old) body.now)) }
+            → EachEncodes (header_of self.old) (D.medium.may_leave (disk_of self.new)) (state_on D.medium self.old) }
+        ensures renewed { OnOk result (EachEncodes (header_of self.old) (D.medium.may_leave (disk_of self.new))
+            (renewed (state_on D.medium self.old) body.now)) }
 
         ensures state { OnOk result
-            (state_on D.reads self.new ≡ renewed (state_on D.reads self.old) body.now) }
-        ensures synced { OnOk result (IsSynced D.reads D.may_leave self.new) }
+            (state_on D.medium self.new ≡ renewed (state_on D.medium self.old) body.now) }
+        ensures synced { OnOk result (IsSynced D.medium self.new) }
         ensures count { OnOk result (count_of self.new ≡ count_of self.old) }
         ensures header { header_of self.new ≡ header_of self.old }
 
         // So after at most two checkpoints none is due.
         ensures layout { OnOk result (layout_of self.new
-            ≡ renewed_layout (layout_of self.old) (length (D.reads (disk_of self.old))) (length body.now)) }
+            ≡ renewed_layout (layout_of self.old) (length (D.medium.reads (disk_of self.old))) (length body.now)) }
         ensures room { OnOk result (MakesRoom (layout_of self.old) (layout_of self.new)) }
 
         ensures faults { CountsJournalFault result
-            (D.faults (disk_of self.old)) (D.faults (disk_of self.new)) }
-        ensures arms { D.arms (disk_of self.new) ≡ D.arms (disk_of self.old) }
+            (D.medium.faults (disk_of self.old)) (D.medium.faults (disk_of self.new)) }
+        ensures arms { D.medium.arms (disk_of self.new) ≡ D.medium.arms (disk_of self.old) }
     {
         spell_checkpoint(&mut self.buffer, body, self.layout.count)?;
         let next = self.layout.renewed(self.disk.len(), body.len() as u64);
@@ -229,16 +229,16 @@ impl<D: Disk> Slots<D> {
 
     /// Makes a later device call of the disk fail, and does nothing else.
     pub fn arm(&mut self, calls: u64, pick: Pick)
-        ensures arms { D.arms (disk_of self.new)
-            ≡ armed_with (D.arms (disk_of self.old)) calls pick }
-        ensures reads { D.reads (disk_of self.new) ≡ D.reads (disk_of self.old) }
+        ensures arms { D.medium.arms (disk_of self.new)
+            ≡ armed_with (D.medium.arms (disk_of self.old)) calls pick }
+        ensures reads { D.medium.reads (disk_of self.new) ≡ D.medium.reads (disk_of self.old) }
         ensures images { SameImages
-            (D.may_leave (disk_of self.old)) (D.may_leave (disk_of self.new)) }
-        ensures faults { D.faults (disk_of self.new) ≡ D.faults (disk_of self.old) }
+            (D.medium.may_leave (disk_of self.old)) (D.medium.may_leave (disk_of self.new)) }
+        ensures faults { D.medium.faults (disk_of self.new) ≡ D.medium.faults (disk_of self.old) }
         ensures layout { layout_of self.new ≡ layout_of self.old }
         ensures header { header_of self.new ≡ header_of self.old }
-        ensures synced { IsSynced D.reads D.may_leave self.old
-            → IsSynced D.reads D.may_leave self.new }
+        ensures synced { IsSynced D.medium self.old
+            → IsSynced D.medium self.new }
     {
         self.disk.arm(calls, pick);
     }

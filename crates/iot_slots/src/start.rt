@@ -22,29 +22,29 @@ pub fn open<D: Disk>(
     header: &[u8; 8],
     body: &[u8],
 ) -> Result<Opened, StartFault>
-    requires { Only (D.reads disk.old) (D.may_leave disk.old) }
-    ensures state { IfOk result (λ found. opened body.now (decoded header.now (D.reads disk.old))
+    requires { Only (D.medium.reads disk.old) (D.medium.may_leave disk.old) }
+    ensures state { IfOk result (λ found. opened body.now (decoded header.now (D.medium.reads disk.old))
         ≡ Encodes (state_in found.body.items found.bodies found.layout.count)) }
-    ensures laid_out { IfOk result (λ found. IsLaidOut header.now (D.reads disk.new)
+    ensures laid_out { IfOk result (λ found. IsLaidOut header.now (D.medium.reads disk.new)
         (state_in found.body.items found.bodies found.layout.count) found.layout) }
-    ensures durable { OnOk result (Only (D.reads disk.new) (D.may_leave disk.new)) }
+    ensures durable { OnOk result (Only (D.medium.reads disk.new) (D.medium.may_leave disk.new)) }
 
     // However this returns, every image encodes what the disk encoded before.
-    ensures images { EachEncodesAs header.now body.now (D.reads disk.old) (D.may_leave disk.new) }
+    ensures images { EachEncodesAs header.now body.now (D.medium.reads disk.old) (D.medium.may_leave disk.new) }
 
-    ensures steady { OnOk result (D.faults disk.new ≡ D.faults disk.old) }
+    ensures steady { OnOk result (D.medium.faults disk.new ≡ D.medium.faults disk.old) }
     ensures cause { IfErr result (λ fault.
-        HasCause fault (decoded header.now (D.reads disk.old)) (D.faults disk.old) (D.faults disk.new)) }
+        HasCause fault (decoded header.now (D.medium.reads disk.old)) (D.medium.faults disk.old) (D.medium.faults disk.new)) }
     ensures refused_reads { IfErr result (λ fault.
-        ChangesNothing fault (D.reads disk.new ≡ D.reads disk.old)) }
+        ChangesNothing fault (D.medium.reads disk.new ≡ D.medium.reads disk.old)) }
     ensures refused_images { IfErr result (λ fault.
-        ChangesNothing fault (SameImages (D.may_leave disk.old) (D.may_leave disk.new))) }
+        ChangesNothing fault (SameImages (D.medium.may_leave disk.old) (D.medium.may_leave disk.new))) }
 
     // A disk that is started is only read, also if this fails.
-    ensures only_read { decoded header.now (D.reads disk.old) ≢ NotStarted → D.reads disk.new ≡ D.reads disk.old }
-    ensures only_read_images { decoded header.now (D.reads disk.old) ≢ NotStarted
-        → SameImages (D.may_leave disk.old) (D.may_leave disk.new) }
-    ensures arms { D.arms disk.new ≡ D.arms disk.old }
+    ensures only_read { decoded header.now (D.medium.reads disk.old) ≢ NotStarted → D.medium.reads disk.new ≡ D.medium.reads disk.old }
+    ensures only_read_images { decoded header.now (D.medium.reads disk.old) ≢ NotStarted
+        → SameImages (D.medium.may_leave disk.old) (D.medium.may_leave disk.new) }
+    ensures arms { D.medium.arms disk.new ≡ D.medium.arms disk.old }
 {
     let bytes = read_disk(alloc, disk)?;
     if let Some(found) = decode(alloc, header, &bytes)? {
@@ -67,17 +67,17 @@ fn begin<D: Disk>(
     body: &[u8],
     bytes: &[u8],
 ) -> Result<(), DiskFault>
-    requires bytes { bytes.now ≡ D.reads disk.old }
-    requires not_started { decoded header.now (D.reads disk.old) ≡ NotStarted }
-    requires limit { length (D.reads disk.old) ≤ 2 ^ 62 }
-    requires only { Only (D.reads disk.old) (D.may_leave disk.old) }
-    ensures laid_out { OnOk result (IsLaidOut header.now (D.reads disk.new)
+    requires bytes { bytes.now ≡ D.medium.reads disk.old }
+    requires not_started { decoded header.now (D.medium.reads disk.old) ≡ NotStarted }
+    requires limit { length (D.medium.reads disk.old) ≤ 2 ^ 62 }
+    requires only { Only (D.medium.reads disk.old) (D.medium.may_leave disk.old) }
+    ensures laid_out { OnOk result (IsLaidOut header.now (D.medium.reads disk.new)
         (state_in body.now [] 0) (fresh_layout (length body.now))) }
-    ensures durable { OnOk result (Only (D.reads disk.new) (D.may_leave disk.new)) }
+    ensures durable { OnOk result (Only (D.medium.reads disk.new) (D.medium.may_leave disk.new)) }
     ensures images { Each (λ image. opened body.now (decoded header.now image) ≡ Encodes (state_in body.now [] 0))
-        (D.may_leave disk.new) }
-    ensures faults { CountsFault result (D.faults disk.old) (D.faults disk.new) }
-    ensures arms { D.arms disk.new ≡ D.arms disk.old }
+        (D.medium.may_leave disk.new) }
+    ensures faults { CountsFault result (D.medium.faults disk.old) (D.medium.faults disk.new) }
+    ensures arms { D.medium.arms disk.new ≡ D.medium.arms disk.old }
 {
     let mut fresh = Vec::new(alloc);
     spell_fresh(&mut fresh, header, body)?;
@@ -89,16 +89,16 @@ fn begin<D: Disk>(
 
 /// Makes byte 0 a closed gate, unless it is one.
 fn close_first<D: Disk>(disk: &mut D, header: &[u8; 8], bytes: &[u8]) -> Result<(), DiskFault>
-    requires bytes { bytes.now ≡ D.reads disk.old }
-    requires not_started { decoded header.now (D.reads disk.old) ≡ NotStarted }
-    requires limit { length (D.reads disk.old) ≤ 2 ^ 62 }
-    requires only { Only (D.reads disk.old) (D.may_leave disk.old) }
-    ensures closed { OnOk result (is_closed (D.reads disk.new) ≡ true) }
-    ensures limit { OnOk result (length (D.reads disk.new) ≤ 2 ^ 62) }
-    ensures durable { OnOk result (Only (D.reads disk.new) (D.may_leave disk.new)) }
-    ensures images { Each (λ image. decoded header.now image ≡ NotStarted) (D.may_leave disk.new) }
-    ensures faults { CountsFault result (D.faults disk.old) (D.faults disk.new) }
-    ensures arms { D.arms disk.new ≡ D.arms disk.old }
+    requires bytes { bytes.now ≡ D.medium.reads disk.old }
+    requires not_started { decoded header.now (D.medium.reads disk.old) ≡ NotStarted }
+    requires limit { length (D.medium.reads disk.old) ≤ 2 ^ 62 }
+    requires only { Only (D.medium.reads disk.old) (D.medium.may_leave disk.old) }
+    ensures closed { OnOk result (is_closed (D.medium.reads disk.new) ≡ true) }
+    ensures limit { OnOk result (length (D.medium.reads disk.new) ≤ 2 ^ 62) }
+    ensures durable { OnOk result (Only (D.medium.reads disk.new) (D.medium.may_leave disk.new)) }
+    ensures images { Each (λ image. decoded header.now image ≡ NotStarted) (D.medium.may_leave disk.new) }
+    ensures faults { CountsFault result (D.medium.faults disk.old) (D.medium.faults disk.new) }
+    ensures arms { D.medium.arms disk.new ≡ D.medium.arms disk.old }
 {
     if has_closed_gate(bytes) {
         return Ok(());

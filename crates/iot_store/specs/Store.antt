@@ -1,5 +1,6 @@
 -- A store over its disk.
 use Rattle.std.specs.Prelude.{ℕ, List}
+use Rattle.iot_disk.specs.Disk.{Medium}
 use Rattle.iot_journal.specs.Journal as journal
 use Rattle.iot_store.specs.States.{State, opening}
 use Rattle.iot_store.specs.Standing.{Leads}
@@ -14,10 +15,10 @@ abbrev pub disk_of : {D : Type 0} → Store D → D
 disk_of store = journal.disk_of store.journal
 
 -- the bodies of the records on its disk
-abbrev pub bodies_on : {D : Type 0} → (D → List ℕ) → Store D → List (List ℕ)
-bodies_on reads store = journal.bodies_on reads store.journal
+abbrev pub bodies_on : {D : Type 0} → Medium D → Store D → List (List ℕ)
+bodies_on medium store = journal.bodies_on medium store.journal
 
 -- nothing is under way: the disk has one image, and its records lead to the state
-pub record IsSynced {D : Type 0} (reads : D → List ℕ) (may_leave : D → List ℕ → Type 0) (store : Store D) : Type 0 where
-  pub journal : journal.IsSynced reads may_leave store.journal
-  pub leads : Leads (bodies_on reads store) opening (state_of store)
+pub record IsSynced {D : Type 0} (medium : Medium D) (store : Store D) : Type 0 where
+  pub journal : journal.IsSynced medium store.journal
+  pub leads : Leads (bodies_on medium store) opening (state_of store)

@@ -46,47 +46,47 @@ impl<D: Disk> Store<D> {
     /// `Foreign` if something else wrote the disk, and `Damaged` with the place of its gate if a record is none or cannot
     /// follow the ones before it. `Stopped` if the disk failed in this call, and `NoMemory`.
     pub fn start(alloc: Global, disk: D) -> Result<Store<D>, (D, StartFault)>
-        requires { Only (D.reads disk) (D.may_leave disk) }
-        ensures stands { IfOk result (λ store. StandFor (D.reads disk) (state_of store)) }
-        ensures records { IfOk result (λ store. decoded (D.reads disk) ≡ Encodes (bodies_on D.reads store)) }
+        requires { Only (D.medium.reads disk) (D.medium.may_leave disk) }
+        ensures stands { IfOk result (λ store. StandFor (D.medium.reads disk) (state_of store)) }
+        ensures records { IfOk result (λ store. decoded (D.medium.reads disk) ≡ Encodes (bodies_on D.medium store)) }
 
         // The disk stands for no other state.
-        ensures only { (state : State) → StandFor (D.reads disk) state
+        ensures only { (state : State) → StandFor (D.medium.reads disk) state
             → IfOk result (λ store. state_of store ≡ state) }
-        ensures synced { IfOk result (λ store. IsSynced D.reads D.may_leave store) }
+        ensures synced { IfOk result (λ store. IsSynced D.medium store) }
 
         // However this returns, every image encodes what the disk encoded before. So each stands for the state for which
         // the disk stood; and if it stood for one, its bytes are not refused.
         ensures bodies { MatchResult result
-            (λ store. EachDecodes (D.may_leave (disk_of store)) (decoded (D.reads disk)))
-            (λ refused. EachDecodes (D.may_leave refused.0) (decoded (D.reads disk))) }
-        ensures images { (state : State) → StandFor (D.reads disk) state → MatchResult result
-            (λ store. EachStands (D.may_leave (disk_of store)) state)
-            (λ refused. EachStands (D.may_leave refused.0) state) }
-        ensures never { (state : State) → StandFor (D.reads disk) state
+            (λ store. EachDecodes (D.medium.may_leave (disk_of store)) (decoded (D.medium.reads disk)))
+            (λ refused. EachDecodes (D.medium.may_leave refused.0) (decoded (D.medium.reads disk))) }
+        ensures images { (state : State) → StandFor (D.medium.reads disk) state → MatchResult result
+            (λ store. EachStands (D.medium.may_leave (disk_of store)) state)
+            (λ refused. EachStands (D.medium.may_leave refused.0) state) }
+        ensures never { (state : State) → StandFor (D.medium.reads disk) state
             → IfErr result (λ refused. TakesBytes refused.1) }
 
-        ensures steady { IfOk result (λ store. D.faults (disk_of store) ≡ D.faults disk) }
+        ensures steady { IfOk result (λ store. D.medium.faults (disk_of store) ≡ D.medium.faults disk) }
         ensures cause { IfErr result (λ refused.
-            HasCause refused.1 (D.reads disk) (D.faults disk) (D.faults refused.0)) }
+            HasCause refused.1 (D.medium.reads disk) (D.medium.faults disk) (D.medium.faults refused.0)) }
 
         // A refusal of the bytes changes nothing.
         ensures refused_reads { IfErr result (λ refused.
-            ChangesNothing refused.1 (D.reads refused.0 ≡ D.reads disk)) }
+            ChangesNothing refused.1 (D.medium.reads refused.0 ≡ D.medium.reads disk)) }
         ensures refused_images { IfErr result (λ refused.
-            ChangesNothing refused.1 (SameImages (D.may_leave disk) (D.may_leave refused.0))) }
+            ChangesNothing refused.1 (SameImages (D.medium.may_leave disk) (D.medium.may_leave refused.0))) }
 
         // A disk on which a journal was started is only read, whatever the answer, and so is each whose bytes are refused.
-        ensures only_read { is_started (D.reads disk) ≡ true → MatchResult result
-            (λ store. D.reads (disk_of store) ≡ D.reads disk)
-            (λ refused. D.reads refused.0 ≡ D.reads disk) }
-        ensures only_read_images { is_started (D.reads disk) ≡ true → MatchResult result
-            (λ store. SameImages (D.may_leave disk) (D.may_leave (disk_of store)))
-            (λ refused. SameImages (D.may_leave disk) (D.may_leave refused.0)) }
+        ensures only_read { is_started (D.medium.reads disk) ≡ true → MatchResult result
+            (λ store. D.medium.reads (disk_of store) ≡ D.medium.reads disk)
+            (λ refused. D.medium.reads refused.0 ≡ D.medium.reads disk) }
+        ensures only_read_images { is_started (D.medium.reads disk) ≡ true → MatchResult result
+            (λ store. SameImages (D.medium.may_leave disk) (D.medium.may_leave (disk_of store)))
+            (λ refused. SameImages (D.medium.may_leave disk) (D.medium.may_leave refused.0)) }
 
         ensures arms { MatchResult result
-            (λ store. D.arms (disk_of store) ≡ D.arms disk)
-            (λ refused. D.arms refused.0 ≡ D.arms disk) }
+            (λ store. D.medium.arms (disk_of store) ≡ D.medium.arms disk)
+            (λ refused. D.medium.arms refused.0 ≡ D.medium.arms disk) }
     {
         let (journal, bodies) = match Journal::start(alloc, disk) {
             Ok(started) => started,
@@ -110,34 +110,34 @@ impl<D: Disk> Store<D> {
     /// `Stopped` if the disk failed in this call: each of its images then stands for the commits before or for those with
     /// the new one. `NoMemory`: each stands for the commits before.
     pub fn commit(&mut self, alloc: Global, label: Label, acts: &Acts) -> Result<u64, JournalFault>
-        requires synced { IsSynced D.reads D.may_leave self.old }
+        requires synced { IsSynced D.medium self.old }
         requires label { IsLabel label }
         requires acts { AreActs acts.now }
         requires follows { CanFollow (state_of self.old) label acts.now }
 
         // However this returns, every image stands for the commits before or for those with the new one: its records are
         // those before, or those and the record of this commit.
-        ensures images { EachStandsEither (D.may_leave (disk_of self.new))
+        ensures images { EachStandsEither (D.medium.may_leave (disk_of self.new))
             (state_of self.old) (after_commit (state_of self.old) label acts.now) }
-        ensures one_record { EachDecodesEither (D.may_leave (disk_of self.new))
-            (Encodes (bodies_on D.reads self.old))
-            (Encodes (bodies_on D.reads self.old ++ record_spelling label acts.now ∷ [])) }
+        ensures one_record { EachDecodesEither (D.medium.may_leave (disk_of self.new))
+            (Encodes (bodies_on D.medium self.old))
+            (Encodes (bodies_on D.medium self.old ++ record_spelling label acts.now ∷ [])) }
         ensures no_memory { IsErrOf result JournalFault.NoMemory
-            → EachStands (D.may_leave (disk_of self.new)) (state_of self.old) }
+            → EachStands (D.medium.may_leave (disk_of self.new)) (state_of self.old) }
         ensures no_record { IsErrOf result JournalFault.NoMemory
-            → EachDecodes (D.may_leave (disk_of self.new)) (Encodes (bodies_on D.reads self.old)) }
-        ensures committed { OnOk result (EachStands (D.may_leave (disk_of self.new))
+            → EachDecodes (D.medium.may_leave (disk_of self.new)) (Encodes (bodies_on D.medium self.old)) }
+        ensures committed { OnOk result (EachStands (D.medium.may_leave (disk_of self.new))
             (after_commit (state_of self.old) label acts.now)) }
 
         ensures state { OnOk result (state_of self.new ≡ after_commit (state_of self.old) label acts.now) }
-        ensures recorded { OnOk result (bodies_on D.reads self.new
-            ≡ bodies_on D.reads self.old ++ record_spelling label acts.now ∷ []) }
-        ensures synced { OnOk result (IsSynced D.reads D.may_leave self.new) }
+        ensures recorded { OnOk result (bodies_on D.medium self.new
+            ≡ bodies_on D.medium self.old ++ record_spelling label acts.now ∷ []) }
+        ensures synced { OnOk result (IsSynced D.medium self.new) }
         ensures number { IfOk result (λ number. number ≡ length (state_of self.old).labels + 1) }
 
         ensures faults { CountsJournalFault result
-            (D.faults (disk_of self.old)) (D.faults (disk_of self.new)) }
-        ensures arms { D.arms (disk_of self.new) ≡ D.arms (disk_of self.old) }
+            (D.medium.faults (disk_of self.old)) (D.medium.faults (disk_of self.new)) }
+        ensures arms { D.medium.arms (disk_of self.new) ≡ D.medium.arms (disk_of self.old) }
     {
         spell(&mut self.buffer, &label, acts)?;
         self.commit_buffer(alloc, label, acts)
@@ -155,7 +155,7 @@ impl<D: Disk> Store<D> {
         acts: &Acts,
         spelling: &[u8],
     ) -> Result<u64, JournalFault>
-        requires synced { IsSynced D.reads D.may_leave self.old }
+        requires synced { IsSynced D.medium self.old }
         requires label { IsLabel label }
         requires acts { AreActs acts.now }
         requires spelled { spelling.now ≡ label_spelling label ++ acts_spelling acts.now }
@@ -163,27 +163,27 @@ impl<D: Disk> Store<D> {
 
         // However this returns, every image stands for the commits before or for those with the new one: its records are
         // those before, or those and the record of this commit.
-        ensures images { EachStandsEither (D.may_leave (disk_of self.new))
+        ensures images { EachStandsEither (D.medium.may_leave (disk_of self.new))
             (state_of self.old) (after_commit (state_of self.old) label acts.now) }
-        ensures one_record { EachDecodesEither (D.may_leave (disk_of self.new))
-            (Encodes (bodies_on D.reads self.old))
-            (Encodes (bodies_on D.reads self.old ++ record_spelling label acts.now ∷ [])) }
+        ensures one_record { EachDecodesEither (D.medium.may_leave (disk_of self.new))
+            (Encodes (bodies_on D.medium self.old))
+            (Encodes (bodies_on D.medium self.old ++ record_spelling label acts.now ∷ [])) }
         ensures no_memory { IsErrOf result JournalFault.NoMemory
-            → EachStands (D.may_leave (disk_of self.new)) (state_of self.old) }
+            → EachStands (D.medium.may_leave (disk_of self.new)) (state_of self.old) }
         ensures no_record { IsErrOf result JournalFault.NoMemory
-            → EachDecodes (D.may_leave (disk_of self.new)) (Encodes (bodies_on D.reads self.old)) }
-        ensures committed { OnOk result (EachStands (D.may_leave (disk_of self.new))
+            → EachDecodes (D.medium.may_leave (disk_of self.new)) (Encodes (bodies_on D.medium self.old)) }
+        ensures committed { OnOk result (EachStands (D.medium.may_leave (disk_of self.new))
             (after_commit (state_of self.old) label acts.now)) }
 
         ensures state { OnOk result (state_of self.new ≡ after_commit (state_of self.old) label acts.now) }
-        ensures recorded { OnOk result (bodies_on D.reads self.new
-            ≡ bodies_on D.reads self.old ++ record_spelling label acts.now ∷ []) }
-        ensures synced { OnOk result (IsSynced D.reads D.may_leave self.new) }
+        ensures recorded { OnOk result (bodies_on D.medium self.new
+            ≡ bodies_on D.medium self.old ++ record_spelling label acts.now ∷ []) }
+        ensures synced { OnOk result (IsSynced D.medium self.new) }
         ensures number { IfOk result (λ number. number ≡ length (state_of self.old).labels + 1) }
 
         ensures faults { CountsJournalFault result
-            (D.faults (disk_of self.old)) (D.faults (disk_of self.new)) }
-        ensures arms { D.arms (disk_of self.new) ≡ D.arms (disk_of self.old) }
+            (D.medium.faults (disk_of self.old)) (D.medium.faults (disk_of self.new)) }
+        ensures arms { D.medium.arms (disk_of self.new) ≡ D.medium.arms (disk_of self.old) }
     {
         take_spelling(&mut self.buffer, spelling)?;
         self.commit_buffer(alloc, label, acts)
@@ -196,7 +196,7 @@ impl<D: Disk> Store<D> {
         label: Label,
         acts: &Acts,
     ) -> Result<u64, JournalFault>
-        requires synced { IsSynced D.reads D.may_leave self.old }
+        requires synced { IsSynced D.medium self.old }
         requires label { IsLabel label }
         requires acts { AreActs acts.now }
         requires spelled { self.old.buffer ≡ record_spelling label acts.now }
@@ -204,27 +204,27 @@ impl<D: Disk> Store<D> {
 
         // However this returns, every image stands for the commits before or for those with the new one: its records are
         // those before, or those and the record of this commit.
-        ensures images { EachStandsEither (D.may_leave (disk_of self.new))
+        ensures images { EachStandsEither (D.medium.may_leave (disk_of self.new))
             (state_of self.old) (after_commit (state_of self.old) label acts.now) }
-        ensures one_record { EachDecodesEither (D.may_leave (disk_of self.new))
-            (Encodes (bodies_on D.reads self.old))
-            (Encodes (bodies_on D.reads self.old ++ record_spelling label acts.now ∷ [])) }
+        ensures one_record { EachDecodesEither (D.medium.may_leave (disk_of self.new))
+            (Encodes (bodies_on D.medium self.old))
+            (Encodes (bodies_on D.medium self.old ++ record_spelling label acts.now ∷ [])) }
         ensures no_memory { IsErrOf result JournalFault.NoMemory
-            → EachStands (D.may_leave (disk_of self.new)) (state_of self.old) }
+            → EachStands (D.medium.may_leave (disk_of self.new)) (state_of self.old) }
         ensures no_record { IsErrOf result JournalFault.NoMemory
-            → EachDecodes (D.may_leave (disk_of self.new)) (Encodes (bodies_on D.reads self.old)) }
-        ensures committed { OnOk result (EachStands (D.may_leave (disk_of self.new))
+            → EachDecodes (D.medium.may_leave (disk_of self.new)) (Encodes (bodies_on D.medium self.old)) }
+        ensures committed { OnOk result (EachStands (D.medium.may_leave (disk_of self.new))
             (after_commit (state_of self.old) label acts.now)) }
 
         ensures state { OnOk result (state_of self.new ≡ after_commit (state_of self.old) label acts.now) }
-        ensures recorded { OnOk result (bodies_on D.reads self.new
-            ≡ bodies_on D.reads self.old ++ record_spelling label acts.now ∷ []) }
-        ensures synced { OnOk result (IsSynced D.reads D.may_leave self.new) }
+        ensures recorded { OnOk result (bodies_on D.medium self.new
+            ≡ bodies_on D.medium self.old ++ record_spelling label acts.now ∷ []) }
+        ensures synced { OnOk result (IsSynced D.medium self.new) }
         ensures number { IfOk result (λ number. number ≡ length (state_of self.old).labels + 1) }
 
         ensures faults { CountsJournalFault result
-            (D.faults (disk_of self.old)) (D.faults (disk_of self.new)) }
-        ensures arms { D.arms (disk_of self.new) ≡ D.arms (disk_of self.old) }
+            (D.medium.faults (disk_of self.old)) (D.medium.faults (disk_of self.new)) }
+        ensures arms { D.medium.arms (disk_of self.new) ≡ D.medium.arms (disk_of self.old) }
     {
         self.commits.add(alloc, label, acts.as_slice())?;
         self.journal.append(self.buffer.as_bytes())?;
@@ -261,12 +261,12 @@ impl<D: Disk> Store<D> {
 
     /// Makes a later device call of the disk fail, and does nothing else.
     pub fn arm(&mut self, calls: u64, pick: Pick)
-        ensures arms { D.arms (disk_of self.new) ≡ armed_with (D.arms (disk_of self.old)) calls pick }
-        ensures reads { D.reads (disk_of self.new) ≡ D.reads (disk_of self.old) }
-        ensures images { SameImages (D.may_leave (disk_of self.old)) (D.may_leave (disk_of self.new)) }
-        ensures faults { D.faults (disk_of self.new) ≡ D.faults (disk_of self.old) }
+        ensures arms { D.medium.arms (disk_of self.new) ≡ armed_with (D.medium.arms (disk_of self.old)) calls pick }
+        ensures reads { D.medium.reads (disk_of self.new) ≡ D.medium.reads (disk_of self.old) }
+        ensures images { SameImages (D.medium.may_leave (disk_of self.old)) (D.medium.may_leave (disk_of self.new)) }
+        ensures faults { D.medium.faults (disk_of self.new) ≡ D.medium.faults (disk_of self.old) }
         ensures state { state_of self.new ≡ state_of self.old }
-        ensures synced { IsSynced D.reads D.may_leave self.old → IsSynced D.reads D.may_leave self.new }
+        ensures synced { IsSynced D.medium self.old → IsSynced D.medium self.new }
     {
         self.journal.arm(calls, pick);
     }

@@ -112,7 +112,7 @@ fn write(bytes: &mut Vec<u8>, body: &[u8]) -> Result<(), AllocError> {
 
 /// What is kept on a disk that is restarted.
 fn started<D: Disk + Drop>(alloc: Global, mut disk: D) -> Result<Kept<D>, StartFault>
-    ensures { IfOk result (λ kept. IsSynced D.reads D.may_leave kept) }
+    ensures { IfOk result (λ kept. IsSynced D.medium kept) }
 {
     disk.restart();
     match Kept::start(alloc, disk) {

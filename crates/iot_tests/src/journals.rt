@@ -12,7 +12,7 @@ const ONE: [u8; 21] = *b"\xa5IOTJRNL1\xa5\0\0\0\0\0\0\0\x02ab\0";
 
 /// A journal that is started after a restart, and the number of its bodies.
 fn started<D: Disk + Drop>(alloc: Global, mut disk: D) -> Result<(Journal<D>, u64), StartFault>
-    ensures { IfOk result (λ made. IsSynced D.reads D.may_leave made.0) }
+    ensures { IfOk result (λ made. IsSynced D.medium made.0) }
 {
     disk.restart();
     match Journal::start(alloc, disk) {

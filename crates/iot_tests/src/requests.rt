@@ -37,7 +37,7 @@ const CONFLICT: &[u8] = b"\x04\0\0\0\0\0\0\0\x01\x03";
 
 /// A server that is started after a restart.
 fn started<D: Disk + Drop>(alloc: Global, mut disk: D) -> Result<Server<D>, StartFault>
-    ensures { IfOk result (λ server. IsSynced D.reads D.may_leave server) }
+    ensures { IfOk result (λ server. IsSynced D.medium server) }
 {
     disk.restart();
     match Server::start(alloc, disk) {

@@ -18,7 +18,7 @@ const FRESH: [u8; 62] =
 
 /// Slots that are started after a restart.
 fn restarted<D: Disk + Drop>(alloc: Global, mut disk: D) -> Result<(Slots<D>, Started), StartFault>
-    ensures { IfOk result (λ made. IsSynced D.reads D.may_leave made.0) }
+    ensures { IfOk result (λ made. IsSynced D.medium made.0) }
 {
     disk.restart();
     match Slots::start_with(alloc, disk, HEADER, b"ab") {
@@ -70,10 +70,10 @@ fn a_start_can_stop_and_start_again(rt: HostRuntime) -> Result<(), Fail> {
 
 /// Makes the checkpoints that are due before an append of a body of so many bytes, and gives their number.
 fn make_room<D: Disk>(slots: &mut Slots<D>, size: u64) -> Result<u64, JournalFault>
-    requires { IsSynced D.reads D.may_leave slots.old }
-    ensures synced { OnOk result (IsSynced D.reads D.may_leave slots.new) }
+    requires { IsSynced D.medium slots.old }
+    ensures synced { OnOk result (IsSynced D.medium slots.new) }
     ensures room { OnOk result
-        (is_due (state_on D.reads slots.new).bodies (layout_of slots.new) size ≡ false) }
+        (is_due (state_on D.medium slots.new).bodies (layout_of slots.new) size ≡ false) }
 {
     if !slots.due(size) {
         return Ok(0);

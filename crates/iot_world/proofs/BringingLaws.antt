@@ -5,6 +5,7 @@ use Rattle.iot_tree.specs.Snapshots.{known}
 use Rattle.iot_tree.specs.Tree.{Nodes}
 use Rattle.iot_tree.specs.declared.want.Want.{Want}
 use Rattle.iot_client.specs.Messages.{IsRefresh}
+use Rattle.iot_disk.specs.Disk.{Medium}
 use Rattle.iot_machine.specs.Calls.{Call, Then}
 use Rattle.iot_machine.specs.Nodes.{Node}
 use Rattle.iot_machine.specs.Clients.{ClientState, hold}
@@ -14,7 +15,6 @@ use Rattle.iot_machine.specs.Texts.{line}
 use Rattle.iot_machine.specs.Transactions as machine
 use Rattle.iot_machine.specs.Transactions.{Exchange, Held, Missed, Stopped, Holds, brought, took}
 use Rattle.iot_wire.specs.declared.requests.Request.TheVariants.{Refresh}
-use Rattle.iot_world.specs.Disks.{Medium}
 use Rattle.iot_world.specs.Laptops.{LaptopStands, Noted, NotedIf}
 use Rattle.iot_world.specs.Nodes.{state_in}
 use Rattle.iot_world.specs.Messages.{SpellsTree, SpellsCut, BringsTree, IsSomeRequest}

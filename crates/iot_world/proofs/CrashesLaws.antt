@@ -4,6 +4,7 @@ use Rattle.std.proofs.Common.{refl, sym, ap, subst, inl, inr, ◌∙◌, codes, 
 use Rattle.std.proofs.lemmas.List.{append-nil, length-set}
 use Rattle.std.specs.Prelude.{IsSome}
 use Rattle.iot_disk.specs.declared.disk.Pick.{Pick}
+use Rattle.iot_disk.specs.Disk.{Medium}
 use Rattle.iot_machine.specs.Calls.{Part, Asks, Says, Then, At, either, goes_on}
 use Rattle.iot_machine.specs.Clients.{Declared, ClientState, cut}
 use Rattle.iot_machine.specs.Clients as clients
@@ -14,7 +15,6 @@ use Rattle.iot_machine.specs.Nodes.{Node, changed, doubting, armed}
 use Rattle.iot_machine.specs.Events.{IfUp, CrashesClient, RestartsClient, CutsOff, ArmsClient, cuts_off, name_of}
 use Rattle.iot_machine.specs.Stops.{IsStopped}
 use Rattle.iot_machine.specs.Texts.{line, cut_line, transaction_name, stopped_line, stop_line}
-use Rattle.iot_world.specs.Disks.{Medium}
 use Rattle.iot_world.specs.Laptops.{LaptopStands, FallenStands, ClientStands, awake, fallen}
 use Rattle.iot_world.specs.Laptops as laptops
 use Rattle.iot_world.specs.Laptops.{HasFallen, ComesBack, ComesBackAs, CutsNone, idle, stopped, ReturnedStands, ReturnedIf, Returned}

@@ -5,12 +5,12 @@ use Rattle.iot_store.specs.Standing.{StandFor}
 use Rattle.iot_store.specs.States.{State}
 use Rattle.iot_server.specs.Servers as servers
 use Rattle.iot_server.specs.declared.server.Server.{Server}
+use Rattle.iot_disk.specs.Disk.{Medium}
 use Rattle.iot_machine.specs.Machine.{Commit, add_commit}
 use Rattle.iot_machine.specs.Nodes.{Node}
 use Rattle.iot_machine.specs.Serving.{server_name}
 use Rattle.iot_machine.specs.Texts.{stopped_line}
 use Rattle.iot_world.specs.Deciding.{HasCount, DecidesServer}
-use Rattle.iot_world.specs.Disks.{Medium}
 use Rattle.iot_world.specs.Records.{IsImage, records_of, state_of}
 use Rattle.iot_world.specs.Servers.{ServerIsSound, back_said}
 use Rattle.iot_world.specs.declared.server.Doubt.{Doubt}

@@ -5,6 +5,7 @@ use Rattle.iot_queue.specs.declared.items.Item.{Item}
 use Rattle.iot_queue.specs.declared.items.Stage.{Stage}
 use Rattle.iot_queue.specs.declared.items.Stage.TheVariants as kept
 use Rattle.iot_kept.specs.Changes.{HeadIs, IsByHand}
+use Rattle.iot_disk.specs.Disk.{Medium}
 use Rattle.iot_machine.specs.Calls.{Part, either}
 use Rattle.iot_machine.specs.Clients as clients
 use Rattle.iot_machine.specs.Nodes.{changed}
@@ -14,7 +15,6 @@ use Rattle.iot_machine.specs.Machine as machine
 use Rattle.iot_machine.specs.Machine.{Machine, client_in, kept_by, script_at}
 use Rattle.iot_machine.specs.Texts.{line, transaction_name, repair_line, discard_line}
 use Rattle.iot_machine.specs.Transactions.{Notes, IfManual, item_name, is_manual, says_word}
-use Rattle.iot_world.specs.Disks.{Medium}
 use Rattle.iot_world.specs.Laptops.{LaptopStands, StageStands, ItemStands, NotedIf, RepairedIf, IsRepair, Exactly, decision, decision_on}
 use Rattle.iot_world.specs.Nodes.{state_in}
 use Rattle.iot_world.specs.Messages.{name_of}

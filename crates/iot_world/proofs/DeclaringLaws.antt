@@ -4,7 +4,7 @@ use Rattle.std.proofs.Common.{slice_index_or, append_assoc, Option, Some, None, 
 use Rattle.std.proofs.lemmas.List.{length-append, map-append}
 use Rattle.std.specs.List.{AllByRecursion}
 use Rattle.std.specs.Vec.{vec_len, vec_capacity}
-use Rattle.iot_disk.specs.Disk.{Arms}
+use Rattle.iot_disk.specs.Disk.{Medium, Arms}
 use Rattle.iot_machine.specs.Clients.{Declared}
 use Rattle.iot_machine.specs.Machine as machine
 use Rattle.iot_machine.specs.Machine.{Machine, Commit, first_of, client_in, node_at, no_client}
@@ -15,7 +15,7 @@ use Rattle.iot_machine.specs.Events.{Declares, names_in, client_of, add_client}
 use Rattle.iot_machine.specs.Serving.{commit_text}
 use Rattle.iot_machine.specs.Texts.{client_line, transaction_name}
 use Rattle.iot_machine.proofs.KeptLaws.{kept_added}
-use Rattle.iot_world.specs.Disks.{Medium, IsEmpty, SameDisk}
+use Rattle.iot_world.specs.Disks.{IsEmpty, SameDisk, counts_on}
 use Rattle.iot_world.specs.Nodes.{disk_in}
 use Rattle.iot_world.specs.Laptops.{FallenStands, ClientStands, awake, fallen, unopened_laptop, Opens, OpensAs, OpenedIf}
 use Rattle.iot_world.specs.Servers.{ServerStands, KeepsList, HasAnswered}
@@ -98,13 +98,13 @@ module _ {D : Type 0} (medium : Medium D) where
   module _ (name : List ℕ) (old mid : World D) (laptop : Laptop D) (disk : D) (server : mid.server ≡ old.server)
       (clients : mid.clients.items ≡ old.clients.items ++ laptop ∷ []) (scripts : mid.scripts.items ≡ old.scripts.items)
       (spare : old.spare.items ≡ disk ∷ mid.spare.items) (place : laptop.place ≡ client_count old)
-      (unopened : (scripts : List Declared) → FallenStands medium scripts laptop (unopened_laptop name (medium.counts disk))) where
+      (unopened : (scripts : List Declared) → FallenStands medium scripts laptop (unopened_laptop name (counts_on medium disk))) where
     -- its disk is the first of the spare ones
     module _ (m : Machine) (here : StandsFor medium old m) where
-      counts_are : medium.counts disk ∷ map medium.counts mid.spare.items ≡ m.spare
-      counts_are = ap (map medium.counts) (sym spare) ∙ here.counts
+      counts_are : counts_on medium disk ∷ map (counts_on medium) mid.spare.items ≡ m.spare
+      counts_are = ap (map (counts_on medium)) (sym spare) ∙ here.counts
 
-      client_is : unopened_laptop name (medium.counts disk) ≡ client_of name m
+      client_is : unopened_laptop name (counts_on medium disk) ≡ client_of name m
       client_is = ap (λ (cs : List Counts). unopened_laptop name (first_of cs)) counts_are
 
       -- before it has started

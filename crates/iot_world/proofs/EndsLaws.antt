@@ -2,6 +2,7 @@
 use Rattle.std.proofs.Common.{◌≡◌, ℕ, Bool, true, false, List, ◌++◌, length, Option, Some, None}
 use Rattle.std.proofs.Common.{◌⊎◌, inl, inr, slice_get, refl, sym, ap, subst, ◌∙◌, arith, codes}
 use Rattle.std.proofs.lemmas.List.{length-set}
+use Rattle.iot_disk.specs.Disk.{Medium}
 use Rattle.iot_machine.specs.Calls.{Asks, Then}
 use Rattle.iot_machine.specs.Nodes.{changed}
 use Rattle.iot_machine.specs.Clients as clients
@@ -11,7 +12,6 @@ use Rattle.iot_machine.specs.Machine.{Machine, client_in, put_client, kept_by}
 use Rattle.iot_machine.specs.Texts.{line, transaction_name, end_line, pending_line}
 use Rattle.iot_machine.specs.Transactions.{Ended as MachineEnded, ended_of, waits_unless, syncs_or_waits, joins, end_by, Ends, Syncs}
 use Rattle.iot_machine.specs.Transactions.{Synced as MachineSynced, Unanswered}
-use Rattle.iot_world.specs.Disks.{Medium}
 use Rattle.iot_world.specs.Laptops.{LaptopStands, Noted, Exactly, Ended, EndStops, EndedIf, IsEndOf, IsOver, IsUnended}
 use Rattle.iot_world.specs.Messages.{name_of}
 use Rattle.iot_world.specs.World.{Steps, IsReady, IsAlive, scripts_of, synced_of}

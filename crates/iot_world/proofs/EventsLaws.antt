@@ -13,6 +13,7 @@ use Rattle.iot_event.specs.Meanings.{is_declared}
 use Rattle.iot_event.specs.declared.event.Event.{Event}
 use Rattle.iot_event.specs.declared.event.Event.TheVariants as events
 use Rattle.iot_link.specs.Links.{LinkState}
+use Rattle.iot_disk.specs.Disk.{Medium}
 use Rattle.iot_machine.specs.Calls.{Call, Part, Asks, Answers, Says, Then, goes_on}
 use Rattle.iot_machine.specs.Refining.{Refines}
 use Rattle.iot_machine.specs.Clients as clients
@@ -26,7 +27,7 @@ use Rattle.iot_machine.specs.Options.{OnConflict}
 use Rattle.iot_machine.specs.Texts.{line, begin_line, step_line, transaction_name, tree_text}
 use Rattle.iot_machine.specs.Transactions.{Begins, StepsAll, Stepped, Ends, SyncsAll, Synced, runs, next_of}
 use Rattle.std.specs.List.{AllByRecursion}
-use Rattle.iot_world.specs.Disks.{Medium, IsEmpty}
+use Rattle.iot_world.specs.Disks.{IsEmpty, counts_on}
 use Rattle.iot_world.specs.Laptops.{LaptopStands, ClientStands, RunningStandsIfAny, IsView}
 use Rattle.iot_world.specs.Nodes.{state_in, live_in}
 use Rattle.iot_world.specs.Saying.{place_said}
@@ -179,7 +180,7 @@ module _ {D : Type 0} (medium : Medium D) where
             apart_more m.scripts one here.apart
             (ap (script_named name) (scripts_are old.scripts.items m.scripts here.scripts) ∙ undeclared old.scripts.items name none);
         spare = subst (λ (ds : List D). AllByRecursion (IsEmpty medium) ds) (sym adds.spare) here.spare;
-        counts = ap (map medium.counts) adds.spare ∙ here.counts;
+        counts = ap (map (counts_on medium)) adds.spare ∙ here.counts;
         eight = omega (arith, here.eight, ap length adds.clients, ap length adds.spare);
       },
     );

@@ -7,6 +7,7 @@ use Rattle.std.specs.declared.alloc.Global.{Global}
 use Rattle.iot_link.specs.Links.{passage}
 use Rattle.iot_link.specs.declared.passages.Passage.{Passage}
 use Rattle.iot_link.specs.declared.passages.Passage.TheVariants as passages
+use Rattle.iot_disk.specs.Disk.{Medium}
 use Rattle.iot_machine.specs.Calls.{Call}
 use Rattle.iot_machine.specs.Clients.{Declared}
 use Rattle.iot_machine.specs.Events.{names_in}
@@ -17,7 +18,6 @@ use Rattle.iot_machine.specs.Refining.{Refines}
 use Rattle.iot_machine.specs.Serving.{Submission}
 use Rattle.iot_machine.specs.Texts.{transaction_name}
 use Rattle.iot_machine.specs.Transactions.{Exchange}
-use Rattle.iot_world.specs.Disks.{Medium}
 use Rattle.iot_world.specs.Laptops.{ClientStands, awake, fallen, Stands, Relinked, after_passage, broken}
 use Rattle.iot_world.specs.Nodes.{state_in}
 use Rattle.iot_world.specs.Looks.{client_names}

@@ -7,6 +7,7 @@ use Rattle.iot_kept.proofs.SyncedLaws.{synced_stands}
 use Rattle.iot_kept.specs.States.{Transaction, State, acts_of}
 use Rattle.iot_client.specs.Ties.{count, disk_of, state_of, class_in, live, IsRunIfAny, IsBegunIfAny}
 use Rattle.iot_client.specs.declared.interpreter.Interpreter.{Interpreter}
+use Rattle.iot_disk.specs.Disk.{Medium}
 use Rattle.iot_machine.specs.Clients.{Declared, ClientState}
 use Rattle.iot_machine.specs.Machine as machine
 use Rattle.iot_machine.specs.Machine.{Machine, Commit}
@@ -14,7 +15,7 @@ use Rattle.iot_machine.specs.Events.{names_in}
 use Rattle.iot_machine.specs.Nodes.{Node, Counts}
 use Rattle.iot_server.specs.Servers as servers
 use Rattle.iot_tree.specs.declared.limits.TheConstants.{ACT_LIMIT}
-use Rattle.iot_world.specs.Disks.{Medium, CountsOn}
+use Rattle.iot_world.specs.Disks.{CountsOn, counts_on}
 use Rattle.iot_world.specs.Holding.{HoldsList, IsKept, HoldsClient, KeepsClient, DisksHold, counts_in}
 use Rattle.iot_world.specs.Laptops.{ClientHolds, StateKept, HoldsBy, IsClientImage, LaptopStands, ClientStands, awake, fallen}
 use Rattle.iot_world.specs.Nodes.{disk_by, disk_in, state_by, state_in, live_by, live_in, IsTiedBy}
@@ -84,7 +85,7 @@ module _ {D : Type 0} (medium : Medium D) where
   held_by place (Up it) m tied kept = record {
     disk = disk_of it;
     is = refl;
-    holds = record { state = state_of it; each = synced_stands medium.reads medium.may_leave it.kept tied.tied.synced; kept = kept };
+    holds = record { state = state_of it; each = synced_stands medium it.kept tied.tied.synced; kept = kept };
   }
   held_by place (Down disk doubt) m tied kept = absurd tied
   held_by place Between m tied kept = absurd tied
@@ -184,19 +185,20 @@ module _ {D : Type 0} (medium : Medium D) where
   -- ---- what they count
 
   first_counts : (o : Option D) (counts : Counts) (rest : List D) → CountsOn medium o counts
-      → map medium.counts (with_first o rest) ≡ counts ∷ map medium.counts rest
+      → map (counts_on medium) (with_first o rest) ≡ counts ∷ map (counts_on medium) rest
   first_counts None counts rest is = absurd cc
-  first_counts (Some disk) counts rest is = ap (λ (c : Counts). c ∷ map medium.counts rest) (same_Some (medium.counts disk) counts is)
+  first_counts (Some disk) counts rest is =
+      ap (λ (c : Counts). c ∷ map (counts_on medium) rest) (same_Some (counts_on medium disk) counts is)
 
   client_counts : (scripts : List Declared) (laptop : Laptop D) (m : machine.Client) → ClientStands medium scripts laptop m
       → CountsOn medium (disk_in laptop) m.node.counts
   client_counts scripts laptop m (awake here) = here.counts
   client_counts scripts laptop m (fallen here) =
-      ap (option_map medium.counts) (ap disk_by here.down) ∙ ap (λ (c : Counts). Some c) here.counts
+      ap (option_map (counts_on medium)) (ap disk_by here.down) ∙ ap (λ (c : Counts). Some c) here.counts
 
   clients_count : (scripts : List Declared) (laptops : List (Laptop D)) (ms : List machine.Client) (rest : List D)
       → Each (ClientStands medium scripts) laptops ms
-      → map medium.counts (with_clients laptops rest) ≡ map (λ (m : machine.Client). m.node.counts) ms ++ map medium.counts rest
+      → map (counts_on medium) (with_clients laptops rest) ≡ map (λ (m : machine.Client). m.node.counts) ms ++ map (counts_on medium) rest
   clients_count scripts [] [] rest all = refl
   clients_count scripts [] (m ∷ ms) rest all = absurd all
   clients_count scripts (laptop ∷ laptops) [] rest all = absurd all
@@ -205,7 +207,7 @@ module _ {D : Type 0} (medium : Medium D) where
       ∙ ap (λ (cs : List Counts). m.node.counts ∷ cs) (clients_count scripts laptops ms rest all.1)
 
   -- they have counted what the machine's disks have
-  pub disks_count : (world : World D) (m : Machine) → StandsFor medium world m → map medium.counts (disks_of world) ≡ counts_in m
+  pub disks_count : (world : World D) (m : Machine) → StandsFor medium world m → map (counts_on medium) (disks_of world) ≡ counts_in m
   disks_count world m here =
       first_counts (nodes.disk_of world.server) m.server.counts (with_clients world.clients.items world.spare.items) here.server.counts
       ∙ ap (λ (cs : List Counts). m.server.counts ∷ cs)

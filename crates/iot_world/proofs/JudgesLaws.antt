@@ -39,6 +39,7 @@ use Rattle.iot_wire.specs.declared.requests.Request.{Request}
 use Rattle.iot_wire.specs.declared.requests.Request.TheVariants as requests
 use Rattle.iot_wire.specs.declared.replies.Reply.{Reply}
 use Rattle.iot_wire.specs.declared.replies.Reply.TheVariants as replies
+use Rattle.iot_disk.specs.Disk.{Medium}
 use Rattle.iot_machine.specs.Machine.{Commit, add_commit, tree_after}
 use Rattle.iot_machine.specs.Nodes.{Node, changed, doubting}
 use Rattle.iot_machine.specs.Refining.{Refines}
@@ -48,7 +49,7 @@ use Rattle.iot_machine.specs.Texts.{commit_line, acts_output, stopped_line}
 use Rattle.iot_machine.proofs.KeptLaws.{kept_added}
 use Rattle.iot_judging.proofs.JudgingLaws.{same_there, acts_guarded, certified, refused}
 use Rattle.iot_judging.proofs.RunTreesLaws.{list_tree}
-use Rattle.iot_world.specs.Disks.{Medium}
+use Rattle.iot_world.specs.Disks.{counts_on}
 use Rattle.iot_world.specs.Messages.{commit_said, printed_under, name_of, Spells, SpellsVerdict}
 use Rattle.iot_world.specs.Records.{IsImage, label_of, records_of, state_of}
 use Rattle.iot_world.specs.Servers.{count_of, ServerStands, AreOf, IsSubmission, IsHanded, IsNamedIn, Handled, StopsIn}
@@ -147,8 +148,8 @@ differing acts t place answer differs = by (slice_get (reads_of acts) (place - 1
 -- a commit with this label and these acts was cut off: each image has the records before, or those and its own
 record Cuts {D : Type 0} (medium : Medium D) (was now : Server D) (label : Label) (acts : List Act) : Type 0 where
   follows : CanFollow (servers.state_of was) label acts
-  one_record : EachDecodesEither (medium.may_leave (servers.disk_of now)) (Encodes (servers.bodies_on medium.reads was))
-      (Encodes (servers.bodies_on medium.reads was ++ record_spelling label acts ∷ []))
+  one_record : EachDecodesEither (medium.may_leave (servers.disk_of now)) (Encodes (servers.bodies_on medium was))
+      (Encodes (servers.bodies_on medium was ++ record_spelling label acts ∷ []))
 
 module _ {D : Type 0} (medium : Medium D) (names : List (List ℕ)) (label : Label) (acts : List Act) (transaction : Transaction)
     (it : Submission)
@@ -221,7 +222,7 @@ module _ {D : Type 0} (medium : Medium D) (names : List (List ℕ)) (label : Lab
       leads_list : Leads (records_of node.durable) opening (state_of node.durable)
       leads_list =
           subst (λ (bodies : List (List ℕ)). Leads bodies opening (state_of node.durable)) here.keeps.store.has_records
-          (subst (λ (s : State). Leads (servers.bodies_on medium.reads was) opening s) here.keeps.store.has_state
+          (subst (λ (s : State). Leads (servers.bodies_on medium was) opening s) here.keeps.store.has_state
           here.keeps.store.synced.leads)
 
       leads_longer : Leads (records_of (add_commit it.commit node.durable)) opening (state_of (add_commit it.commit node.durable))
@@ -277,7 +278,7 @@ module _ {D : Type 0} (medium : Medium D) (names : List (List ℕ)) (label : Lab
                   refl,
                   refl,
                   record {
-                    faults = (medium.counts (servers.disk_of now)).faults;
+                    faults = (counts_on medium (servers.disk_of now)).faults;
                     rose = counts_rose medium (servers.disk_of was) (servers.disk_of now) node.counts here.counts failed;
                     is = refl;
                   },
@@ -307,11 +308,11 @@ module _ {D : Type 0} (medium : Medium D) (names : List (List ℕ)) (label : Lab
           );
     }
 
-  module _ (was now : Server D) (synced : servers.IsSynced medium.reads medium.may_leave now)
-      (same : medium.counts (servers.disk_of now) ≡ medium.counts (servers.disk_of was)) where
+  module _ (was now : Server D) (synced : servers.IsSynced medium now)
+      (same : counts_on medium (servers.disk_of now) ≡ counts_on medium (servers.disk_of was)) where
     -- it commits
     commits_it : (x y : List ℕ)
-        → servers.bodies_on medium.reads now ≡ servers.bodies_on medium.reads was ++ record_spelling label acts ∷ []
+        → servers.bodies_on medium now ≡ servers.bodies_on medium was ++ record_spelling label acts ∷ []
         → servers.state_of now ≡ after_commit (servers.state_of was) label acts
         → ActsHold (servers.state_of was).tree acts
         → y ≡ x ++ (commit_line (length (servers.state_of was).labels + 1) (name_of transaction) label.way ++ acts_output acts)
@@ -359,7 +360,7 @@ module _ {D : Type 0} (medium : Medium D) (names : List (List ℕ)) (label : Lab
           );
     }
 
-    module _ (recorded : servers.bodies_on medium.reads now ≡ servers.bodies_on medium.reads was)
+    module _ (recorded : servers.bodies_on medium now ≡ servers.bodies_on medium was)
         (made : servers.state_of now ≡ servers.state_of was) where
       -- one that is in the list
       settled : (number : ℕ) (x : List ℕ) → number_in (servers.state_of was).labels label.client label.tid ≡ Some number
@@ -395,10 +396,10 @@ module _ {D : Type 0} (medium : Medium D) (names : List (List ℕ)) (label : Lab
 
 module _ {D : Type 0} (medium : Medium D) (names : List (List ℕ)) (message : Message) (it : Submission)
     (short : length message.request.items < 2 ^ 64) (hands : IsHanded message it) where
-  module _ (reply : Vec ℕ Global) (was now : Server D) (synced : servers.IsSynced medium.reads medium.may_leave now)
-      (same : medium.counts (servers.disk_of now) ≡ medium.counts (servers.disk_of was))
-      (handled : IsHandled (servers.state_of was) (servers.bodies_on medium.reads was) message.request.items reply.items
-      (servers.state_of now) (servers.bodies_on medium.reads now))
+  module _ (reply : Vec ℕ Global) (was now : Server D) (synced : servers.IsSynced medium now)
+      (same : counts_on medium (servers.disk_of now) ≡ counts_on medium (servers.disk_of was))
+      (handled : IsHandled (servers.state_of was) (servers.bodies_on medium was) message.request.items reply.items
+      (servers.state_of now) (servers.bodies_on medium now))
       (x y : List ℕ)
       (said : y ≡ x ++ commit_said (length (servers.state_of was).labels) (length (servers.state_of now).labels) message) where
     asked : handled.request ≡ requests.Commit hands.label hands.acts
@@ -412,11 +413,11 @@ module _ {D : Type 0} (medium : Medium D) (names : List (List ℕ)) (message : M
 
     -- the records after this reply
     recorded : (said : Reply) → handled.answered.reply ≡ said
-        → servers.bodies_on medium.reads now
-        ≡ records_after (requests.Commit hands.label hands.acts) said (servers.bodies_on medium.reads was)
+        → servers.bodies_on medium now
+        ≡ records_after (requests.Commit hands.label hands.acts) said (servers.bodies_on medium was)
     recorded said is =
         handled.answered.records
-        ∙ (λ i. records_after (asked i) (is i) (servers.bodies_on medium.reads was))
+        ∙ (λ i. records_after (asked i) (is i) (servers.bodies_on medium was))
 
     -- nothing more is said if nothing was committed
     said_nothing : servers.state_of now ≡ servers.state_of was → y ≡ x
@@ -501,7 +502,7 @@ module _ {D : Type 0} (medium : Medium D) (names : List (List ℕ)) (message : M
 
   -- what the server was to append is its record
   cuts_it : (was now : Server D)
-      → CutsOff (IsMessage IsRequest request_spelling message.request.items) (servers.state_of was) (servers.bodies_on medium.reads was)
+      → CutsOff (IsMessage IsRequest request_spelling message.request.items) (servers.state_of was) (servers.bodies_on medium was)
       (medium.may_leave (servers.disk_of now))
       → Cuts medium was now hands.label hands.acts
   cuts_it was now cut =
@@ -516,8 +517,8 @@ module _ {D : Type 0} (medium : Medium D) (names : List (List ℕ)) (message : M
         one_record =
             subst
             (λ (body : List ℕ).
-            EachDecodesEither (medium.may_leave (servers.disk_of now)) (Encodes (servers.bodies_on medium.reads was))
-            (Encodes (servers.bodies_on medium.reads was ++ body ∷ [])))
+            EachDecodesEither (medium.may_leave (servers.disk_of now)) (Encodes (servers.bodies_on medium was))
+            (Encodes (servers.bodies_on medium was ++ body ∷ [])))
             (λ i. record_spelling (labels i) (them i)) cut.one_record;
       }
 

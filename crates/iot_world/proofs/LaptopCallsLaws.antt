@@ -26,6 +26,7 @@ use Rattle.iot_client.specs.declared.noted.Noted.TheVariants as noteds
 use Rattle.iot_client.specs.declared.ended.Ended as client
 use Rattle.iot_client.specs.declared.steps.Step.{Step}
 use Rattle.iot_client.specs.declared.steps.Step.TheVariants as steps
+use Rattle.iot_disk.specs.Disk.{Medium}
 use Rattle.iot_machine.specs.Clients as clients
 use Rattle.iot_machine.specs.Clients.{Declared, ClientState, base, begin, hold, fetch, act_once, end, leave, new_client}
 use Rattle.iot_machine.specs.Clients.{reach, resolution_of, repair}
@@ -34,7 +35,7 @@ use Rattle.iot_machine.specs.Nodes.{changed}
 use Rattle.iot_machine.specs.Serving as serving
 use Rattle.iot_machine.specs.Texts.{transaction_name, acts_output}
 use Rattle.iot_judging.proofs.SpelledTreesLaws.{far_root_spelled}
-use Rattle.iot_world.specs.Disks.{Medium}
+use Rattle.iot_world.specs.Disks.{counts_on}
 use Rattle.iot_world.specs.Laptops as laptops
 use Rattle.iot_world.specs.Laptops.{StateStands, LaptopStands, Noted, StepNoted, Stepped, IsEndOf, IsFirstOf, waits_of}
 use Rattle.iot_world.specs.Laptops.{head_option, head_reads}
@@ -146,7 +147,7 @@ record_as (serving.Conflict read question) = refl
 -- ---- changes of what is durable
 
 module _ {D : Type 0} (medium : Medium D) (laptop : Laptop D) (was now : Client D)
-    (tied : IsTied medium.reads medium.may_leave now) (counts : medium.counts (disk_of now) ≡ medium.counts (disk_of was)) where
+    (tied : IsTied medium now) (counts : counts_on medium (disk_of now) ≡ counts_on medium (disk_of was)) where
   abbrev old : Laptop D
   old = record laptop { node = Up was }
 

@@ -5,10 +5,10 @@ use Rattle.iot_acts.specs.Turns.{reads_of}
 use Rattle.iot_queue.specs.Queues.{head_of}
 use Rattle.iot_queue.specs.declared.items.Item.{Item}
 use Rattle.iot_client.specs.Calls.{may_end}
+use Rattle.iot_disk.specs.Disk.{Medium}
 use Rattle.iot_machine.specs.Clients as clients
 use Rattle.iot_machine.specs.Clients.{Declared, base, next_step}
 use Rattle.iot_machine.specs.Machine as machine
-use Rattle.iot_world.specs.Disks.{Medium}
 use Rattle.iot_world.specs.Laptops.{LaptopStands, IsUnended, head_reads, acts_in}
 use Rattle.iot_world.specs.Nodes.{state_in, live_in}
 use Rattle.iot_world.specs.declared.laptop.Laptop.{Laptop}

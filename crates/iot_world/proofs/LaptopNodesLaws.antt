@@ -17,12 +17,12 @@ use Rattle.iot_client.specs.Calls.{Notes, CutsIfAny}
 use Rattle.iot_client.specs.declared.client.Client.{Client}
 use Rattle.iot_client.specs.declared.fault.ClientFault.{ClientFault}
 use Rattle.iot_client.specs.declared.fault.ClientFault.TheVariants.{Stopped}
+use Rattle.iot_disk.specs.Disk.{Medium}
 use Rattle.iot_machine.specs.Clients as clients
 use Rattle.iot_machine.specs.Clients.{Declared, ClientState, base, cut_by, cut}
 use Rattle.iot_machine.specs.Machine as machine
 use Rattle.iot_machine.specs.Nodes.{fallen}
 use Rattle.iot_machine.specs.Texts.{transaction_name}
-use Rattle.iot_world.specs.Disks.{Medium}
 use Rattle.iot_world.specs.Laptops.{ItemStands, ItemsStand, RunningStandsIfAny, StateStands, RunningKept, RunningKeptIfAny, idle}
 use Rattle.iot_world.specs.Laptops.{StateKept, LaptopStands, FallenStands, FallsWith, HasFallen, ReturnedStands}
 use Rattle.iot_world.specs.Laptops.{CutsOffAs, CutsOff, running_name, stopped}
@@ -60,7 +60,7 @@ module _ {D : Type 0} (medium : Medium D) (laptop : Laptop D) where
           stands.sure,
           record {
             state = state_of was;
-            each = synced_stands medium.reads medium.may_leave was.kept here.tied.synced;
+            each = synced_stands medium was.kept here.tied.synced;
             kept = here.kept;
           },
         );
@@ -289,7 +289,7 @@ module _ {D : Type 0} (medium : Medium D) (laptop : Laptop D) where
 
     -- it has stopped in the cut
     pub cut_stops : (outcome : Option (Option ℕ)) → outcome ≡ None → GoesOn laptop now count answer new before end outcome
-        → (IsErrOf answer Stopped → client.CutsOff Cut (state_of was) (bodies_on medium.reads was) (medium.may_leave (disk_of now)))
+        → (IsErrOf answer Stopped → client.CutsOff Cut (state_of was) (bodies_on medium was) (medium.may_leave (disk_of now)))
         → CutsOff medium None laptop new before end
     cut_stops outcome none goes stops =
         let it : IsStop medium laptop was now count answer new before end =

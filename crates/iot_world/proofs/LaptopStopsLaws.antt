@@ -23,12 +23,12 @@ use Rattle.iot_client.specs.declared.fault.ClientFault.TheVariants.{Stopped}
 use Rattle.iot_client.specs.declared.ended.Ended as client
 use Rattle.iot_client.specs.declared.noted.Noted.{Noted as NotedIn}
 use Rattle.iot_client.specs.declared.steps.Step.{Step}
+use Rattle.iot_disk.specs.Disk.{Medium}
 use Rattle.iot_machine.specs.Clients as clients
 use Rattle.iot_machine.specs.Clients.{Declared, ClientState, hold, fetch, act_once, leave, reach, at_stage, resolution_of, resolved_by}
 use Rattle.iot_machine.specs.Machine as machine
 use Rattle.iot_machine.specs.Serving as serving
 use Rattle.iot_machine.specs.Texts.{stopped_line, acts_output}
-use Rattle.iot_world.specs.Disks.{Medium}
 use Rattle.iot_world.specs.Laptops as laptops
 use Rattle.iot_world.specs.Laptops.{StateStands, StateKept, LaptopStands, Noted, NotedIf, BegunIf, IsBegin, SteppedIf, Stepped, StepStops}
 use Rattle.iot_world.specs.Laptops.{FallsWith, EndStops, ResolvedIf, IsResolution, RepairedIf, IsRepair, Stops, Settles, Exactly}
@@ -61,7 +61,7 @@ module _ {D : Type 0} (medium : Medium D) (laptop : Laptop D) (was now : Client 
   next = record laptop { node = Up now }
 
   abbrev cuts : Change → Type 0
-  cuts change = CutsOff change (state_of was) (bodies_on medium.reads was) (medium.may_leave (disk_of now))
+  cuts change = CutsOff change (state_of was) (bodies_on medium was) (medium.may_leave (disk_of now))
 
   -- each client for which it stands is after the change what this makes of it
   abbrev changes_so : Change → (ClientState → ClientState) → Type 0
@@ -78,7 +78,7 @@ module _ {D : Type 0} (medium : Medium D) (laptop : Laptop D) (was now : Client 
 
     abbrev cuts_by_tree : (Nodes → Change) → List ℕ → Type 0
     cuts_by_tree brought_by reply =
-        CutsOffByTree brought_by reply (state_of was) (bodies_on medium.reads was) (medium.may_leave (disk_of now))
+        CutsOffByTree brought_by reply (state_of was) (bodies_on medium was) (medium.may_leave (disk_of now))
 
     -- by the tree that the reply spells
     cut_by : (brought_by : Nodes → Change) (reply : List ℕ) → ReadsObjects reply → cuts_by_tree brought_by reply → (t : Nodes)
@@ -218,7 +218,7 @@ module _ {D : Type 0} (medium : Medium D) (laptop : Laptop D) (was now : Client 
     }
 
     step_stops : stop → (live : Option Live) → live_of was ≡ live
-        → CutsOffNextIfAny live (state_of was) (bodies_on medium.reads was) (medium.may_leave (disk_of now))
+        → CutsOffNextIfAny live (state_of was) (bodies_on medium was) (medium.may_leave (disk_of now))
         → StepStops medium laptop new before end
     step_stops it None lives cut = absurd cut
     step_stops it (Some live) lives cut = record {
@@ -282,7 +282,7 @@ module _ {D : Type 0} (medium : Medium D) (laptop : Laptop D) (was now : Client 
     told_so (serving.Conflict read question) on.Manual first cut = reached_so on.Manual clients.Manual first refl
 
     verdict_stops : stop → (reply : List ℕ) → ReadsNoted reply
-        → CutsOffByVerdict reply (state_of was) (bodies_on medium.reads was) (medium.may_leave (disk_of now))
+        → CutsOffByVerdict reply (state_of was) (bodies_on medium was) (medium.may_leave (disk_of now))
         → (told : serving.Verdict) (option : OnConflictNamed) → SpellsVerdict (head_reads (state_of was).items) reply told
         → head_option (state_of was).items ≡ Some option → Stops medium (Exactly (told_change told option)) laptop new before end
     verdict_stops it reply only cut told option spells first =
@@ -295,7 +295,7 @@ module _ {D : Type 0} (medium : Medium D) (laptop : Laptop D) (was now : Client 
     pub settle_stops : IsCall medium was now answer → GoesOn laptop now count answer new before end None → (reply : List ℕ)
         → ReadsNoted reply
         → (IsErrOf answer Stopped
-        → CutsOffByVerdict reply (state_of was) (bodies_on medium.reads was) (medium.may_leave (disk_of now)))
+        → CutsOffByVerdict reply (state_of was) (bodies_on medium was) (medium.may_leave (disk_of now)))
         → (told : serving.Verdict) (option : OnConflictNamed) → SpellsVerdict (head_reads (state_in laptop).items) reply told
         → head_option (state_in laptop).items ≡ Some option → Stops medium (Exactly (told_change told option)) laptop new before end
     settle_stops call goes reply only stops told option spells first =
@@ -310,7 +310,7 @@ module _ {D : Type 0} (medium : Medium D) (laptop : Laptop D) (was now : Client 
         → GoesOn laptop now count answer new before end outcome → (reply : List ℕ) (code : Code) → IsScript code → ReadsObjects reply
         → OnOk answer (Resolves reply code was now) → OnOk answer (live_of now ≡ live_of was)
         → (IsErrOf answer Stopped
-        → CutsOffByRun reply code (state_of was) (bodies_on medium.reads was) (medium.may_leave (disk_of now)))
+        → CutsOffByRun reply code (state_of was) (bodies_on medium was) (medium.may_leave (disk_of now)))
         → (t : Nodes) → SpellsTree reply t → ResolvedIf medium on code t laptop new before end
     resolves_if (Some u) on same call goes reply code script only resolves lives stops t spells =
         let it : done_with u = was_done medium laptop was now count answer new before end u call goes in
@@ -322,10 +322,10 @@ module _ {D : Type 0} (medium : Medium D) (laptop : Laptop D) (was now : Client 
         )
     resolves_if None on same call goes reply code script only resolves lives stops t spells =
         let it : stop = was_stopped medium laptop was now count answer new before end call goes in
-        let run : CutsOffByRun reply code (state_of was) (bodies_on medium.reads was) (medium.may_leave (disk_of now)) = stops it.is in
-        let rerun : CutsOffRerun code t (state_of was) (bodies_on medium.reads was) (medium.may_leave (disk_of now)) =
+        let run : CutsOffByRun reply code (state_of was) (bodies_on medium was) (medium.may_leave (disk_of now)) = stops it.is in
+        let rerun : CutsOffRerun code t (state_of was) (bodies_on medium was) (medium.may_leave (disk_of now)) =
         subst
-        (λ (tree : Nodes). CutsOffRerun code tree (state_of was) (bodies_on medium.reads was) (medium.may_leave (disk_of now)))
+        (λ (tree : Nodes). CutsOffRerun code tree (state_of was) (bodies_on medium was) (medium.may_leave (disk_of now)))
         (brought_tree reply run.tree t only (only run.tree run.spelled) spells) run.reruns in
         subst (λ (b : Bool). ResolvedIf medium b code t laptop new before end) (sym same)
         (stops_by medium laptop was now count answer new before end it (Resolved rerun.done) rerun.cuts_off (IsResolution code t) is counted
@@ -376,7 +376,7 @@ module _ {D : Type 0} (medium : Medium D) (laptop : Laptop D) (was now : Client 
       → GoesOn laptop now count answer new before end outcome → IfOk answer (λ step. StepIsIfAny was (live_of was) step now)
       → OnOk answer (live_of now ≡ live_of was) → place_of was ≡ laptop.place
       → (IsErrOf answer Stopped
-      → CutsOffNextIfAny (live_of was) (state_of was) (bodies_on medium.reads was) (medium.may_leave (disk_of now)))
+      → CutsOffNextIfAny (live_of was) (state_of was) (bodies_on medium was) (medium.may_leave (disk_of now)))
       → SteppedIf medium outcome laptop new before end
   steps_if answer (Some step) call goes does lives place stops =
       let it : done_with answer step = was_done medium laptop was now count answer new before end step call goes in (
@@ -396,7 +396,7 @@ module _ {D : Type 0} (medium : Medium D) (laptop : Laptop D) (was now : Client 
       → IfOk answer (λ step. StepIsIfAny was (live_of was) step now) → OnOk answer (live_of now ≡ live_of was)
       → place_of was ≡ laptop.place
       → (IsErrOf answer Stopped
-      → CutsOffNextIfAny (live_of was) (state_of was) (bodies_on medium.reads was) (medium.may_leave (disk_of now)))
+      → CutsOffNextIfAny (live_of was) (state_of was) (bodies_on medium was) (medium.may_leave (disk_of now)))
       → IfOk result (λ outcome. SteppedIf medium outcome laptop new before end)
   steps_with answer (Ok outcome) call goes stopped says does lives place stops =
       steps_if answer outcome call (record { goes = goes; stopped = stopped; says = says }) does lives place stops
@@ -459,7 +459,7 @@ module _ {D : Type 0} (medium : Medium D) (laptop : Laptop D) (was now : Client 
 
   pub settle_halts : (answer : Result NotedIn ClientFault) (outcome : Option NotedIn) → outcome ≡ None → IsCall medium was now answer
       → GoesOn laptop now count answer new before end outcome → (reply : List ℕ) → ReadsNoted reply
-      → (IsErrOf answer Stopped → CutsOffByVerdict reply (state_of was) (bodies_on medium.reads was) (medium.may_leave (disk_of now)))
+      → (IsErrOf answer Stopped → CutsOffByVerdict reply (state_of was) (bodies_on medium was) (medium.may_leave (disk_of now)))
       → (told : serving.Verdict) (option : OnConflictNamed) → SpellsVerdict (head_reads (state_in laptop).items) reply told
       → head_option (state_in laptop).items ≡ Some option → Stops medium (Exactly (told_change told option)) laptop new before end
   settle_halts answer outcome none call goes reply only stops =

@@ -12,10 +12,11 @@ use Rattle.iot_store.specs.States.{State}
 use Rattle.iot_wire.specs.declared.requests.Request.{Request}
 use Rattle.iot_wire.specs.declared.requests.Request.TheVariants as requests
 use Rattle.iot_wire.specs.declared.replies.Reply.TheVariants as replies
+use Rattle.iot_disk.specs.Disk.{Medium}
 use Rattle.iot_machine.specs.Clients.{snapshot}
 use Rattle.iot_machine.specs.Machine.{tree_after}
 use Rattle.iot_machine.specs.Serving.{Lends}
-use Rattle.iot_world.specs.Disks.{Medium}
+use Rattle.iot_world.specs.Disks.{counts_on}
 use Rattle.iot_world.specs.Messages.{commit_said, Spells, SpellsCut}
 use Rattle.iot_world.specs.Servers.{count_of, Handled, StopsIn, Serves, ServerIsSound}
 use Rattle.iot_world.specs.declared.message.Message.{Message}
@@ -27,10 +28,10 @@ use Rattle.iot_world.proofs.ServersLaws.{stands_still, one_request, nothing_said
 module _ {D : Type 0} (medium : Medium D) (names : List (List ℕ)) (message : Message) (client : ℕ)
     (held : Nodes) (want : Want) (short : length message.request.items < 2 ^ 64)
     (asks : IsRefresh client held want message.request.items) where
-  module _ (reply : Vec ℕ Global) (was now : Server D) (synced : servers.IsSynced medium.reads medium.may_leave now)
-      (handled : IsHandled (servers.state_of was) (servers.bodies_on medium.reads was) message.request.items reply.items
-      (servers.state_of now) (servers.bodies_on medium.reads now))
-      (same : medium.counts (servers.disk_of now) ≡ medium.counts (servers.disk_of was))
+  module _ (reply : Vec ℕ Global) (was now : Server D) (synced : servers.IsSynced medium now)
+      (handled : IsHandled (servers.state_of was) (servers.bodies_on medium was) message.request.items reply.items
+      (servers.state_of now) (servers.bodies_on medium now))
+      (same : counts_on medium (servers.disk_of now) ≡ counts_on medium (servers.disk_of was))
       (sound : ServerIsSound medium (Up was)) where
     asked : handled.request ≡ requests.Refresh client (known held) want
     asked = one_request message.request.items short handled.request (requests.Refresh client (known held) want) handled.is asks
@@ -41,10 +42,10 @@ module _ {D : Type 0} (medium : Medium D) (names : List (List ℕ)) (message : M
         subst (λ (request : Request). Answers (servers.state_of was) request handled.answered.reply (servers.state_of now)) asked
         handled.answered.answers
 
-    recorded : servers.bodies_on medium.reads now ≡ servers.bodies_on medium.reads was
+    recorded : servers.bodies_on medium now ≡ servers.bodies_on medium was
     recorded =
         handled.answered.records
-        ∙ ap (λ (request : Request). records_after request handled.answered.reply (servers.bodies_on medium.reads was)) asked
+        ∙ ap (λ (request : Request). records_after request handled.answered.reply (servers.bodies_on medium was)) asked
 
     nothing_more : (x : List ℕ)
         → x ++ commit_said (length (servers.state_of was).labels) (length (servers.state_of now).labels) message ≡ x ++ []

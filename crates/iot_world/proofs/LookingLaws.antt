@@ -15,6 +15,7 @@ use Rattle.iot_kept.specs.States.{Transaction}
 use Rattle.iot_client.specs.Ties.{Live, class_by}
 use Rattle.iot_server.specs.Servers.{state_of}
 use Rattle.iot_server.specs.declared.server.Server.{Server}
+use Rattle.iot_disk.specs.Disk.{Medium}
 use Rattle.iot_machine.specs.Clients as clients
 use Rattle.iot_machine.specs.Clients.{Declared}
 use Rattle.iot_machine.specs.Events.{Queues, ReadsOf, Logs, running_of, says_reads, names_in}
@@ -23,7 +24,6 @@ use Rattle.iot_machine.specs.Machine.{Machine, Commit, client_in}
 use Rattle.iot_machine.specs.Recorded.{items_kept, queue_kept, label_of, labels_of}
 use Rattle.iot_machine.specs.Sound.{IsListed}
 use Rattle.iot_machine.specs.Texts.{line, queue_text, reads_text, log_text}
-use Rattle.iot_world.specs.Disks.{Medium}
 use Rattle.iot_world.specs.Laptops.{LaptopStands, ClientStands, RunningStandsIfAny}
 use Rattle.iot_world.specs.Looks.{client_names, SaysQueue}
 use Rattle.iot_world.specs.Nodes.{state_in, live_in}

@@ -5,10 +5,10 @@ use Rattle.iot_client.specs.Ties as client
 use Rattle.iot_client.specs.Ties.{Live, IsBegunIfAny, IsOwnRunIfAny}
 use Rattle.iot_client.proofs.StepsLaws.{own}
 use Rattle.iot_client.specs.declared.client.Client.{Client}
+use Rattle.iot_disk.specs.Disk.{Medium}
 use Rattle.iot_machine.specs.Clients.{Declared}
 use Rattle.iot_machine.specs.Clients as clients
 use Rattle.iot_machine.specs.Machine as machine
-use Rattle.iot_world.specs.Disks.{Medium}
 use Rattle.iot_world.specs.Laptops.{LaptopStands, FallenStands, ClientStands, awake, fallen, RunningStandsIfAny, Stands, StandsAnyhow}
 use Rattle.iot_world.specs.Laptops.{IsLent}
 use Rattle.iot_world.specs.Nodes.{alive_by, state_by, live_by, lent_by, is_alive, state_in, live_in, IsSeated, IsTiedBy}

@@ -4,9 +4,9 @@ use Rattle.iot_link.specs.Links as links
 use Rattle.iot_link.specs.Links.{LinkState, after_exchange}
 use Rattle.iot_link.specs.declared.passages.Passage.{Passage}
 use Rattle.iot_link.specs.declared.passages.Passage.TheVariants.{Away, RequestLost, ReplyLost, Both}
+use Rattle.iot_disk.specs.Disk.{Medium}
 use Rattle.iot_machine.specs.Clients.{Declared}
 use Rattle.iot_machine.specs.Machine as machine
-use Rattle.iot_world.specs.Disks.{Medium}
 use Rattle.iot_world.specs.Laptops.{LaptopStands, Stands, Relinked, IsSecondNow, after_passage, broken}
 use Rattle.iot_world.specs.declared.laptop.Laptop.{Laptop}
 

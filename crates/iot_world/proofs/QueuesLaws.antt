@@ -5,7 +5,7 @@ use Rattle.std.proofs.lemmas.List.{append-nil}
 use Rattle.std.proofs.lemmas.Option.{same_Some}
 use Rattle.std.specs.List.{AllByRecursion}
 use Rattle.std.specs.Prelude.{IsSome}
-use Rattle.iot_disk.specs.Disk.{Arms}
+use Rattle.iot_disk.specs.Disk.{Medium, Arms}
 use Rattle.iot_tree.specs.Tree.{Nodes}
 use Rattle.iot_acts.specs.Traces.{after_acts}
 use Rattle.iot_queue.specs.declared.items.Item.{Item}
@@ -23,7 +23,6 @@ use Rattle.iot_machine.specs.Nodes.{Node, changed}
 use Rattle.iot_machine.specs.Texts.{line, transaction_name, manual_line}
 use Rattle.iot_machine.specs.Transactions.{Notes, Syncs, sync_at, item_name, Synced, Empty, Left, Moved, ByHand, Unanswered, Halted}
 use Rattle.iot_machine.specs.Transactions.{pends, is_queued, sync_if, unless_ends, SyncsAll}
-use Rattle.iot_world.specs.Disks.{Medium}
 use Rattle.iot_world.specs.Laptops.{LaptopStands, ClientStands, awake, fallen, SamePlace, StageStands, ItemStands, ItemsStand}
 use Rattle.iot_world.specs.Laptops.{RelinkedAnyhow, waits_of, head_name}
 use Rattle.iot_world.specs.Nodes.{is_alive, state_in, disk_by, disk_in}

@@ -7,12 +7,12 @@ use Rattle.iot_tree.specs.Tree.{Nodes}
 use Rattle.iot_queue.specs.declared.items.Item.{Item}
 use Rattle.iot_kept.specs.States.{Transaction, State}
 use Rattle.iot_client.specs.Ties.{Live}
+use Rattle.iot_disk.specs.Disk.{Medium}
 use Rattle.iot_machine.specs.Calls.{Call}
 use Rattle.iot_machine.specs.Clients as clients
 use Rattle.iot_machine.specs.Clients.{Declared, hold}
 use Rattle.iot_machine.specs.Machine as machine
 use Rattle.iot_machine.specs.Machine.{Machine, client_in}
-use Rattle.iot_world.specs.Disks.{Medium}
 use Rattle.iot_world.specs.Laptops.{LaptopStands, ClientStands, Stands, StandsAnyhow, Fallen, RunningStandsIfAny, ItemsStand, Noted}
 use Rattle.iot_world.specs.Laptops.{waits_of}
 use Rattle.iot_world.specs.Nodes.{is_alive, state_in, live_in}

@@ -16,8 +16,8 @@ use Rattle.iot_store.specs.States.{State, CanFollow, opening, after_commit}
 use Rattle.iot_store.specs.Records.{IsRecord, record_spelling}
 use Rattle.iot_store.specs.Standing.{Leads}
 use Rattle.iot_judging.specs.Entries.{IsSpelledEntry}
+use Rattle.iot_disk.specs.Disk.{Medium}
 use Rattle.iot_machine.specs.Machine.{Commit, entries_of, tree_after}
-use Rattle.iot_world.specs.Disks.{Medium}
 use Rattle.iot_world.specs.Records.{label_of, records_from, records_of, state_of}
 use Rattle.iot_world.specs.Servers.{AreOf}
 use Rattle.iot_tree.specs.declared.acts.Act.{Act}
@@ -112,12 +112,12 @@ leads_count (body ∷ bodies) before after leads =
     (arith, leads_count bodies (after_commit before leads.0 leads.1) after leads.4, length-append before.labels (leads.0 ∷ []))
 
 -- a server whose disk is within its limit has not as many commits as can be counted
-pub few_commits : {D : Type 0} (medium : Medium D) (it : Server D) → servers.IsSynced medium.reads medium.may_leave it
+pub few_commits : {D : Type 0} (medium : Medium D) (it : Server D) → servers.IsSynced medium it
     → length (servers.state_of it).labels + 1 < 2 ^ 64
 few_commits medium it synced =
     omega (
       arith,
       records_fit _ _ _ synced.journal.layout synced.journal.limit,
-      length-bodies-le (servers.bodies_on medium.reads it),
-      leads_count (servers.bodies_on medium.reads it) opening (servers.state_of it) synced.leads,
+      length-bodies-le (servers.bodies_on medium it),
+      leads_count (servers.bodies_on medium it) opening (servers.state_of it) synced.leads,
     )

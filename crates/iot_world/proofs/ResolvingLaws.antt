@@ -29,6 +29,7 @@ use Rattle.iot_wire.specs.Spelling.{reply_spelling, request_spelling}
 use Rattle.iot_wire.specs.Messages.{IsMessage}
 use Rattle.iot_wire.specs.declared.requests.Request.TheVariants.{Refresh}
 use Rattle.iot_wire.specs.declared.replies.Reply.TheVariants as replies
+use Rattle.iot_disk.specs.Disk.{Medium}
 use Rattle.iot_machine.proofs.WholeLaws.{whole_comes}
 use Rattle.iot_machine.specs.Clients as clients
 use Rattle.iot_machine.specs.Clients.{Declared, Plan, new_client, plan_of, plan_by, reach, resolution_of}
@@ -39,7 +40,6 @@ use Rattle.iot_machine.specs.Serving.{Lends}
 use Rattle.iot_machine.specs.Sound.{CanResolve, IsPlanned}
 use Rattle.iot_machine.specs.Texts.{line, resolve_line}
 use Rattle.iot_machine.specs.Transactions.{Notes, Syncs, sync_at, Exchange, resolves as machine_resolves, Synced, Moved, Unanswered, Halted}
-use Rattle.iot_world.specs.Disks.{Medium}
 use Rattle.iot_world.specs.Laptops.{LaptopStands, ItemStands, ItemsStand, ResolvedIf, IsResolution, AsksAll, IsHeadPlan, head_plan}
 use Rattle.iot_world.specs.Laptops.{again, resolver, planned_by, planned_in}
 use Rattle.iot_world.specs.Nodes.{state_in}

@@ -6,7 +6,7 @@ use Rattle.std.proofs.lemmas.List.{append-nil}
 use Rattle.std.proofs.lemmas.Option.{same_Some}
 use Rattle.std.proofs.lemmas.Bool.{le-leb, lt-leb}
 use Rattle.iot_count.specs.Counts.{Rose}
-use Rattle.iot_disk.specs.Disk.{Only, SameImages, armed_with}
+use Rattle.iot_disk.specs.Disk.{Medium, Only, SameImages, armed_with}
 use Rattle.iot_disk.specs.declared.disk.Pick.{Pick}
 use Rattle.iot_disk.specs.declared.faults.StartFault.{StartFault}
 use Rattle.iot_disk.specs.declared.faults.StartFault.TheVariants as faults
@@ -27,7 +27,7 @@ use Rattle.iot_machine.specs.Stops as stops
 use Rattle.iot_machine.specs.Stops.{IsStopped}
 use Rattle.iot_machine.specs.Texts.{stopped_line, kept_line, lost_line, stop_line}
 use Rattle.iot_world.specs.Deciding.{HasCount, Begins, DecidesIfAny}
-use Rattle.iot_world.specs.Disks.{Medium, IsEmpty}
+use Rattle.iot_world.specs.Disks.{IsEmpty, counts_on}
 use Rattle.iot_world.specs.Laptops.{StateKept, ClientHolds, IsClientImage, HoldsBy, LaptopStands, FallenStands, Fallen}
 use Rattle.iot_world.specs.Laptops.{ReturnedStands, ComesBackAs, ComesBack, Opens, IsUnopened, unopened_laptop, back_said}
 use Rattle.iot_world.specs.Laptops.{IsArmed, awake, fallen}
@@ -58,46 +58,46 @@ takes (faults.Damaged at) taken = absurd taken
 -- what a start says that gives a client
 pub record IsStarted {D : Type 0} (medium : Medium D) (disk : D) (bytes : List ℕ) (it : Client D) : Type 0 where
   pub only : (state : State) → StandFor bytes state → state_of it ≡ state
-  pub read : decoded bytes ≡ Encodes (bodies_on medium.reads it)
-  pub tied : IsTied medium.reads medium.may_leave it
+  pub read : decoded bytes ≡ Encodes (bodies_on medium it)
+  pub tied : IsTied medium it
   pub live : live_of it ≡ None
-  pub counts : medium.counts (disk_of it) ≡ medium.counts disk
+  pub counts : counts_on medium (disk_of it) ≡ counts_on medium disk
 
 -- what one says that gives the disk back, which failed
 pub record IsRefused {D : Type 0} (medium : Medium D) (disk : D) (bytes : List ℕ) (left : D) : Type 0 where
   pub bodies : EachDecodes (medium.may_leave left) (decoded bytes)
   pub images : (state : State) → StandFor bytes state → EachStands (medium.may_leave left) state
-  pub rose : Rose (medium.counts disk).faults (medium.counts left).faults
-  pub arms : (medium.counts left).arms ≡ (medium.counts disk).arms
+  pub rose : Rose (counts_on medium disk).faults (counts_on medium left).faults
+  pub arms : (counts_on medium left).arms ≡ (counts_on medium disk).arms
 
 -- a disk that was started anew first counts what it did before
-module _ {D : Type 0} (medium : Medium D) (disk again : D) (faults_stay : (medium.counts again).faults ≡ (medium.counts disk).faults)
-    (arms_stay : (medium.counts again).arms ≡ (medium.counts disk).arms) where
+module _ {D : Type 0} (medium : Medium D) (disk again : D) (faults_stay : (counts_on medium again).faults ≡ (counts_on medium disk).faults)
+    (arms_stay : (counts_on medium again).arms ≡ (counts_on medium disk).arms) where
   pub has_started : (it : Client D) → ((state : State) → StandFor (medium.reads again) state → state_of it ≡ state)
-      → decoded (medium.reads again) ≡ Encodes (bodies_on medium.reads it) → IsTied medium.reads medium.may_leave it → live_of it ≡ None
-      → (medium.counts (disk_of it)).faults ≡ (medium.counts again).faults
-      → (medium.counts (disk_of it)).arms ≡ (medium.counts again).arms → IsStarted medium disk (medium.reads again) it
+      → decoded (medium.reads again) ≡ Encodes (bodies_on medium it) → IsTied medium it → live_of it ≡ None
+      → (counts_on medium (disk_of it)).faults ≡ (counts_on medium again).faults
+      → (counts_on medium (disk_of it)).arms ≡ (counts_on medium again).arms → IsStarted medium disk (medium.reads again) it
   has_started it only read tied live same_faults same_arms = record {
     only = only;
     read = read;
     tied = tied;
     live = live;
     counts =
-        same_counts (medium.counts (disk_of it)) (medium.counts disk) (same_faults ∙ faults_stay) (same_arms ∙ arms_stay);
+        same_counts (counts_on medium (disk_of it)) (counts_on medium disk) (same_faults ∙ faults_stay) (same_arms ∙ arms_stay);
   }
 
   pub has_failed : (left : D) (fault : StartFault) → fault ≡ faults.Stopped
       → EachDecodes (medium.may_leave left) (decoded (medium.reads again))
       → ((state : State) → StandFor (medium.reads again) state → EachStands (medium.may_leave left) state)
-      → kept_causes.HasCause fault (medium.reads again) (medium.counts again).faults (medium.counts left).faults
-      → (medium.counts left).arms ≡ (medium.counts again).arms → IsRefused medium disk (medium.reads again) left
+      → kept_causes.HasCause fault (medium.reads again) (counts_on medium again).faults (counts_on medium left).faults
+      → (counts_on medium left).arms ≡ (counts_on medium again).arms → IsRefused medium disk (medium.reads again) left
   has_failed left fault is bodies images cause same_arms = record {
     bodies = bodies;
     images = images;
     rose =
-        subst (λ (n : ℕ). Rose n (medium.counts left).faults) faults_stay
+        subst (λ (n : ℕ). Rose n (counts_on medium left).faults) faults_stay
         (subst
-        (λ (f : StartFault). kept_causes.HasCause f (medium.reads again) (medium.counts again).faults (medium.counts left).faults)
+        (λ (f : StartFault). kept_causes.HasCause f (medium.reads again) (counts_on medium again).faults (counts_on medium left).faults)
         is cause);
     arms = same_arms ∙ arms_stay;
   }
@@ -146,8 +146,8 @@ module _ {D : Type 0} (medium : Medium D) (laptop : Laptop D) (disk : D) (doubt 
         (subst (λ (o : Option ℕ). HoldsBy (medium.may_leave here.disk) o m.node)
         (sym (one_doubt disk here.disk doubt here.doubt here.down)) here.holds)
 
-    counts_here : medium.counts disk ≡ m.node.counts
-    counts_here = ap medium.counts (one_disk disk here.disk doubt here.doubt here.down) ∙ here.counts
+    counts_here : counts_on medium disk ≡ m.node.counts
+    counts_here = ap (counts_on medium) (one_disk disk here.disk doubt here.doubt here.down) ∙ here.counts
 
   -- its bytes are not refused
   pub known_bytes : Fallen medium down → (bytes : List ℕ) → medium.may_leave disk bytes → (fault : StartFault)
@@ -198,8 +198,8 @@ module _ {D : Type 0} (medium : Medium D) (laptop : Laptop D) (disk : D) (doubt 
     pub is : IsStopped m.node node
     pub stands : FallenStands medium scripts (record laptop { node = Down left doubt }) (record m { node = node })
 
-  module _ (left : D) (rose : Rose (medium.counts disk).faults (medium.counts left).faults)
-      (arms : (medium.counts left).arms ≡ (medium.counts disk).arms) (scripts : List Declared) (m : machine.Client)
+  module _ (left : D) (rose : Rose (counts_on medium disk).faults (counts_on medium left).faults)
+      (arms : (counts_on medium left).arms ≡ (counts_on medium disk).arms) (scripts : List Declared) (m : machine.Client)
       (here : FallenStands medium scripts down m) where
     stops_again : HoldsBy (medium.may_leave left) doubt m.node → StopsAgain left scripts m
     stops_again holds =
@@ -207,14 +207,14 @@ module _ {D : Type 0} (medium : Medium D) (laptop : Laptop D) (disk : D) (doubt 
           alive = m.node.alive;
           durable = m.node.durable;
           doubt = m.node.doubt;
-          counts = record { faults = (medium.counts left).faults; arms = m.node.counts.arms };
+          counts = record { faults = (counts_on medium left).faults; arms = m.node.counts.arms };
           stops = m.node.stops + 1;
         } in
         record {
           node = next;
           is = record {
-            faults = (medium.counts left).faults;
-            rose = subst (λ (c : Counts). Rose c.faults (medium.counts left).faults) (counts_here scripts m here) rose;
+            faults = (counts_on medium left).faults;
+            rose = subst (λ (c : Counts). Rose c.faults (counts_on medium left).faults) (counts_here scripts m here) rose;
             is = refl;
           };
           stands = record {
@@ -225,7 +225,7 @@ module _ {D : Type 0} (medium : Medium D) (laptop : Laptop D) (disk : D) (doubt 
             doubt = doubt;
             down = refl;
             counts =
-                same_counts (medium.counts left) _ refl (arms ∙ ap (λ (c : Counts). c.arms) (counts_here scripts m here));
+                same_counts (counts_on medium left) _ refl (arms ∙ ap (λ (c : Counts). c.arms) (counts_here scripts m here));
             holds = holds_still (medium.may_leave left) doubt m.node next refl refl holds;
             named = record { is = here.named.is; may_be = here.named.may_be };
           };
@@ -444,7 +444,7 @@ module _ {D : Type 0} (medium : Medium D) (laptop : Laptop D) (disk : D) (doubt 
 
 pub declared_stands : {D : Type 0} (medium : Medium D) (disk : D) → IsEmpty medium disk → (scripts : List Declared) (laptop : Laptop D)
     → laptop.node ≡ Down disk None → laptop.link ≡ links.opened
-    → FallenStands medium scripts laptop (unopened_laptop laptop.name (medium.counts disk))
+    → FallenStands medium scripts laptop (unopened_laptop laptop.name (counts_on medium disk))
 declared_stands medium disk empty scripts laptop is link = record {
   name = refl;
   link = link;
@@ -486,18 +486,19 @@ holds_within images others within (Some count) node holds = record {
 }
 
 module _ {D : Type 0} (medium : Medium D) (laptop : Laptop D) (calls : ℕ) (pick : Pick) where
-  armed_counts : (was now : D) (counts : Counts) → medium.counts was ≡ counts → (medium.counts now).faults ≡ (medium.counts was).faults
-      → (medium.counts now).arms ≡ armed_with (medium.counts was).arms calls pick
-      → medium.counts now ≡ record { faults = counts.faults; arms = armed_with counts.arms calls pick }
+  armed_counts : (was now : D) (counts : Counts) → counts_on medium was ≡ counts →
+      (counts_on medium now).faults ≡ (counts_on medium was).faults
+      → (counts_on medium now).arms ≡ armed_with (counts_on medium was).arms calls pick
+      → counts_on medium now ≡ record { faults = counts.faults; arms = armed_with counts.arms calls pick }
   armed_counts was now counts is faults_stay arms =
-      same_counts (medium.counts now) _ (faults_stay ∙ ap (λ (c : Counts). c.faults) is)
+      same_counts (counts_on medium now) _ (faults_stay ∙ ap (λ (c : Counts). c.faults) is)
       (arms ∙ ap (λ (c : Counts). armed_with c.arms calls pick) is)
 
   -- while it is alive
-  module _ (was now : Client D) (faults_stay : (medium.counts (disk_of now)).faults ≡ (medium.counts (disk_of was)).faults)
-      (arms : (medium.counts (disk_of now)).arms ≡ armed_with (medium.counts (disk_of was)).arms calls pick)
+  module _ (was now : Client D) (faults_stay : (counts_on medium (disk_of now)).faults ≡ (counts_on medium (disk_of was)).faults)
+      (arms : (counts_on medium (disk_of now)).arms ≡ armed_with (counts_on medium (disk_of was)).arms calls pick)
       (state : state_of now ≡ state_of was) (live : live_of now ≡ live_of was) (placed : place_of now ≡ place_of was)
-      (tied : IsTied medium.reads medium.may_leave was → IsTied medium.reads medium.may_leave now) where
+      (tied : IsTied medium was → IsTied medium now) where
     arms_alive : (scripts : List Declared) (m : machine.Client) → LaptopStands medium scripts (record laptop { node = Up was }) m
         → LaptopStands medium scripts (record laptop { node = Up now }) (record m { node = armed calls pick m.node })
     arms_alive scripts m here = record {
@@ -526,8 +527,8 @@ module _ {D : Type 0} (medium : Medium D) (laptop : Laptop D) (calls : ℕ) (pic
     }
 
   -- while it is down
-  module _ (was now : D) (doubt : Option ℕ) (faults_stay : (medium.counts now).faults ≡ (medium.counts was).faults)
-      (arms : (medium.counts now).arms ≡ armed_with (medium.counts was).arms calls pick)
+  module _ (was now : D) (doubt : Option ℕ) (faults_stay : (counts_on medium now).faults ≡ (counts_on medium was).faults)
+      (arms : (counts_on medium now).arms ≡ armed_with (counts_on medium was).arms calls pick)
       (images : SameImages (medium.may_leave was) (medium.may_leave now)) where
     arms_down : (scripts : List Declared) (m : machine.Client) → FallenStands medium scripts (record laptop { node = Down was doubt }) m
         → FallenStands medium scripts (record laptop { node = Down now doubt }) (record m { node = armed calls pick m.node })

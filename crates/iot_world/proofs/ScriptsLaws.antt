@@ -5,11 +5,11 @@ use Rattle.std.proofs.lemmas.Option.{slice_get-get_or}
 use Rattle.std.proofs.lemmas.Slice.Eq.{bytes_eq-Decides}
 use Rattle.std.specs.List.{find, AllByRecursion}
 use Rattle.iot_event.specs.Meanings.{is_declared}
+use Rattle.iot_disk.specs.Disk.{Medium}
 use Rattle.iot_machine.specs.Clients.{Declared, Item, Running, ClientState}
 use Rattle.iot_machine.specs.Machine as machine
 use Rattle.iot_machine.specs.Options as options
 use Rattle.iot_machine.specs.Options.{OnConflict}
-use Rattle.iot_world.specs.Disks.{Medium}
 use Rattle.iot_world.specs.Laptops.{ClientStands, awake, fallen}
 use Rattle.iot_world.specs.Scripts.{script_named, IsNamed, HasNamed, AreApart, ItemIsNamed, RunIsNamedIfAny, AreNamed}
 use Rattle.iot_world.specs.Scripts.{option_named, or_none, meant}

@@ -1,9 +1,10 @@
 -- A server that stands for a node has a disk.
 use Rattle.std.proofs.Common.{ℕ, List, Option, Some, None, refl}
 use Rattle.std.specs.Prelude.{IsSome}
+use Rattle.iot_disk.specs.Disk.{Medium}
 use Rattle.iot_machine.specs.Machine.{Commit}
 use Rattle.iot_machine.specs.Nodes.{Node, Counts}
-use Rattle.iot_world.specs.Disks.{Medium, CountsOn}
+use Rattle.iot_world.specs.Disks.{CountsOn}
 use Rattle.iot_world.specs.Servers.{disk_of, ServerStands}
 use Rattle.iot_world.specs.declared.server.ServerNode.{ServerNode}
 

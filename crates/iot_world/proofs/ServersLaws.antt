@@ -8,7 +8,7 @@ use Rattle.std.specs.List.{AllByRecursion}
 use Rattle.std.specs.Prelude.{Result, Ok, Err, IfOk, OnOk, IfErr, IsErrOf, Vec}
 use Rattle.std.specs.declared.alloc.Global.{Global}
 use Rattle.iot_count.specs.Counts.{Rose}
-use Rattle.iot_disk.specs.Disk.{SameImages, armed_with}
+use Rattle.iot_disk.specs.Disk.{Medium, SameImages, armed_with}
 use Rattle.iot_disk.specs.declared.disk.Pick.{Pick}
 use Rattle.iot_disk.specs.declared.faults.StartFault.{StartFault}
 use Rattle.iot_disk.specs.declared.faults.StartFault.TheVariants as start
@@ -42,7 +42,7 @@ use Rattle.iot_machine.specs.Stops.{OpensNode, ComesBack, Settles, Crashes, Rest
 use Rattle.iot_machine.specs.Machine.{Commit, add_commit, entries_of, tree_after}
 use Rattle.iot_machine.specs.Serving.{server_name, kept_text}
 use Rattle.iot_machine.specs.Texts.{line, tree_text, commit_line, stopped_line, kept_line, lost_line, stop_line}
-use Rattle.iot_world.specs.Disks.{Medium, CountsOn, IsEmpty}
+use Rattle.iot_world.specs.Disks.{CountsOn, IsEmpty, counts_on}
 use Rattle.iot_world.specs.Messages.{commit_said, name_of}
 use Rattle.iot_world.specs.Records.{IsImage, AreImages, label_of, records_of, state_of}
 use Rattle.iot_world.specs.Servers.{is_up, count_of, tree_of, IsStore, HoldsBy, KeepsList, ServerStands, FallsWith}
@@ -126,24 +126,24 @@ counted node counts stops = record node { counts = counts; stops = stops }
 
 -- this disk has failed in a call: its count of faults rose, and it was not armed
 pub record HasFailed {D : Type 0} (medium : Medium D) (old new : D) : Type 0 where
-  pub rose : Rose (medium.counts old).faults (medium.counts new).faults
-  pub arms : (medium.counts new).arms ≡ (medium.counts old).arms
+  pub rose : Rose (counts_on medium old).faults (counts_on medium new).faults
+  pub arms : (counts_on medium new).arms ≡ (counts_on medium old).arms
 
 -- what a node counts whose disk has failed
 abbrev pub failed_counts : {D : Type 0} → Medium D → (new : D) → Counts → Counts
-failed_counts medium new counts = record counts { faults = (medium.counts new).faults }
+failed_counts medium new counts = record counts { faults = (counts_on medium new).faults }
 
 module _ {D : Type 0} (medium : Medium D) (old new : D) (counts : Counts) (here : CountsOn medium (Some old) counts) where
-  pub counts_still : medium.counts new ≡ medium.counts old → CountsOn medium (Some new) counts
+  pub counts_still : counts_on medium new ≡ counts_on medium old → CountsOn medium (Some new) counts
   counts_still same = ap (λ (it : Counts). Some it) same ∙ here
 
   module _ (failed : HasFailed medium old new) where
-    pub counts_rose : Rose counts.faults (medium.counts new).faults
-    counts_rose = subst (λ (it : Counts). Rose it.faults (medium.counts new).faults) (one_of _ _ here) failed.rose
+    pub counts_rose : Rose counts.faults (counts_on medium new).faults
+    counts_rose = subst (λ (it : Counts). Rose it.faults (counts_on medium new).faults) (one_of _ _ here) failed.rose
 
     pub counts_failed : CountsOn medium (Some new) (failed_counts medium new counts)
     counts_failed =
-        ap (λ (arms : _). Some (record { faults = (medium.counts new).faults; arms = arms }))
+        ap (λ (arms : _). Some (record { faults = (counts_on medium new).faults; arms = arms }))
         (failed.arms ∙ ap (λ (it : Counts). it.arms) (one_of _ _ here))
 
 module _ {D : Type 0} (medium : Medium D) where
@@ -155,7 +155,7 @@ module _ {D : Type 0} (medium : Medium D) where
       has_records = ap decoded (is.synced.journal.only.is image here) ∙ is.synced.journal.encodes ∙ ap Encodes is.has_records;
       leads =
           subst (λ (bodies : List (List ℕ)). Leads bodies opening state) is.has_records
-          (subst (λ (s : State). Leads (servers.bodies_on medium.reads it) opening s) is.has_state is.synced.leads);
+          (subst (λ (s : State). Leads (servers.bodies_on medium it) opening s) is.has_state is.synced.leads);
     };
   }
 
@@ -171,19 +171,19 @@ module _ {D : Type 0} (medium : Medium D) where
 
   -- how it handles a request
   module _ (was now : Server D) (old : ServerNode D) (is : old ≡ Up was) (asked : List ℕ) (result : Result (Vec ℕ Global) ServerFault)
-      (counts : CountsServerFault result (medium.counts (servers.disk_of was)).faults (medium.counts (servers.disk_of now)).faults)
-      (arms : (medium.counts (servers.disk_of now)).arms ≡ (medium.counts (servers.disk_of was)).arms) where
-    pub handled_by : IfOk result (λ bytes. IsHandled (servers.state_of was) (servers.bodies_on medium.reads was) asked bytes.items
-        (servers.state_of now) (servers.bodies_on medium.reads now))
-        → OnOk result (servers.IsSynced medium.reads medium.may_leave now)
+      (counts : CountsServerFault result (counts_on medium (servers.disk_of was)).faults (counts_on medium (servers.disk_of now)).faults)
+      (arms : (counts_on medium (servers.disk_of now)).arms ≡ (counts_on medium (servers.disk_of was)).arms) where
+    pub handled_by : IfOk result (λ bytes. IsHandled (servers.state_of was) (servers.bodies_on medium was) asked bytes.items
+        (servers.state_of now) (servers.bodies_on medium now))
+        → OnOk result (servers.IsSynced medium now)
         → IfOk result (λ reply. Handled medium asked reply.items old (Up now))
     handled_by = by result counts
       where
         by : (result : Result (Vec ℕ Global) ServerFault)
-            → CountsServerFault result (medium.counts (servers.disk_of was)).faults (medium.counts (servers.disk_of now)).faults
-            → IfOk result (λ bytes. IsHandled (servers.state_of was) (servers.bodies_on medium.reads was) asked bytes.items
-            (servers.state_of now) (servers.bodies_on medium.reads now))
-            → OnOk result (servers.IsSynced medium.reads medium.may_leave now)
+            → CountsServerFault result (counts_on medium (servers.disk_of was)).faults (counts_on medium (servers.disk_of now)).faults
+            → IfOk result (λ bytes. IsHandled (servers.state_of was) (servers.bodies_on medium was) asked bytes.items
+            (servers.state_of now) (servers.bodies_on medium now))
+            → OnOk result (servers.IsSynced medium now)
             → IfOk result (λ reply. Handled medium asked reply.items old (Up now))
         by (Ok reply) counts handled synced = record {
           was = was;
@@ -198,15 +198,15 @@ module _ {D : Type 0} (medium : Medium D) where
 
     pub stops_by : IfErr result IsNotMalformed
         → (IsErrOf result fault.Stopped → CutsOff (IsMessage IsRequest request_spelling asked) (servers.state_of was)
-        (servers.bodies_on medium.reads was) (medium.may_leave (servers.disk_of now)))
+        (servers.bodies_on medium was) (medium.may_leave (servers.disk_of now)))
         → StopsHandling medium asked result old (Up now)
     stops_by = by result counts
       where
         by : (result : Result (Vec ℕ Global) ServerFault)
-            → CountsServerFault result (medium.counts (servers.disk_of was)).faults (medium.counts (servers.disk_of now)).faults
+            → CountsServerFault result (counts_on medium (servers.disk_of was)).faults (counts_on medium (servers.disk_of now)).faults
             → IfErr result IsNotMalformed
             → (IsErrOf result fault.Stopped → CutsOff (IsMessage IsRequest request_spelling asked) (servers.state_of was)
-            (servers.bodies_on medium.reads was) (medium.may_leave (servers.disk_of now)))
+            (servers.bodies_on medium was) (medium.may_leave (servers.disk_of now)))
             → StopsHandling medium asked result old (Up now)
         by (Ok reply) counts never cuts = tt
         by (Err fault.NoMemory) counts never cuts = tt
@@ -221,18 +221,19 @@ module _ {D : Type 0} (medium : Medium D) where
       subst (λ (it : ServerFault). StopsHandling {T = T} medium asked (Err it) old new) is stops
 
   -- disks that have failed as often, and were armed alike, count the same
-  pub counts_alike : (one other : D) → (medium.counts one).faults ≡ (medium.counts other).faults
-      → (medium.counts one).arms ≡ (medium.counts other).arms → medium.counts one ≡ medium.counts other
+  pub counts_alike : (one other : D) → (counts_on medium one).faults ≡ (counts_on medium other).faults
+      → (counts_on medium one).arms ≡ (counts_on medium other).arms → counts_on medium one ≡ counts_on medium other
   counts_alike one other faults arms = λ i. record { faults = faults i; arms = arms i }
 
   -- the disk of a start that was stopped has failed
   pub has_failed : (old disk new : D) (this : StartFault) → this ≡ start.Stopped
-      → HasCause this (medium.reads disk) (medium.counts disk).faults (medium.counts new).faults
-      → medium.counts disk ≡ medium.counts old → (medium.counts new).arms ≡ (medium.counts disk).arms → HasFailed medium old new
+      → HasCause this (medium.reads disk) (counts_on medium disk).faults (counts_on medium new).faults
+      → counts_on medium disk ≡ counts_on medium old → (counts_on medium new).arms ≡ (counts_on medium disk).arms → HasFailed medium old new
   has_failed old disk new this stopped cause same arms = record {
     rose =
-        subst (λ (counts : Counts). Rose counts.faults (medium.counts new).faults) same
-        (subst (λ (it : StartFault). HasCause it (medium.reads disk) (medium.counts disk).faults (medium.counts new).faults) stopped cause);
+        subst (λ (counts : Counts). Rose counts.faults (counts_on medium new).faults) same
+        (subst (λ (it : StartFault). HasCause it (medium.reads disk) (counts_on medium disk).faults (counts_on medium new).faults)
+        stopped cause);
     arms = arms ∙ ap (λ (counts : Counts). counts.arms) same;
   }
 
@@ -289,8 +290,8 @@ module _ {D : Type 0} (medium : Medium D) (names : List (List ℕ)) where
 
   -- a server that was started from an image of records and a state has these
   pub started : (disk : D) (it : Server D) (records : List (List ℕ)) (state : State) → IsImage records state (medium.reads disk)
-      → servers.IsSynced medium.reads medium.may_leave it
-      → decoded (medium.reads disk) ≡ Encodes (servers.bodies_on medium.reads it)
+      → servers.IsSynced medium it
+      → decoded (medium.reads disk) ≡ Encodes (servers.bodies_on medium it)
       → ((state : State) → StandFor (medium.reads disk) state → servers.state_of it ≡ state)
       → IsStore medium records state (servers.store_of it)
   started disk it records state is synced found only = record {
@@ -301,7 +302,7 @@ module _ {D : Type 0} (medium : Medium D) (names : List (List ℕ)) where
 
   -- one that was never started, over an empty disk
   pub unopened_stands : (disk : D) → IsEmpty medium disk
-      → ServerStands medium names (Down disk None) (unopened [] (medium.counts disk))
+      → ServerStands medium names (Down disk None) (unopened [] (counts_on medium disk))
   unopened_stands disk empty = record {
     alive = refl;
     keeps = (
@@ -319,10 +320,10 @@ module _ {D : Type 0} (medium : Medium D) (names : List (List ℕ)) where
 
   -- it starts
   pub opens : (disk : D) (it : Server D) (x : List ℕ) → medium.may_leave disk (medium.reads disk)
-      → servers.IsSynced medium.reads medium.may_leave it
-      → decoded (medium.reads disk) ≡ Encodes (servers.bodies_on medium.reads it)
+      → servers.IsSynced medium it
+      → decoded (medium.reads disk) ≡ Encodes (servers.bodies_on medium it)
       → ((state : State) → StandFor (medium.reads disk) state → servers.state_of it ≡ state)
-      → medium.counts (servers.disk_of it) ≡ medium.counts disk
+      → counts_on medium (servers.disk_of it) ≡ counts_on medium disk
       → Refines (ServerStands medium names) (OpensNode server_name) (Down disk None) (Up it) x x true
   opens disk it x image synced found only same = record {
     step = λ node here. (
@@ -369,7 +370,7 @@ module _ {D : Type 0} (medium : Medium D) (names : List (List ℕ)) where
           refl,
           refl,
           record {
-            faults = (medium.counts new).faults;
+            faults = (counts_on medium new).faults;
             rose = counts_rose medium old new node.counts here.counts failed;
             is = refl;
           },
@@ -420,9 +421,9 @@ module _ {D : Type 0} (medium : Medium D) (names : List (List ℕ)) where
   few_there Between node here = omega arith
 
   -- a server that has the records and the state that it had, and counts what it counted, stands for what it stood for
-  pub stands_still : (was now : Server D) (node : Node (List Commit)) → servers.IsSynced medium.reads medium.may_leave now
-      → servers.bodies_on medium.reads now ≡ servers.bodies_on medium.reads was → servers.state_of now ≡ servers.state_of was
-      → medium.counts (servers.disk_of now) ≡ medium.counts (servers.disk_of was)
+  pub stands_still : (was now : Server D) (node : Node (List Commit)) → servers.IsSynced medium now
+      → servers.bodies_on medium now ≡ servers.bodies_on medium was → servers.state_of now ≡ servers.state_of was
+      → counts_on medium (servers.disk_of now) ≡ counts_on medium (servers.disk_of was)
       → ServerStands medium names (Up was) node → ServerStands medium names (Up now) node
   stands_still was now node synced recorded made same here = record {
     alive = here.alive;
@@ -440,10 +441,10 @@ module _ {D : Type 0} (medium : Medium D) (names : List (List ℕ)) where
 
   -- one that has one record more, of this commit, and the state after it, stands for a list with this commit
   pub stands_longer : (was now : Server D) (node : Node (List Commit)) (commit : Commit) (label : Label) (acts : List Act)
-      → servers.IsSynced medium.reads medium.may_leave now
-      → servers.bodies_on medium.reads now ≡ servers.bodies_on medium.reads was ++ record_spelling label acts ∷ []
+      → servers.IsSynced medium now
+      → servers.bodies_on medium now ≡ servers.bodies_on medium was ++ record_spelling label acts ∷ []
       → servers.state_of now ≡ after_commit (servers.state_of was) label acts
-      → medium.counts (servers.disk_of now) ≡ medium.counts (servers.disk_of was)
+      → counts_on medium (servers.disk_of now) ≡ counts_on medium (servers.disk_of was)
       → AreOf commit (tree_after node.durable) label acts → ServerStands medium names (Up was) node
       → ServerStands medium names (Up now) (changed (add_commit commit) node)
   stands_longer was now node commit label acts synced recorded made same are here = record {
@@ -504,10 +505,10 @@ module _ {D : Type 0} (medium : Medium D) (names : List (List ℕ)) where
   ]
 
   module _ (old disk : D) (it : Server D) (x y : List ℕ) (image : medium.may_leave old (medium.reads disk))
-      (synced : servers.IsSynced medium.reads medium.may_leave it)
-      (found : decoded (medium.reads disk) ≡ Encodes (servers.bodies_on medium.reads it))
+      (synced : servers.IsSynced medium it)
+      (found : decoded (medium.reads disk) ≡ Encodes (servers.bodies_on medium it))
       (only : (state : State) → StandFor (medium.reads disk) state → servers.state_of it ≡ state)
-      (same : medium.counts (servers.disk_of it) ≡ medium.counts old) where
+      (same : counts_on medium (servers.disk_of it) ≡ counts_on medium old) where
     -- it has the list of that image
     back_with : (node : Node (List Commit)) (commits : List Commit) → IsImage (records_of commits) (state_of commits) (medium.reads disk)
         → AllByRecursion IsSpelledEntry (entries_of commits) → CountsOn medium (Some old) node.counts
@@ -600,7 +601,7 @@ module _ {D : Type 0} (medium : Medium D) (names : List (List ℕ)) where
             refl,
             refl,
             record {
-              faults = (medium.counts new).faults;
+              faults = (counts_on medium new).faults;
               rose = counts_rose medium old new node.counts here.counts failed;
               is = refl;
             },
@@ -624,21 +625,20 @@ module _ {D : Type 0} (medium : Medium D) (names : List (List ℕ)) where
   -- ---- its disk is armed
 
   module _ (calls : ℕ) (pick : Pick) (x y : List ℕ) (wrote : y ≡ x ++ stop_line server_name calls pick) where
-    counts_armed : (old new : D) (counts : Counts) → (medium.counts new).faults ≡ (medium.counts old).faults
-        → (medium.counts new).arms ≡ armed_with (medium.counts old).arms calls pick → CountsOn medium (Some old) counts
+    counts_armed : (old new : D) (counts : Counts) → (counts_on medium new).faults ≡ (counts_on medium old).faults
+        → (counts_on medium new).arms ≡ armed_with (counts_on medium old).arms calls pick → CountsOn medium (Some old) counts
         → CountsOn medium (Some new) (record counts { arms = armed_with counts.arms calls pick })
     counts_armed old new counts faults arms here =
-        let is : medium.counts old ≡ counts = one_of _ _ here in
+        let is : counts_on medium old ≡ counts = one_of _ _ here in
         (λ i. Some (record {
           faults = (faults ∙ ap (λ (it : Counts). it.faults) is) i;
           arms = (arms ∙ ap (λ (it : Counts). armed_with it.arms calls pick) is) i;
         }))
 
-    pub arms_up : (was now : Server D) → (servers.IsSynced medium.reads medium.may_leave was → servers.IsSynced medium.reads
-        medium.may_leave now)
+    pub arms_up : (was now : Server D) → (servers.IsSynced medium was → servers.IsSynced medium now)
         → medium.reads (servers.disk_of now) ≡ medium.reads (servers.disk_of was) → servers.state_of now ≡ servers.state_of was
-        → (medium.counts (servers.disk_of now)).faults ≡ (medium.counts (servers.disk_of was)).faults
-        → (medium.counts (servers.disk_of now)).arms ≡ armed_with (medium.counts (servers.disk_of was)).arms calls pick
+        → (counts_on medium (servers.disk_of now)).faults ≡ (counts_on medium (servers.disk_of was)).faults
+        → (counts_on medium (servers.disk_of now)).arms ≡ armed_with (counts_on medium (servers.disk_of was)).arms calls pick
         → Refines (ServerStands medium names) (ArmsDisk server_name calls pick) (Up was) (Up now) x y tt
     arms_up was now synced reads made faults arms =
         does (Up was) (Up now) x y
@@ -660,8 +660,8 @@ module _ {D : Type 0} (medium : Medium D) (names : List (List ℕ)) where
         ))
 
     pub arms_down : (old new : D) (doubt : Option Doubt) → SameImages (medium.may_leave old) (medium.may_leave new)
-        → (medium.counts new).faults ≡ (medium.counts old).faults
-        → (medium.counts new).arms ≡ armed_with (medium.counts old).arms calls pick
+        → (counts_on medium new).faults ≡ (counts_on medium old).faults
+        → (counts_on medium new).arms ≡ armed_with (counts_on medium old).arms calls pick
         → Refines (ServerStands medium names) (ArmsDisk server_name calls pick) (Down old doubt) (Down new doubt) x y tt
     arms_down old new doubt same faults arms =
         does (Down old doubt) (Down new doubt) x y

@@ -10,6 +10,7 @@ use Rattle.iot_client.specs.Ties.{Live}
 use Rattle.iot_link.specs.Links.{LinkState, passage}
 use Rattle.iot_link.specs.declared.passages.Passage.{Passage}
 use Rattle.iot_link.specs.declared.passages.Passage.TheVariants as passages
+use Rattle.iot_disk.specs.Disk.{Medium}
 use Rattle.iot_machine.specs.Calls.{Call, Gets, Asks}
 use Rattle.iot_machine.specs.Refining.{Refines}
 use Rattle.iot_machine.specs.Nodes.{Node, changed}
@@ -25,7 +26,7 @@ use Rattle.iot_machine.specs.Texts.{line, stopped_line}
 use Rattle.iot_machine.specs.Transactions.{Notes, Handles, Exchange, Refuses, runs, pends, IfIdle, IfNonePends, Holds, Starts}
 use Rattle.iot_machine.specs.Transactions.{Held, Missed, Stopped}
 use Rattle.std.specs.List.{AllByRecursion}
-use Rattle.iot_world.specs.Disks.{Medium, IsEmpty}
+use Rattle.iot_world.specs.Disks.{IsEmpty, counts_on}
 use Rattle.iot_world.specs.Laptops.{LaptopStands, FallenStands, ClientStands, awake, fallen, RunningStands, RunningStandsIfAny, SamePlace}
 use Rattle.iot_world.specs.Laptops.{Noted, Begun, IsBegin, Relinked, Halted, Stops, Exactly, broken}
 use Rattle.iot_world.specs.Nodes.{is_alive, state_in, live_in}
@@ -177,7 +178,7 @@ module _ {D : Type 0} (medium : Medium D) where
         subst ArePlaced (sym puts.clients)
         (each_place_set (λ n (l : Laptop D). l.place ≡ n) old.clients.items c laptop here.placed (place ∙ here.placed c was get));
     spare = subst (λ (ds : List D). AllByRecursion (IsEmpty medium) ds) (sym puts.spare) here.spare;
-    counts = ap (map medium.counts) puts.spare ∙ here.counts;
+    counts = ap (map (counts_on medium)) puts.spare ∙ here.counts;
     eight = omega (arith, here.eight, ap length puts.clients, ap length puts.spare, length-set old.clients.items c laptop);
   }
 
@@ -317,7 +318,7 @@ module _ {D : Type 0} (medium : Medium D) where
     apart = here.apart;
     placed = subst (λ ls. ArePlaced ls.items) (sym same) here.placed;
     spare = subst (λ ds. AllByRecursion (IsEmpty medium) ds.items) (sym spare) here.spare;
-    counts = ap (λ ds. map medium.counts ds.items) spare ∙ here.counts;
+    counts = ap (λ ds. map (counts_on medium) ds.items) spare ∙ here.counts;
     eight =
         subst (λ ds. length new.clients.items + length ds.items ≡ 8) (sym spare)
         (subst (λ ls. length ls.items + length old.spare.items ≡ 8) (sym same) here.eight);

@@ -19,11 +19,12 @@ use Rattle.iot_client.specs.Ties.{IsTied, state_of, live_of, disk_of, bodies_on,
 use Rattle.iot_client.specs.declared.client.Client.{Client}
 use Rattle.iot_client.specs.declared.fault.ClientFault.{ClientFault}
 use Rattle.iot_client.specs.declared.fault.ClientFault.TheVariants.{Stopped}
+use Rattle.iot_disk.specs.Disk.{Medium}
 use Rattle.iot_machine.specs.Clients.{Declared, ClientState}
 use Rattle.iot_machine.specs.Machine as machine
 use Rattle.iot_machine.specs.Nodes.{Counts}
 use Rattle.iot_machine.specs.Texts.{stopped_line}
-use Rattle.iot_world.specs.Disks.{Medium}
+use Rattle.iot_world.specs.Disks.{counts_on}
 use Rattle.iot_world.specs.Laptops.{StateKept, LaptopStands, FallsWith, Halted, Stops, IsClientImage}
 use Rattle.iot_world.specs.Nodes.{records_in, records_by}
 use Rattle.iot_world.specs.Scripts.{AreNamed}
@@ -36,9 +37,9 @@ use Rattle.iot_world.proofs.NodesLaws.{at_node, own_in}
 
 -- a call of a client, whatever it is to append
 pub record IsCall {D T : Type 0} (medium : Medium D) (was now : Client D) (answer : Result T ClientFault) : Type 0 where
-  pub tied : OnOk answer (IsTied medium.reads medium.may_leave now)
-  pub counts : CountsFault answer (medium.counts (disk_of was)).faults (medium.counts (disk_of now)).faults
-  pub arms : (medium.counts (disk_of now)).arms ≡ (medium.counts (disk_of was)).arms
+  pub tied : OnOk answer (IsTied medium now)
+  pub counts : CountsFault answer (counts_on medium (disk_of was)).faults (counts_on medium (disk_of now)).faults
+  pub arms : (counts_on medium (disk_of now)).arms ≡ (counts_on medium (disk_of was)).arms
 
 -- what becomes of the laptop after it
 pub record GoesOn {D T : Type 0} (laptop : Laptop D) (now : Client D) (count : ℕ) (answer : Result T ClientFault) (new : Laptop D)
@@ -53,8 +54,8 @@ pub record IsDone {D T : Type 0} (medium : Medium D) (laptop : Laptop D) (was no
   pub is : answer ≡ Ok t
   pub new_is : new ≡ record laptop { node = Up now }
   pub silent : after ≡ before
-  pub tied : IsTied medium.reads medium.may_leave now
-  pub counts : medium.counts (disk_of now) ≡ medium.counts (disk_of was)
+  pub tied : IsTied medium now
+  pub counts : counts_on medium (disk_of now) ≡ counts_on medium (disk_of was)
 
 -- the disk failed in it
 pub record IsStop {D T : Type 0} (medium : Medium D) (laptop : Laptop D) (was now : Client D) (count : ℕ)
@@ -62,8 +63,8 @@ pub record IsStop {D T : Type 0} (medium : Medium D) (laptop : Laptop D) (was no
   pub is : answer ≡ Err Stopped
   pub new_is : new ≡ record laptop { node = Down (disk_of now) (Some count) }
   pub text : after ≡ before ++ stopped_line laptop.name
-  pub rose : Rose (medium.counts (disk_of was)).faults (medium.counts (disk_of now)).faults
-  pub arms : (medium.counts (disk_of now)).arms ≡ (medium.counts (disk_of was)).arms
+  pub rose : Rose (counts_on medium (disk_of was)).faults (counts_on medium (disk_of now)).faults
+  pub arms : (counts_on medium (disk_of now)).arms ≡ (counts_on medium (disk_of was)).arms
 
 pub on_ok : {T E P : Type 0} (answer : Result T E) (t : T) → answer ≡ Ok t → OnOk answer P → P
 on_ok {P = P} answer t is on = subst (λ r. OnOk r P) is on
@@ -87,8 +88,8 @@ module _ {D T : Type 0} (medium : Medium D) (laptop : Laptop D) (was now : Clien
     silent = goes.goes.2;
     tied = on_ok answer t goes.goes.0 call.tied;
     counts =
-        same_counts (medium.counts (disk_of now)) (medium.counts (disk_of was))
-        (subst (λ (r : Result T ClientFault). CountsFault r (medium.counts (disk_of was)).faults (medium.counts (disk_of now)).faults)
+        same_counts (counts_on medium (disk_of now)) (counts_on medium (disk_of was))
+        (subst (λ (r : Result T ClientFault). CountsFault r (counts_on medium (disk_of was)).faults (counts_on medium (disk_of now)).faults)
         goes.goes.0 call.counts)
         call.arms;
   }
@@ -104,7 +105,8 @@ module _ {D T : Type 0} (medium : Medium D) (laptop : Laptop D) (was now : Clien
             ∙ ap (λ (it : Client D). record laptop { node = Down (disk_of it) (Some count) }) (sym (one_up now falls.it falls.was));
         text = goes.says refl;
         rose =
-            subst (λ (r : Result T ClientFault). CountsFault r (medium.counts (disk_of was)).faults (medium.counts (disk_of now)).faults)
+            subst (λ (r : Result T ClientFault). CountsFault r (counts_on medium (disk_of was)).faults
+            (counts_on medium (disk_of now)).faults)
             (goes.stopped refl).0 call.counts;
         arms = call.arms;
       }
@@ -120,8 +122,8 @@ pub record IsHere {D : Type 0} (medium : Medium D) (scripts : List Declared) (la
     (m : machine.Client) : Type 0 where
   pub name : laptop.name ≡ m.name
   pub link : laptop.link ≡ m.link
-  pub counts : medium.counts (disk_of was) ≡ m.node.counts
-  pub tied : IsTied medium.reads medium.may_leave was
+  pub counts : counts_on medium (disk_of was) ≡ m.node.counts
+  pub tied : IsTied medium was
   pub kept : StateKept (state_of was) m.node.durable
   pub named : AreNamed scripts m.node.durable
 
@@ -136,7 +138,7 @@ is_here medium laptop was scripts m here = record {
       kept_state (state_of was) (live_of was) m.first m.node.durable here.state
       (own_in medium scripts (record laptop { node = Up was }) m here)
       (few_running (state_of was).running
-      (synced_spelled medium.reads medium.may_leave was.kept here.tied.tied.synced).running);
+      (synced_spelled medium was.kept here.tied.tied.synced).running);
   named = here.named;
 }
 
@@ -175,7 +177,7 @@ pub record IsAfter (scripts : List Declared) (state : State) (change : Change) (
 
 module _ {D T : Type 0} (medium : Medium D) (laptop : Laptop D) (was now : Client D) (count : ℕ) (answer : Result T ClientFault)
     (new : Laptop D) (before end : List ℕ) (stop : IsStop medium laptop was now count answer new before end) (change : Change)
-    (cuts : CutsOff change (state_of was) (bodies_on medium.reads was) (medium.may_leave (disk_of now))) where
+    (cuts : CutsOff change (state_of was) (bodies_on medium was) (medium.may_leave (disk_of now))) where
   abbrev fallen : Laptop D
   fallen = record laptop { node = Down (disk_of now) (Some count) }
 
@@ -188,12 +190,12 @@ module _ {D T : Type 0} (medium : Medium D) (laptop : Laptop D) (was now : Clien
       alive = false;
       durable = m.node.durable;
       doubt = Some (other m.node.durable);
-      counts = record { faults = (medium.counts (disk_of now)).faults; arms = m.node.counts.arms };
+      counts = record { faults = (counts_on medium (disk_of now)).faults; arms = m.node.counts.arms };
       stops = m.node.stops + 1;
     };
     stopped = record {
-      faults = (medium.counts (disk_of now)).faults;
-      rose = subst (λ (c : Counts). Rose c.faults (medium.counts (disk_of now)).faults) here.counts stop.rose;
+      faults = (counts_on medium (disk_of now)).faults;
+      rose = subst (λ (c : Counts). Rose c.faults (counts_on medium (disk_of now)).faults) here.counts stop.rose;
       is = refl;
     };
     stands = record {
@@ -203,15 +205,15 @@ module _ {D T : Type 0} (medium : Medium D) (laptop : Laptop D) (was now : Clien
       disk = disk_of now;
       doubt = Some count;
       down = refl;
-      counts = same_counts (medium.counts (disk_of now)) _ refl (stop.arms ∙ ap (λ (c : Counts). c.arms) here.counts);
+      counts = same_counts (counts_on medium (disk_of now)) _ refl (stop.arms ∙ ap (λ (c : Counts). c.arms) here.counts);
       holds = record {
         after = other m.node.durable;
         is = refl;
-        records = bodies_on medium.reads was;
+        records = bodies_on medium was;
         body = change_spelling change;
         counted = counted ∙ here.tied.synced.journal.count;
         each =
-            either_image (medium.may_leave (disk_of now)) (bodies_on medium.reads was) (state_of was) change m.node.durable
+            either_image (medium.may_leave (disk_of now)) (bodies_on medium was) (state_of was) change m.node.durable
             (other m.node.durable) here.tied.synced.leads cuts here.kept next.kept;
       };
       named = record { is = here.named; may_be = next.named };

@@ -21,6 +21,7 @@ use Rattle.iot_queue.specs.declared.items.Stage.{Stage}
 use Rattle.iot_queue.specs.declared.items.Stage.TheVariants as kept
 use Rattle.iot_client.specs.Messages.{way_of}
 use Rattle.iot_kept.specs.Changes.{HeadIs, IsSubmitted, IsSubmittedIn}
+use Rattle.iot_disk.specs.Disk.{Medium}
 use Rattle.iot_machine.specs.Clients as clients
 use Rattle.iot_machine.specs.Clients.{ClientState, Declared, local_run, attempt_by, ground}
 use Rattle.iot_machine.specs.Events.{syncs_on}
@@ -32,7 +33,6 @@ use Rattle.iot_machine.specs.Sound.{CanResolve, IsPlanned}
 use Rattle.iot_machine.specs.Texts.{line, transaction_name}
 use Rattle.iot_machine.specs.Transactions.{Syncs, Submits, sync_at, item_name, submission_of, submits, told, Tells}
 use Rattle.iot_machine.specs.Transactions.{Synced, Unanswered, Halted}
-use Rattle.iot_world.specs.Disks.{Medium}
 use Rattle.iot_world.specs.Laptops.{LaptopStands, ResolutionStands, StageStands, ItemStands, Noted, HandsIn, acts_in, label_in}
 use Rattle.iot_world.specs.Laptops.{head_reads, head_option, Stops, Exactly}
 use Rattle.iot_world.specs.Nodes.{state_in}

@@ -14,12 +14,12 @@ use Rattle.iot_inspect.specs.Values.{live_data, down_data, whole_data}
 use Rattle.iot_inspect.specs.declared.snapshot.Json.{Json}
 use Rattle.iot_server.specs.Servers.{state_of}
 use Rattle.iot_server.specs.declared.server.Server.{Server}
+use Rattle.iot_disk.specs.Disk.{Medium}
 use Rattle.iot_machine.specs.Clients.{view}
 use Rattle.iot_machine.specs.Events.{names_in}
 use Rattle.iot_machine.specs.Json.{client_data, server_tree, json_text}
 use Rattle.iot_machine.specs.Machine.{Machine, Client, client_in, tree_after, no_client}
 use Rattle.iot_machine.specs.Recorded.{queue_kept, labels_of}
-use Rattle.iot_world.specs.Disks.{Medium}
 use Rattle.iot_world.specs.Laptops.{LaptopStands, ClientStands, StandsAnyhow, Stands, IsView}
 use Rattle.iot_world.specs.Looks.{HasTold, AddsTold, Tells}
 use Rattle.iot_world.specs.Nodes.{is_alive, state_in}

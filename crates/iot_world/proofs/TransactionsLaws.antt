@@ -4,7 +4,7 @@ use Rattle.std.proofs.Common.{map, ◌∷◌, slice_get, slice_set, slice_index_
 use Rattle.std.proofs.lemmas.List.{length-set, length-map}
 use Rattle.std.proofs.lemmas.Option.{same_Some}
 use Rattle.std.specs.Prelude.{IsSome}
-use Rattle.iot_disk.specs.Disk.{Arms}
+use Rattle.iot_disk.specs.Disk.{Medium, Arms}
 use Rattle.iot_tree.specs.Tree.{Path}
 use Rattle.iot_tree.specs.declared.labels.OnConflict as labels
 use Rattle.iot_tree.specs.declared.want.Want.{Want}
@@ -31,7 +31,7 @@ use Rattle.iot_machine.specs.Texts.{fetch_line}
 use Rattle.iot_machine.specs.Transactions.{pends, Brought, Held, Missed, Stopped, Holds, Starts, starts_on, starts_if, Begins, SaysIf}
 use Rattle.iot_machine.specs.Transactions.{Steps as SingleStep, Stepped as MachineStepped, Went, Over, Away, Stops, next_of, step_by}
 use Rattle.iot_machine.specs.Transactions.{fetched, StepsAll, unless_went}
-use Rattle.iot_world.specs.Disks.{Medium, SameDisk}
+use Rattle.iot_world.specs.Disks.{SameDisk}
 use Rattle.iot_world.specs.Laptops.{LaptopStands, Noted, Exactly, Relinked, Begun, BegunIf, Stepped, StepStops, SteppedIf, IsFirst, next_as}
 use Rattle.iot_world.specs.Laptops.{waits_of}
 use Rattle.iot_world.specs.Nodes.{is_alive, state_in, disk_by, disk_in, IsTiedBy}

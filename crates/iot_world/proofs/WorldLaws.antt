@@ -6,6 +6,7 @@ use Rattle.std.proofs.lemmas.List.{append-nil}
 use Rattle.std.proofs.lemmas.Option.{slice_get_read}
 use Rattle.iot_event.specs.declared.event.Event.{Event}
 use Rattle.iot_store.specs.States.{State}
+use Rattle.iot_disk.specs.Disk.{Medium}
 use Rattle.iot_machine.specs.Calls.{Call, At}
 use Rattle.iot_machine.specs.Refining.{Refines}
 use Rattle.iot_machine.specs.Nodes.{Node}
@@ -21,7 +22,7 @@ use Rattle.iot_machine.specs.Stops.{Restarts}
 use Rattle.iot_machine.proofs.SoundLaws.{sound_event}
 use Rattle.iot_server.specs.declared.server.Server.{Server}
 use Rattle.std.specs.List.{AllByRecursion}
-use Rattle.iot_world.specs.Disks.{Medium, IsEmpty}
+use Rattle.iot_world.specs.Disks.{IsEmpty, counts_on}
 use Rattle.iot_world.specs.Laptops.{LaptopStands, ClientStands, awake, fallen, ItemsStand, RunningStandsIfAny}
 use Rattle.iot_world.specs.Nodes.{state_by, live_by, disk_by, lent_by, state_in, live_in, disk_in}
 use Rattle.iot_world.specs.Servers.{is_up, lent_of, ServerStands, HasAnswered, answered_since}
@@ -64,7 +65,7 @@ module _ {D : Type 0} (medium : Medium D) where
       scripts = subst (λ (ss : List DeclaredScript). Each ScriptStands ss m.scripts) (sym scripts) here.scripts;
       placed = subst ArePlaced (sym same) here.placed;
       spare = subst (λ (ds : List D). AllByRecursion (IsEmpty medium) ds) (sym spare) here.spare;
-      counts = ap (map medium.counts) spare ∙ here.counts;
+      counts = ap (map (counts_on medium)) spare ∙ here.counts;
       eight = omega (arith, here.eight, ap length same, ap length spare);
     }
 

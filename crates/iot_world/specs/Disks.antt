@@ -1,21 +1,12 @@
 -- The disks of a world: the server's is the first, then those of its clients, and then those that no node has yet.
 use Rattle.std.specs.Prelude.{◌≡◌, ℕ, List, [], length, Option, Some, option_map}
 use Rattle.std.specs.List.{AllByRecursion}
-use Rattle.iot_disk.specs.Disk.{Arms, Only}
+use Rattle.iot_disk.specs.Disk.{Medium, Arms, Only}
 use Rattle.iot_machine.specs.Nodes.{Counts}
 
--- what is so of each disk of a kind: what it reads as, which images it may have after its next restart, and what it counts
-pub record Medium (D : Type 0) : Type 1 where
-  pub reads : D → List ℕ
-  pub may_leave : D → List ℕ → Type 0
-  pub counts : D → Counts
-
-abbrev pub medium : {D : Type 0} → (D → List ℕ) → (D → List ℕ → Type 0) → (D → ℕ) → (D → Arms) → Medium D
-medium reads may_leave faults arms = record {
-  reads = reads;
-  may_leave = may_leave;
-  counts = λ disk. record { faults = faults disk; arms = arms disk };
-}
+-- what a disk has counted
+abbrev pub counts_on : {D : Type 0} → Medium D → D → Counts
+counts_on medium disk = record { faults = medium.faults disk; arms = medium.arms disk }
 
 -- nothing is on the disk, and nothing is pending
 pub record IsEmpty {D : Type 0} (medium : Medium D) (disk : D) : Type 0 where
@@ -29,7 +20,7 @@ pub record AreFresh {D : Type 0} (medium : Medium D) (disks : List D) : Type 0 w
 
 -- a node has a disk that counts this
 abbrev pub CountsOn : {D : Type 0} → Medium D → Option D → Counts → Type 0
-CountsOn medium disk counts = option_map medium.counts disk ≡ Some counts
+CountsOn medium disk counts = option_map (counts_on medium) disk ≡ Some counts
 
 -- the disk of a node, which it has before and after a call, was not armed in it
 pub record SameDisk {D : Type 0} (arms_of : D → Arms) (old new : Option D) : Type 0 where

@@ -2,10 +2,10 @@
 use Rattle.std.specs.Prelude.{◌≡◌, ◌⊎◌, ℕ, List, ◌∷◌, ◌++◌, length, map, Option, Some, None}
 use Rattle.iot_kept.specs.States.{State}
 use Rattle.iot_kept.specs.Standing.{StandFor}
+use Rattle.iot_disk.specs.Disk.{Medium}
 use Rattle.iot_machine.specs.Clients.{ClientState}
 use Rattle.iot_machine.specs.Machine.{Machine, Client, Commit}
 use Rattle.iot_machine.specs.Nodes.{Counts}
-use Rattle.iot_world.specs.Disks.{Medium}
 use Rattle.iot_world.specs.Laptops.{ClientHolds, StateKept}
 use Rattle.iot_world.specs.Records.{IsImage, Holds, records_of, state_of}
 use Rattle.iot_world.specs.World.{Each}

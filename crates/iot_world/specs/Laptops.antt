@@ -43,6 +43,7 @@ use Rattle.iot_link.specs.Links as link
 use Rattle.iot_link.specs.Links.{LinkState, connected}
 use Rattle.iot_link.specs.declared.passages.Passage.{Passage}
 use Rattle.iot_link.specs.declared.passages.Passage.TheVariants as passages
+use Rattle.iot_disk.specs.Disk.{Medium}
 use Rattle.iot_machine.specs.Clients as clients
 use Rattle.iot_machine.specs.Clients.{Declared, ClientState, local_run, base, so_far, view, new_client, begin, act_once, end, cut}
 use Rattle.iot_machine.specs.Clients.{Plan, plan_of, resolution_of, reach, repair}
@@ -58,7 +59,7 @@ use Rattle.iot_machine.specs.Stops as stops
 use Rattle.iot_machine.specs.Stops.{IsStopped, OpensNode}
 use Rattle.iot_machine.specs.Texts.{line, transaction_name, acts_output, stopped_line, kept_line, lost_line, stop_line}
 use Rattle.iot_world.specs.Deciding.{DecidesClient}
-use Rattle.iot_world.specs.Disks.{Medium, IsEmpty, CountsOn}
+use Rattle.iot_world.specs.Disks.{IsEmpty, CountsOn, counts_on}
 use Rattle.iot_world.specs.Messages.{name_of, SpellsVerdict, verdict_of, told_change}
 use Rattle.iot_world.specs.Nodes.{is_alive, state_in, live_in, disk_in, IsTiedIn}
 use Rattle.iot_world.specs.Scripts.{script_named, IsNamed, HasNamed, AreNamed, option_named}
@@ -217,7 +218,7 @@ pub record FallenStands {D : Type 0} (medium : Medium D) (scripts : List Declare
   pub disk : D
   pub doubt : Option ℕ
   pub down : laptop.node ≡ Down disk doubt
-  pub counts : medium.counts disk ≡ m.node.counts
+  pub counts : counts_on medium disk ≡ m.node.counts
   pub holds : HoldsBy (medium.may_leave disk) doubt m.node
   pub named : Possibly (AreNamed scripts) m.node
 
@@ -244,7 +245,7 @@ pub record IsLent {D : Type 0} (medium : Medium D) (laptop : Laptop D) (it : Cli
   pub state : client.state_of it ≡ state_in laptop
   pub live : client.live_of it ≡ live_in laptop
   pub place : client.place_of it ≡ laptop.place
-  pub tied : client.IsTied medium.reads medium.may_leave it
+  pub tied : client.IsTied medium it
   pub begun : client.IsBegunIfAny (client.state_of it).running (client.live_of it)
 
 -- a client that was declared, and never started, on a disk that counts this

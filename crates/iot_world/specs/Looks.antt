@@ -2,13 +2,13 @@
 use Rattle.std.specs.Prelude.{◌≡◌, ℕ, List, [], ◌∷◌, ◌++◌, map}
 use Rattle.iot_inspect.specs.Shown.{shown, named}
 use Rattle.iot_inspect.specs.declared.snapshot.Json.{Json}
+use Rattle.iot_disk.specs.Disk.{Medium}
 use Rattle.iot_machine.specs.Clients.{Declared}
 use Rattle.iot_machine.specs.Events.{running_of}
 use Rattle.iot_machine.specs.Json.{client_data}
 use Rattle.iot_machine.specs.Machine.{Client}
 use Rattle.iot_machine.specs.Recorded.{queue_kept}
 use Rattle.iot_machine.specs.Texts.{queue_text}
-use Rattle.iot_world.specs.Disks.{Medium}
 use Rattle.iot_world.specs.Laptops.{LaptopStands, ClientStands}
 use Rattle.iot_world.specs.declared.laptop.Laptop.{Laptop}
 use Rattle.iot_world.specs.declared.world.World.{World}

@@ -4,9 +4,9 @@ use Rattle.iot_kept.specs.States.{State, opening}
 use Rattle.iot_client.specs.Ties as client
 use Rattle.iot_client.specs.Ties.{Live}
 use Rattle.iot_client.specs.declared.client.Client.{Client}
+use Rattle.iot_disk.specs.Disk.{Medium}
 use Rattle.iot_world.specs.declared.node.ClientNode.{ClientNode}
 use Rattle.iot_world.specs.declared.node.ClientNode.TheVariants.{Up, Down, Between}
-use Rattle.iot_world.specs.Disks.{Medium}
 use Rattle.iot_world.specs.declared.laptop.Laptop.{Laptop}
 
 abbrev pub alive_by : {D : Type 0} → ClientNode D → Bool
@@ -47,7 +47,7 @@ records_by Between = 0
 -- the client is alive, knows its place, and its state and its script's run are tied to what its disk has
 pub record IsSeated {D : Type 0} (medium : Medium D) (place : ℕ) (it : Client D) : Type 0 where
   pub place_is : client.place_of it ≡ place
-  pub tied : client.IsTied medium.reads medium.may_leave it
+  pub tied : client.IsTied medium it
 
 abbrev pub IsTiedBy : {D : Type 0} → Medium D → ℕ → ClientNode D → Type 0
 IsTiedBy medium place (Up it) = IsSeated medium place it

@@ -19,6 +19,7 @@ use Rattle.iot_server.specs.declared.server.Server.{Server}
 use Rattle.iot_acts.specs.Traces.{after_acts}
 use Rattle.iot_acts.specs.Turns.{reads_of}
 use Rattle.iot_exec.specs.Serial.{run_entry}
+use Rattle.iot_disk.specs.Disk.{Medium}
 use Rattle.iot_machine.specs.Nodes.{Node}
 use Rattle.iot_machine.specs.Machine.{Commit, entries_of, add_commit}
 use Rattle.iot_machine.specs.Serving.{Submission, server_name, kept_text}
@@ -31,7 +32,7 @@ use Rattle.iot_wire.specs.Rules.{IsRequest}
 use Rattle.iot_wire.specs.Spelling.{request_spelling}
 use Rattle.iot_wire.specs.declared.requests.Request.TheVariants as requests
 use Rattle.iot_judging.specs.Entries.{IsSpelledEntry}
-use Rattle.iot_world.specs.Disks.{Medium, IsEmpty, CountsOn}
+use Rattle.iot_world.specs.Disks.{IsEmpty, CountsOn, counts_on}
 use Rattle.iot_world.specs.Records.{IsImage, Holds, label_of, records_of, state_of}
 use Rattle.iot_world.specs.declared.server.Doubt.{Doubt}
 use Rattle.iot_world.specs.declared.server.ServerNode.{ServerNode}
@@ -65,8 +66,8 @@ count_of Between = 0
 -- a live server's store has these records and this state
 pub record IsStore {D : Type 0} (medium : Medium D) (records : List (List ℕ)) (state : State)
     (it : Store D) : Type 0 where
-  pub synced : store.IsSynced medium.reads medium.may_leave it
-  pub has_records : store.bodies_on medium.reads it ≡ records
+  pub synced : store.IsSynced medium it
+  pub has_records : store.bodies_on medium it ≡ records
   pub has_state : store.state_of it ≡ state
 
 -- A commit is in doubt, and so many are before it: each image has the list without it, or the list with it. What it says if it was kept
@@ -151,7 +152,7 @@ pub record FallsWith {D : Type 0} (doubt : Option Doubt) (old new : ServerNode D
 pub record IsLive {D : Type 0} (medium : Medium D) (server : ServerNode D) : Type 0 where
   pub it : Server D
   pub up : server ≡ Up it
-  pub synced : servers.IsSynced medium.reads medium.may_leave it
+  pub synced : servers.IsSynced medium it
 
 -- a live server has handled a request, and replied
 pub record Handled {D : Type 0} (medium : Medium D) (asked reply : List ℕ)
@@ -160,10 +161,10 @@ pub record Handled {D : Type 0} (medium : Medium D) (asked reply : List ℕ)
   pub now : Server D
   pub old_is : old ≡ Up was
   pub new_is : new ≡ Up now
-  pub handled : IsHandled (servers.state_of was) (servers.bodies_on medium.reads was) asked reply (servers.state_of now)
-      (servers.bodies_on medium.reads now)
-  pub synced : servers.IsSynced medium.reads medium.may_leave now
-  pub counts : medium.counts (servers.disk_of now) ≡ medium.counts (servers.disk_of was)
+  pub handled : IsHandled (servers.state_of was) (servers.bodies_on medium was) asked reply (servers.state_of now)
+      (servers.bodies_on medium now)
+  pub synced : servers.IsSynced medium now
+  pub counts : counts_on medium (servers.disk_of now) ≡ counts_on medium (servers.disk_of was)
 
 -- a live server stopped as it handled a request: it was to append a commit, and its disk's count of faults rose
 pub record StopsIn {D : Type 0} (medium : Medium D) (asked : List ℕ) (old new : ServerNode D) : Type 0 where
@@ -171,10 +172,10 @@ pub record StopsIn {D : Type 0} (medium : Medium D) (asked : List ℕ) (old new 
   pub now : Server D
   pub old_is : old ≡ Up was
   pub new_is : new ≡ Up now
-  pub cut : CutsOff (IsMessage IsRequest request_spelling asked) (servers.state_of was) (servers.bodies_on medium.reads was)
+  pub cut : CutsOff (IsMessage IsRequest request_spelling asked) (servers.state_of was) (servers.bodies_on medium was)
       (medium.may_leave (servers.disk_of now))
-  pub rose : Rose (medium.counts (servers.disk_of was)).faults (medium.counts (servers.disk_of now)).faults
-  pub arms : (medium.counts (servers.disk_of now)).arms ≡ (medium.counts (servers.disk_of was)).arms
+  pub rose : Rose (counts_on medium (servers.disk_of was)).faults (counts_on medium (servers.disk_of now)).faults
+  pub arms : (counts_on medium (servers.disk_of now)).arms ≡ (counts_on medium (servers.disk_of was)).arms
 
 -- how it ends that a live server handles a request which is one
 abbrev pub StopsHandling : {D T : Type 0} → Medium D → (asked : List ℕ) → Result T ServerFault → (old new : ServerNode D) → Type 0

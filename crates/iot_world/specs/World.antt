@@ -5,7 +5,7 @@ use Rattle.std.specs.Prelude.{Vec, slice_get, slice_index_or}
 use Rattle.std.specs.List.{AllByRecursion}
 use Rattle.std.specs.Vec.{vec_len, vec_capacity}
 use Rattle.std.specs.declared.alloc.Global.{Global}
-use Rattle.iot_disk.specs.Disk.{Arms}
+use Rattle.iot_disk.specs.Disk.{Medium, Arms}
 use Rattle.iot_lang.specs.Code.{Code, End}
 use Rattle.iot_tree.specs.Tree.{Nodes}
 use Rattle.iot_tree.specs.declared.want.Want.{Want}
@@ -34,7 +34,7 @@ use Rattle.iot_machine.specs.Transactions as machine
 use Rattle.iot_machine.specs.Transcript.{Opening}
 use Rattle.iot_server.specs.Servers as servers
 use Rattle.iot_server.specs.declared.server.Server.{Server}
-use Rattle.iot_world.specs.Disks.{Medium, IsEmpty}
+use Rattle.iot_world.specs.Disks.{IsEmpty, counts_on}
 use Rattle.iot_world.specs.Laptops.{ClientStands, ItemsStand, RunningStandsIfAny, planned_in}
 use Rattle.iot_world.specs.Nodes.{is_alive, state_in, disk_in}
 use Rattle.iot_world.specs.Records.{label_of}
@@ -80,7 +80,7 @@ pub record StandsFor {D : Type 0} (medium : Medium D) (world : World D) (m : Mac
   pub apart : AreApart m.scripts
   pub placed : ArePlaced world.clients.items
   pub spare : AllByRecursion (IsEmpty medium) world.spare.items
-  pub counts : map medium.counts world.spare.items ≡ m.spare
+  pub counts : map (counts_on medium) world.spare.items ≡ m.spare
   pub eight : length world.clients.items + length world.spare.items ≡ 8
 
 -- and its list of commits goes together with the queues of its clients
@@ -290,7 +290,7 @@ pub record Opens {D : Type 0} (medium : Medium D) (disks : List D) (before after
   pub machine : Machine
   pub text : List ℕ
   pub wrote : after ≡ before ++ text
-  pub step : Opening (handed (map medium.counts disks)) text tt machine
+  pub step : Opening (handed (map (counts_on medium) disks)) text tt machine
   pub stands : IsWorldOf medium world machine
   pub no_clients : client_count world ≡ 0
   pub no_scripts : script_names world ≡ []

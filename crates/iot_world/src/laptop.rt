@@ -17,7 +17,7 @@ ghost use Rattle.iot_machine.specs.Clients.{hold, fetch, leave};
 ghost use Rattle.iot_machine.specs.Serving as serving;
 ghost use Rattle.iot_machine.specs.Texts.{acts_output};
 ghost use Rattle.iot_queue.specs.declared.items.Stage.TheVariants.{Conflict as in_conflict};
-ghost use Rattle.iot_world.specs.Disks.{medium, SameDisk};
+ghost use Rattle.iot_world.specs.Disks.{SameDisk};
 ghost use Rattle.iot_world.specs.Laptops.{label_in, acts_in};
 ghost use Rattle.iot_world.specs.Messages.{BringsTree, SpellsTree, IsVerdict, SpellsVerdict, verdict_of, told_change};
 
@@ -79,8 +79,8 @@ impl<D: Disk> Laptop<D> {
 
     /// The client, which is alive.
     pub(crate) fn client(&self) -> &Client<D>
-        requires { Stands (medium D.reads D.may_leave D.faults D.arms) self.now }
-        ensures { IsLent (medium D.reads D.may_leave D.faults D.arms) self.now result.now }
+        requires { Stands D.medium self.now }
+        ensures { IsLent D.medium self.now result.now }
     {
         match &self.node {
             ClientNode::Up(client) => client,
@@ -90,7 +90,7 @@ impl<D: Disk> Laptop<D> {
 
     /// Whether a transaction runs.
     pub(crate) fn runs(&self) -> bool
-        requires { Stands (medium D.reads D.may_leave D.faults D.arms) self.now }
+        requires { Stands D.medium self.now }
         ensures { result ≡ is_some (state_in self.now).running }
     {
         self.running().is_some()
@@ -98,7 +98,7 @@ impl<D: Disk> Laptop<D> {
 
     /// Whether transactions wait.
     pub(crate) fn waits(&self) -> bool
-        requires { Stands (medium D.reads D.may_leave D.faults D.arms) self.now }
+        requires { Stands D.medium self.now }
         ensures { result ≡ waits_of (state_in self.now).items }
     {
         self.client().queue().head().is_some()
@@ -106,7 +106,7 @@ impl<D: Disk> Laptop<D> {
 
     /// Whether the transaction that runs may end.
     pub(crate) fn may_end(&self) -> bool
-        requires { Stands (medium D.reads D.may_leave D.faults D.arms) self.now }
+        requires { Stands D.medium self.now }
         ensures { result ≡ may_end (state_in self.now) (live_in self.now) }
     {
         if self.at_end() {
@@ -120,7 +120,7 @@ impl<D: Disk> Laptop<D> {
 
     /// The transaction that runs, if one does.
     pub(crate) fn running(&self) -> Option<&Running>
-        requires { Stands (medium D.reads D.may_leave D.faults D.arms) self.now }
+        requires { Stands D.medium self.now }
         ensures running { transaction_of (option_copied result) ≡ (state_in self.now).running }
         ensures class { class_of (option_copied result) ≡ class_by (state_in self.now).running (live_in self.now) }
     {
@@ -129,7 +129,7 @@ impl<D: Disk> Laptop<D> {
 
     /// Whether a transaction runs whose script has ended.
     pub(crate) fn at_end(&self) -> bool
-        requires { Stands (medium D.reads D.may_leave D.faults D.arms) self.now }
+        requires { Stands D.medium self.now }
         ensures { result ≡ is_over_if_any (state_in self.now) (live_in self.now) }
     {
         self.client().at_end()
@@ -147,8 +147,8 @@ impl<D: Disk> Laptop<D> {
 
     /// The tree that it sees.
     pub(crate) fn view(&self) -> &Tree
-        requires { Stands (medium D.reads D.may_leave D.faults D.arms) self.now }
-        ensures { IsView (medium D.reads D.may_leave D.faults D.arms) result.now self.now }
+        requires { Stands D.medium self.now }
+        ensures { IsView D.medium result.now self.now }
     {
         self.client().view()
     }
@@ -157,15 +157,15 @@ impl<D: Disk> Laptop<D> {
 
     /// Makes its link up.
     pub(crate) fn connect(&mut self)
-        ensures { RelinkedAnyhow (medium D.reads D.may_leave D.faults D.arms) (linked (connected true self.old.link)) self.old self.new }
+        ensures { RelinkedAnyhow D.medium (linked (connected true self.old.link)) self.old self.new }
     {
         self.link.connect();
     }
 
     /// Makes its link not up. What runs is second class from then on.
     pub(crate) fn disconnect(&mut self)
-        requires { StandsAnyhow (medium D.reads D.may_leave D.faults D.arms) self.old }
-        ensures { RelinkedAnyhow (medium D.reads D.may_leave D.faults D.arms) cut_off self.old self.new }
+        requires { StandsAnyhow D.medium self.old }
+        ensures { RelinkedAnyhow D.medium cut_off self.old self.new }
     {
         self.link.disconnect();
         if let ClientNode::Up(client) = &mut self.node {
@@ -175,7 +175,7 @@ impl<D: Disk> Laptop<D> {
 
     /// Arms its link to lose a message.
     pub(crate) fn lose(&mut self, loss: Loss)
-        ensures { RelinkedAnyhow (medium D.reads D.may_leave D.faults D.arms) (linked (arming loss self.old.link)) self.old self.new }
+        ensures { RelinkedAnyhow D.medium (linked (arming loss self.old.link)) self.old self.new }
     {
         self.link.arm(loss);
     }
@@ -183,9 +183,9 @@ impl<D: Disk> Laptop<D> {
     /// Takes one exchange with a server that is alive or not, and tells how far it gets. What runs is second class after one that
     /// did not get through.
     pub(crate) fn pass(&mut self, server_up: bool) -> Passage
-        requires { Stands (medium D.reads D.may_leave D.faults D.arms) self.old }
+        requires { Stands D.medium self.old }
         ensures passage { result ≡ passage self.old.link server_up }
-        ensures after { Relinked (medium D.reads D.may_leave D.faults D.arms) (after_passage result) self.old self.new }
+        ensures after { Relinked D.medium (after_passage result) self.old self.new }
         ensures both { result ≡ Both → self.new ≡ self.old }
         ensures disk { disk_in self.new ≡ disk_in self.old }
     {
@@ -199,8 +199,8 @@ impl<D: Disk> Laptop<D> {
 
     /// Its link is broken, since the server stopped in an exchange. What runs is second class from then on.
     pub(crate) fn broke(&mut self)
-        requires { Stands (medium D.reads D.may_leave D.faults D.arms) self.old }
-        ensures after { Relinked (medium D.reads D.may_leave D.faults D.arms) broken self.old self.new }
+        requires { Stands D.medium self.old }
+        ensures after { Relinked D.medium broken self.old self.new }
         ensures disk { disk_in self.new ≡ disk_in self.old }
     {
         self.link.broke();
@@ -209,8 +209,8 @@ impl<D: Disk> Laptop<D> {
 
     /// What runs is second class from now on.
     fn second(&mut self)
-        requires { Stands (medium D.reads D.may_leave D.faults D.arms) self.old }
-        ensures { IsSecondNow (medium D.reads D.may_leave D.faults D.arms) self.old self.new }
+        requires { Stands D.medium self.old }
+        ensures { IsSecondNow D.medium self.old self.new }
     {
         match &mut self.node {
             ClientNode::Up(client) => client.second(),
@@ -220,7 +220,7 @@ impl<D: Disk> Laptop<D> {
 
     /// Whether it is alive, its link is up, and nothing waits or runs.
     pub(crate) fn is_drained(&self) -> bool
-        requires { StandsAnyhow (medium D.reads D.may_leave D.faults D.arms) self.now }
+        requires { StandsAnyhow D.medium self.now }
         ensures { result ≡ is_alive self.now && not (waits_of (state_in self.now).items) && not (is_some (state_in self.now).running)
             && self.now.link.up }
     {
@@ -241,7 +241,7 @@ impl<D: Disk> Laptop<D> {
 
     /// Asks for what is wanted.
     pub(crate) fn ask(&self, alloc: Global, want: &Want) -> Result<Message, NoMemory>
-        requires stands { Stands (medium D.reads D.may_leave D.faults D.arms) self.now }
+        requires stands { Stands D.medium self.now }
         requires place { self.now.place ≤ 7 }
         requires idle { (state_in self.now).running ≡ None }
         requires none { (state_in self.now).items ≡ [] }
@@ -261,13 +261,13 @@ impl<D: Disk> Laptop<D> {
         reply: &[u8],
         out: &mut Text,
     ) -> Result<bool, NoMemory>
-        requires stands { Stands (medium D.reads D.may_leave D.faults D.arms) self.old }
+        requires stands { Stands D.medium self.old }
         requires idle { (state_in self.old).running ≡ None }
         requires none { (state_in self.old).items ≡ [] }
         requires brings { BringsTree reply.now }
         ensures does { IfOk result (λ on. (t : Nodes) → SpellsTree reply.now t
-            → NotedIf (medium D.reads D.may_leave D.faults D.arms) on (hold t) self.old self.new out.old out.new) }
-        ensures disk { SameDisk D.arms (disk_in self.old) (disk_in self.new) }
+            → NotedIf D.medium on (hold t) self.old self.new out.old out.new) }
+        ensures disk { SameDisk D.medium.arms (disk_in self.old) (disk_in self.new) }
     {
         let count = self.records();
         let answer = match &mut self.node {
@@ -289,13 +289,13 @@ impl<D: Disk> Laptop<D> {
         first: bool,
         out: &mut Text,
     ) -> Result<bool, NoMemory>
-        requires stands { Stands (medium D.reads D.may_leave D.faults D.arms) self.old }
+        requires stands { Stands D.medium self.old }
         requires idle { (state_in self.old).running ≡ None }
         requires alone { first ≡ true → (state_in self.old).items ≡ [] }
         requires script { IsScript script.value }
-        ensures does { IfOk result (λ on. BegunIf (medium D.reads D.may_leave D.faults D.arms) on
+        ensures does { IfOk result (λ on. BegunIf D.medium on
             (record { name = name.now; code = script.value }) option first self.old self.new out.old out.new) }
-        ensures disk { SameDisk D.arms (disk_in self.old) (disk_in self.new) }
+        ensures disk { SameDisk D.medium.arms (disk_in self.old) (disk_in self.new) }
     {
         let count = self.records();
         let answer = match &mut self.node {
@@ -307,11 +307,11 @@ impl<D: Disk> Laptop<D> {
 
     /// Does the next act of the transaction that runs, or gives why none is done; and nothing if it stops in that, which is said.
     pub(crate) fn step(&mut self, alloc: Global, out: &mut Text) -> Result<Option<Step>, NoMemory>
-        requires stands { Stands (medium D.reads D.may_leave D.faults D.arms) self.old }
+        requires stands { Stands D.medium self.old }
         requires place { self.old.place ≤ 7 }
         requires runs { is_some (state_in self.old).running ≡ true }
-        ensures does { IfOk result (λ step. SteppedIf (medium D.reads D.may_leave D.faults D.arms) step self.old self.new out.old out.new) }
-        ensures disk { SameDisk D.arms (disk_in self.old) (disk_in self.new) }
+        ensures does { IfOk result (λ step. SteppedIf D.medium step self.old self.new out.old out.new) }
+        ensures disk { SameDisk D.medium.arms (disk_in self.old) (disk_in self.new) }
     {
         let count = self.records();
         let answer = match &mut self.node {
@@ -329,12 +329,12 @@ impl<D: Disk> Laptop<D> {
         reply: &[u8],
         out: &mut Text,
     ) -> Result<bool, NoMemory>
-        requires stands { Stands (medium D.reads D.may_leave D.faults D.arms) self.old }
+        requires stands { Stands D.medium self.old }
         requires first { IsFirst self.old }
         requires brings { BringsTree reply.now }
         ensures does { IfOk result (λ on. (t : Nodes) → SpellsTree reply.now t
-            → NotedIf (medium D.reads D.may_leave D.faults D.arms) on (fetch t) self.old self.new out.old out.new) }
-        ensures disk { SameDisk D.arms (disk_in self.old) (disk_in self.new) }
+            → NotedIf D.medium on (fetch t) self.old self.new out.old out.new) }
+        ensures disk { SameDisk D.medium.arms (disk_in self.old) (disk_in self.new) }
     {
         let count = self.records();
         let answer = match &mut self.node {
@@ -347,10 +347,10 @@ impl<D: Disk> Laptop<D> {
     /// Lets the transaction that runs wait, if its script has ended or may do no more acts. Gives nothing if it stops in that, which is
     /// said.
     pub(crate) fn end(&mut self, alloc: Global, out: &mut Text) -> Result<Option<Gone>, NoMemory>
-        requires stands { Stands (medium D.reads D.may_leave D.faults D.arms) self.old }
+        requires stands { Stands D.medium self.old }
         requires over { may_end (state_in self.old) (live_in self.old) ≡ true }
-        ensures does { IfOk result (λ gone. EndedIf (medium D.reads D.may_leave D.faults D.arms) gone self.old self.new out.old out.new) }
-        ensures disk { SameDisk D.arms (disk_in self.old) (disk_in self.new) }
+        ensures does { IfOk result (λ gone. EndedIf D.medium gone self.old self.new out.old out.new) }
+        ensures disk { SameDisk D.medium.arms (disk_in self.old) (disk_in self.new) }
     {
         let output = self.output(alloc)?;
         let count = self.records();
@@ -372,7 +372,7 @@ impl<D: Disk> Laptop<D> {
 
     /// What the transaction that runs has printed.
     fn output(&self, alloc: Global) -> Result<Text, NoMemory>
-        requires { Stands (medium D.reads D.may_leave D.faults D.arms) self.now }
+        requires { Stands D.medium self.now }
         ensures { IfOk result (λ output. output ≡ acts_output (acts_of (state_in self.now).running)) }
     {
         match self.running() {
@@ -385,7 +385,7 @@ impl<D: Disk> Laptop<D> {
 
     /// How often one drain syncs at most.
     pub(crate) fn most_syncs(&self) -> Result<u64, NoMemory>
-        requires { Stands (medium D.reads D.may_leave D.faults D.arms) self.now }
+        requires { Stands D.medium self.now }
         ensures { IfOk result (λ most. most ≡ 3 * length (state_in self.now).items) }
     {
         let waiting = self.client().queue().items().len() as u64;
@@ -397,7 +397,7 @@ impl<D: Disk> Laptop<D> {
 
     /// The name of the first that waits.
     pub(crate) fn head(&self) -> Option<Transaction>
-        requires { Stands (medium D.reads D.may_leave D.faults D.arms) self.now }
+        requires { Stands D.medium self.now }
         ensures { result ≡ head_name self.now (state_in self.now).items }
     {
         match self.client().queue().head() {
@@ -408,7 +408,7 @@ impl<D: Disk> Laptop<D> {
 
     /// The first that waits, if it is to be decided by hand.
     pub(crate) fn decision(&self) -> Result<Transaction, Undecided>
-        requires { Stands (medium D.reads D.may_leave D.faults D.arms) self.now }
+        requires { Stands D.medium self.now }
         ensures { result ≡ decision self.now (state_in self.now).items }
     {
         match self.client().queue().head() {
@@ -428,7 +428,7 @@ impl<D: Disk> Laptop<D> {
 
     /// What the first that waits needs of the server.
     pub(crate) fn need(&self, alloc: Global) -> Result<Need, NoMemory>
-        requires stands { Stands (medium D.reads D.may_leave D.faults D.arms) self.now }
+        requires stands { Stands D.medium self.now }
         requires place { self.now.place ≤ 7 }
         requires waits { waits_of (state_in self.now).items ≡ true }
         ensures { IfOk result (λ need. HeadIs (λ item. IsNeed self.now item need) (state_in self.now).items) }
@@ -475,16 +475,16 @@ impl<D: Disk> Laptop<D> {
         reply: &[u8],
         out: &mut Text,
     ) -> Result<Option<Told>, NoMemory>
-        requires stands { Stands (medium D.reads D.may_leave D.faults D.arms) self.old }
+        requires stands { Stands D.medium self.old }
         requires submitted { HeadIs IsSubmitted (state_in self.old).items }
         requires told { IsVerdict (head_reads (state_in self.old).items) reply.now }
         ensures settles { IfOk result (λ said. IfSome said
-            (Settles (medium D.reads D.may_leave D.faults D.arms) reply.now self.old self.new)) }
+            (Settles D.medium reply.now self.old self.new)) }
         ensures silent { IfOk result (λ said. IfSome said (λ _. out.new ≡ out.old)) }
         ensures stops { IfOk result (λ said. said ≡ None → (told : serving.Verdict) (option : OnConflict)
             → SpellsVerdict (head_reads (state_in self.old).items) reply.now told → head_option (state_in self.old).items ≡ Some option
-            → Stops (medium D.reads D.may_leave D.faults D.arms) (Exactly (told_change told option)) self.old self.new out.old out.new) }
-        ensures disk { SameDisk D.arms (disk_in self.old) (disk_in self.new) }
+            → Stops D.medium (Exactly (told_change told option)) self.old self.new out.old out.new) }
+        ensures disk { SameDisk D.medium.arms (disk_in self.old) (disk_in self.new) }
     {
         let told = self.told(alloc, reply)?;
         let count = self.records();
@@ -500,7 +500,7 @@ impl<D: Disk> Laptop<D> {
 
     /// What the reply to the submission of the first that waits says of it.
     fn told(&self, alloc: Global, reply: &[u8]) -> Result<Told, NoMemory>
-        requires stands { Stands (medium D.reads D.may_leave D.faults D.arms) self.now }
+        requires stands { Stands D.medium self.now }
         requires submitted { HeadIs IsSubmitted (state_in self.now).items }
         requires told { IsVerdict (head_reads (state_in self.now).items) reply.now }
         ensures verdict { IfOk result (λ said. (told : serving.Verdict)
@@ -518,7 +518,7 @@ impl<D: Disk> Laptop<D> {
 
     /// What is planned for the first that waits, which conflicts.
     pub(crate) fn plan(&self) -> Plan
-        requires stands { Stands (medium D.reads D.may_leave D.faults D.arms) self.now }
+        requires stands { Stands D.medium self.now }
         requires conflict { HeadIs (λ item. item.stage ≡ in_conflict) (state_in self.now).items }
         ensures { IsHeadPlan (state_in self.now).items result }
     {
@@ -540,14 +540,14 @@ impl<D: Disk> Laptop<D> {
         script: Rc<Script>,
         out: &mut Text,
     ) -> Result<bool, NoMemory>
-        requires stands { Stands (medium D.reads D.may_leave D.faults D.arms) self.old }
+        requires stands { Stands D.medium self.old }
         requires conflict { HeadIs (λ item. item.stage ≡ in_conflict) (state_in self.old).items }
         requires brings { BringsTree reply.now }
         requires whole { (t : Nodes) → SpellsTree reply.now t → IsWhole t }
         requires script { IsScript script.value }
         ensures does { IfOk result (λ on. (t : Nodes) → SpellsTree reply.now t
-            → ResolvedIf (medium D.reads D.may_leave D.faults D.arms) on script.value t self.old self.new out.old out.new) }
-        ensures disk { SameDisk D.arms (disk_in self.old) (disk_in self.new) }
+            → ResolvedIf D.medium on script.value t self.old self.new out.old out.new) }
+        ensures disk { SameDisk D.medium.arms (disk_in self.old) (disk_in self.new) }
     {
         let count = self.records();
         let answer = match &mut self.node {
@@ -565,11 +565,11 @@ impl<D: Disk> Laptop<D> {
         script: &Name,
         out: &mut Text,
     ) -> Result<bool, NoMemory>
-        requires stands { Stands (medium D.reads D.may_leave D.faults D.arms) self.old }
+        requires stands { Stands D.medium self.old }
         requires manual { HeadIs IsByHand (state_in self.old).items }
         ensures does { IfOk result (λ on.
-            RepairedIf (medium D.reads D.may_leave D.faults D.arms) on script.now self.old self.new out.old out.new) }
-        ensures disk { SameDisk D.arms (disk_in self.old) (disk_in self.new) }
+            RepairedIf D.medium on script.now self.old self.new out.old out.new) }
+        ensures disk { SameDisk D.medium.arms (disk_in self.old) (disk_in self.new) }
     {
         let count = self.records();
         let answer = match &mut self.node {
@@ -581,10 +581,10 @@ impl<D: Disk> Laptop<D> {
 
     /// Lets the first that waits, which is to be decided by hand, leave, and whether it did: else it has stopped, which is said.
     pub(crate) fn discard(&mut self, alloc: Global, out: &mut Text) -> Result<bool, NoMemory>
-        requires stands { Stands (medium D.reads D.may_leave D.faults D.arms) self.old }
+        requires stands { Stands D.medium self.old }
         requires manual { HeadIs IsByHand (state_in self.old).items }
-        ensures does { IfOk result (λ on. NotedIf (medium D.reads D.may_leave D.faults D.arms) on leave self.old self.new out.old out.new) }
-        ensures disk { SameDisk D.arms (disk_in self.old) (disk_in self.new) }
+        ensures does { IfOk result (λ on. NotedIf D.medium on leave self.old self.new out.old out.new) }
+        ensures disk { SameDisk D.medium.arms (disk_in self.old) (disk_in self.new) }
     {
         let count = self.records();
         let answer = match &mut self.node {

@@ -1,5 +1,4 @@
 //! Looking in at the nodes: what they hold, as lines and as JSON.
-ghost use Rattle.iot_world.specs.Disks.{medium};
 ghost use Rattle.std.specs.Prelude.{◌≡◌, ◌≤◌, ◌-◌, ◌∷◌, [], length, slice_get, IfOk, OnOk, Some, None};
 ghost use Rattle.std.specs.Option.{option_copied};
 ghost use Rattle.iot_machine.specs.Events.{Queues, ReadsOf, Logs};
@@ -25,8 +24,8 @@ impl<D: Disk> World<D> {
 
     /// The transactions of a client: those that wait, and then the one that runs.
     pub(crate) fn queue(&self, client: u64, out: &mut Text) -> Result<(), NoMemory>
-        requires ready { IsReady (medium D.reads D.may_leave D.faults D.arms) client self.now }
-        ensures { OnOk result (Steps (medium D.reads D.may_leave D.faults D.arms) (Queues client) self.now self.now out.old out.new tt) }
+        requires ready { IsReady D.medium client self.now }
+        ensures { OnOk result (Steps D.medium (Queues client) self.now self.now out.old out.new tt) }
     {
         self.clients[client as usize].say_queue(out)?;
         Ok(())
@@ -34,10 +33,10 @@ impl<D: Disk> World<D> {
 
     /// What the client's transaction at this place of those that wait, from 1, has read in its own run, if so many wait.
     pub(crate) fn reads(&self, client: u64, place: u64, out: &mut Text) -> Result<(), NoMemory>
-        requires ready { IsReady (medium D.reads D.may_leave D.faults D.arms) client self.now }
+        requires ready { IsReady D.medium client self.now }
         requires counts { 1 ≤ place }
         ensures { OnOk result
-            (Steps (medium D.reads D.may_leave D.faults D.arms) (ReadsOf client place) self.now self.now out.old out.new tt) }
+            (Steps D.medium (ReadsOf client place) self.now self.now out.old out.new tt) }
     {
         match self.clients[client as usize].waiting(place) {
             Some(item) => reads(item, out)?,
@@ -48,8 +47,8 @@ impl<D: Disk> World<D> {
 
     /// What was committed, unless the server is down.
     pub(crate) fn log(&self, alloc: Global, out: &mut Text) -> Result<(), NoMemory>
-        requires sound { IsWorldOfSome (medium D.reads D.may_leave D.faults D.arms) self.now }
-        ensures { OnOk result (Steps (medium D.reads D.may_leave D.faults D.arms) Logs self.now self.now out.old out.new tt) }
+        requires sound { IsWorldOfSome D.medium self.now }
+        ensures { OnOk result (Steps D.medium Logs self.now self.now out.old out.new tt) }
     {
         match self.server() {
             Some(server) => {
@@ -76,7 +75,7 @@ impl<D: Disk> World<D> {
 
     /// How many rows the server's tree has, or 0 if the server is down. Does not allocate.
     pub fn server_rows(&self) -> u64
-        ensures { (m : Machine) → StandsFor (medium D.reads D.may_leave D.faults D.arms) self.now m → result ≡ row_count m }
+        ensures { (m : Machine) → StandsFor D.medium self.now m → result ≡ row_count m }
     {
         match self.server() {
             Some(server) => server.store().tree().rows().len() as u64,
@@ -87,9 +86,9 @@ impl<D: Disk> World<D> {
     /// What all nodes hold, as one JSON text: of each client that is alive its queue and its view, and of the server its commits and
     /// its tree.
     pub fn json(&self, alloc: Global) -> Result<Text, NoMemory>
-        requires { IsWorldOfSome (medium D.reads D.may_leave D.faults D.arms) self.now }
+        requires { IsWorldOfSome D.medium self.now }
         ensures { IfOk result
-            (λ text. (m : Machine) → StandsFor (medium D.reads D.may_leave D.faults D.arms) self.now m → text ≡ json_text m) }
+            (λ text. (m : Machine) → StandsFor D.medium self.now m → text ≡ json_text m) }
     {
         let json = self.told(alloc)?;
         match self.server() {
@@ -100,9 +99,9 @@ impl<D: Disk> World<D> {
 
     /// What is told of its clients.
     fn told(&self, alloc: Global) -> Result<Json, NoMemory>
-        requires { StandsForSome (medium D.reads D.may_leave D.faults D.arms) self.now }
+        requires { StandsForSome D.medium self.now }
         ensures { IfOk result
-            (λ json. (m : Machine) → StandsFor (medium D.reads D.may_leave D.faults D.arms) self.now m → HasTold m.clients json) }
+            (λ json. (m : Machine) → StandsFor D.medium self.now m → HasTold m.clients json) }
     {
         let mut json = Json::new(alloc);
         for laptop in &self.clients {
@@ -119,8 +118,8 @@ impl<D: Disk> Laptop<D> {
 
     /// Says its transactions: those that wait, and then the one that runs.
     fn say_queue(&self, out: &mut Text) -> Result<(), NoMemory>
-        requires { Stands (medium D.reads D.may_leave D.faults D.arms) self.now }
-        ensures { OnOk result (SaysQueue (medium D.reads D.may_leave D.faults D.arms) self.now out.old out.new) }
+        requires { Stands D.medium self.now }
+        ensures { OnOk result (SaysQueue D.medium self.now out.old out.new) }
     {
         let waiting = self.client().queue();
         match self.running() {
@@ -132,7 +131,7 @@ impl<D: Disk> Laptop<D> {
 
     /// Its transaction at this place of those that wait, from 1.
     fn waiting(&self, place: u64) -> Option<&Item>
-        requires stands { Stands (medium D.reads D.may_leave D.faults D.arms) self.now }
+        requires stands { Stands D.medium self.now }
         requires counts { 1 ≤ place }
         ensures { option_copied result ≡ slice_get (state_in self.now).items (place - 1) }
     {
@@ -141,8 +140,8 @@ impl<D: Disk> Laptop<D> {
 
     /// Tells its queue and its view, or that it is down.
     fn tell(&self, json: &mut Json) -> Result<(), NoMemory>
-        requires { StandsAnyhow (medium D.reads D.may_leave D.faults D.arms) self.now }
-        ensures { OnOk result (Tells (medium D.reads D.may_leave D.faults D.arms) self.now json.old json.new) }
+        requires { StandsAnyhow D.medium self.now }
+        ensures { OnOk result (Tells D.medium self.now json.old json.new) }
     {
         if !self.is_alive() {
             json.down(&self.name)?;

@@ -6,7 +6,7 @@ ghost use Rattle.iot_client.specs.declared.fault.ClientFault.TheVariants.{Stoppe
 ghost use Rattle.iot_machine.specs.Clients.{Declared};
 ghost use Rattle.iot_text.specs.Texts.{Extends};
 ghost use Rattle.iot_machine.specs.Texts.{stopped_line};
-ghost use Rattle.iot_world.specs.Disks.{medium, IsEmpty, SameDisk};
+ghost use Rattle.iot_world.specs.Disks.{IsEmpty, SameDisk, counts_on};
 ghost use Rattle.iot_world.specs.Laptops.{back_said};
 
 use crate::laptop::Laptop;
@@ -50,10 +50,10 @@ impl<D: Disk> Laptop<D> {
 
     /// The client of this name at this place, on an empty disk. It was never started.
     pub(crate) fn unopened(name: Name, place: u64, disk: D) -> Laptop<D>
-        requires { IsEmpty (medium D.reads D.may_leave D.faults D.arms) disk }
-        ensures stands { (scripts : List Declared) → FallenStands (medium D.reads D.may_leave D.faults D.arms) scripts result
-            (unopened_laptop name ((medium D.reads D.may_leave D.faults D.arms).counts disk)) }
-        ensures unopened { IsUnopened (medium D.reads D.may_leave D.faults D.arms) result }
+        requires { IsEmpty D.medium disk }
+        ensures stands { (scripts : List Declared) → FallenStands D.medium scripts result
+            (unopened_laptop name (counts_on D.medium disk)) }
+        ensures unopened { IsUnopened D.medium result }
         ensures place { result.place ≡ place }
         ensures disk { disk_in result ≡ Some disk }
     {
@@ -67,9 +67,9 @@ impl<D: Disk> Laptop<D> {
 
     /// Starts for the first time, and whether it did. It knows nothing yet. Else it has stopped, which is said.
     pub(crate) fn open(&mut self, alloc: Global, out: &mut Text) -> Result<bool, NoMemory>
-        requires { IsUnopened (medium D.reads D.may_leave D.faults D.arms) self.old }
-        ensures opens { IfOk result (λ on. Opens (medium D.reads D.may_leave D.faults D.arms) on self.old self.new out.old out.new) }
-        ensures disk { SameDisk D.arms (disk_in self.old) (disk_in self.new) }
+        requires { IsUnopened D.medium self.old }
+        ensures opens { IfOk result (λ on. Opens D.medium on self.old self.new out.old out.new) }
+        ensures disk { SameDisk D.medium.arms (disk_in self.old) (disk_in self.new) }
     {
         match mem::replace(&mut self.node, ClientNode::Between) {
             ClientNode::Down { disk, doubt } => match Client::start(alloc, disk, self.place) {
@@ -109,10 +109,10 @@ impl<D: Disk> Laptop<D> {
 
     /// Makes a later call of its disk fail, and says so.
     pub(crate) fn arm(&mut self, calls: u64, pick: Pick, out: &mut Text) -> Result<(), NoMemory>
-        requires { StandsAnyhow (medium D.reads D.may_leave D.faults D.arms) self.old }
+        requires { StandsAnyhow D.medium self.old }
         ensures arms { IfOk result (λ _.
-            IsArmed (medium D.reads D.may_leave D.faults D.arms) calls pick self.old self.new out.old out.new) }
-        ensures disk { IfErr result (λ _. SameDisk D.arms (disk_in self.old) (disk_in self.new)) }
+            IsArmed D.medium calls pick self.old self.new out.old out.new) }
+        ensures disk { IfErr result (λ _. SameDisk D.medium.arms (disk_in self.old) (disk_in self.new)) }
         ensures text { Extends out.old out.new }
     {
         say_stop(self.name.as_bytes(), calls, pick, out)?;
@@ -137,7 +137,7 @@ impl<D: Disk> Laptop<D> {
         ensures goes { IfOk result (λ done. IfSome done (λ t. (answer ≡ Ok t) × (self.new ≡ self.old) × (out.new ≡ out.old))) }
         ensures stopped { IfOk result (λ done. done ≡ None → (answer ≡ Err Stopped) × FallsWith (Some count) self.old self.new) }
         ensures says { IfOk result (λ done. done ≡ None → out.new ≡ out.old ++ stopped_line self.old.name) }
-        ensures disk { SameDisk D.arms (disk_in self.old) (disk_in self.new) }
+        ensures disk { SameDisk D.medium.arms (disk_in self.old) (disk_in self.new) }
     {
         match answer {
             Ok(done) => Ok(Some(done)),
@@ -163,9 +163,9 @@ impl<D: Disk> Laptop<D> {
 
     /// Loses its memory. What is not on its disk is gone.
     pub(crate) fn fall(&mut self)
-        requires { Stands (medium D.reads D.may_leave D.faults D.arms) self.old }
-        ensures falls { HasFallen (medium D.reads D.may_leave D.faults D.arms) self.old self.new }
-        ensures disk { SameDisk D.arms (disk_in self.old) (disk_in self.new) }
+        requires { Stands D.medium self.old }
+        ensures falls { HasFallen D.medium self.old self.new }
+        ensures disk { SameDisk D.medium.arms (disk_in self.old) (disk_in self.new) }
     {
         self.fall_with(None);
     }
@@ -174,7 +174,7 @@ impl<D: Disk> Laptop<D> {
     fn fall_with(&mut self, doubt: Option<u64>)
         requires { is_alive self.old ≡ true }
         ensures falls { FallsWith doubt self.old self.new }
-        ensures disk { SameDisk D.arms (disk_in self.old) (disk_in self.new) }
+        ensures disk { SameDisk D.medium.arms (disk_in self.old) (disk_in self.new) }
     {
         match mem::replace(&mut self.node, ClientNode::Between) {
             ClientNode::Up(client) => self.turn_into(ClientNode::Down {
@@ -199,9 +199,9 @@ impl<D: Disk> Laptop<D> {
     /// Comes back from one of the images that its disk may have, and whether it did: else it has stopped again, and what was in doubt
     /// still is. What ran is only to be cut off then.
     pub(crate) fn come_back(&mut self, alloc: Global, out: &mut Text) -> Result<bool, NoMemory>
-        requires { Fallen (medium D.reads D.may_leave D.faults D.arms) self.old }
-        ensures comes { IfOk result (λ on. ComesBack (medium D.reads D.may_leave D.faults D.arms) on self.old self.new out.old out.new) }
-        ensures disk { SameDisk D.arms (disk_in self.old) (disk_in self.new) }
+        requires { Fallen D.medium self.old }
+        ensures comes { IfOk result (λ on. ComesBack D.medium on self.old self.new out.old out.new) }
+        ensures disk { SameDisk D.medium.arms (disk_in self.old) (disk_in self.new) }
     {
         match mem::replace(&mut self.node, ClientNode::Between) {
             ClientNode::Down { disk, doubt } => self.start_again(alloc, disk, doubt, out),
@@ -218,10 +218,10 @@ impl<D: Disk> Laptop<D> {
         out: &mut Text,
     ) -> Result<bool, NoMemory>
         requires between { self.old.node ≡ Between }
-        requires fallen { Fallen (medium D.reads D.may_leave D.faults D.arms) (record self.old { node = Down disk doubt }) }
-        ensures comes { IfOk result (λ on. ComesBack (medium D.reads D.may_leave D.faults D.arms) on
+        requires fallen { Fallen D.medium (record self.old { node = Down disk doubt }) }
+        ensures comes { IfOk result (λ on. ComesBack D.medium on
             (record self.old { node = Down disk doubt }) self.new out.old out.new) }
-        ensures disk { SameDisk D.arms (Some disk) (disk_in self.new) }
+        ensures disk { SameDisk D.medium.arms (Some disk) (disk_in self.new) }
     {
         disk.restart();
         match Client::start(alloc, disk, self.place) {
@@ -246,9 +246,9 @@ impl<D: Disk> Laptop<D> {
         alloc: Global,
         out: &mut Text,
     ) -> Result<Option<CutOff>, NoMemory>
-        requires { Returned (medium D.reads D.may_leave D.faults D.arms) self.old }
-        ensures cuts { IfOk result (λ cut. CutsOff (medium D.reads D.may_leave D.faults D.arms) cut self.old self.new out.old out.new) }
-        ensures disk { SameDisk D.arms (disk_in self.old) (disk_in self.new) }
+        requires { Returned D.medium self.old }
+        ensures cuts { IfOk result (λ cut. CutsOff D.medium cut self.old self.new out.old out.new) }
+        ensures disk { SameDisk D.medium.arms (disk_in self.old) (disk_in self.new) }
     {
         let Some(transaction) = self.found() else {
             return Ok(None);
@@ -267,7 +267,7 @@ impl<D: Disk> Laptop<D> {
 
     /// The name of the transaction that it found running when it came back, if it found one.
     fn found(&self) -> Option<Transaction>
-        requires { Returned (medium D.reads D.may_leave D.faults D.arms) self.now }
+        requires { Returned D.medium self.now }
         ensures { result ≡ running_name self.now (state_in self.now).running }
     {
         match &self.node {

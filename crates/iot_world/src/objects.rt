@@ -1,5 +1,4 @@
 //! What a client asks of the server: objects, over its link.
-ghost use Rattle.iot_world.specs.Disks.{medium};
 ghost use Rattle.std.specs.Prelude.{◌≡◌, ℕ, OnOk, IfOk, true};
 ghost use Rattle.iot_client.specs.Messages.{IsRefresh};
 ghost use Rattle.iot_client.specs.Ties.{state_of, place_of};
@@ -35,11 +34,11 @@ impl<D: Disk> World<D> {
         path: &Path,
         out: &mut Text,
     ) -> Result<(), NoMemory>
-        requires ready { IsReady (medium D.reads D.may_leave D.faults D.arms) client self.old }
+        requires ready { IsReady D.medium client self.old }
         ensures step { OnOk result
-            (Steps (medium D.reads D.may_leave D.faults D.arms) (Hoards client path.now) self.old self.new out.old out.new tt) }
+            (Steps D.medium (Hoards client path.now) self.old self.new out.old out.new tt) }
         ensures counts { OnOk result (SameDeclared self.old self.new) }
-        ensures disks { SameDisks D.arms self.old self.new }
+        ensures disks { SameDisks D.medium.arms self.old self.new }
     {
         let want = Want::Below(path.copy(alloc)?);
         if !self.take(alloc, client, &want, out)? {
@@ -55,11 +54,11 @@ impl<D: Disk> World<D> {
         client: u64,
         out: &mut Text,
     ) -> Result<(), NoMemory>
-        requires ready { IsReady (medium D.reads D.may_leave D.faults D.arms) client self.old }
+        requires ready { IsReady D.medium client self.old }
         ensures step { OnOk result
-            (Steps (medium D.reads D.may_leave D.faults D.arms) (Refreshes client) self.old self.new out.old out.new tt) }
+            (Steps D.medium (Refreshes client) self.old self.new out.old out.new tt) }
         ensures counts { OnOk result (SameDeclared self.old self.new) }
-        ensures disks { SameDisks D.arms self.old self.new }
+        ensures disks { SameDisks D.medium.arms self.old self.new }
     {
         if !self.take(alloc, client, &Want::Nothing, out)? {
             return Ok(());
@@ -76,11 +75,11 @@ impl<D: Disk> World<D> {
         want: &Want,
         out: &mut Text,
     ) -> Result<bool, NoMemory>
-        requires ready { IsReady (medium D.reads D.may_leave D.faults D.arms) client self.old }
+        requires ready { IsReady D.medium client self.old }
         ensures step { IfOk result
-            (Steps (medium D.reads D.may_leave D.faults D.arms) (Takes client want.now) self.old self.new out.old out.new) }
+            (Steps D.medium (Takes client want.now) self.old self.new out.old out.new) }
         ensures counts { IfOk result (λ on. SameIf on self.old self.new) }
-        ensures disks { SameDisks D.arms self.old self.new }
+        ensures disks { SameDisks D.medium.arms self.old self.new }
     {
         if self.clients[client as usize].runs() {
             say(b"busy", out)?;
@@ -108,14 +107,14 @@ impl<D: Disk> World<D> {
         want: &Want,
         out: &mut Text,
     ) -> Result<Brought, NoMemory>
-        requires ready { IsReady (medium D.reads D.may_leave D.faults D.arms) client self.old }
+        requires ready { IsReady D.medium client self.old }
         requires can { CanHold client self.old }
         ensures step { IfOk result (λ brought.
-            Steps (medium D.reads D.may_leave D.faults D.arms) (Holds client hold want.now)
+            Steps D.medium (Holds client hold want.now)
             self.old self.new out.old out.new (brought_of brought)) }
         ensures can { IfOk result (λ brought. brought_on (brought_of brought) ≡ true → CanHold client self.new) }
         ensures counts { IfOk result (λ brought. SameIf (brought_on (brought_of brought)) self.old self.new) }
-        ensures disks { SameDisks D.arms self.old self.new }
+        ensures disks { SameDisks D.medium.arms self.old self.new }
     {
         let message = self.clients[client as usize].ask(alloc, want)?;
         match self.exchange(alloc, client, &message, out)? {
@@ -137,15 +136,15 @@ impl<D: Disk> World<D> {
         request: Text,
         out: &mut Text,
     ) -> Result<Brought, NoMemory>
-        requires ready { IsReady (medium D.reads D.may_leave D.faults D.arms) client self.old }
+        requires ready { IsReady D.medium client self.old }
         requires first { ClientIs IsFirst client self.old }
         requires asked { IsAsked client request self.old }
         ensures step { IfOk result (λ brought. (want : Want)
             → ClientIs (λ was. IsRefresh (was.place) (state_in was).held want request) client self.old
-            → Steps (medium D.reads D.may_leave D.faults D.arms) (Holds client fetch want)
+            → Steps D.medium (Holds client fetch want)
             self.old self.new out.old out.new (brought_of brought)) }
         ensures counts { IfOk result (λ brought. SameIf (brought_on (brought_of brought)) self.old self.new) }
-        ensures disks { SameDisks D.arms self.old self.new }
+        ensures disks { SameDisks D.medium.arms self.old self.new }
     {
         let message = Message::asking(request.into_bytes());
         match self.exchange(alloc, client, &message, out)? {
@@ -167,18 +166,18 @@ impl<D: Disk> World<D> {
         message: &Message,
         out: &mut Text,
     ) -> Result<Option<Vec<u8>>, NoMemory>
-        requires ready { IsReady (medium D.reads D.may_leave D.faults D.arms) client self.old }
+        requires ready { IsReady D.medium client self.old }
         requires request { IsSomeRequest message.now.request.items }
         ensures lends { IfOk result (λ reply. (place : ℕ) (held : Nodes) (want : Want) → IsRefresh place held want message.now.request.items
-            → Exchanges (medium D.reads D.may_leave D.faults D.arms) client (Lends held want) (SpellsCut held want) reply
+            → Exchanges D.medium client (Lends held want) (SpellsCut held want) reply
             self.old self.new out.old out.new) }
         ensures judges { IfOk result (λ reply. (it : Submission) → IsHanded message.now it → IsOwn client it self.old
-            → Exchanges (medium D.reads D.may_leave D.faults D.arms) client (Judges it) (SpellsVerdict it.reads) reply
+            → Exchanges D.medium client (Judges it) (SpellsVerdict it.reads) reply
             self.old self.new out.old out.new) }
         ensures clients { IfOk result (λ reply. KeepsClients client reply self.old self.new) }
         ensures state { OnOk result (KeepsState client self.old self.new) }
         ensures counts { OnOk result (SameCounts self.old self.new) }
-        ensures disks { SameDisks D.arms self.old self.new }
+        ensures disks { SameDisks D.medium.arms self.old self.new }
     {
         let up = self.server.is_up();
         match self.clients[client as usize].pass(up) {

@@ -1,5 +1,4 @@
 //! A client's link, and the transactions that wait there for the server.
-ghost use Rattle.iot_world.specs.Disks.{medium};
 ghost use Rattle.std.specs.Prelude.{◌≡◌, ◌<◌, ℕ, List, Some, length, OnOk, IfOk, IsSome};
 ghost use Rattle.iot_kept.specs.Changes.{HeadIs};
 ghost use Rattle.iot_lang.specs.Scripts.{IsScript};
@@ -35,11 +34,11 @@ impl<D: Disk> World<D> {
     // ---- the link
 
     pub(crate) fn connect(&mut self, client: u64, out: &mut Text) -> Result<(), NoMemory>
-        requires inside { IsInside (medium D.reads D.may_leave D.faults D.arms) client self.old }
+        requires inside { IsInside D.medium client self.old }
         ensures step { OnOk result
-            (Steps (medium D.reads D.may_leave D.faults D.arms) (Connects client) self.old self.new out.old out.new tt) }
+            (Steps D.medium (Connects client) self.old self.new out.old out.new tt) }
         ensures counts { OnOk result (SameCounts self.old self.new) }
-        ensures disks { SameDisks D.arms self.old self.new }
+        ensures disks { SameDisks D.medium.arms self.old self.new }
     {
         let laptop = &mut self.clients[client as usize];
         laptop.connect();
@@ -48,11 +47,11 @@ impl<D: Disk> World<D> {
     }
 
     pub(crate) fn disconnect(&mut self, client: u64, out: &mut Text) -> Result<(), NoMemory>
-        requires inside { IsInside (medium D.reads D.may_leave D.faults D.arms) client self.old }
+        requires inside { IsInside D.medium client self.old }
         ensures step { OnOk result
-            (Steps (medium D.reads D.may_leave D.faults D.arms) (Disconnects client) self.old self.new out.old out.new tt) }
+            (Steps D.medium (Disconnects client) self.old self.new out.old out.new tt) }
         ensures counts { OnOk result (SameCounts self.old self.new) }
-        ensures disks { SameDisks D.arms self.old self.new }
+        ensures disks { SameDisks D.medium.arms self.old self.new }
     {
         let laptop = &mut self.clients[client as usize];
         laptop.disconnect();
@@ -61,11 +60,11 @@ impl<D: Disk> World<D> {
     }
 
     pub(crate) fn lose(&mut self, client: u64, loss: Loss, out: &mut Text) -> Result<(), NoMemory>
-        requires inside { IsInside (medium D.reads D.may_leave D.faults D.arms) client self.old }
+        requires inside { IsInside D.medium client self.old }
         ensures step { OnOk result
-            (Steps (medium D.reads D.may_leave D.faults D.arms) (Loses client loss) self.old self.new out.old out.new tt) }
+            (Steps D.medium (Loses client loss) self.old self.new out.old out.new tt) }
         ensures counts { OnOk result (SameCounts self.old self.new) }
-        ensures disks { SameDisks D.arms self.old self.new }
+        ensures disks { SameDisks D.medium.arms self.old self.new }
     {
         let laptop = &mut self.clients[client as usize];
         laptop.lose(loss);
@@ -81,11 +80,11 @@ impl<D: Disk> World<D> {
         client: u64,
         out: &mut Text,
     ) -> Result<(), NoMemory>
-        requires ready { IsReady (medium D.reads D.may_leave D.faults D.arms) client self.old }
+        requires ready { IsReady D.medium client self.old }
         ensures step { OnOk result
-            (Steps (medium D.reads D.may_leave D.faults D.arms) (SyncsAloud client) self.old self.new out.old out.new tt) }
+            (Steps D.medium (SyncsAloud client) self.old self.new out.old out.new tt) }
         ensures counts { OnOk result (SameDeclared self.old self.new) }
-        ensures disks { SameDisks D.arms self.old self.new }
+        ensures disks { SameDisks D.medium.arms self.old self.new }
     {
         let _synced = self.sync(alloc, client, out)?;
         Ok(())
@@ -98,11 +97,11 @@ impl<D: Disk> World<D> {
         client: u64,
         out: &mut Text,
     ) -> Result<Synced, NoMemory>
-        requires ready { IsReady (medium D.reads D.may_leave D.faults D.arms) client self.old }
+        requires ready { IsReady D.medium client self.old }
         ensures step { IfOk result (λ synced.
-            Steps (medium D.reads D.may_leave D.faults D.arms) (Syncs client) self.old self.new out.old out.new (synced_of synced)) }
+            Steps D.medium (Syncs client) self.old self.new out.old out.new (synced_of synced)) }
         ensures counts { IfOk result (λ synced. SameIf (syncs_on (synced_of synced)) self.old self.new) }
-        ensures disks { SameDisks D.arms self.old self.new }
+        ensures disks { SameDisks D.medium.arms self.old self.new }
     {
         let laptop = &self.clients[client as usize];
         let Some(transaction) = laptop.head() else {
@@ -128,14 +127,14 @@ impl<D: Disk> World<D> {
         message: &Message,
         out: &mut Text,
     ) -> Result<Synced, NoMemory>
-        requires ready { IsReady (medium D.reads D.may_leave D.faults D.arms) client self.old }
+        requires ready { IsReady D.medium client self.old }
         requires head { ClientIs (λ laptop. head_name laptop (state_in laptop).items ≡ Some transaction.now) client self.old }
         requires hands { ClientIs (λ laptop. HeadIs (λ item. HandsIn laptop item message.now) (state_in laptop).items)
             client self.old }
         ensures step { IfOk result (λ synced.
-            Steps (medium D.reads D.may_leave D.faults D.arms) (Syncs client) self.old self.new out.old out.new (synced_of synced)) }
+            Steps D.medium (Syncs client) self.old self.new out.old out.new (synced_of synced)) }
         ensures counts { IfOk result (λ synced. SameIf (syncs_on (synced_of synced)) self.old self.new) }
-        ensures disks { SameDisks D.arms self.old self.new }
+        ensures disks { SameDisks D.medium.arms self.old self.new }
     {
         match self.exchange(alloc, client, message, out)? {
             Some(reply) => {
@@ -162,14 +161,14 @@ impl<D: Disk> World<D> {
         message: &Message,
         out: &mut Text,
     ) -> Result<Synced, NoMemory>
-        requires ready { IsReady (medium D.reads D.may_leave D.faults D.arms) client self.old }
+        requires ready { IsReady D.medium client self.old }
         requires head { ClientIs (λ laptop. head_name laptop (state_in laptop).items ≡ Some transaction.now) client self.old }
         requires asks { ClientIs (λ laptop. HeadIs (λ item. AsksAll laptop item message.now) (state_in laptop).items)
             client self.old }
         ensures step { IfOk result (λ synced.
-            Steps (medium D.reads D.may_leave D.faults D.arms) (Syncs client) self.old self.new out.old out.new (synced_of synced)) }
+            Steps D.medium (Syncs client) self.old self.new out.old out.new (synced_of synced)) }
         ensures counts { IfOk result (λ synced. SameIf (syncs_on (synced_of synced)) self.old self.new) }
-        ensures disks { SameDisks D.arms self.old self.new }
+        ensures disks { SameDisks D.medium.arms self.old self.new }
     {
         match self.exchange(alloc, client, message, out)? {
             Some(reply) => {
@@ -196,14 +195,14 @@ impl<D: Disk> World<D> {
         reply: &[u8],
         out: &mut Text,
     ) -> Result<bool, NoMemory>
-        requires ready { IsReady (medium D.reads D.may_leave D.faults D.arms) client self.old }
+        requires ready { IsReady D.medium client self.old }
         requires planned { ClientIs (λ laptop. IsHeadPlan (state_in laptop).items plan.now) client self.old }
         requires brings { BringsTree reply.now }
         requires whole { (t : Nodes) → SpellsTree reply.now t → IsWhole t }
         ensures step { IfOk result (λ on. (t : Nodes) → SpellsTree reply.now t
-            → CarriesOut (medium D.reads D.may_leave D.faults D.arms) client t on self.old self.new out.old out.new) }
+            → CarriesOut D.medium client t on self.old self.new out.old out.new) }
         ensures counts { IfOk result (λ on. SameIf on self.old self.new) }
-        ensures disks { SameDisks D.arms self.old self.new }
+        ensures disks { SameDisks D.medium.arms self.old self.new }
     {
         let code = self.script_named(&plan.script)?;
         self.clients[client as usize].resolve(alloc, reply, code, out)
@@ -228,11 +227,11 @@ impl<D: Disk> World<D> {
         client: u64,
         out: &mut Text,
     ) -> Result<Synced, NoMemory>
-        requires ready { IsReady (medium D.reads D.may_leave D.faults D.arms) client self.old }
+        requires ready { IsReady D.medium client self.old }
         ensures step { IfOk result (λ synced.
-            Steps (medium D.reads D.may_leave D.faults D.arms) (SyncsAll client) self.old self.new out.old out.new (synced_of synced)) }
+            Steps D.medium (SyncsAll client) self.old self.new out.old out.new (synced_of synced)) }
         ensures counts { IfOk result (λ synced. SameIf (syncs_on (synced_of synced)) self.old self.new) }
-        ensures disks { SameDisks D.arms self.old self.new }
+        ensures disks { SameDisks D.medium.arms self.old self.new }
     {
         let most = self.clients[client as usize].most_syncs()?;
         'syncs: for _ in 0..most {
@@ -254,11 +253,11 @@ impl<D: Disk> World<D> {
         client: u64,
         out: &mut Text,
     ) -> Result<(), NoMemory>
-        requires ready { IsReady (medium D.reads D.may_leave D.faults D.arms) client self.old }
+        requires ready { IsReady D.medium client self.old }
         ensures step { OnOk result
-            (Steps (medium D.reads D.may_leave D.faults D.arms) (Drains client) self.old self.new out.old out.new tt) }
+            (Steps D.medium (Drains client) self.old self.new out.old out.new tt) }
         ensures counts { OnOk result (SameDeclared self.old self.new) }
-        ensures disks { SameDisks D.arms self.old self.new }
+        ensures disks { SameDisks D.medium.arms self.old self.new }
     {
         let before = out.len();
         let _synced = self.sync_all(alloc, client, out)?;
@@ -277,11 +276,11 @@ impl<D: Disk> World<D> {
         client: u64,
         out: &mut Text,
     ) -> Result<(), NoMemory>
-        requires inside { IsInside (medium D.reads D.may_leave D.faults D.arms) client self.old }
-        ensures step { OnOk result (Steps (medium D.reads D.may_leave D.faults D.arms)
+        requires inside { IsInside D.medium client self.old }
+        ensures step { OnOk result (Steps D.medium
             (Then (Asks (is_drained client)) (either (Refreshes client) Nothing)) self.old self.new out.old out.new tt) }
         ensures counts { OnOk result (SameDeclared self.old self.new) }
-        ensures disks { SameDisks D.arms self.old self.new }
+        ensures disks { SameDisks D.medium.arms self.old self.new }
     {
         if !self.clients[client as usize].is_drained() {
             return Ok(());
@@ -300,12 +299,12 @@ impl<D: Disk> World<D> {
         script: u64,
         out: &mut Text,
     ) -> Result<(), NoMemory>
-        requires ready { IsReady (medium D.reads D.may_leave D.faults D.arms) client self.old }
+        requires ready { IsReady D.medium client self.old }
         requires script { script < length self.old.scripts.items }
         ensures step { OnOk result
-            (Steps (medium D.reads D.may_leave D.faults D.arms) (Repairs client script) self.old self.new out.old out.new tt) }
+            (Steps D.medium (Repairs client script) self.old self.new out.old out.new tt) }
         ensures counts { OnOk result (SameDeclared self.old self.new) }
-        ensures disks { SameDisks D.arms self.old self.new }
+        ensures disks { SameDisks D.medium.arms self.old self.new }
     {
         let transaction = match self.clients[client as usize].decision() {
             Ok(transaction) => transaction,
@@ -328,11 +327,11 @@ impl<D: Disk> World<D> {
         client: u64,
         out: &mut Text,
     ) -> Result<(), NoMemory>
-        requires ready { IsReady (medium D.reads D.may_leave D.faults D.arms) client self.old }
+        requires ready { IsReady D.medium client self.old }
         ensures step { OnOk result
-            (Steps (medium D.reads D.may_leave D.faults D.arms) (Discards client) self.old self.new out.old out.new tt) }
+            (Steps D.medium (Discards client) self.old self.new out.old out.new tt) }
         ensures counts { OnOk result (SameDeclared self.old self.new) }
-        ensures disks { SameDisks D.arms self.old self.new }
+        ensures disks { SameDisks D.medium.arms self.old self.new }
     {
         let transaction = match self.clients[client as usize].decision() {
             Ok(transaction) => transaction,

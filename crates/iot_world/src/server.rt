@@ -12,7 +12,7 @@ ghost use Rattle.iot_machine.specs.Machine.{tree_after};
 ghost use Rattle.iot_machine.specs.Serving.{Submission, Lends, Judges, server_name, kept_text};
 ghost use Rattle.iot_machine.specs.Texts.{tree_text};
 ghost use Rattle.iot_world.specs.Deciding.{DecidesServer};
-ghost use Rattle.iot_world.specs.Disks.{medium, IsEmpty, SameDisk};
+ghost use Rattle.iot_world.specs.Disks.{IsEmpty, SameDisk, counts_on};
 ghost use Rattle.iot_world.specs.Servers.{back_said};
 
 use crate::message::Message;
@@ -56,10 +56,10 @@ impl<D: Disk> ServerNode<D> {
 
     /// A server on an empty disk, which was never started.
     pub(crate) fn unopened(disk: D) -> ServerNode<D>
-        requires { IsEmpty (medium D.reads D.may_leave D.faults D.arms) disk }
-        ensures stands { (names : List (List ℕ)) → ServerStands (medium D.reads D.may_leave D.faults D.arms) names result
-            (unopened [] ((medium D.reads D.may_leave D.faults D.arms).counts disk)) }
-        ensures unopened { IsUnopened (medium D.reads D.may_leave D.faults D.arms) result }
+        requires { IsEmpty D.medium disk }
+        ensures stands { (names : List (List ℕ)) → ServerStands D.medium names result
+            (unopened [] (counts_on D.medium disk)) }
+        ensures unopened { IsUnopened D.medium result }
         ensures disk { disk_of result ≡ Some disk }
     {
         ServerNode::Down { disk, doubt: None }
@@ -67,12 +67,12 @@ impl<D: Disk> ServerNode<D> {
 
     /// Starts for the first time, and whether it did. Else it has stopped, which is said.
     pub(crate) fn open(&mut self, alloc: Global, out: &mut Text) -> Result<bool, NoMemory>
-        requires { IsUnopened (medium D.reads D.may_leave D.faults D.arms) self.old }
+        requires { IsUnopened D.medium self.old }
         ensures step { IfOk result (λ on. (names : List (List ℕ))
-            → Refines (ServerStands (medium D.reads D.may_leave D.faults D.arms) names)
+            → Refines (ServerStands D.medium names)
             (OpensNode server_name) self.old self.new out.old out.new on) }
         ensures requests { OnOk result (HasAnswered 0 self.new) }
-        ensures disk { SameDisk D.arms (disk_of self.old) (disk_of self.new) }
+        ensures disk { SameDisk D.medium.arms (disk_of self.old) (disk_of self.new) }
         ensures text { Extends out.old out.new }
     {
         match mem::replace(self, ServerNode::Between) {
@@ -102,18 +102,18 @@ impl<D: Disk> ServerNode<D> {
         out: &mut Text,
     ) -> Result<Option<Vec<u8>>, NoMemory>
         requires up { is_up self.old ≡ true }
-        requires sound { ServerIsSound (medium D.reads D.may_leave D.faults D.arms) self.old }
+        requires sound { ServerIsSound D.medium self.old }
         requires request { IsSomeRequest message.now.request.items }
         ensures up { IfOk result (λ reply. is_up self.new ≡ is_some reply) }
         ensures lends { IfOk result (λ reply. (client : ℕ) (held : Nodes) (want : Want) (names : List (List ℕ))
             → IsRefresh client held want message.now.request.items
-            → Serves (medium D.reads D.may_leave D.faults D.arms) names (Lends held want) (SpellsCut held want) reply
+            → Serves D.medium names (Lends held want) (SpellsCut held want) reply
             self.old self.new out.old out.new) }
         ensures judges { IfOk result (λ reply. (it : Submission) (names : List (List ℕ)) → IsHanded message.now it → IsNamedIn names it
-            → Serves (medium D.reads D.may_leave D.faults D.arms) names (Judges it) (SpellsVerdict it.reads) reply
+            → Serves D.medium names (Judges it) (SpellsVerdict it.reads) reply
             self.old self.new out.old out.new) }
         ensures requests { IfOk result (λ reply. (n : ℕ) → HasAnswered n self.old → HasAnswered (answered reply n) self.new) }
-        ensures disk { SameDisk D.arms (disk_of self.old) (disk_of self.new) }
+        ensures disk { SameDisk D.medium.arms (disk_of self.old) (disk_of self.new) }
     {
         let before = self.number();
         match self.handle(alloc, message) {
@@ -138,13 +138,13 @@ impl<D: Disk> ServerNode<D> {
 
     /// What the server replies to the request.
     fn handle(&mut self, alloc: Global, message: &Message) -> Result<Vec<u8>, ServerFault>
-        requires synced { IsLive (medium D.reads D.may_leave D.faults D.arms) self.old }
+        requires synced { IsLive D.medium self.old }
         requires request { IsSomeRequest message.now.request.items }
         ensures handled { IfOk result (λ reply.
-            Handled (medium D.reads D.may_leave D.faults D.arms) message.now.request.items reply.items self.old self.new) }
-        ensures stopped { StopsHandling (medium D.reads D.may_leave D.faults D.arms) message.now.request.items result self.old self.new }
+            Handled D.medium message.now.request.items reply.items self.old self.new) }
+        ensures stopped { StopsHandling D.medium message.now.request.items result self.old self.new }
         ensures requests { OnOk result ((n : ℕ) → HasAnswered n self.old → HasAnswered (n + 1) self.new) }
-        ensures disk { SameDisk D.arms (disk_of self.old) (disk_of self.new) }
+        ensures disk { SameDisk D.medium.arms (disk_of self.old) (disk_of self.new) }
     {
         match self {
             ServerNode::Up(server) => server.handle(alloc, &message.request),
@@ -158,9 +158,9 @@ impl<D: Disk> ServerNode<D> {
     pub(crate) fn crash(&mut self, out: &mut Text) -> Result<(), NoMemory>
         requires { HasDisk self.old }
         ensures down { OnOk result (is_up self.new ≡ false) }
-        ensures step { OnOk result ((names : List (List ℕ)) → Refines (ServerStands (medium D.reads D.may_leave D.faults D.arms) names)
+        ensures step { OnOk result ((names : List (List ℕ)) → Refines (ServerStands D.medium names)
             (Crashes server_name) self.old self.new out.old out.new tt) }
-        ensures disk { SameDisk D.arms (disk_of self.old) (disk_of self.new) }
+        ensures disk { SameDisk D.medium.arms (disk_of self.old) (disk_of self.new) }
     {
         if !self.is_up() {
             say(b"down", out)?;
@@ -175,7 +175,7 @@ impl<D: Disk> ServerNode<D> {
     fn fall_with(&mut self, doubt: Option<Doubt>)
         requires { is_up self.old ≡ true }
         ensures falls { FallsWith doubt self.old self.new }
-        ensures disk { SameDisk D.arms (disk_of self.old) (disk_of self.new) }
+        ensures disk { SameDisk D.medium.arms (disk_of self.old) (disk_of self.new) }
     {
         match mem::replace(self, ServerNode::Between) {
             ServerNode::Up(server) => self.settle(ServerNode::Down {
@@ -200,14 +200,14 @@ impl<D: Disk> ServerNode<D> {
     /// Comes back from one of the images that its disk may have. A commit that was in doubt is printed if it was kept. If the disk fails
     /// in that, the server has stopped again, and what was in doubt still is.
     pub(crate) fn restart(&mut self, alloc: Global, out: &mut Text) -> Result<(), NoMemory>
-        requires { ServerIsSound (medium D.reads D.may_leave D.faults D.arms) self.old }
+        requires { ServerIsSound D.medium self.old }
         ensures requests { OnOk result ((n : ℕ) → HasAnswered n self.old → HasAnswered (answered_since (is_up self.old) n) self.new) }
-        ensures step { OnOk result ((names : List (List ℕ)) → Refines (ServerStands (medium D.reads D.may_leave D.faults D.arms) names)
+        ensures step { OnOk result ((names : List (List ℕ)) → Refines (ServerStands D.medium names)
             (Restarts server_name (kept_text names)) self.old self.new out.old out.new tt) }
 
         // If all images of its disk have the commit that is in doubt, or none has it, that decides whether it is kept.
-        ensures decided { OnOk result (DecidesServer D.may_leave self.old out.old out.new) }
-        ensures disk { SameDisk D.arms (disk_of self.old) (disk_of self.new) }
+        ensures decided { OnOk result (DecidesServer D.medium.may_leave self.old out.old out.new) }
+        ensures disk { SameDisk D.medium.arms (disk_of self.old) (disk_of self.new) }
     {
         match mem::replace(self, ServerNode::Between) {
             ServerNode::Up(server) => {
@@ -229,12 +229,12 @@ impl<D: Disk> ServerNode<D> {
         out: &mut Text,
     ) -> Result<(), NoMemory>
         requires between { self.old ≡ Between }
-        requires sound { ServerIsSound (medium D.reads D.may_leave D.faults D.arms) (Down disk doubt) }
+        requires sound { ServerIsSound D.medium (Down disk doubt) }
         ensures requests { OnOk result (HasAnswered 0 self.new) }
-        ensures step { OnOk result ((names : List (List ℕ)) → Refines (ServerStands (medium D.reads D.may_leave D.faults D.arms) names)
+        ensures step { OnOk result ((names : List (List ℕ)) → Refines (ServerStands D.medium names)
             (ComesBackAloud names) (Down disk doubt) self.new out.old out.new tt) }
-        ensures decided { OnOk result (DecidesServer D.may_leave (Down disk doubt) out.old out.new) }
-        ensures disk { SameDisk D.arms (Some disk) (disk_of self.new) }
+        ensures decided { OnOk result (DecidesServer D.medium.may_leave (Down disk doubt) out.old out.new) }
+        ensures disk { SameDisk D.medium.arms (Some disk) (disk_of self.new) }
     {
         disk.restart();
         match Server::start(alloc, disk) {
@@ -255,11 +255,11 @@ impl<D: Disk> ServerNode<D> {
     /// Makes a later call of its disk fail, and says so.
     pub(crate) fn arm(&mut self, calls: u64, pick: Pick, out: &mut Text) -> Result<(), NoMemory>
         requires { HasDisk self.old }
-        ensures step { OnOk result ((names : List (List ℕ)) → Refines (ServerStands (medium D.reads D.may_leave D.faults D.arms) names)
+        ensures step { OnOk result ((names : List (List ℕ)) → Refines (ServerStands D.medium names)
             (ArmsDisk server_name calls pick) self.old self.new out.old out.new tt) }
         ensures requests { OnOk result ((n : ℕ) → HasAnswered n self.old → HasAnswered n self.new) }
         ensures has { HasDisk self.new }
-        ensures disk { IfErr result (λ _. SameDisk D.arms (disk_of self.old) (disk_of self.new)) }
+        ensures disk { IfErr result (λ _. SameDisk D.medium.arms (disk_of self.old) (disk_of self.new)) }
         ensures text { Extends out.old out.new }
     {
         say_stop(b"server", calls, pick, out)?;
@@ -275,7 +275,7 @@ impl<D: Disk> ServerNode<D> {
 
     /// Prints its tree, if it is alive; else `down`.
     pub(crate) fn show(&self, out: &mut Text) -> Result<(), NoMemory>
-        ensures { OnOk result ((names : List (List ℕ)) → Refines (ServerStands (medium D.reads D.may_leave D.faults D.arms) names)
+        ensures { OnOk result ((names : List (List ℕ)) → Refines (ServerStands D.medium names)
             (Shows (λ commits. tree_text (tree_after commits))) self.now self.now out.old out.new tt) }
     {
         match self.tree() {

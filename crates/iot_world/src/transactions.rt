@@ -1,5 +1,4 @@
 //! What a client does with its transactions: they begin, are stepped and end.
-ghost use Rattle.iot_world.specs.Disks.{medium};
 ghost use Rattle.std.specs.Prelude.{◌≡◌, ◌<◌, ℕ, List, OnOk, IfOk, true, length};
 ghost use Rattle.iot_machine.specs.Calls.{Asks, Says, Then};
 ghost use Rattle.iot_event.specs.Declarations.{ResolverIsDeclared};
@@ -37,14 +36,14 @@ impl<D: Disk> World<D> {
         option: Choice,
         out: &mut Text,
     ) -> Result<(), NoMemory>
-        requires ready { IsReady (medium D.reads D.may_leave D.faults D.arms) client self.old }
+        requires ready { IsReady D.medium client self.old }
         requires script { script < length self.old.scripts.items }
         requires option { ResolverIsDeclared option (length self.old.scripts.items) }
         ensures step { OnOk result
-            (Steps (medium D.reads D.may_leave D.faults D.arms) (BeginsAloud client script (chosen option))
+            (Steps D.medium (BeginsAloud client script (chosen option))
             self.old self.new out.old out.new tt) }
         ensures counts { OnOk result (SameDeclared self.old self.new) }
-        ensures disks { SameDisks D.arms self.old self.new }
+        ensures disks { SameDisks D.medium.arms self.old self.new }
     {
         if !self.begin(alloc, client, script, option, out)? {
             return Ok(());
@@ -62,13 +61,13 @@ impl<D: Disk> World<D> {
         option: Choice,
         out: &mut Text,
     ) -> Result<bool, NoMemory>
-        requires ready { IsReady (medium D.reads D.may_leave D.faults D.arms) client self.old }
+        requires ready { IsReady D.medium client self.old }
         requires script { script < length self.old.scripts.items }
         requires option { ResolverIsDeclared option (length self.old.scripts.items) }
         ensures step { IfOk result
-            (Steps (medium D.reads D.may_leave D.faults D.arms) (Begins client script (chosen option)) self.old self.new out.old out.new) }
+            (Steps D.medium (Begins client script (chosen option)) self.old self.new out.old out.new) }
         ensures counts { IfOk result (λ on. SameIf on self.old self.new) }
-        ensures disks { SameDisks D.arms self.old self.new }
+        ensures disks { SameDisks D.medium.arms self.old self.new }
     {
         let laptop = &self.clients[client as usize];
         if laptop.runs() {
@@ -94,15 +93,15 @@ impl<D: Disk> World<D> {
         first: bool,
         out: &mut Text,
     ) -> Result<bool, NoMemory>
-        requires ready { IsReady (medium D.reads D.may_leave D.faults D.arms) client self.old }
+        requires ready { IsReady D.medium client self.old }
         requires script { script < length self.old.scripts.items }
         requires option { ResolverIsDeclared option (length self.old.scripts.items) }
         requires idle { ClientIs IsIdle client self.old }
         requires alone { first ≡ true → CanHold client self.old }
-        ensures step { IfOk result (Steps (medium D.reads D.may_leave D.faults D.arms)
+        ensures step { IfOk result (Steps D.medium
             (Starts client (declared_in self.old script) (option_in self.old option) first) self.old self.new out.old out.new) }
         ensures counts { IfOk result (λ on. SameIf on self.old self.new) }
-        ensures disks { SameDisks D.arms self.old self.new }
+        ensures disks { SameDisks D.medium.arms self.old self.new }
     {
         let option = self.option_named(option);
         let declared = &self.scripts[script as usize];
@@ -124,9 +123,9 @@ impl<D: Disk> World<D> {
     }
 
     fn say_begun(&self, client: u64, out: &mut Text) -> Result<(), NoMemory>
-        requires ready { IsReady (medium D.reads D.may_leave D.faults D.arms) client self.now }
+        requires ready { IsReady D.medium client self.now }
         ensures { OnOk result
-            (Steps (medium D.reads D.may_leave D.faults D.arms) (Says (begin_text client)) self.now self.now out.old out.new tt) }
+            (Steps D.medium (Says (begin_text client)) self.now self.now out.old out.new tt) }
     {
         let laptop = &self.clients[client as usize];
         match laptop.running() {
@@ -148,11 +147,11 @@ impl<D: Disk> World<D> {
         most: u64,
         out: &mut Text,
     ) -> Result<(), NoMemory>
-        requires ready { IsReady (medium D.reads D.may_leave D.faults D.arms) client self.old }
+        requires ready { IsReady D.medium client self.old }
         ensures step { OnOk result
-            (Steps (medium D.reads D.may_leave D.faults D.arms) (StepsAloud client most) self.old self.new out.old out.new tt) }
+            (Steps D.medium (StepsAloud client most) self.old self.new out.old out.new tt) }
         ensures counts { OnOk result (SameDeclared self.old self.new) }
-        ensures disks { SameDisks D.arms self.old self.new }
+        ensures disks { SameDisks D.medium.arms self.old self.new }
     {
         if !self.clients[client as usize].runs() {
             say(b"idle", out)?;
@@ -165,9 +164,9 @@ impl<D: Disk> World<D> {
     }
 
     fn say_stepped(&self, client: u64, out: &mut Text) -> Result<(), NoMemory>
-        requires ready { IsReady (medium D.reads D.may_leave D.faults D.arms) client self.now }
+        requires ready { IsReady D.medium client self.now }
         ensures { OnOk result
-            (Steps (medium D.reads D.may_leave D.faults D.arms) (Says (step_text client)) self.now self.now out.old out.new tt) }
+            (Steps D.medium (Says (step_text client)) self.now self.now out.old out.new tt) }
     {
         let laptop = &self.clients[client as usize];
         match laptop.running() {
@@ -194,12 +193,12 @@ impl<D: Disk> World<D> {
         loud: bool,
         out: &mut Text,
     ) -> Result<Stepped, NoMemory>
-        requires ready { IsReady (medium D.reads D.may_leave D.faults D.arms) client self.old }
+        requires ready { IsReady D.medium client self.old }
         ensures step { IfOk result (λ stepped.
-            Steps (medium D.reads D.may_leave D.faults D.arms) (StepsAll client loud most)
+            Steps D.medium (StepsAll client loud most)
             self.old self.new out.old out.new (stepped_of stepped)) }
         ensures counts { IfOk result (λ stepped. SameIf (steps_on (stepped_of stepped)) self.old self.new) }
-        ensures disks { SameDisks D.arms self.old self.new }
+        ensures disks { SameDisks D.medium.arms self.old self.new }
     {
         'steps: for _ in 0..most {
             let stepped = self.step(alloc, client, loud, out)?;
@@ -218,12 +217,12 @@ impl<D: Disk> World<D> {
         loud: bool,
         out: &mut Text,
     ) -> Result<Stepped, NoMemory>
-        requires ready { IsReady (medium D.reads D.may_leave D.faults D.arms) client self.old }
+        requires ready { IsReady D.medium client self.old }
         ensures step { IfOk result (λ stepped.
-            Steps (medium D.reads D.may_leave D.faults D.arms) (SingleStep client loud)
+            Steps D.medium (SingleStep client loud)
             self.old self.new out.old out.new (stepped_of stepped)) }
         ensures counts { IfOk result (λ stepped. SameIf (steps_on (stepped_of stepped)) self.old self.new) }
-        ensures disks { SameDisks D.arms self.old self.new }
+        ensures disks { SameDisks D.medium.arms self.old self.new }
     {
         let laptop = &mut self.clients[client as usize];
         if !laptop.runs() {
@@ -253,10 +252,10 @@ impl<D: Disk> World<D> {
     // ---- end
 
     pub(crate) fn end(&mut self, alloc: Global, client: u64, out: &mut Text) -> Result<(), NoMemory>
-        requires ready { IsReady (medium D.reads D.may_leave D.faults D.arms) client self.old }
-        ensures step { OnOk result (Steps (medium D.reads D.may_leave D.faults D.arms) (Ends client) self.old self.new out.old out.new tt) }
+        requires ready { IsReady D.medium client self.old }
+        ensures step { OnOk result (Steps D.medium (Ends client) self.old self.new out.old out.new tt) }
         ensures counts { OnOk result (SameDeclared self.old self.new) }
-        ensures disks { SameDisks D.arms self.old self.new }
+        ensures disks { SameDisks D.medium.arms self.old self.new }
     {
         let laptop = &mut self.clients[client as usize];
         if !laptop.runs() {
@@ -293,13 +292,13 @@ impl<D: Disk> World<D> {
         option: Choice,
         out: &mut Text,
     ) -> Result<(), NoMemory>
-        requires ready { IsReady (medium D.reads D.may_leave D.faults D.arms) client self.old }
+        requires ready { IsReady D.medium client self.old }
         requires script { script < length self.old.scripts.items }
         requires option { ResolverIsDeclared option (length self.old.scripts.items) }
         ensures step { OnOk result
-            (Steps (medium D.reads D.may_leave D.faults D.arms) (Runs client script (chosen option)) self.old self.new out.old out.new tt) }
+            (Steps D.medium (Runs client script (chosen option)) self.old self.new out.old out.new tt) }
         ensures counts { OnOk result (SameDeclared self.old self.new) }
-        ensures disks { SameDisks D.arms self.old self.new }
+        ensures disks { SameDisks D.medium.arms self.old self.new }
     {
         if self.clients[client as usize].runs() {
             say(b"busy", out)?;
@@ -313,11 +312,11 @@ impl<D: Disk> World<D> {
 
     /// Syncs the transactions that wait, if the link is up; and whether the client goes on.
     fn sync_if_up(&mut self, alloc: Global, client: u64, out: &mut Text) -> Result<bool, NoMemory>
-        requires ready { IsReady (medium D.reads D.may_leave D.faults D.arms) client self.old }
-        ensures step { IfOk result (Steps (medium D.reads D.may_leave D.faults D.arms) (Then (Asks (is_connected client)) (SyncsIf client))
+        requires ready { IsReady D.medium client self.old }
+        ensures step { IfOk result (Steps D.medium (Then (Asks (is_connected client)) (SyncsIf client))
             self.old self.new out.old out.new) }
         ensures counts { IfOk result (λ on. SameIf on self.old self.new) }
-        ensures disks { SameDisks D.arms self.old self.new }
+        ensures disks { SameDisks D.medium.arms self.old self.new }
     {
         if !self.clients[client as usize].link.is_up() {
             return Ok(true);
@@ -334,14 +333,14 @@ impl<D: Disk> World<D> {
         option: Choice,
         out: &mut Text,
     ) -> Result<(), NoMemory>
-        requires ready { IsReady (medium D.reads D.may_leave D.faults D.arms) client self.old }
+        requires ready { IsReady D.medium client self.old }
         requires script { script < length self.old.scripts.items }
         requires option { ResolverIsDeclared option (length self.old.scripts.items) }
         ensures step { OnOk result
-            (Steps (medium D.reads D.may_leave D.faults D.arms) (runs_script client script (chosen option))
+            (Steps D.medium (runs_script client script (chosen option))
             self.old self.new out.old out.new tt) }
         ensures counts { OnOk result (SameDeclared self.old self.new) }
-        ensures disks { SameDisks D.arms self.old self.new }
+        ensures disks { SameDisks D.medium.arms self.old self.new }
     {
         if !self.begin(alloc, client, script, option, out)? {
             return Ok(());

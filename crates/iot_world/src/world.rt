@@ -8,7 +8,7 @@ ghost use Rattle.iot_machine.specs.Events.{Declares, CrashesClient, RestartsClie
 ghost use Rattle.iot_machine.specs.Stops.{Crashes, ArmsDisk};
 ghost use Rattle.iot_machine.specs.Serving.{server_name};
 ghost use Rattle.iot_machine.specs.Texts.{line};
-ghost use Rattle.iot_world.specs.Disks.{medium, AreFresh};
+ghost use Rattle.iot_world.specs.Disks.{AreFresh};
 ghost use Rattle.iot_server.specs.Servers as servers;
 ghost use Rattle.iot_world.specs.Servers.{disk_of};
 
@@ -62,10 +62,10 @@ impl<D: Disk> World<D> {
     ///
     /// The disks come back if memory runs out.
     pub fn new(alloc: Global, disks: Vec<D>, out: &mut Text) -> Result<World<D>, Vec<D>>
-        requires { AreFresh (medium D.reads D.may_leave D.faults D.arms) disks.items }
-        ensures opens { IfOk result (Opens (medium D.reads D.may_leave D.faults D.arms) disks.items out.old out.new) }
-        ensures arms { IfOk result (λ world. map D.arms (disks_of world) ≡ map D.arms disks.items) }
-        ensures refused { IfErr result (λ back. map D.arms back.items ≡ map D.arms disks.items) }
+        requires { AreFresh D.medium disks.items }
+        ensures opens { IfOk result (Opens D.medium disks.items out.old out.new) }
+        ensures arms { IfOk result (λ world. map D.medium.arms (disks_of world) ≡ map D.medium.arms disks.items) }
+        ensures refused { IfErr result (λ back. map D.medium.arms back.items ≡ map D.medium.arms disks.items) }
 
         // What was said before stays, also if memory runs out.
         ensures text { Extends out.old out.new }
@@ -93,20 +93,20 @@ impl<D: Disk> World<D> {
     /// If memory runs out.
     pub fn apply(&mut self, alloc: Global, event: &Event, out: &mut Text) -> Result<(), NoMemory>
         requires allowed { IsAllowed event.now (client_count self.old) (script_names self.old) }
-        requires stands { IsWorldOfSome (medium D.reads D.may_leave D.faults D.arms) self.old }
+        requires stands { IsWorldOfSome D.medium self.old }
 
         // Each machine of which this was the world does this event, with the text that was added, and this is its world then: the
         // nodes that are lent are the machine's, and so is what its disks may hold after a crash and what they count; and what is in
         // its list goes together with the queues. A node may stop in it, but only if its disk failed.
         ensures step { OnOk result
-            (EventSteps (medium D.reads D.may_leave D.faults D.arms) event.now self.old self.new out.old out.new) }
+            (EventSteps D.medium event.now self.old self.new out.old out.new) }
 
         // If all images of a disk have the record that is in doubt, or none has it, this decides whether it is kept.
-        ensures decided { OnOk result (Decides D.may_leave event.now self.old out.old out.new) }
+        ensures decided { OnOk result (Decides D.medium.may_leave event.now self.old out.old out.new) }
 
         // The disks are those of before. If memory ran out, none was armed.
         ensures disks { KeepsDisks self.old self.new }
-        ensures arms { IfErr result (λ _. SameArms D.arms self.old self.new) }
+        ensures arms { IfErr result (λ _. SameArms D.medium.arms self.old self.new) }
 
         // For the events after it.
         ensures declared { OnOk result ((later : List Event) → DeclaredOn (event.now ∷ later) self.old → DeclaredOn later self.new) }
@@ -129,7 +129,7 @@ impl<D: Disk> World<D> {
     /// The server, if it is alive. Its disk is the first of those that `into_disks` gives back. Does not allocate.
     pub fn server(&self) -> Option<&Server<D>>
         // Its tree, its labels and its count of requests are those of each machine for which the world stands.
-        ensures lent { (m : Machine) → StandsFor (medium D.reads D.may_leave D.faults D.arms) self.now m
+        ensures lent { (m : Machine) → StandsFor D.medium self.now m
             → LendsServer (option_copied result) m }
         ensures disk { IfSome (option_copied result) (λ it. disk_of self.now.server ≡ Some (servers.disk_of it)) }
     {
@@ -140,7 +140,7 @@ impl<D: Disk> World<D> {
     /// server's and those of the clients before it, of those that `into_disks` gives back. Does not allocate.
     pub fn client(&self, place: u64) -> Option<&Client<D>>
         // Its tree, its view, its queue and its running transaction are those of each machine for which the world stands.
-        ensures lent { (m : Machine) → StandsFor (medium D.reads D.may_leave D.faults D.arms) self.now m
+        ensures lent { (m : Machine) → StandsFor D.medium self.now m
             → LendsClient (option_copied result) place m }
         ensures disk { IfSome (option_copied result) (λ it. ClientIs (λ laptop. disk_in laptop ≡ Some (client_disk it)) place self.now) }
     {
@@ -157,11 +157,11 @@ impl<D: Disk> World<D> {
     fn act_after(&mut self, alloc: Global, event: &Event, out: &mut Text) -> Result<(), NoMemory>
         requires unarmed { arms_a_disk event.now ≡ false }
         requires allowed { IsAllowed event.now (client_count self.old) (script_names self.old) }
-        requires stands { IsWorldOfSome (medium D.reads D.may_leave D.faults D.arms) self.old }
+        requires stands { IsWorldOfSome D.medium self.old }
         ensures step { OnOk result
-            (EventSteps (medium D.reads D.may_leave D.faults D.arms) event.now self.old self.new out.old out.new) }
-        ensures decided { OnOk result (Decides D.may_leave event.now self.old out.old out.new) }
-        ensures disks { SameDisks D.arms self.old self.new }
+            (EventSteps D.medium event.now self.old self.new out.old out.new) }
+        ensures decided { OnOk result (Decides D.medium.may_leave event.now self.old out.old out.new) }
+        ensures disks { SameDisks D.medium.arms self.old self.new }
         ensures declared { OnOk result ((later : List Event) → DeclaredOn (event.now ∷ later) self.old → DeclaredOn later self.new) }
         ensures text { Extends out.old out.new }
     {
@@ -179,11 +179,11 @@ impl<D: Disk> World<D> {
     fn act(&mut self, alloc: Global, event: &Event, out: &mut Text) -> Result<(), NoMemory>
         requires unarmed { arms_a_disk event.now ≡ false }
         requires allowed { IsAllowed event.now (client_count self.old) (script_names self.old) }
-        requires stands { IsWorldOfSome (medium D.reads D.may_leave D.faults D.arms) self.old }
+        requires stands { IsWorldOfSome D.medium self.old }
         ensures step { OnOk result
-            (EventSteps (medium D.reads D.may_leave D.faults D.arms) event.now self.old self.new out.old out.new) }
-        ensures decided { OnOk result (Decides D.may_leave event.now self.old out.old out.new) }
-        ensures disks { SameDisks D.arms self.old self.new }
+            (EventSteps D.medium event.now self.old self.new out.old out.new) }
+        ensures decided { OnOk result (Decides D.medium.may_leave event.now self.old out.old out.new) }
+        ensures disks { SameDisks D.medium.arms self.old self.new }
         ensures declared { OnOk result ((later : List Event) → DeclaredOn (event.now ∷ later) self.old → DeclaredOn later self.new) }
     {
         match event {
@@ -198,11 +198,11 @@ impl<D: Disk> World<D> {
     fn perform(&mut self, alloc: Global, event: &Event, out: &mut Text) -> Result<(), NoMemory>
         requires another { is_of_disks event.now ≡ false }
         requires allowed { IsAllowed event.now (client_count self.old) (script_names self.old) }
-        requires stands { StandsForSome (medium D.reads D.may_leave D.faults D.arms) self.old }
-        requires sound { IsWorldOfSome (medium D.reads D.may_leave D.faults D.arms) self.old }
+        requires stands { StandsForSome D.medium self.old }
+        requires sound { IsWorldOfSome D.medium self.old }
         ensures step { OnOk result
-            (Steps (medium D.reads D.may_leave D.faults D.arms) (event_part event.now) self.old self.new out.old out.new tt) }
-        ensures disks { SameDisks D.arms self.old self.new }
+            (Steps D.medium (event_part event.now) self.old self.new out.old out.new tt) }
+        ensures disks { SameDisks D.medium.arms self.old self.new }
         ensures declared { OnOk result ((later : List Event) → DeclaredOn (event.now ∷ later) self.old → DeclaredOn later self.new) }
     {
         match event {
@@ -300,12 +300,12 @@ impl<D: Disk> World<D> {
 
     /// A client joins, and starts on the next disk. If that fails in it, the client has stopped, which is said in place of its line.
     fn declare_client(&mut self, alloc: Global, name: &Name, out: &mut Text) -> Result<(), NoMemory>
-        requires stands { StandsForSome (medium D.reads D.may_leave D.faults D.arms) self.old }
+        requires stands { StandsForSome D.medium self.old }
         requires few { client_count self.old < 8 }
         ensures step { OnOk result
-            (Steps (medium D.reads D.may_leave D.faults D.arms) (Declares name.now) self.old self.new out.old out.new tt) }
+            (Steps D.medium (Declares name.now) self.old self.new out.old out.new tt) }
         ensures declared { OnOk result (DeclaresClient self.old self.new) }
-        ensures disks { SameDisks D.arms self.old self.new }
+        ensures disks { SameDisks D.medium.arms self.old self.new }
     {
         self.clients.reserve(1)?;
         let place = self.clients.len() as u64;
@@ -320,7 +320,7 @@ impl<D: Disk> World<D> {
 
     fn declare_script(&mut self, name: &Name, script: &SharedScript) -> Result<(), NoMemory>
         ensures world { OnOk result (AddsScript name.now script.now self.old self.new) }
-        ensures disks { SameDisks D.arms self.old self.new }
+        ensures disks { SameDisks D.medium.arms self.old self.new }
     {
         self.scripts.push(DeclaredScript {
             name: *name,
@@ -333,7 +333,7 @@ impl<D: Disk> World<D> {
 
     /// Whether the client is alive. If not, that is said.
     fn is_up(&self, client: u64, out: &mut Text) -> Result<bool, NoMemory>
-        requires inside { IsInside (medium D.reads D.may_leave D.faults D.arms) client self.now }
+        requires inside { IsInside D.medium client self.now }
         ensures yes { IfOk result (λ up. up ≡ true → (out.new ≡ out.old) × ClientIs IsAlive client self.now) }
         ensures no { IfOk result (λ up. up ≡ false → (out.new ≡ out.old ++ line (codes "down")) × ClientIs IsDown client self.now) }
     {
@@ -345,9 +345,9 @@ impl<D: Disk> World<D> {
     }
 
     fn show_client(&self, client: u64, out: &mut Text) -> Result<(), NoMemory>
-        requires ready { IsReady (medium D.reads D.may_leave D.faults D.arms) client self.now }
+        requires ready { IsReady D.medium client self.now }
         ensures { OnOk result
-            (Steps (medium D.reads D.may_leave D.faults D.arms) (event_part (ShowClient client)) self.now self.now out.old out.new tt) }
+            (Steps D.medium (event_part (ShowClient client)) self.now self.now out.old out.new tt) }
     {
         say_tree(self.clients[client as usize].view(), out)?;
         Ok(())
@@ -355,11 +355,11 @@ impl<D: Disk> World<D> {
 
     /// The client loses its memory.
     fn crash_client(&mut self, client: u64, out: &mut Text) -> Result<(), NoMemory>
-        requires inside { IsInside (medium D.reads D.may_leave D.faults D.arms) client self.old }
+        requires inside { IsInside D.medium client self.old }
         ensures step { OnOk result
-            (Steps (medium D.reads D.may_leave D.faults D.arms) (CrashesClient client) self.old self.new out.old out.new tt) }
+            (Steps D.medium (CrashesClient client) self.old self.new out.old out.new tt) }
         ensures counts { OnOk result (SameDeclared self.old self.new) }
-        ensures disks { SameDisks D.arms self.old self.new }
+        ensures disks { SameDisks D.medium.arms self.old self.new }
     {
         if !self.is_up(client, out)? {
             return Ok(());
@@ -372,12 +372,12 @@ impl<D: Disk> World<D> {
 
     /// The client comes back, unless its disk fails again. What ran when it lost its memory is cut off.
     fn restart_client(&mut self, alloc: Global, client: u64, out: &mut Text) -> Result<(), NoMemory>
-        requires inside { IsInside (medium D.reads D.may_leave D.faults D.arms) client self.old }
+        requires inside { IsInside D.medium client self.old }
         ensures step { OnOk result
-            (Steps (medium D.reads D.may_leave D.faults D.arms) (RestartsClient client) self.old self.new out.old out.new tt) }
-        ensures decided { OnOk result (ClientIs (DecidesClient D.may_leave out.old out.new) client self.old) }
+            (Steps D.medium (RestartsClient client) self.old self.new out.old out.new tt) }
+        ensures decided { OnOk result (ClientIs (DecidesClient D.medium.may_leave out.old out.new) client self.old) }
         ensures counts { OnOk result (SameDeclared self.old self.new) }
-        ensures disks { SameDisks D.arms self.old self.new }
+        ensures disks { SameDisks D.medium.arms self.old self.new }
     {
         if self.clients[client as usize].is_alive() {
             say(b"up", out)?;
@@ -396,11 +396,11 @@ impl<D: Disk> World<D> {
 
     /// The server loses its memory.
     fn crash(&mut self, out: &mut Text) -> Result<(), NoMemory>
-        requires { StandsForSome (medium D.reads D.may_leave D.faults D.arms) self.old }
+        requires { StandsForSome D.medium self.old }
         ensures world { OnOk result (SetsServer self.old self.new) }
         ensures step { OnOk result
-            (Steps (medium D.reads D.may_leave D.faults D.arms) (At server (Crashes server_name)) self.old self.new out.old out.new tt) }
-        ensures disks { SameDisks D.arms self.old self.new }
+            (Steps D.medium (At server (Crashes server_name)) self.old self.new out.old out.new tt) }
+        ensures disks { SameDisks D.medium.arms self.old self.new }
     {
         self.server.crash(out)?;
         Ok(())
@@ -408,12 +408,12 @@ impl<D: Disk> World<D> {
 
     /// The server comes back, unless its disk fails again.
     fn restart(&mut self, alloc: Global, out: &mut Text) -> Result<(), NoMemory>
-        requires { StandsForSome (medium D.reads D.may_leave D.faults D.arms) self.old }
+        requires { StandsForSome D.medium self.old }
         ensures world { OnOk result (SetsServer self.old self.new) }
         ensures step { OnOk result
-            (Steps (medium D.reads D.may_leave D.faults D.arms) RestartsServer self.old self.new out.old out.new tt) }
-        ensures decided { OnOk result (DecidesServer D.may_leave self.old.server out.old out.new) }
-        ensures disks { SameDisks D.arms self.old self.new }
+            (Steps D.medium RestartsServer self.old self.new out.old out.new tt) }
+        ensures decided { OnOk result (DecidesServer D.medium.may_leave self.old.server out.old out.new) }
+        ensures disks { SameDisks D.medium.arms self.old self.new }
     {
         self.server.restart(alloc, out)?;
         Ok(())
@@ -423,13 +423,13 @@ impl<D: Disk> World<D> {
 
     /// A later call of the server's disk is to fail.
     fn stop_server(&mut self, calls: u64, pick: Pick, out: &mut Text) -> Result<(), NoMemory>
-        requires { StandsForSome (medium D.reads D.may_leave D.faults D.arms) self.old }
+        requires { StandsForSome D.medium self.old }
         ensures world { OnOk result (SetsServer self.old self.new) }
         ensures step { OnOk result
-            (Steps (medium D.reads D.may_leave D.faults D.arms) (At server (ArmsDisk server_name calls pick))
+            (Steps D.medium (At server (ArmsDisk server_name calls pick))
             self.old self.new out.old out.new tt) }
         ensures disks { KeepsDisks self.old self.new }
-        ensures arms { IfErr result (λ _. SameArms D.arms self.old self.new) }
+        ensures arms { IfErr result (λ _. SameArms D.medium.arms self.old self.new) }
         ensures text { Extends out.old out.new }
     {
         self.server.arm(calls, pick, out)?;
@@ -444,12 +444,12 @@ impl<D: Disk> World<D> {
         pick: Pick,
         out: &mut Text,
     ) -> Result<(), NoMemory>
-        requires inside { IsInside (medium D.reads D.may_leave D.faults D.arms) client self.old }
+        requires inside { IsInside D.medium client self.old }
         ensures step { OnOk result
-            (Steps (medium D.reads D.may_leave D.faults D.arms) (ArmsClient client calls pick) self.old self.new out.old out.new tt) }
+            (Steps D.medium (ArmsClient client calls pick) self.old self.new out.old out.new tt) }
         ensures counts { OnOk result (SameDeclared self.old self.new) }
         ensures disks { KeepsDisks self.old self.new }
-        ensures arms { IfErr result (λ _. SameArms D.arms self.old self.new) }
+        ensures arms { IfErr result (λ _. SameArms D.medium.arms self.old self.new) }
         ensures text { Extends out.old out.new }
     {
         self.clients[client as usize].arm(calls, pick, out)?;

@@ -2,7 +2,7 @@ use Rattle.std.proofs.Common.{◌≡◌, length}
 use Rattle.std.specs.List.{AllByRecursion}
 use Rattle.iot_disk.specs.Failures.{arms_of}
 use Rattle.iot_disk.specs.Memory.{images_of}
-use Rattle.iot_world.specs.Disks.{medium, IsEmpty}
+use Rattle.iot_world.specs.Disks.{IsEmpty}
 use Rattle.iot_app.specs.Disks.{AreUnarmed, AreFaultless}
 use Rattle.iot_app.proofs.disks.empty_disks.Given as goal
 

@@ -1,6 +1,5 @@
 use Rattle.std.proofs.Common.{map}
 use Rattle.std.specs.Io.KnownBytes.{Appends}
-use Rattle.iot_world.specs.Disks.{medium}
 use Rattle.iot_app.specs.Keeping.{DisksKeep, DisksKeepUnread, AreArmed}
 use Rattle.iot_app.specs.Saving.{first_reads}
 use Rattle.iot_app.proofs.RunningLaws.{played_did}
@@ -8,10 +7,10 @@ use Rattle.iot_app.proofs.doing.do_events.Goals as goal
 
 pub returns-in-Transcript-clause-ends : goal.returns-in-Transcript-clause-ends
 returns-in-Transcript-clause-ends g c =
-    let it = medium g.D.Disk.reads g.D.Disk.may_leave g.D.Disk.faults g.D.Disk.arms in
+    let it = g.D.Disk.medium in
     let counts = map it.counts c.args.disks.items in
     let back = c.play.result.1.items in
     rw c.in-Transcript.is
     (played_did counts (Appends (g.K.Sink.written c.args.sink.now) (g.K.Sink.written c.play.new.sink))
     (DisksKeep it c.args.disks.items back) (AreArmed it back) (DisksKeepUnread it c.args.disks.items back)
-    (first_reads g.D.Disk.reads back) c.args.events.now c.play.result.0 c.play.ensures.ends)
+    (first_reads g.D.Disk.medium back) c.args.events.now c.play.result.0 c.play.ensures.ends)

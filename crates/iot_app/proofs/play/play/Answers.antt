@@ -1,6 +1,5 @@
 use Rattle.std.proofs.Common.{List, map, subst, sym}
 use Rattle.std.specs.Io.KnownBytes.{Appends}
-use Rattle.iot_world.specs.Disks.{medium}
 use Rattle.iot_app.specs.Keeping.{DisksKeep, AreArmed}
 use Rattle.iot_app.specs.Played.{Played}
 use Rattle.iot_app.proofs.PlayedLaws.{opened_on, disks_keep, none_played, holds_as}
@@ -11,7 +10,7 @@ into_disks-requires g c = c.play_on-status.ensures.disks.has c.in-Ok.ensures.ope
 
 pub play_on-status-requires-clause-opened : goal.play_on-status-requires-clause-opened
 play_on-status-requires-clause-opened g c =
-    let it = medium g.D.Disk.reads g.D.Disk.may_leave g.D.Disk.faults g.D.Disk.arms in
+    let it = g.D.Disk.medium in
     let counts = map it.counts c.args.disks.items in
     record {
       handed = counts;
@@ -20,7 +19,7 @@ play_on-status-requires-clause-opened g c =
 
 pub returns-in-Ok-clause-ends : goal.returns-in-Ok-clause-ends
 returns-in-Ok-clause-ends g c =
-    let it = medium g.D.Disk.reads g.D.Disk.may_leave g.D.Disk.faults g.D.Disk.arms in
+    let it = g.D.Disk.medium in
     let counts = map it.counts c.args.disks.items in
     subst
     (λ (back : List g.row.D.Denot). Played counts c.play_on-status.result
@@ -34,6 +33,6 @@ returns-in-Ok-clause-ends g c =
 
 pub returns-clause-ends : goal.returns-clause-ends
 returns-clause-ends g c =
-    let it = medium g.D.Disk.reads g.D.Disk.may_leave g.D.Disk.faults g.D.Disk.arms in
+    let it = g.D.Disk.medium in
     none_played it c.args.disks.items c.in-Err.disks.items c.args.events.now c.requires.fresh
     c.in-Err.ensures.refused _

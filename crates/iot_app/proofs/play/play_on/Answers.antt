@@ -1,14 +1,13 @@
 use Rattle.std.proofs.Common.{ℕ, List, ◌<◌, length, take, refl, ◌∙◌, subst, arith, inr}
 use Rattle.std.specs.Io.KnownBytes.{Appends}
 use Rattle.std.proofs.KnownBytes.{Appends-trans}
-use Rattle.iot_world.specs.Disks.{medium}
 use Rattle.iot_app.proofs.PlayedLaws.{plays_none, plays_more, plays_cut, plays_all, plays_as, plays_first, plays_some, next_allowed}
 use Rattle.iot_app.proofs.PlayedLaws.{Follows, follows_more, keeps_same, keeps_then}
 use Rattle.iot_app.proofs.play.play_on.Goals as goal
 
 pub events-init : goal.events-init
 events-init g c =
-    let it = medium g.D.Disk.reads g.D.Disk.may_leave g.D.Disk.faults g.D.Disk.arms in
+    let it = g.D.Disk.medium in
     record {
       plays = λ handed is.
           plays_none it handed _ c.args.events.now c.args.opening.now c.args.world.now is c.requires.declared (λ first had. had);
@@ -19,19 +18,19 @@ events-init g c =
 
 pub apply-requires-clause-allowed : goal.apply-requires-clause-allowed
 apply-requires-clause-allowed g c =
-    let it = medium g.D.Disk.reads g.D.Disk.may_leave g.D.Disk.faults g.D.Disk.arms in
+    let it = g.D.Disk.medium in
     next_allowed it c.requires.opened.handed _ c.args.events.now c.events.world c.events.event-index c.event-item.result
     (c.events.invariant.plays c.requires.opened.handed c.requires.opened.is) c.events-test.true c.event-item.is
 
 pub apply-requires-clause-stands : goal.apply-requires-clause-stands
 apply-requires-clause-stands g c =
-    let it = medium g.D.Disk.reads g.D.Disk.may_leave g.D.Disk.faults g.D.Disk.arms in
+    let it = g.D.Disk.medium in
     plays_some it c.requires.opened.handed _ c.args.events.now c.events.world c.events.event-index
     (c.events.invariant.plays c.requires.opened.handed c.requires.opened.is)
 
 pub returns-in-Err-apply-clause-ends : goal.returns-in-Err-apply-clause-ends
 returns-in-Err-apply-clause-ends g c =
-    let it = medium g.D.Disk.reads g.D.Disk.may_leave g.D.Disk.faults g.D.Disk.arms in
+    let it = g.D.Disk.medium in
     λ handed is.
     plays_first it handed (Appends (g.K.Sink.written c.args.sink.now) (g.K.Sink.written c.events.sink))
     c.args.events.now c.events.world c.events.event-index c.apply.new.self
@@ -49,7 +48,7 @@ returns-in-Err-apply-clause-disks g c =
 
 pub returns-in-Err-write_all-clause-ends : goal.returns-in-Err-write_all-clause-ends
 returns-in-Err-write_all-clause-ends g c =
-    let it = medium g.D.Disk.reads g.D.Disk.may_leave g.D.Disk.faults g.D.Disk.arms in
+    let it = g.D.Disk.medium in
     λ handed is.
     let prefix = c.in-Err-write_all.ensures.prefix in
     let out = c.as_bytes-in-events.ensures in
@@ -77,7 +76,7 @@ returns-in-Err-write_all-clause-disks g c =
 
 pub events-preserved : goal.events-preserved
 events-preserved g c =
-    let it = medium g.D.Disk.reads g.D.Disk.may_leave g.D.Disk.faults g.D.Disk.arms in
+    let it = g.D.Disk.medium in
     record {
       plays = λ handed is.
           plays_more it handed (Follows (g.K.Sink.written c.write_all.new.sink) c.args.opening.now (g.K.Sink.written c.events.sink))
@@ -95,7 +94,7 @@ events-preserved g c =
 
 pub returns-clause-ends : goal.returns-clause-ends
 returns-clause-ends g c =
-    let it = medium g.D.Disk.reads g.D.Disk.may_leave g.D.Disk.faults g.D.Disk.arms in
+    let it = g.D.Disk.medium in
     λ handed is.
     plays_all it handed (Appends (g.K.Sink.written c.args.sink.now) (g.K.Sink.written c.events.sink))
     c.args.events.now c.events.world c.events.event-index (omega (arith, c.events-test.false))

@@ -1,6 +1,5 @@
 use Rattle.std.proofs.Common.{◌≡◌, ℕ, ◌+◌, List, ◌++◌, subst, arith}
 use Rattle.std.proofs.lemmas.Result.{IfOk-weaker}
-use Rattle.iot_world.specs.Disks.{medium}
 use Rattle.iot_app.specs.Counting.{plus, HasCounted}
 use Rattle.iot_app.specs.Summary.{counts_of}
 use Rattle.iot_app.proofs.CountingLaws.{none_counted, more_said, all_counted}
@@ -10,7 +9,7 @@ use Rattle.iot_app.proofs.running.do_all.Goals as goal
 
 pub events-init : goal.events-init
 events-init g c =
-    let it = medium g.D.Disk.reads g.D.Disk.may_leave g.D.Disk.faults g.D.Disk.arms in
+    let it = g.D.Disk.medium in
     record {
       plays = λ handed is.
           plays_none it handed _ c.args.events.now c.args.opening c.args.world.now is c.requires.declared
@@ -20,19 +19,19 @@ events-init g c =
 
 pub apply-requires-clause-allowed : goal.apply-requires-clause-allowed
 apply-requires-clause-allowed g c =
-    let it = medium g.D.Disk.reads g.D.Disk.may_leave g.D.Disk.faults g.D.Disk.arms in
+    let it = g.D.Disk.medium in
     next_allowed it c.requires.opened.handed _ c.args.events.now c.events.world c.events.event-index c.event-item.result
     (c.events.invariant.plays c.requires.opened.handed c.requires.opened.is) c.events-test.true c.event-item.is
 
 pub apply-requires-clause-stands : goal.apply-requires-clause-stands
 apply-requires-clause-stands g c =
-    let it = medium g.D.Disk.reads g.D.Disk.may_leave g.D.Disk.faults g.D.Disk.arms in
+    let it = g.D.Disk.medium in
     plays_some it c.requires.opened.handed _ c.args.events.now c.events.world c.events.event-index
     (c.events.invariant.plays c.requires.opened.handed c.requires.opened.is)
 
 pub events-preserved : goal.events-preserved
 events-preserved g c =
-    let it = medium g.D.Disk.reads g.D.Disk.may_leave g.D.Disk.faults g.D.Disk.arms in
+    let it = g.D.Disk.medium in
     record {
       plays = λ handed is.
           plays_more it handed (HasCounted c.events.counts c.events.text) c.args.events.now c.events.world
@@ -46,7 +45,7 @@ events-preserved g c =
 
 pub returns-clause-ran : goal.returns-clause-ran
 returns-clause-ran g c =
-    let it = medium g.D.Disk.reads g.D.Disk.may_leave g.D.Disk.faults g.D.Disk.arms in
+    let it = g.D.Disk.medium in
     IfOk-weaker c.with_text.result _ _
     (λ last sum handed is.
     ran_in it handed c.args.events.now c.events.world c.events.counts last c.events.text
@@ -58,14 +57,14 @@ returns-clause-ran g c =
 
 pub returns-clause-failed : goal.returns-clause-failed
 returns-clause-failed g c =
-    let it = medium g.D.Disk.reads g.D.Disk.may_leave g.D.Disk.faults g.D.Disk.arms in
+    let it = g.D.Disk.medium in
     any_err c.with_text.result _
     (λ handed is.
     plays_ended it handed _ c.args.events.now c.events.world c.events.event-index (c.events.invariant.plays handed is))
 
 pub returns-in_err-apply-clause-failed : goal.returns-in_err-apply-clause-failed
 returns-in_err-apply-clause-failed g c =
-    let it = medium g.D.Disk.reads g.D.Disk.may_leave g.D.Disk.faults g.D.Disk.arms in
+    let it = g.D.Disk.medium in
     any_err c.from_residual.result _
     (λ handed is.
     plays_failed it handed _ c.args.events.now c.events.world c.events.event-index c.apply.new.self
@@ -77,7 +76,7 @@ returns-in_err-apply-clause-disks g c =
 
 pub returns-in_err-take_lines-clause-failed : goal.returns-in_err-take_lines-clause-failed
 returns-in_err-take_lines-clause-failed g c =
-    let it = medium g.D.Disk.reads g.D.Disk.may_leave g.D.Disk.faults g.D.Disk.arms in
+    let it = g.D.Disk.medium in
     any_err c.from_residual-in_err-take_lines.result _
     (λ handed is.
     plays_ended it handed _ c.args.events.now c.apply.new.self (c.events.event-index + 1)

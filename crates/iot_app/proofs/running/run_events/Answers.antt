@@ -1,7 +1,6 @@
 use Rattle.std.proofs.Common.{◌≡◌, List, map, sym, subst}
 use Rattle.std.specs.Prelude.{IfOk}
 use Rattle.std.proofs.lemmas.Result.{IfOk-weaker}
-use Rattle.iot_world.specs.Disks.{medium}
 use Rattle.iot_app.specs.Keeping.{DisksKeep}
 use Rattle.iot_app.specs.Played.{Reported}
 use Rattle.iot_app.specs.Running.{tells}
@@ -14,7 +13,7 @@ into_disks-requires g c = c.run_in-told.ensures.disks.has c.in-Ok.ensures.opens.
 
 pub run_in-told-requires-clause-opened : goal.run_in-told-requires-clause-opened
 run_in-told-requires-clause-opened g c =
-    let it = medium g.D.Disk.reads g.D.Disk.may_leave g.D.Disk.faults g.D.Disk.arms in
+    let it = g.D.Disk.medium in
     let counts = map it.counts c.args.disks.items in
     record {
       handed = counts;
@@ -23,7 +22,7 @@ run_in-told-requires-clause-opened g c =
 
 pub returns-in-Ok-clause-told : goal.returns-in-Ok-clause-told
 returns-in-Ok-clause-told g c =
-    let it = medium g.D.Disk.reads g.D.Disk.may_leave g.D.Disk.faults g.D.Disk.arms in
+    let it = g.D.Disk.medium in
     let counts = map it.counts c.args.disks.items in
     subst
     (λ (back : List g.row.D.Denot). IfOk c.run_in-told.result (λ text. Reported counts (λ told. text ≡ told)
@@ -38,7 +37,7 @@ returns-in-Ok-clause-told g c =
 
 pub returns-in-Ok-clause-failed : goal.returns-in-Ok-clause-failed
 returns-in-Ok-clause-failed g c =
-    let it = medium g.D.Disk.reads g.D.Disk.may_leave g.D.Disk.faults g.D.Disk.arms in
+    let it = g.D.Disk.medium in
     let counts = map it.counts c.args.disks.items in
     rw c.into_disks.ensures
     (failed_as c.run_in-told.result _ _
@@ -48,5 +47,5 @@ returns-in-Ok-clause-failed g c =
 
 pub returns-in-Err-clause-failed : goal.returns-in-Err-clause-failed
 returns-in-Err-clause-failed g c =
-    let it = medium g.D.Disk.reads g.D.Disk.may_leave g.D.Disk.faults g.D.Disk.arms in
+    let it = g.D.Disk.medium in
     none_did it c.args.disks.items c.in-Err.disks.items c.args.events.now c.requires.fresh c.in-Err.ensures.refused

@@ -1,17 +1,16 @@
 use Rattle.std.proofs.lemmas.Result.{IfOk-weaker}
-use Rattle.iot_world.specs.Disks.{medium}
 use Rattle.iot_app.proofs.RunningLaws.{ran_some, ran_told, ran_untold, any_err}
 use Rattle.iot_app.proofs.running.run_in.Goals as goal
 
 pub tell-requires : goal.tell-requires
 tell-requires g c =
-    let it = medium g.D.Disk.reads g.D.Disk.may_leave g.D.Disk.faults g.D.Disk.arms in
+    let it = g.D.Disk.medium in
     ran_some it c.requires.opened.handed c.args.events.now c.do_all.new.world c.in_ok-counts.counts
     (c.in_ok-counts.ensures.ran c.requires.opened.handed c.requires.opened.is)
 
 pub returns-clause-told : goal.returns-clause-told
 returns-clause-told g c =
-    let it = medium g.D.Disk.reads g.D.Disk.may_leave g.D.Disk.faults g.D.Disk.arms in
+    let it = g.D.Disk.medium in
     IfOk-weaker c.tell.result _ _
     (λ text told handed is.
     ran_told it handed c.args.events.now c.do_all.new.world c.in_ok-counts.counts
@@ -20,7 +19,7 @@ returns-clause-told g c =
 
 pub returns-clause-failed : goal.returns-clause-failed
 returns-clause-failed g c =
-    let it = medium g.D.Disk.reads g.D.Disk.may_leave g.D.Disk.faults g.D.Disk.arms in
+    let it = g.D.Disk.medium in
     any_err c.tell.result _
     (λ handed is.
     ran_untold it handed c.args.events.now c.do_all.new.world c.in_ok-counts.counts

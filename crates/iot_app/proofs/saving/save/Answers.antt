@@ -1,7 +1,6 @@
 use Rattle.std.proofs.Common.{◌≡◌, ℕ, List, Vec, Global, map, ◌∙◌, slice_set}
 use Rattle.std.specs.Io.KnownBytes.{Appends}
 use Rattle.iot_words.specs.declared.jobs.Job.TheVariants.{Save}
-use Rattle.iot_world.specs.Disks.{medium}
 use Rattle.iot_app.specs.Keeping.{DisksKeep, DisksKeepUnread, AreArmed}
 use Rattle.iot_app.specs.Played.{Reported, DidFirst}
 use Rattle.iot_app.specs.Running.{tells}
@@ -12,7 +11,7 @@ use Rattle.iot_app.proofs.saving.save.Goals as goal
 
 pub returns-in-Ok-read_whole-clause-ends : goal.returns-in-Ok-read_whole-clause-ends
 returns-in-Ok-read_whole-clause-ends g c =
-    let it = medium g.D.Disk.reads g.D.Disk.may_leave g.D.Disk.faults g.D.Disk.arms in
+    let it = g.D.Disk.medium in
     let counts = map it.counts c.args.disks.items in
     let old = c.run_events-told.result.1.items in
     let new = slice_set old 0 c.read_whole.new.disk in
@@ -23,7 +22,7 @@ returns-in-Ok-read_whole-clause-ends g c =
     c.in-Ok.field-0 c.in-Ok.is c.run_events-told.ensures.told in
     saved_did counts (Appends (g.K.Sink.written c.args.sink.now) (g.K.Sink.written c.write_text.new.sink))
     (DisksKeep it c.args.disks.items new) (AreArmed it new) (DisksKeepUnread it c.args.disks.items new)
-    (first_reads g.D.Disk.reads new) c.args.events.now c.deref.result.now c.write_text.result
+    (first_reads g.D.Disk.medium new) c.args.events.now c.deref.result.now c.write_text.result
     (record { before = g.K.Sink.faults c.args.sink.now; after = g.K.Sink.faults c.write_text.new.sink })
     (record { before = g.K.Sink.empties c.args.sink.now; after = g.K.Sink.empties c.write_text.new.sink })
     (c.deref.ensures.value ∙ c.in-Ok-read_whole.ensures.bytes
@@ -37,7 +36,7 @@ returns-in-Ok-read_whole-clause-ends g c =
 
 pub returns-in-Ok-clause-ends : goal.returns-in-Ok-clause-ends
 returns-in-Ok-clause-ends g c =
-    let it = medium g.D.Disk.reads g.D.Disk.may_leave g.D.Disk.faults g.D.Disk.arms in
+    let it = g.D.Disk.medium in
     let counts = map it.counts c.args.disks.items in
     let old = c.run_events-told.result.1.items in
     let new = slice_set old 0 c.read_whole.new.disk in
@@ -49,12 +48,13 @@ returns-in-Ok-clause-ends g c =
     rw c.of_read.ensures
     (unsaved_did it c.args.disks.items old c.index_mut.result.now c.read_whole.new.disk c.index_mut.ensures.value
     c.read_whole.ensures.images c.read_whole.ensures.arms
-    (Appends (g.K.Sink.written c.args.sink.now) (g.K.Sink.written c.args.sink.now)) (first_reads g.D.Disk.reads new) c.args.events.now
+    (Appends (g.K.Sink.written c.args.sink.now) (g.K.Sink.written c.args.sink.now)) (first_reads g.D.Disk.medium new)
+    c.args.events.now
     told.ran (appends_none _) (Vec ℕ Global) c.in-Err-read_whole.fault c.in-Err-read_whole.ensures.faults)
 
 pub returns-clause-ends : goal.returns-clause-ends
 returns-clause-ends g c =
-    let it = medium g.D.Disk.reads g.D.Disk.may_leave g.D.Disk.faults g.D.Disk.arms in
+    let it = g.D.Disk.medium in
     let counts = map it.counts c.args.disks.items in
     record {
       did =

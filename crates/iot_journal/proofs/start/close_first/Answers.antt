@@ -28,16 +28,16 @@ each_closing old new before now (Err e) short only torn written durable = record
 
 pub returns-then-has_closed_gate-clause-images : goal.returns-then-has_closed_gate-clause-images
 returns-then-has_closed_gate-clause-images g c =
-    let old = g.D.Disk.reads c.args.disk.now in
+    let old = g.D.Disk.medium.reads c.args.disk.now in
     let closed = ap is_closed (sym c.requires.bytes) ∙ sym c.if-has_closed_gate.ensures in
     each_only old _ (Encodes []) c.requires.only (shut_encodes old (closed_shut old closed))
 
 pub returns-clause-images : goal.returns-clause-images
 returns-clause-images g c =
-    let old = g.D.Disk.reads c.args.disk.now in
+    let old = g.D.Disk.medium.reads c.args.disk.now in
     let still_open = ap is_closed (sym c.requires.bytes) ∙ sym c.if-has_closed_gate.ensures in
     let short = open_is_short old c.requires.not_started still_open in
     let done = c.keep.ensures in
-    let before = g.D.Disk.may_leave c.args.disk.now in
-    let now = g.D.Disk.may_leave c.keep.new.disk in
+    let before = g.D.Disk.medium.may_leave c.args.disk.now in
+    let now = g.D.Disk.medium.may_leave c.keep.new.disk in
     each_closing old _ before now c.keep.result short c.requires.only done.images done.written done.durable

@@ -60,17 +60,17 @@ module _ (old mid new opening : List ℕ) (before now : List ℕ → Type 0) (mo
 
 pub returns-in_err-keep-clause-images : goal.returns-in_err-keep-clause-images
 returns-in_err-keep-clause-images g c =
-    let old = g.D.Disk.reads c.args.disk.now in
+    let old = g.D.Disk.medium.reads c.args.disk.now in
     let closed = c.requires.closed in
     each_header _ old _ _ (closed_more old closed) (closed_shut old closed) c.requires.only c.in_err-keep.ensures.images
 
 pub returns-clause-images : goal.returns-clause-images
 returns-clause-images g c =
-    let old = g.D.Disk.reads c.args.disk.now in
-    let mid = g.D.Disk.reads c.keep.new.disk in
-    let new = g.D.Disk.reads c.keep-2.new.disk in
-    let before = g.D.Disk.may_leave c.keep.new.disk in
-    let now = g.D.Disk.may_leave c.keep-2.new.disk in
+    let old = g.D.Disk.medium.reads c.args.disk.now in
+    let mid = g.D.Disk.medium.reads c.keep.new.disk in
+    let new = g.D.Disk.medium.reads c.keep-2.new.disk in
+    let before = g.D.Disk.medium.may_leave c.keep.new.disk in
+    let now = g.D.Disk.medium.may_leave c.keep-2.new.disk in
     let first = c.in_ok-keep.ensures in
     let then = c.keep-2.ensures in
     let opening = c.copy_from_slice.new.self ++ 0 ∷ [] in

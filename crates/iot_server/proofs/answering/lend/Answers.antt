@@ -7,12 +7,12 @@ use Rattle.iot_server.proofs.answering.lend.Goals as goal
 
 pub write_reply-requires : goal.write_reply-requires
 write_reply-requires g c =
-    pruned_rows _ _ _ (subst IsSpelledTree (sym c.tree-tree.ensures) (store_spelled _ _ _ c.requires.synced))
+    pruned_rows _ _ _ (subst IsSpelledTree (sym c.tree-tree.ensures) (store_spelled _ _ c.requires.synced))
     c.in_ok-objects.ensures.pruned c.rows-rows.ensures.tree
 
 pub returns : goal.returns
 returns g c = λ client.
-    let is = pruned_rows _ _ _ (subst IsSpelledTree (sym c.tree-tree.ensures) (store_spelled _ _ _ c.requires.synced))
+    let is = pruned_rows _ _ _ (subst IsSpelledTree (sym c.tree-tree.ensures) (store_spelled _ _ c.requires.synced))
     c.in_ok-objects.ensures.pruned c.rows-rows.ensures.tree in
     if_ok _ _ c.write_reply.result
     (λ bytes spelled.

@@ -190,9 +190,9 @@ returns-in_err-keep-2-clause-images g c =
     let first = c.in_ok-close_first.ensures in
     let second = c.in_ok-keep.ensures in
     let closed =
-    still_closed 1 (g.D.Disk.reads c.close_first.new.disk) (g.D.Disk.reads c.keep.new.disk) c.deref.result.now first.closed
+    still_closed 1 (g.D.Disk.medium.reads c.close_first.new.disk) (g.D.Disk.medium.reads c.keep.new.disk) c.deref.result.now first.closed
     (omega arith)
-    (closed_more (g.D.Disk.reads c.close_first.new.disk) first.closed) second.written in
+    (closed_more (g.D.Disk.medium.reads c.close_first.new.disk) first.closed) second.written in
     each_closed c.args.header.now c.args.body.now _ _ _ _ _ closed (omega arith) second.durable c.in_err-keep-2.ensures.images
 
 pub returns-clause-laid_out : goal.returns-clause-laid_out

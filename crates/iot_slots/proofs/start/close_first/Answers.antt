@@ -55,8 +55,9 @@ returns-then-has_closed_gate-clause-images g c =
 
 pub returns-clause-images : goal.returns-clause-images
 returns-clause-images g c =
-    each_closing c.args.header.now (g.D.Disk.reads c.args.disk.now) (g.D.Disk.reads c.keep.new.disk) (g.D.Disk.may_leave c.args.disk.now)
-    (g.D.Disk.may_leave c.keep.new.disk) c.keep.result c.requires.not_started
+    each_closing c.args.header.now (g.D.Disk.medium.reads c.args.disk.now) (g.D.Disk.medium.reads c.keep.new.disk)
+    (g.D.Disk.medium.may_leave c.args.disk.now)
+    (g.D.Disk.medium.may_leave c.keep.new.disk) c.keep.result c.requires.not_started
     (ap is_closed (sym c.requires.bytes) ∙ sym c.if-has_closed_gate.ensures) c.requires.only c.keep.ensures.images
     c.keep.ensures.written
     c.keep.ensures.durable

@@ -3,4 +3,4 @@ use Rattle.iot_tests.proofs.slots.fill.Given as goal
 
 -- nothing is under way
 abbrev pub invariant-loop-i : goal.invariant-loop-i
-invariant-loop-i g l = IsSynced g.D.Disk.reads g.D.Disk.may_leave l.slots
+invariant-loop-i g l = IsSynced g.D.Disk.medium l.slots

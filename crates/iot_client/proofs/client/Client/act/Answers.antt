@@ -24,7 +24,7 @@ note-requires-clause-change g c =
     c.in-Did.is c.view.ensures c.in_ok-decided.ensures in
     let did = decided_did c.is_first-first.result old.interpreter c.decide_by.new.interpreter (view (state_of old)) c.in-Did.done decided in
     act_spelled (state_of old) (class_in old) old.interpreter c.decide_by.new.interpreter c.in-Did.done
-    (synced_spelled _ _ old.kept c.requires.tied.synced) (synced_holds _ _ old.kept c.requires.tied.synced) c.requires.runs
+    (synced_spelled _ old.kept c.requires.tied.synced) (synced_holds _ old.kept c.requires.tied.synced) c.requires.runs
     c.requires.tied.runs
     did
 
@@ -93,7 +93,7 @@ returns-in_err-note-in-Did-clause-stopped g c =
     (view (state_of old)) c.in-Did.done c.requires.tied.runs c.requires.runs c.is_first-first.ensures refl c.requires.able decided in
     λ is.
     next_in_doubt (state_of old) (class_in old) old.interpreter c.decide_by.new.interpreter c.in-Did.done
-    (bodies_on g.D.Disk.reads old) (g.D.Disk.may_leave (disk_of c.note.new.self)) c.requires.tied.runs c.requires.runs can
+    (bodies_on g.D.Disk.medium old) (g.D.Disk.medium.may_leave (disk_of c.note.new.self)) c.requires.tied.runs c.requires.runs can
     did
     (c.note.ensures.stopped
     (same_fault c.note.result c.from_residual-in_err-note-in-Did.result c.in_err-note-in-Did.field-0.0 Stopped c.in_err-note-in-Did.was

@@ -14,7 +14,7 @@ use Rattle.iot_client.proofs.client.Client.resolution.Goals as goal
 
 pub pass-requires : goal.pass-requires
 pass-requires g c =
-    let hold : AllHold (state_of c.args.self.now) = synced_holds _ _ c.args.self.now.kept c.requires.tied.synced in
+    let hold : AllHold (state_of c.args.self.now) = synced_holds _ c.args.self.now.kept c.requires.tied.synced in
     subst (λ (t : Nodes). UpdatesFit t c.in-Some.head.now.acts)
     (sym (c.merge.ensures ∙ c.in_ok-copy.ensures ∙ c.held.ensures))
     (head_fits (state_of c.args.self.now).items c.in-Some.head.now (state_of c.args.self.now).held
@@ -23,8 +23,8 @@ pass-requires g c =
 pub returns-clause-spelled : goal.returns-clause-spelled
 returns-clause-spelled g c =
     let state = state_of c.args.self.now in
-    let hold : AllHold state = synced_holds _ _ c.args.self.now.kept c.requires.tied.synced in
-    let spelled : IsSpelledState state = synced_spelled _ _ c.args.self.now.kept c.requires.tied.synced in
+    let hold : AllHold state = synced_holds _ c.args.self.now.kept c.requires.tied.synced in
+    let spelled : IsSpelledState state = synced_spelled _ c.args.self.now.kept c.requires.tied.synced in
     let first : Some c.in-Some.head.now ≡ head_of state.items = c.in-Some.ensures ∙ ap head_of c.queue.ensures in
     let item : IsSpelledItem c.in-Some.head.now = head_spelled state.items c.in-Some.head.now first spelled.items in
     let plan : IsGoodPlan c.in-Some-plan_of.plan =

@@ -8,6 +8,6 @@ use Rattle.iot_client.proofs.client.Client.submission.Goals as goal
 
 pub ask_for-requires-clause-spelled : goal.ask_for-requires-clause-spelled
 ask_for-requires-clause-spelled g c =
-    let spelled : IsSpelledState (state_of c.args.self.now) = synced_spelled _ _ c.args.self.now.kept c.requires.tied.synced in
+    let spelled : IsSpelledState (state_of c.args.self.now) = synced_spelled _ c.args.self.now.kept c.requires.tied.synced in
     head_spelled (state_of c.args.self.now).items c.in-Some.item.now (c.in-Some.ensures ∙ ap head_of c.queue.ensures)
     spelled.items

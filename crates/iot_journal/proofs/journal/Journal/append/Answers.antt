@@ -22,7 +22,7 @@ returns-in_err-keep-2-clause-images g c =
 pub overflow_add-self-3 : goal.overflow_add-self-3
 overflow_add-self-3 g c =
     let s = c.requires in
-    let bodies = bodies_on g.D.Disk.reads c.args.self.now in
+    let bodies = bodies_on g.D.Disk.medium c.args.self.now in
     let size = length-append (records bodies) (s.layout.byte ∷ s.layout.rest) in
     omega (arith, s.count, length-bodies-le bodies, ap length s.layout.is, size, s.limit)
 
@@ -36,8 +36,8 @@ returns-clause-synced g c =
     omega (arith, c.len.ensures, c.deref.ensures.len) in
     let body = c.args.body.now in
     let done = laid_out _ _ _ s.layout s.limit body _ _ _ _ spelled first.written first.limit then.written moved in
-    let size = length-append (bodies_on g.D.Disk.reads c.args.self.now) (body ∷ []) in
-    (synced _ _ _ _ then.durable done.0 done.1 (omega (arith, s.count, size))).0
+    let size = length-append (bodies_on g.D.Disk.medium c.args.self.now) (body ∷ []) in
+    synced _ _ _ then.durable done.0 done.1 (omega (arith, s.count, size))
 
 pub returns-clause-bodies : goal.returns-clause-bodies
 returns-clause-bodies g c =

@@ -6,5 +6,5 @@ use Rattle.iot_kept.proofs.kept.Kept.into_disk.Goals as goal
 
 pub returns-clause-stands : goal.returns-clause-stands
 returns-clause-stands g c = λ synced.
-    subst (λ disk. EachStands (g.D.Disk.may_leave disk) (state_of c.args.self)) (sym c.into_disk.ensures)
-    (synced_stands g.D.Disk.reads g.D.Disk.may_leave c.args.self synced)
+    subst (λ disk. EachStands (g.D.Disk.medium.may_leave disk) (state_of c.args.self)) (sym c.into_disk.ensures)
+    (synced_stands g.D.Disk.medium c.args.self synced)

@@ -10,7 +10,7 @@ returns-in_err-append-clause-images g c =
     either_stands _ _ _ c.args.spelling.now c.args.change given.synced.leads is given.follows c.in_err-append.ensures.images
 
 pub note-requires-clause-hold : goal.note-requires-clause-hold
-note-requires-clause-hold g c = synced_holds _ _ _ c.requires.synced
+note-requires-clause-hold g c = synced_holds _ _ c.requires.synced
 
 pub returns-in_err-note-clause-images : goal.returns-in_err-note-clause-images
 returns-in_err-note-clause-images g c =

@@ -187,7 +187,7 @@ returns-clause-synced g c =
     omega (arith, c.len.ensures, c.deref.ensures.len) in
     let laid =
     laid_after _ _ _ _ c.args.body.now _ c.requires.synced.layout spells _ first.written first.limit _ _ _ then.written moved refl in
-    (synced _ _ _ _ then.durable laid).0
+    synced _ _ _ then.durable laid
 
 pub returns-clause-state : goal.returns-clause-state
 returns-clause-state g c =

@@ -400,7 +400,8 @@ returns-in_err-keep-3-clause-no_memory g c =
     let three = c.in_ok-keep-2.ensures in
     let all = now_ready _ _ _ _ _ _ _ way _ _ c.spell_cell.ensures alone same _ spells _ _ two.written three.written three.limit in
     let done =
-    each_ready _ _ _ _ _ _ _ way _ all (g.D.Disk.may_leave c.keep-2.new.disk) (g.D.Disk.may_leave c.keep-3.new.disk) three.durable in
+    each_ready _ _ _ _ _ _ _ way _ all (g.D.Disk.medium.may_leave c.keep-2.new.disk) (g.D.Disk.medium.may_leave c.keep-3.new.disk)
+    three.durable in
     search (rules, done)
 
 pub returns-clause-synced : goal.returns-clause-synced
@@ -415,7 +416,7 @@ returns-clause-synced g c =
     let all = now_ready _ _ _ _ _ _ _ way _ _ c.spell_cell.ensures alone same _ spells _ _ two.written three.written three.limit in
     let four = c.in_ok-keep-3.ensures in
     let laid = laid_new _ _ _ _ _ _ _ way _ all _ four.written in
-    (synced _ _ _ _ four.durable laid).0
+    synced _ _ _ four.durable laid
 
 pub returns-clause-state : goal.returns-clause-state
 returns-clause-state g c =

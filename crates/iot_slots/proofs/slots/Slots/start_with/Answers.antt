@@ -10,4 +10,4 @@ returns-in-Ok-clause-same g c =
     ∙ ap (λ (l : List ℕ). state_in l c.in-Ok.found.bodies c.in-Ok.found.layout.count) (sym c.from.ensures)
 
 pub returns-in-Ok-clause-synced : goal.returns-in-Ok-clause-synced
-returns-in-Ok-clause-synced g c = (synced _ _ _ _ c.in-Ok.ensures.durable c.in-Ok.ensures.laid_out).0
+returns-in-Ok-clause-synced g c = synced _ _ _ c.in-Ok.ensures.durable c.in-Ok.ensures.laid_out

@@ -56,12 +56,12 @@ pub returns-clause-refused_reads : goal.returns-clause-refused_reads
 returns-clause-refused_reads g c =
     let begun = c.in-Ok.ensures in
     refused_same _ _ _ _ (begun.bodies ∙ ap Encodes (sym c.as_slice.ensures)) c.in-Err-replay.ensures.err
-    (λ same. ap g.D.Disk.reads c.into_disk.ensures ∙ begun.bytes ∙ same)
+    (λ same. ap g.D.Disk.medium.reads c.into_disk.ensures ∙ begun.bytes ∙ same)
 
 pub returns-clause-refused_images : goal.returns-clause-refused_images
 returns-clause-refused_images g c =
     let begun = c.in-Ok.ensures in
     let image = g.met.D.Disk.reads_is_image in
     refused_same _ _ _ _ (begun.bodies ∙ ap Encodes (sym c.as_slice.ensures)) c.in-Err-replay.ensures.err (λ same.
-    subst (λ disk. SameImages (g.D.Disk.may_leave c.args.disk) (g.D.Disk.may_leave disk)) (sym c.into_disk.ensures)
-    (same_alone (g.D.Disk.reads c.args.disk) _ _ _ c.requires begun.synced.only (image c.args.disk) (image _) (begun.bytes ∙ same)))
+    subst (λ disk. SameImages (g.D.Disk.medium.may_leave c.args.disk) (g.D.Disk.medium.may_leave disk)) (sym c.into_disk.ensures)
+    (same_alone (g.D.Disk.medium.reads c.args.disk) _ _ _ c.requires begun.synced.only (image c.args.disk) (image _) (begun.bytes ∙ same)))

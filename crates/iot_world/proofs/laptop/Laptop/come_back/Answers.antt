@@ -1,5 +1,4 @@
 use Rattle.std.proofs.Common.{sym, subst, ◌∙◌, IfOk}
-use Rattle.iot_world.specs.Disks.{medium}
 use Rattle.iot_world.specs.Laptops.{Fallen, ComesBack}
 use Rattle.iot_world.specs.declared.laptop.Laptop.{Laptop}
 use Rattle.iot_world.specs.declared.node.ClientNode.TheVariants.{Down}
@@ -13,7 +12,7 @@ start_again-requires-clause-fallen g c =
 
 pub returns-clause-comes : goal.returns-clause-comes
 returns-clause-comes g c =
-    let kind = medium g.D.Disk.reads g.D.Disk.may_leave g.D.Disk.faults g.D.Disk.arms in
+    let kind = g.D.Disk.medium in
     subst
     (λ (laptop : Laptop g.row.D.Denot).
     IfOk c.start_again.result (λ on. ComesBack kind on laptop c.start_again.new.self c.args.out.now c.start_again.new.out))

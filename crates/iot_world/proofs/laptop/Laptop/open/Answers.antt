@@ -1,6 +1,5 @@
 use Rattle.std.proofs.Common.{◌++◌, refl, sym, ap, subst, ◌∙◌}
 use Rattle.iot_machine.specs.Texts.{stopped_line}
-use Rattle.iot_world.specs.Disks.{medium}
 use Rattle.iot_world.specs.Laptops.{IsUnopened, Opens}
 use Rattle.iot_world.specs.declared.laptop.Laptop.{Laptop}
 use Rattle.iot_world.specs.declared.node.ClientNode.TheVariants.{Down}
@@ -10,20 +9,20 @@ use Rattle.iot_world.proofs.laptop.Laptop.open.Goals as goal
 
 pub start-requires : goal.start-requires
 start-requires g c =
-    let kind = medium g.D.Disk.reads g.D.Disk.may_leave g.D.Disk.faults g.D.Disk.arms in
+    let kind = g.D.Disk.medium in
     let down = at_node c.args.self.now (Down c.in-Down.disk c.in-Down.doubt) (sym c.replace.ensures.value ∙ c.in-Down.is) in
     only_there kind c.args.self.now c.in-Down.disk c.in-Down.doubt (subst (IsUnopened kind) (sym down) c.requires)
 
 pub say_failed_start-requires : goal.say_failed_start-requires
 say_failed_start-requires g c =
-    let kind = medium g.D.Disk.reads g.D.Disk.may_leave g.D.Disk.faults g.D.Disk.arms in
+    let kind = g.D.Disk.medium in
     let down = at_node c.args.self.now (Down c.in-Down.disk c.in-Down.doubt) (sym c.replace.ensures.value ∙ c.in-Down.is) in
     new_bytes kind c.args.self.now c.in-Down.disk c.in-Down.doubt (subst (IsUnopened kind) (sym down) c.requires) c.in-Err.fault
     c.in-Err.ensures.never
 
 pub returns-in-Ok-clause-opens : goal.returns-in-Ok-clause-opens
 returns-in-Ok-clause-opens g c =
-    let kind = medium g.D.Disk.reads g.D.Disk.may_leave g.D.Disk.faults g.D.Disk.arms in
+    let kind = g.D.Disk.medium in
     let down = at_node c.args.self.now (Down c.in-Down.disk c.in-Down.doubt) (sym c.replace.ensures.value ∙ c.in-Down.is) in
     subst (λ (l : Laptop g.row.D.Denot). Opens kind _ l c.turn_into.new.self c.args.out.now c.args.out.now) down
     (subst
@@ -37,7 +36,7 @@ returns-in-Ok-clause-opens g c =
 
 pub returns-in_ok-say_failed_start-in-Err-clause-opens : goal.returns-in_ok-say_failed_start-in-Err-clause-opens
 returns-in_ok-say_failed_start-in-Err-clause-opens g c =
-    let kind = medium g.D.Disk.reads g.D.Disk.may_leave g.D.Disk.faults g.D.Disk.arms in
+    let kind = g.D.Disk.medium in
     let down = at_node c.args.self.now (Down c.in-Down.disk c.in-Down.doubt) (sym c.replace.ensures.value ∙ c.in-Down.is) in
     subst (λ (l : Laptop g.row.D.Denot). Opens kind _ l c.turn_into-in-Err.new.self c.args.out.now c.say_failed_start.new.out) down
     (subst

@@ -2,7 +2,6 @@ use Rattle.std.proofs.Common.{ℕ, ap, length, ◌++◌, ◌∙◌}
 use Rattle.iot_server.specs.Servers as servers
 use Rattle.iot_store.specs.Store as stores
 use Rattle.iot_store.specs.declared.store.Store.{Store}
-use Rattle.iot_world.specs.Disks.{medium}
 use Rattle.iot_world.specs.Servers.{back_said}
 use Rattle.iot_world.proofs.DecidedLaws.{decides_back, decides_stopped}
 use Rattle.iot_world.proofs.ServersLaws.{comes_back, stops_again, back_stands, counts_alike, has_failed}
@@ -20,7 +19,7 @@ returns-in_ok-say_back-in-Ok-clause-step g c = λ names.
     rw c.settle.ensures
     (comes_back _ names c.args.disk c.restart.new.self c.in-Ok.server c.args.out.now c.say_back.new.out
     c.restart.ensures.image c.in-Ok.ensures.synced c.in-Ok.ensures.records c.in-Ok.ensures.only
-    (counts_alike (medium g.D.Disk.reads g.D.Disk.may_leave g.D.Disk.faults g.D.Disk.arms) (servers.disk_of c.in-Ok.server) c.args.disk
+    (counts_alike g.D.Disk.medium (servers.disk_of c.in-Ok.server) c.args.disk
     (c.in-Ok.ensures.steady ∙ c.restart.ensures.faults) (c.in-Ok.ensures.arms ∙ c.restart.ensures.arms))
     c.args.doubt
     (c.in_ok-say_back-in-Ok.ensures
@@ -29,7 +28,7 @@ returns-in_ok-say_back-in-Ok-clause-step g c = λ names.
 
 pub returns-in_ok-say_back-in-Ok-clause-decided : goal.returns-in_ok-say_back-in-Ok-clause-decided
 returns-in_ok-say_back-in-Ok-clause-decided g c =
-    decides_back (medium g.D.Disk.reads g.D.Disk.may_leave g.D.Disk.faults g.D.Disk.arms) c.args.disk c.restart.new.self c.in-Ok.server
+    decides_back g.D.Disk.medium c.args.disk c.restart.new.self c.in-Ok.server
     c.args.out.now c.say_back.new.out c.restart.ensures.image c.in-Ok.ensures.only c.args.doubt c.requires.sound
     (c.in_ok-say_back-in-Ok.ensures
     ∙ ap (λ (number : ℕ). c.args.out.now ++ back_said c.args.doubt number)
@@ -43,12 +42,12 @@ returns-in_ok-say_failed_start-in-Err-clause-step g c = λ names.
     c.restart.ensures.image c.in-Err.ensures.bodies
     (has_failed _ c.args.disk c.restart.new.self c.in-Err.disk c.in-Err.fault c.in_ok-say_failed_start-in-Err.ensures.stopped
     c.in-Err.ensures.cause
-    (counts_alike (medium g.D.Disk.reads g.D.Disk.may_leave g.D.Disk.faults g.D.Disk.arms) c.restart.new.self c.args.disk
+    (counts_alike g.D.Disk.medium c.restart.new.self c.args.disk
     c.restart.ensures.faults c.restart.ensures.arms) c.in-Err.ensures.arms)
     c.in_ok-say_failed_start-in-Err.ensures.says)
 
 pub returns-in_ok-say_failed_start-in-Err-clause-decided :
     goal.returns-in_ok-say_failed_start-in-Err-clause-decided
 returns-in_ok-say_failed_start-in-Err-clause-decided g c =
-    decides_stopped (medium g.D.Disk.reads g.D.Disk.may_leave g.D.Disk.faults g.D.Disk.arms) c.args.disk c.args.doubt c.args.out.now
+    decides_stopped g.D.Disk.medium c.args.disk c.args.doubt c.args.out.now
     c.say_failed_start.new.out c.in_ok-say_failed_start-in-Err.ensures.says

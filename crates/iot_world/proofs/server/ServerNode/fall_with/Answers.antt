@@ -17,5 +17,5 @@ returns-clause-disk g c = record {
   now = c.into_disk.result;
   old_has = ap disk_of (sym c.replace.ensures.value ∙ c.in-Up.is);
   new_has = ap disk_of c.settle.ensures;
-  arms = ap g.D.Disk.arms c.into_disk.ensures;
+  arms = ap g.D.Disk.medium.arms c.into_disk.ensures;
 }

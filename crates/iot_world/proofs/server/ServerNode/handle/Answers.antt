@@ -2,7 +2,6 @@ use Rattle.std.proofs.Common.{ℕ, List, sym, subst, IfOk}
 use Rattle.iot_wire.specs.Messages.{IsMessage}
 use Rattle.iot_wire.specs.Rules.{IsRequest}
 use Rattle.iot_wire.specs.Spelling.{request_spelling}
-use Rattle.iot_world.specs.Disks.{medium}
 use Rattle.iot_world.specs.Servers.{Handled, StopsHandling}
 use Rattle.iot_world.specs.declared.server.ServerNode.TheVariants.{Up}
 use Rattle.iot_world.proofs.ServersLaws.{handled_by, stops_by, counts_request}
@@ -14,7 +13,7 @@ returns-clause-handled g c =
     (λ (asked : List ℕ).
     IfOk c.handle.result
     (λ reply.
-    Handled (medium g.D.Disk.reads g.D.Disk.may_leave g.D.Disk.faults g.D.Disk.arms) asked reply.items c.args.self.now (Up
+    Handled g.D.Disk.medium asked reply.items c.args.self.now (Up
     c.handle.new.self)))
     c.deref.ensures.value
     (handled_by _ c.in-Up.server c.handle.new.self c.args.self.now c.in-Up.is _ c.handle.result c.handle.ensures.faults
@@ -25,7 +24,7 @@ pub returns-clause-stopped : goal.returns-clause-stopped
 returns-clause-stopped g c =
     subst
     (λ (asked : List ℕ).
-    StopsHandling (medium g.D.Disk.reads g.D.Disk.may_leave g.D.Disk.faults g.D.Disk.arms) asked c.handle.result c.args.self.now
+    StopsHandling g.D.Disk.medium asked c.handle.result c.args.self.now
     (Up c.handle.new.self))
     c.deref.ensures.value
     (stops_by _ c.in-Up.server c.handle.new.self c.args.self.now c.in-Up.is _ c.handle.result c.handle.ensures.faults c.handle.ensures.arms

@@ -2,7 +2,6 @@ use Rattle.std.proofs.Common.{refl, ap, sym, ◌∙◌}
 use Rattle.iot_store.specs.States.{opening}
 use Rattle.iot_text.proofs.TextsLaws.{extends_none}
 use Rattle.iot_server.specs.Servers as servers
-use Rattle.iot_world.specs.Disks.{medium}
 use Rattle.iot_world.specs.declared.server.ServerNode.TheVariants.{Down}
 use Rattle.iot_world.proofs.ServersLaws.{opens, opens_not, never_started, counts_alike, has_failed, empty_stands}
 use Rattle.iot_world.proofs.server.ServerNode.open.Goals as goal
@@ -19,7 +18,7 @@ returns-in-Ok-clause-step g c = λ names.
     rw (was ∙ ap (Down c.in-Down.disk) never.0, c.settle.ensures)
     (opens _ names c.in-Down.disk c.in-Ok.server c.args.out.now (g.met.D.Disk.reads_is_image c.in-Down.disk) c.in-Ok.ensures.synced
     c.in-Ok.ensures.records c.in-Ok.ensures.only
-    (counts_alike (medium g.D.Disk.reads g.D.Disk.may_leave g.D.Disk.faults g.D.Disk.arms) (servers.disk_of c.in-Ok.server) c.in-Down.disk
+    (counts_alike g.D.Disk.medium (servers.disk_of c.in-Ok.server) c.in-Down.disk
     c.in-Ok.ensures.steady c.in-Ok.ensures.arms))
 
 pub returns-in_ok-say_failed_start-in-Err-clause-step :

@@ -23,7 +23,7 @@ returns-clause-step g c =
 
 pub returns-clause-decided : goal.returns-clause-decided
 returns-clause-decided g c =
-    decides_behind c.args.out.now c.append_text.new.self c.act-2.new.out c.in_ok-append_text.ensures.ok g.D.Disk.may_leave
+    decides_behind c.args.out.now c.append_text.new.self c.act-2.new.out c.in_ok-append_text.ensures.ok g.D.Disk.medium.may_leave
     c.args.event.now c.args.self.now (rw (← c.new-said.ensures) c.in_ok-act-2.ensures.decided)
 
 pub returns-clause-text : goal.returns-clause-text

@@ -21,4 +21,4 @@ returns-in_ok-stop_client-in-StopClient-clause-step g c =
 
 pub returns-in_ok-act_after-in_default-clause-disks : goal.returns-in_ok-act_after-in_default-clause-disks
 returns-in_ok-act_after-in_default-clause-disks g c =
-    keeps_of g.D.Disk.arms c.args.self.now c.act_after.new.self c.in_ok-act_after-in_default.ensures.disks
+    keeps_of g.D.Disk.medium.arms c.args.self.now c.act_after.new.self c.in_ok-act_after-in_default.ensures.disks

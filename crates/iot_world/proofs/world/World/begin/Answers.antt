@@ -20,11 +20,11 @@ returns-then-runs-clause-step g c =
 
 pub returns-in_err-say-clause-disks : goal.returns-in_err-say-clause-disks
 returns-in_err-say-clause-disks g c =
-    (untouched_disks g.D.Disk.arms c.args.self.now _ refl refl refl)
+    (untouched_disks g.D.Disk.medium.arms c.args.self.now _ refl refl refl)
 
 pub returns-then-runs-clause-disks : goal.returns-then-runs-clause-disks
 returns-then-runs-clause-disks g c =
-    untouched_disks g.D.Disk.arms c.args.self.now _ refl refl refl
+    untouched_disks g.D.Disk.medium.arms c.args.self.now _ refl refl refl
 
 pub start-requires-clause-idle : goal.start-requires-clause-idle
 start-requires-clause-idle g c =
@@ -74,7 +74,7 @@ returns-in-Missed-clause-step g c =
 
 pub returns-in-Missed-clause-disks : goal.returns-in-Missed-clause-disks
 returns-in-Missed-clause-disks g c =
-    disks_then g.D.Disk.arms c.args.self.now c.bring.new.self _ c.in_ok-bring.ensures.disks
+    disks_then g.D.Disk.medium.arms c.args.self.now c.bring.new.self _ c.in_ok-bring.ensures.disks
     c.start-in-Missed.ensures.disks
 
 pub waits-requires : goal.waits-requires
@@ -89,7 +89,7 @@ start-requires-in-Held-clause-ready g c =
 
 pub returns-in-Held-clause-disks : goal.returns-in-Held-clause-disks
 returns-in-Held-clause-disks g c =
-    (disks_then g.D.Disk.arms c.args.self.now c.bring.new.self c.start-in-Held.new.self
+    (disks_then g.D.Disk.medium.arms c.args.self.now c.bring.new.self c.start-in-Held.new.self
     c.in_ok-bring.ensures.disks c.start-in-Held.ensures.disks)
 
 pub start-requires-in-Missed-clause-ready : goal.start-requires-in-Missed-clause-ready

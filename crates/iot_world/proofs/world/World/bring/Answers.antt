@@ -27,7 +27,7 @@ ask-requires-clause-none g c =
 
 pub returns-in_err-message-clause-disks : goal.returns-in_err-message-clause-disks
 returns-in_err-message-clause-disks g c =
-    (untouched_disks g.D.Disk.arms c.args.self.now c.args.self.now refl refl refl)
+    (untouched_disks g.D.Disk.medium.arms c.args.self.now c.args.self.now refl refl refl)
 
 pub take-requires-clause-stands : goal.take-requires-clause-stands
 take-requires-clause-stands g c =
@@ -82,8 +82,8 @@ returns-in_err-take-in-Some-clause-disks g c =
     let value = kept_value c.args.client old mid c.in_ok-reply.field-0 c.in-Some.reply c.in-Some.is c.in_ok-reply.ensures.clients now
     c.index_mut.ensures.value in
     let before = found _ c.args.client old now c.requires.ready value in
-    disks_then g.D.Disk.arms old mid _ c.in_ok-reply.ensures.disks
-    (client_disks g.D.Disk.arms mid _ c.args.client now c.take.new.self
+    disks_then g.D.Disk.medium.arms old mid _ c.in_ok-reply.ensures.disks
+    (client_disks g.D.Disk.medium.arms mid _ c.args.client now c.take.new.self
     (kept_there c.args.client old mid c.in_ok-reply.field-0 c.in-Some.reply c.in-Some.is c.in_ok-reply.ensures.clients now before).get
     refl refl refl c.in_err-take-in-Some.ensures.disk)
 
@@ -131,8 +131,8 @@ returns-then-not-branch-clause-disks g c =
     let value = kept_value c.args.client old mid c.in_ok-reply.field-0 c.in-Some.reply c.in-Some.is c.in_ok-reply.ensures.clients now
     c.index_mut.ensures.value in
     let before = found _ c.args.client old now c.requires.ready value in
-    disks_then g.D.Disk.arms old mid _ c.in_ok-reply.ensures.disks
-    (client_disks g.D.Disk.arms mid _ c.args.client now c.take.new.self
+    disks_then g.D.Disk.medium.arms old mid _ c.in_ok-reply.ensures.disks
+    (client_disks g.D.Disk.medium.arms mid _ c.args.client now c.take.new.self
     (kept_there c.args.client old mid c.in_ok-reply.field-0 c.in-Some.reply c.in-Some.is c.in_ok-reply.ensures.clients now before).get
     refl refl refl c.in_ok-take-in-Some.ensures.disk)
 
@@ -199,8 +199,8 @@ returns-in-Some-clause-disks g c =
     let value = kept_value c.args.client old mid c.in_ok-reply.field-0 c.in-Some.reply c.in-Some.is c.in_ok-reply.ensures.clients now
     c.index_mut.ensures.value in
     let before = found _ c.args.client old now c.requires.ready value in
-    disks_then g.D.Disk.arms old mid _ c.in_ok-reply.ensures.disks
-    (client_disks g.D.Disk.arms mid _ c.args.client now c.take.new.self
+    disks_then g.D.Disk.medium.arms old mid _ c.in_ok-reply.ensures.disks
+    (client_disks g.D.Disk.medium.arms mid _ c.args.client now c.take.new.self
     (kept_there c.args.client old mid c.in_ok-reply.field-0 c.in-Some.reply c.in-Some.is c.in_ok-reply.ensures.clients now before).get
     refl refl refl c.in_ok-take-in-Some.ensures.disk)
 

@@ -1,5 +1,4 @@
 use Rattle.std.proofs.Common.{length, subst, ◌≤◌}
-use Rattle.iot_world.specs.Disks.{medium}
 use Rattle.iot_world.proofs.WorldLaws.{lends_any, lends_disk, lends_none, looked_up}
 use Rattle.iot_world.proofs.world.World.client.Goals as goal
 
@@ -11,7 +10,7 @@ returns-in-Some-clause-lent g c =
 
 pub returns-in-Some-clause-disk : goal.returns-in-Some-clause-disk
 returns-in-Some-clause-disk g c =
-    lends_disk (medium g.D.Disk.reads g.D.Disk.may_leave g.D.Disk.faults g.D.Disk.arms) c.args.self.now c.args.place c.in-Some.laptop.now
+    lends_disk g.D.Disk.medium c.args.self.now c.args.place c.in-Some.laptop.now
     (looked_up c.args.self.now.clients.items c.deref.result.now c.args.place c.in-Some.laptop.now c.deref.ensures.value
     c.in-Some.ensures.lookup.3.0 c.in-Some.ensures.lookup.1) _ c.lent.ensures
 

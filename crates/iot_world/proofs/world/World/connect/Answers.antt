@@ -25,7 +25,7 @@ returns-clause-counts g c =
 
 pub returns-in_err-say_connect-clause-disks : goal.returns-in_err-say_connect-clause-disks
 returns-in_err-say_connect-clause-disks g c =
-    relinked_disks _ g.D.Disk.arms c.args.client c.args.self.now _
+    relinked_disks _ g.D.Disk.medium.arms c.args.client c.args.self.now _
     c.index_mut-laptop.result.now
     c.connect.new.self _ c.requires.inside
     (found_there _ c.args.client c.args.self.now c.index_mut-laptop.result.now c.requires.inside
@@ -34,7 +34,7 @@ returns-in_err-say_connect-clause-disks g c =
 
 pub returns-clause-disks : goal.returns-clause-disks
 returns-clause-disks g c =
-    relinked_disks _ g.D.Disk.arms c.args.client c.args.self.now _
+    relinked_disks _ g.D.Disk.medium.arms c.args.client c.args.self.now _
     c.index_mut-laptop.result.now
     c.connect.new.self _ c.requires.inside
     (found_there _ c.args.client c.args.self.now c.index_mut-laptop.result.now c.requires.inside

@@ -13,7 +13,7 @@ returns-clause-step g c =
     (λ n counts. down_answered n c.crash.new.self c.in_ok-crash.ensures.down) c.in_ok-crash.ensures.step
 
 pub returns-clause-disks : goal.returns-clause-disks
-returns-clause-disks g c = server_disks g.D.Disk.arms c.args.self.now _ refl refl c.crash.ensures.disk
+returns-clause-disks g c = server_disks g.D.Disk.medium.arms c.args.self.now _ refl refl c.crash.ensures.disk
 
 pub returns-in_err-crash-clause-disks : goal.returns-in_err-crash-clause-disks
-returns-in_err-crash-clause-disks g c = server_disks g.D.Disk.arms c.args.self.now _ refl refl c.crash.ensures.disk
+returns-in_err-crash-clause-disks g c = server_disks g.D.Disk.medium.arms c.args.self.now _ refl refl c.crash.ensures.disk

@@ -18,7 +18,7 @@ fall-requires g c =
 
 pub returns-in_err-say_crash-clause-disks : goal.returns-in_err-say_crash-clause-disks
 returns-in_err-say_crash-clause-disks g c =
-    client_disks g.D.Disk.arms c.args.self.now _ c.args.client c.index_mut-laptop.result.now _
+    client_disks g.D.Disk.medium.arms c.args.self.now _ c.args.client c.index_mut-laptop.result.now _
     (found_there _ c.args.client c.args.self.now c.index_mut-laptop.result.now c.requires.inside c.index_mut-laptop.ensures.value)
     refl refl refl c.fall.ensures.disk
 
@@ -33,6 +33,6 @@ returns-clause-step g c =
 
 pub returns-clause-disks : goal.returns-clause-disks
 returns-clause-disks g c =
-    client_disks g.D.Disk.arms c.args.self.now _ c.args.client c.index_mut-laptop.result.now _
+    client_disks g.D.Disk.medium.arms c.args.self.now _ c.args.client c.index_mut-laptop.result.now _
     (found_there _ c.args.client c.args.self.now c.index_mut-laptop.result.now c.requires.inside c.index_mut-laptop.ensures.value)
     refl refl refl c.fall.ensures.disk

@@ -57,33 +57,33 @@ returns-else-branch-clause-step g c =
 
 pub returns-in_err-say-in-Err-clause-disks : goal.returns-in_err-say-in-Err-clause-disks
 returns-in_err-say-in-Err-clause-disks g c =
-    (untouched_disks g.D.Disk.arms c.args.self.now _ refl refl refl)
+    (untouched_disks g.D.Disk.medium.arms c.args.self.now _ refl refl refl)
 
 pub returns-in-Err-clause-disks : goal.returns-in-Err-clause-disks
 returns-in-Err-clause-disks g c =
-    untouched_disks g.D.Disk.arms c.args.self.now _ refl refl refl
+    untouched_disks g.D.Disk.medium.arms c.args.self.now _ refl refl refl
 
 pub returns-in_err-discard-clause-disks : goal.returns-in_err-discard-clause-disks
 returns-in_err-discard-clause-disks g c =
-    (client_disks g.D.Disk.arms c.args.self.now _ c.args.client c.index_mut.result.now c.discard.new.self
+    (client_disks g.D.Disk.medium.arms c.args.self.now _ c.args.client c.index_mut.result.now c.discard.new.self
     (found _ c.args.client c.args.self.now c.index_mut.result.now c.requires.ready c.index_mut.ensures.value).get
     refl refl refl c.in_err-discard.ensures.disk)
 
 pub returns-in_err-say_discard-clause-disks : goal.returns-in_err-say_discard-clause-disks
 returns-in_err-say_discard-clause-disks g c =
-    (client_disks g.D.Disk.arms c.args.self.now _ c.args.client c.index_mut.result.now c.discard.new.self
+    (client_disks g.D.Disk.medium.arms c.args.self.now _ c.args.client c.index_mut.result.now c.discard.new.self
     (found _ c.args.client c.args.self.now c.index_mut.result.now c.requires.ready c.index_mut.ensures.value).get
     refl refl refl c.in_ok-discard.ensures.disk)
 
 pub returns-in_ok-say_discard-clause-disks : goal.returns-in_ok-say_discard-clause-disks
 returns-in_ok-say_discard-clause-disks g c =
-    client_disks g.D.Disk.arms c.args.self.now _ c.args.client c.index_mut.result.now c.discard.new.self
+    client_disks g.D.Disk.medium.arms c.args.self.now _ c.args.client c.index_mut.result.now c.discard.new.self
     (found _ c.args.client c.args.self.now c.index_mut.result.now c.requires.ready c.index_mut.ensures.value).get
     refl refl refl c.in_ok-discard.ensures.disk
 
 pub returns-else-branch-clause-disks : goal.returns-else-branch-clause-disks
 returns-else-branch-clause-disks g c =
-    client_disks g.D.Disk.arms c.args.self.now _ c.args.client c.index_mut.result.now c.discard.new.self
+    client_disks g.D.Disk.medium.arms c.args.self.now _ c.args.client c.index_mut.result.now c.discard.new.self
     (found _ c.args.client c.args.self.now c.index_mut.result.now c.requires.ready c.index_mut.ensures.value).get
     refl refl refl c.in_ok-discard.ensures.disk
 

@@ -29,7 +29,7 @@ returns-clause-counts g c =
 
 pub returns-in_err-say_disconnect-clause-disks : goal.returns-in_err-say_disconnect-clause-disks
 returns-in_err-say_disconnect-clause-disks g c =
-    relinked_disks _ g.D.Disk.arms c.args.client c.args.self.now _
+    relinked_disks _ g.D.Disk.medium.arms c.args.client c.args.self.now _
     c.index_mut-laptop.result.now
     c.disconnect.new.self _ c.requires.inside
     (found_there _ c.args.client c.args.self.now c.index_mut-laptop.result.now c.requires.inside
@@ -38,7 +38,7 @@ returns-in_err-say_disconnect-clause-disks g c =
 
 pub returns-clause-disks : goal.returns-clause-disks
 returns-clause-disks g c =
-    relinked_disks _ g.D.Disk.arms c.args.client c.args.self.now _
+    relinked_disks _ g.D.Disk.medium.arms c.args.client c.args.self.now _
     c.index_mut-laptop.result.now
     c.disconnect.new.self _ c.requires.inside
     (found_there _ c.args.client c.args.self.now c.index_mut-laptop.result.now c.requires.inside

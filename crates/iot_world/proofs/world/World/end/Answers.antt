@@ -22,7 +22,7 @@ returns-in_err-say-clause-disks g c =
     let old = c.args.self.now in
     let was = c.index_mut-laptop.result.now in
     let at = found _ c.args.client old was c.requires.ready c.index_mut-laptop.ensures.value in
-    back_disks _ g.D.Disk.arms c.args.client old _ was was at refl refl refl c.requires.ready refl
+    back_disks _ g.D.Disk.medium.arms c.args.client old _ was was at refl refl refl c.requires.ready refl
 
 pub returns-then-not-runs-clause-step : goal.returns-then-not-runs-clause-step
 returns-then-not-runs-clause-step g c =
@@ -47,7 +47,7 @@ returns-then-not-runs-clause-disks g c =
     let old = c.args.self.now in
     let was = c.index_mut-laptop.result.now in
     let at = found _ c.args.client old was c.requires.ready c.index_mut-laptop.ensures.value in
-    back_disks _ g.D.Disk.arms c.args.client old _ was was at refl refl refl c.requires.ready refl
+    back_disks _ g.D.Disk.medium.arms c.args.client old _ was was at refl refl refl c.requires.ready refl
 
 pub may_end-requires : goal.may_end-requires
 may_end-requires g c =
@@ -58,7 +58,7 @@ returns-in_err-say-2-clause-disks g c =
     let old = c.args.self.now in
     let was = c.index_mut-laptop.result.now in
     let at = found _ c.args.client old was c.requires.ready c.index_mut-laptop.ensures.value in
-    back_disks _ g.D.Disk.arms c.args.client old _ was was at refl refl refl c.requires.ready refl
+    back_disks _ g.D.Disk.medium.arms c.args.client old _ was was at refl refl refl c.requires.ready refl
 
 pub returns-then-not-may_end-clause-step : goal.returns-then-not-may_end-clause-step
 returns-then-not-may_end-clause-step g c =
@@ -85,7 +85,7 @@ returns-then-not-may_end-clause-disks g c =
     let old = c.args.self.now in
     let was = c.index_mut-laptop.result.now in
     let at = found _ c.args.client old was c.requires.ready c.index_mut-laptop.ensures.value in
-    back_disks _ g.D.Disk.arms c.args.client old _ was was at refl refl refl c.requires.ready refl
+    back_disks _ g.D.Disk.medium.arms c.args.client old _ was was at refl refl refl c.requires.ready refl
 
 pub end-requires-clause-stands : goal.end-requires-clause-stands
 end-requires-clause-stands g c =
@@ -96,7 +96,7 @@ returns-in_err-gone-clause-disks g c =
     let old = c.args.self.now in
     let was = c.index_mut-laptop.result.now in
     let at = found _ c.args.client old was c.requires.ready c.index_mut-laptop.ensures.value in
-    client_disks g.D.Disk.arms old _ c.args.client was c.end.new.self at.get refl refl refl c.in_err-gone.ensures.disk
+    client_disks g.D.Disk.medium.arms old _ c.args.client was c.end.new.self at.get refl refl refl c.in_err-gone.ensures.disk
 
 pub returns-in_default-clause-step : goal.returns-in_default-clause-step
 returns-in_default-clause-step g c =
@@ -121,21 +121,21 @@ returns-in_default-clause-disks g c =
     let old = c.args.self.now in
     let was = c.index_mut-laptop.result.now in
     let at = found _ c.args.client old was c.requires.ready c.index_mut-laptop.ensures.value in
-    client_disks g.D.Disk.arms old _ c.args.client was c.end.new.self at.get refl refl refl c.in_ok-gone.ensures.disk
+    client_disks g.D.Disk.medium.arms old _ c.args.client was c.end.new.self at.get refl refl refl c.in_ok-gone.ensures.disk
 
 pub returns-in_err-say_end-clause-disks : goal.returns-in_err-say_end-clause-disks
 returns-in_err-say_end-clause-disks g c =
     let old = c.args.self.now in
     let was = c.index_mut-laptop.result.now in
     let at = found _ c.args.client old was c.requires.ready c.index_mut-laptop.ensures.value in
-    client_disks g.D.Disk.arms old _ c.args.client was c.end.new.self at.get refl refl refl c.in_ok-gone.ensures.disk
+    client_disks g.D.Disk.medium.arms old _ c.args.client was c.end.new.self at.get refl refl refl c.in_ok-gone.ensures.disk
 
 pub returns-in_err-say_pending-clause-disks : goal.returns-in_err-say_pending-clause-disks
 returns-in_err-say_pending-clause-disks g c =
     let old = c.args.self.now in
     let was = c.index_mut-laptop.result.now in
     let at = found _ c.args.client old was c.requires.ready c.index_mut-laptop.ensures.value in
-    client_disks g.D.Disk.arms old _ c.args.client was c.end.new.self at.get refl refl refl c.in_ok-gone.ensures.disk
+    client_disks g.D.Disk.medium.arms old _ c.args.client was c.end.new.self at.get refl refl refl c.in_ok-gone.ensures.disk
 
 pub returns-then-not-gone-clause-step : goal.returns-then-not-gone-clause-step
 returns-then-not-gone-clause-step g c =
@@ -164,7 +164,7 @@ returns-then-not-gone-clause-disks g c =
     let old = c.args.self.now in
     let was = c.index_mut-laptop.result.now in
     let at = found _ c.args.client old was c.requires.ready c.index_mut-laptop.ensures.value in
-    client_disks g.D.Disk.arms old _ c.args.client was c.end.new.self at.get refl refl refl c.in_ok-gone.ensures.disk
+    client_disks g.D.Disk.medium.arms old _ c.args.client was c.end.new.self at.get refl refl refl c.in_ok-gone.ensures.disk
 
 pub sync-requires : goal.sync-requires
 sync-requires g c =
@@ -221,8 +221,8 @@ returns-clause-disks g c =
     let old = c.args.self.now in
     let was = c.index_mut-laptop.result.now in
     let at = found _ c.args.client old was c.requires.ready c.index_mut-laptop.ensures.value in
-    disks_then g.D.Disk.arms old _ c.sync.new.self
-    (client_disks g.D.Disk.arms old _ c.args.client was c.end.new.self at.get refl refl refl c.in_ok-gone.ensures.disk)
+    disks_then g.D.Disk.medium.arms old _ c.sync.new.self
+    (client_disks g.D.Disk.medium.arms old _ c.args.client was c.end.new.self at.get refl refl refl c.in_ok-gone.ensures.disk)
     c.in_ok-sync.ensures.disks
 
 pub returns-in_err-sync-clause-disks : goal.returns-in_err-sync-clause-disks
@@ -230,8 +230,8 @@ returns-in_err-sync-clause-disks g c =
     let old = c.args.self.now in
     let was = c.index_mut-laptop.result.now in
     let at = found _ c.args.client old was c.requires.ready c.index_mut-laptop.ensures.value in
-    disks_then g.D.Disk.arms old _ c.sync.new.self
-    (client_disks g.D.Disk.arms old _ c.args.client was c.end.new.self at.get refl refl refl c.in_ok-gone.ensures.disk)
+    disks_then g.D.Disk.medium.arms old _ c.sync.new.self
+    (client_disks g.D.Disk.medium.arms old _ c.args.client was c.end.new.self at.get refl refl refl c.in_ok-gone.ensures.disk)
     c.in_err-sync.ensures.disks
 
 pub returns-in_err-say_pending-in-Unanswered-clause-disks : goal.returns-in_err-say_pending-in-Unanswered-clause-disks
@@ -239,6 +239,6 @@ returns-in_err-say_pending-in-Unanswered-clause-disks g c =
     let old = c.args.self.now in
     let was = c.index_mut-laptop.result.now in
     let at = found _ c.args.client old was c.requires.ready c.index_mut-laptop.ensures.value in
-    disks_then g.D.Disk.arms old _ c.sync.new.self
-    (client_disks g.D.Disk.arms old _ c.args.client was c.end.new.self at.get refl refl refl c.in_ok-gone.ensures.disk)
+    disks_then g.D.Disk.medium.arms old _ c.sync.new.self
+    (client_disks g.D.Disk.medium.arms old _ c.args.client was c.end.new.self at.get refl refl refl c.in_ok-gone.ensures.disk)
     c.in_ok-sync.ensures.disks

@@ -49,7 +49,7 @@ pub returns-in-Away-clause-disks : goal.returns-in-Away-clause-disks
 returns-in-Away-clause-disks g c =
     disks_relinked _ c.args.client c.args.self.now _ c.index_mut.result.now c.pass.new.self
     (found _ c.args.client c.args.self.now c.index_mut.result.now c.requires.ready
-    c.index_mut.ensures.value) c.requires.ready refl g.D.Disk.arms refl c.pass.ensures.disk refl
+    c.index_mut.ensures.value) c.requires.ready refl g.D.Disk.medium.arms refl c.pass.ensures.disk refl
 
 pub returns-in-RequestLost-clause-lends : goal.returns-in-RequestLost-clause-lends
 returns-in-RequestLost-clause-lends g c =
@@ -86,7 +86,7 @@ pub returns-in-RequestLost-clause-disks : goal.returns-in-RequestLost-clause-dis
 returns-in-RequestLost-clause-disks g c =
     disks_relinked _ c.args.client c.args.self.now _ c.index_mut.result.now c.pass.new.self
     (found _ c.args.client c.args.self.now c.index_mut.result.now c.requires.ready
-    c.index_mut.ensures.value) c.requires.ready refl g.D.Disk.arms refl c.pass.ensures.disk refl
+    c.index_mut.ensures.value) c.requires.ready refl g.D.Disk.medium.arms refl c.pass.ensures.disk refl
 
 pub returns-in_ok-_lost-in-ReplyLost-clause-lends : goal.returns-in_ok-_lost-in-ReplyLost-clause-lends
 returns-in_ok-_lost-in-ReplyLost-clause-lends g c =
@@ -130,20 +130,20 @@ pub returns-in_ok-_lost-in-ReplyLost-clause-disks : goal.returns-in_ok-_lost-in-
 returns-in_ok-_lost-in-ReplyLost-clause-disks g c =
     disks_served _ c.args.client c.args.self.now _ c.index_mut.result.now c.pass.new.self
     (found _ c.args.client c.args.self.now c.index_mut.result.now c.requires.ready
-    c.index_mut.ensures.value) c.requires.ready refl g.D.Disk.arms refl c.pass.ensures.disk
+    c.index_mut.ensures.value) c.requires.ready refl g.D.Disk.medium.arms refl c.pass.ensures.disk
     c.in_ok-_lost-in-ReplyLost.ensures.disk
 
 pub returns-in_err-_lost-in-ReplyLost-clause-disks : goal.returns-in_err-_lost-in-ReplyLost-clause-disks
 returns-in_err-_lost-in-ReplyLost-clause-disks g c =
     (disks_served _ c.args.client c.args.self.now _ c.index_mut.result.now c.pass.new.self
     (found _ c.args.client c.args.self.now c.index_mut.result.now c.requires.ready
-    c.index_mut.ensures.value) c.requires.ready refl g.D.Disk.arms refl c.pass.ensures.disk c.in_err-_lost-in-ReplyLost.ensures.disk)
+    c.index_mut.ensures.value) c.requires.ready refl g.D.Disk.medium.arms refl c.pass.ensures.disk c.in_err-_lost-in-ReplyLost.ensures.disk)
 
 pub returns-in_err-reply-in-Both-clause-disks : goal.returns-in_err-reply-in-Both-clause-disks
 returns-in_err-reply-in-Both-clause-disks g c =
     (disks_served _ c.args.client c.args.self.now _ c.index_mut.result.now c.pass.new.self
     (found _ c.args.client c.args.self.now c.index_mut.result.now c.requires.ready
-    c.index_mut.ensures.value) c.requires.ready refl g.D.Disk.arms refl c.pass.ensures.disk
+    c.index_mut.ensures.value) c.requires.ready refl g.D.Disk.medium.arms refl c.pass.ensures.disk
     c.in_err-reply-in-Both.ensures.disk)
 
 pub broke-requires : goal.broke-requires
@@ -178,7 +178,7 @@ pub returns-in-Some-clause-disks : goal.returns-in-Some-clause-disks
 returns-in-Some-clause-disks g c =
     disks_served _ c.args.client c.args.self.now _ c.index_mut.result.now c.pass.new.self
     (found _ c.args.client c.args.self.now c.index_mut.result.now c.requires.ready c.index_mut.ensures.value) c.requires.ready refl
-    g.D.Disk.arms refl c.pass.ensures.disk
+    g.D.Disk.medium.arms refl c.pass.ensures.disk
     c.in_ok-reply-in-Both.ensures.disk
 
 pub returns-in-None-clause-lends : goal.returns-in-None-clause-lends
@@ -235,7 +235,7 @@ pub returns-in-None-clause-disks : goal.returns-in-None-clause-disks
 returns-in-None-clause-disks g c =
     disks_served _ c.args.client c.args.self.now _ c.index_mut.result.now c.broke.new.self
     (found _ c.args.client c.args.self.now c.index_mut.result.now c.requires.ready c.index_mut.ensures.value) c.requires.ready (set_twice
-    c.args.self.now.clients.items c.args.client c.pass.new.self c.broke.new.self) g.D.Disk.arms refl
+    c.args.self.now.clients.items c.args.client c.pass.new.self c.broke.new.self) g.D.Disk.medium.arms refl
     (c.broke.ensures.disk ∙ ap disk_in (still_there c.args.client c.args.self.now c.index_mut.result.now c.pass.new.self
     c.index_mut-in-None.result.now
     (found _ c.args.client c.args.self.now c.index_mut.result.now c.requires.ready c.index_mut.ensures.value) (c.pass.ensures.both

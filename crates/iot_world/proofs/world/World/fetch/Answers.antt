@@ -58,8 +58,8 @@ returns-in_err-fetched-in-Some-clause-disks g c =
     let value = kept_value c.args.client old mid c.in_ok-reply.field-0 c.in-Some.reply c.in-Some.is c.in_ok-reply.ensures.clients now
     c.index_mut.ensures.value in
     let before = found _ c.args.client old now c.requires.ready value in
-    disks_then g.D.Disk.arms old mid _ c.in_ok-reply.ensures.disks
-    (client_disks g.D.Disk.arms mid _ c.args.client now c.fetched.new.self
+    disks_then g.D.Disk.medium.arms old mid _ c.in_ok-reply.ensures.disks
+    (client_disks g.D.Disk.medium.arms mid _ c.args.client now c.fetched.new.self
     (kept_there c.args.client old mid c.in_ok-reply.field-0 c.in-Some.reply c.in-Some.is c.in_ok-reply.ensures.clients now before).get
     refl refl refl c.in_err-fetched-in-Some.ensures.disk)
 
@@ -107,8 +107,8 @@ returns-then-not-branch-clause-disks g c =
     let value = kept_value c.args.client old mid c.in_ok-reply.field-0 c.in-Some.reply c.in-Some.is c.in_ok-reply.ensures.clients now
     c.index_mut.ensures.value in
     let before = found _ c.args.client old now c.requires.ready value in
-    disks_then g.D.Disk.arms old mid _ c.in_ok-reply.ensures.disks
-    (client_disks g.D.Disk.arms mid _ c.args.client now c.fetched.new.self
+    disks_then g.D.Disk.medium.arms old mid _ c.in_ok-reply.ensures.disks
+    (client_disks g.D.Disk.medium.arms mid _ c.args.client now c.fetched.new.self
     (kept_there c.args.client old mid c.in_ok-reply.field-0 c.in-Some.reply c.in-Some.is c.in_ok-reply.ensures.clients now before).get
     refl refl refl c.in_ok-fetched-in-Some.ensures.disk)
 
@@ -156,8 +156,8 @@ returns-in-Some-clause-disks g c =
     let value = kept_value c.args.client old mid c.in_ok-reply.field-0 c.in-Some.reply c.in-Some.is c.in_ok-reply.ensures.clients now
     c.index_mut.ensures.value in
     let before = found _ c.args.client old now c.requires.ready value in
-    disks_then g.D.Disk.arms old mid _ c.in_ok-reply.ensures.disks
-    (client_disks g.D.Disk.arms mid _ c.args.client now c.fetched.new.self
+    disks_then g.D.Disk.medium.arms old mid _ c.in_ok-reply.ensures.disks
+    (client_disks g.D.Disk.medium.arms mid _ c.args.client now c.fetched.new.self
     (kept_there c.args.client old mid c.in_ok-reply.field-0 c.in-Some.reply c.in-Some.is c.in_ok-reply.ensures.clients now before).get
     refl refl refl c.in_ok-fetched-in-Some.ensures.disk)
 

@@ -1,6 +1,5 @@
 use Rattle.std.proofs.Common.{refl, subst}
 use Rattle.iot_tree.specs.Tree.{Path}
-use Rattle.iot_world.specs.Disks.{medium}
 use Rattle.iot_world.specs.World.{Steps}
 use Rattle.iot_tree.specs.declared.want.Want.TheVariants as wanted
 use Rattle.iot_machine.specs.Calls.{Says}
@@ -17,7 +16,7 @@ returns-then-not-branch-clause-step g c =
     stays _ (Takes c.args.client (wanted.Below c.args.path.now))
     (Says (λ m. hoard_line (name_of c.args.client m) c.args.path.now)) c.args.self.now c.take.new.self c.args.out.now c.take.new.out _
     c.if-not-branch.true
-    (subst (λ (p : Path). Steps (medium g.D.Disk.reads g.D.Disk.may_leave g.D.Disk.faults g.D.Disk.arms)
+    (subst (λ (p : Path). Steps g.D.Disk.medium
     (Takes c.args.client (wanted.Below p)) c.args.self.now c.take.new.self
     c.args.out.now c.take.new.out c.in_ok-take.field-0) c.in_ok-copy.ensures c.in_ok-take.ensures.step)
 
@@ -28,7 +27,7 @@ returns-clause-step g c =
     goes _ (Takes c.args.client (wanted.Below c.args.path.now))
     (Says (λ m. hoard_line (name_of c.args.client m) c.args.path.now)) c.args.self.now
     c.take.new.self c.take.new.self c.args.out.now c.take.new.out c.say_hoard.new.out _ c.if-not-branch.false
-    (subst (λ (p : Path). Steps (medium g.D.Disk.reads g.D.Disk.may_leave g.D.Disk.faults g.D.Disk.arms)
+    (subst (λ (p : Path). Steps g.D.Disk.medium
     (Takes c.args.client (wanted.Below p)) c.args.self.now c.take.new.self c.args.out.now
     c.take.new.out c.in_ok-take.field-0) c.in_ok-copy.ensures c.in_ok-take.ensures.step)
     (says_name _ c.args.client c.take.new.self c.index.result.now
@@ -37,7 +36,7 @@ returns-clause-step g c =
 
 pub returns-in_err-copy-clause-disks : goal.returns-in_err-copy-clause-disks
 returns-in_err-copy-clause-disks g c =
-    (untouched_disks g.D.Disk.arms c.args.self.now c.args.self.now refl refl refl)
+    (untouched_disks g.D.Disk.medium.arms c.args.self.now c.args.self.now refl refl refl)
 
 pub returns-then-not-branch-clause-counts : goal.returns-then-not-branch-clause-counts
 returns-then-not-branch-clause-counts g c =

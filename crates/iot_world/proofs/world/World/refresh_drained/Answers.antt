@@ -16,7 +16,7 @@ returns-then-not-is_drained-clause-step g c =
 
 pub returns-then-not-is_drained-clause-disks : goal.returns-then-not-is_drained-clause-disks
 returns-then-not-is_drained-clause-disks g c =
-    untouched_disks g.D.Disk.arms c.args.self.now _ refl refl refl
+    untouched_disks g.D.Disk.medium.arms c.args.self.now _ refl refl refl
 
 pub refresh-requires : goal.refresh-requires
 refresh-requires g c =

@@ -59,33 +59,33 @@ returns-else-branch-clause-step g c =
 
 pub returns-in_err-say-in-Err-clause-disks : goal.returns-in_err-say-in-Err-clause-disks
 returns-in_err-say-in-Err-clause-disks g c =
-    (untouched_disks g.D.Disk.arms c.args.self.now _ refl refl refl)
+    (untouched_disks g.D.Disk.medium.arms c.args.self.now _ refl refl refl)
 
 pub returns-in-Err-clause-disks : goal.returns-in-Err-clause-disks
 returns-in-Err-clause-disks g c =
-    untouched_disks g.D.Disk.arms c.args.self.now _ refl refl refl
+    untouched_disks g.D.Disk.medium.arms c.args.self.now _ refl refl refl
 
 pub returns-in_err-repair-clause-disks : goal.returns-in_err-repair-clause-disks
 returns-in_err-repair-clause-disks g c =
-    (client_disks g.D.Disk.arms c.args.self.now _ c.args.client c.index_mut.result.now c.repair.new.self
+    (client_disks g.D.Disk.medium.arms c.args.self.now _ c.args.client c.index_mut.result.now c.repair.new.self
     (found _ c.args.client c.args.self.now c.index_mut.result.now c.requires.ready c.index_mut.ensures.value).get
     refl refl refl c.in_err-repair.ensures.disk)
 
 pub returns-in_err-say_repair-clause-disks : goal.returns-in_err-say_repair-clause-disks
 returns-in_err-say_repair-clause-disks g c =
-    (client_disks g.D.Disk.arms c.args.self.now _ c.args.client c.index_mut.result.now c.repair.new.self
+    (client_disks g.D.Disk.medium.arms c.args.self.now _ c.args.client c.index_mut.result.now c.repair.new.self
     (found _ c.args.client c.args.self.now c.index_mut.result.now c.requires.ready c.index_mut.ensures.value).get
     refl refl refl c.in_ok-repair.ensures.disk)
 
 pub returns-in_ok-say_repair-clause-disks : goal.returns-in_ok-say_repair-clause-disks
 returns-in_ok-say_repair-clause-disks g c =
-    client_disks g.D.Disk.arms c.args.self.now _ c.args.client c.index_mut.result.now c.repair.new.self
+    client_disks g.D.Disk.medium.arms c.args.self.now _ c.args.client c.index_mut.result.now c.repair.new.self
     (found _ c.args.client c.args.self.now c.index_mut.result.now c.requires.ready c.index_mut.ensures.value).get
     refl refl refl c.in_ok-repair.ensures.disk
 
 pub returns-else-branch-clause-disks : goal.returns-else-branch-clause-disks
 returns-else-branch-clause-disks g c =
-    client_disks g.D.Disk.arms c.args.self.now _ c.args.client c.index_mut.result.now c.repair.new.self
+    client_disks g.D.Disk.medium.arms c.args.self.now _ c.args.client c.index_mut.result.now c.repair.new.self
     (found _ c.args.client c.args.self.now c.index_mut.result.now c.requires.ready c.index_mut.ensures.value).get
     refl refl refl c.in_ok-repair.ensures.disk
 

@@ -1,6 +1,5 @@
 use Rattle.std.proofs.Common.{[], true, false, slice_index_or, refl, sym, ap, subst, ◌∙◌, arith}
 use Rattle.iot_tree.specs.declared.want.Want.TheVariants.{Below}
-use Rattle.iot_world.specs.Disks.{medium}
 use Rattle.iot_world.specs.Nodes.{state_in}
 use Rattle.iot_machine.specs.Clients.{new_client}
 use Rattle.iot_world.specs.Laptops.{IsHeadPlan}
@@ -23,7 +22,7 @@ pub plan-plan-requires-clause-stands : goal.plan-plan-requires-clause-stands
 plan-plan-requires-clause-stands g c =
     let now = c.index.result.now in
     let value = c.index.ensures ∙ ap (λ ls. slice_index_or ls c.args.client now)
-    (same_clients (medium g.D.Disk.reads g.D.Disk.may_leave g.D.Disk.faults g.D.Disk.arms)
+    (same_clients g.D.Disk.medium
     c.args.client c.args.self.now c.exchange.new.self c.args.out.now c.exchange.new.out
     c.in_ok-reply.field-0 c.in-Some.reply c.in-Some.is c.in_ok-reply.ensures.clients) in
     found_some _ c.args.client c.args.self.now now c.requires.ready value
@@ -32,7 +31,7 @@ pub plan-plan-requires-clause-conflict : goal.plan-plan-requires-clause-conflict
 plan-plan-requires-clause-conflict g c =
     let now = c.index.result.now in
     let value = c.index.ensures ∙ ap (λ ls. slice_index_or ls c.args.client now)
-    (same_clients (medium g.D.Disk.reads g.D.Disk.may_leave g.D.Disk.faults g.D.Disk.arms)
+    (same_clients g.D.Disk.medium
     c.args.client c.args.self.now c.exchange.new.self c.args.out.now c.exchange.new.out
     c.in_ok-reply.field-0 c.in-Some.reply c.in-Some.is c.in_ok-reply.ensures.clients) in
     let before = found _ c.args.client c.args.self.now now c.requires.ready value in
@@ -42,7 +41,7 @@ pub carry_out-requires-clause-ready : goal.carry_out-requires-clause-ready
 carry_out-requires-clause-ready g c =
     let now = c.index.result.now in
     let value = c.index.ensures ∙ ap (λ ls. slice_index_or ls c.args.client now)
-    (same_clients (medium g.D.Disk.reads g.D.Disk.may_leave g.D.Disk.faults g.D.Disk.arms)
+    (same_clients g.D.Disk.medium
     c.args.client c.args.self.now c.exchange.new.self c.args.out.now c.exchange.new.out
     c.in_ok-reply.field-0 c.in-Some.reply c.in-Some.is c.in_ok-reply.ensures.clients) in
     let before = found _ c.args.client c.args.self.now now c.requires.ready value in
@@ -58,11 +57,11 @@ carry_out-requires-clause-planned g c =
     let now = c.index.result.now in
     let keeps = c.in_ok-reply.ensures.clients in
     let value = c.index.ensures ∙ ap (λ ls. slice_index_or ls c.args.client now)
-    (same_clients (medium g.D.Disk.reads g.D.Disk.may_leave g.D.Disk.faults g.D.Disk.arms)
+    (same_clients g.D.Disk.medium
     c.args.client c.args.self.now c.exchange.new.self c.args.out.now c.exchange.new.out
     c.in_ok-reply.field-0 c.in-Some.reply c.in-Some.is keeps) in
     let before = found _ c.args.client c.args.self.now now c.requires.ready value in
-    let there = there_too (medium g.D.Disk.reads g.D.Disk.may_leave g.D.Disk.faults g.D.Disk.arms)
+    let there = there_too g.D.Disk.medium
     c.args.client c.args.self.now c.exchange.new.self c.args.out.now
     c.exchange.new.out c.in_ok-reply.field-0 c.in-Some.reply now c.in-Some.is keeps before in
     there_is (λ laptop. IsHeadPlan (state_in laptop).items c.plan-plan.result) c.exchange.new.self c.args.client now there
@@ -72,7 +71,7 @@ pub carry_out-requires-clause-brings : goal.carry_out-requires-clause-brings
 carry_out-requires-clause-brings g c =
     let now = c.index.result.now in
     let value = c.index.ensures ∙ ap (λ ls. slice_index_or ls c.args.client now)
-    (same_clients (medium g.D.Disk.reads g.D.Disk.may_leave g.D.Disk.faults g.D.Disk.arms)
+    (same_clients g.D.Disk.medium
     c.args.client c.args.self.now c.exchange.new.self c.args.out.now c.exchange.new.out
     c.in_ok-reply.field-0 c.in-Some.reply c.in-Some.is c.in_ok-reply.ensures.clients) in
     let before = found _ c.args.client c.args.self.now now c.requires.ready value in
@@ -87,7 +86,7 @@ pub carry_out-requires-clause-whole : goal.carry_out-requires-clause-whole
 carry_out-requires-clause-whole g c =
     let now = c.index.result.now in
     let value = c.index.ensures ∙ ap (λ ls. slice_index_or ls c.args.client now)
-    (same_clients (medium g.D.Disk.reads g.D.Disk.may_leave g.D.Disk.faults g.D.Disk.arms)
+    (same_clients g.D.Disk.medium
     c.args.client c.args.self.now c.exchange.new.self c.args.out.now c.exchange.new.out
     c.in_ok-reply.field-0 c.in-Some.reply c.in-Some.is c.in_ok-reply.ensures.clients) in
     let before = found _ c.args.client c.args.self.now now c.requires.ready value in
@@ -103,7 +102,7 @@ pub returns-in_ok-say_resolve-in-Some-clause-step : goal.returns-in_ok-say_resol
 returns-in_ok-say_resolve-in-Some-clause-step g c =
     let now = c.index.result.now in
     let keeps = c.in_ok-reply.ensures.clients in
-    let same = same_clients (medium g.D.Disk.reads g.D.Disk.may_leave g.D.Disk.faults g.D.Disk.arms)
+    let same = same_clients g.D.Disk.medium
     c.args.client c.args.self.now c.exchange.new.self c.args.out.now
     c.exchange.new.out c.in_ok-reply.field-0 c.in-Some.reply c.in-Some.is keeps in
     let value = c.index.ensures ∙ ap (λ ls. slice_index_or ls c.args.client now) same in
@@ -126,7 +125,7 @@ pub returns-then-not-branch-clause-step : goal.returns-then-not-branch-clause-st
 returns-then-not-branch-clause-step g c =
     let now = c.index.result.now in
     let keeps = c.in_ok-reply.ensures.clients in
-    let same = same_clients (medium g.D.Disk.reads g.D.Disk.may_leave g.D.Disk.faults g.D.Disk.arms)
+    let same = same_clients g.D.Disk.medium
     c.args.client c.args.self.now c.exchange.new.self c.args.out.now
     c.exchange.new.out c.in_ok-reply.field-0 c.in-Some.reply c.in-Some.is keeps in
     let value = c.index.ensures ∙ ap (λ ls. slice_index_or ls c.args.client now) same in
@@ -168,20 +167,20 @@ returns-in_ok-say-in-None-clause-step g c =
 
 pub returns-in_err-carry_out-in-Some-clause-disks : goal.returns-in_err-carry_out-in-Some-clause-disks
 returns-in_err-carry_out-in-Some-clause-disks g c =
-    (disks_then g.D.Disk.arms c.args.self.now c.exchange.new.self c.carry_out.new.self
+    (disks_then g.D.Disk.medium.arms c.args.self.now c.exchange.new.self c.carry_out.new.self
     c.in_ok-reply.ensures.disks c.in_err-carry_out-in-Some.ensures.disks)
 
 pub returns-in_err-say_resolve-in-Some-clause-disks : goal.returns-in_err-say_resolve-in-Some-clause-disks
 returns-in_err-say_resolve-in-Some-clause-disks g c =
-    (disks_then g.D.Disk.arms c.args.self.now c.exchange.new.self c.carry_out.new.self
+    (disks_then g.D.Disk.medium.arms c.args.self.now c.exchange.new.self c.carry_out.new.self
     c.in_ok-reply.ensures.disks c.in_ok-carry_out-in-Some.ensures.disks)
 
 pub returns-then-not-branch-clause-disks : goal.returns-then-not-branch-clause-disks
 returns-then-not-branch-clause-disks g c =
-    disks_then g.D.Disk.arms c.args.self.now c.exchange.new.self c.carry_out.new.self
+    disks_then g.D.Disk.medium.arms c.args.self.now c.exchange.new.self c.carry_out.new.self
     c.in_ok-reply.ensures.disks c.in_ok-carry_out-in-Some.ensures.disks
 
 pub returns-in_ok-say_resolve-in-Some-clause-disks : goal.returns-in_ok-say_resolve-in-Some-clause-disks
 returns-in_ok-say_resolve-in-Some-clause-disks g c =
-    disks_then g.D.Disk.arms c.args.self.now c.exchange.new.self c.carry_out.new.self
+    disks_then g.D.Disk.medium.arms c.args.self.now c.exchange.new.self c.carry_out.new.self
     c.in_ok-reply.ensures.disks c.in_ok-carry_out-in-Some.ensures.disks

@@ -1,5 +1,4 @@
 use Rattle.std.proofs.Common.{refl, sym, ap, subst, ◌∙◌}
-use Rattle.iot_world.specs.Disks.{medium}
 use Rattle.iot_world.specs.Laptops.{CutsOff}
 use Rattle.iot_world.specs.Nodes.{is_alive, disk_in}
 use Rattle.iot_world.proofs.CrashesLaws.{restart_up, restart_stopped, restart_cut, restart_none, returned_some, is_still}
@@ -58,7 +57,7 @@ returns-in_ok-say_cut-in-Some-clause-step g c =
     (sym c.is_alive.ensures ∙ c.if-is_alive.false))
     c.in_ok-come_back.ensures.comes c.if-not-branch.false _ c.cut_off.new.self c.cut_off.new.out c.say_cut.new.out c.in-Some.cut
     (record { server = refl; scripts = refl; spare = refl; clients = refl })
-    (subst (λ told. CutsOff (medium g.D.Disk.reads g.D.Disk.may_leave g.D.Disk.faults g.D.Disk.arms) told c.come_back.new.self
+    (subst (λ told. CutsOff g.D.Disk.medium told c.come_back.new.self
     c.cut_off.new.self c.come_back.new.out c.cut_off.new.out) c.in-Some.is
     c.in_ok-cut.ensures.cuts)
     c.in_ok-say_cut-in-Some.ensures
@@ -74,7 +73,7 @@ returns-in-None-clause-step g c =
     (sym c.is_alive.ensures ∙ c.if-is_alive.false))
     c.in_ok-come_back.ensures.comes c.if-not-branch.false _ c.cut_off.new.self c.cut_off.new.out
     (record { server = refl; scripts = refl; spare = refl; clients = refl })
-    (subst (λ told. CutsOff (medium g.D.Disk.reads g.D.Disk.may_leave g.D.Disk.faults g.D.Disk.arms) told c.come_back.new.self
+    (subst (λ told. CutsOff g.D.Disk.medium told c.come_back.new.self
     c.cut_off.new.self c.come_back.new.out c.cut_off.new.out) c.in-None.is
     c.in_ok-cut.ensures.cuts)
 
@@ -103,7 +102,7 @@ returns-in_ok-say_cut-in-Some-clause-decided g c =
     (sym c.is_alive.ensures ∙ c.if-is_alive.false))
     c.in_ok-come_back.ensures.comes c.if-not-branch.false c.cut_off.new.self c.cut_off.new.out c.say_cut.new.out c.in-Some.cut
     c.requires.inside.machine c.requires.inside.stands
-    (subst (λ told. CutsOff (medium g.D.Disk.reads g.D.Disk.may_leave g.D.Disk.faults g.D.Disk.arms) told c.come_back.new.self
+    (subst (λ told. CutsOff g.D.Disk.medium told c.come_back.new.self
     c.cut_off.new.self c.come_back.new.out c.cut_off.new.out) c.in-Some.is
     c.in_ok-cut.ensures.cuts)
     c.in_ok-say_cut-in-Some.ensures)
@@ -120,7 +119,7 @@ returns-in-None-clause-decided g c =
     (sym c.is_alive.ensures ∙ c.if-is_alive.false))
     c.in_ok-come_back.ensures.comes c.if-not-branch.false c.cut_off.new.self c.cut_off.new.out
     c.requires.inside.machine c.requires.inside.stands
-    (subst (λ told. CutsOff (medium g.D.Disk.reads g.D.Disk.may_leave g.D.Disk.faults g.D.Disk.arms) told c.come_back.new.self
+    (subst (λ told. CutsOff g.D.Disk.medium told c.come_back.new.self
     c.cut_off.new.self c.come_back.new.out c.cut_off.new.out) c.in-None.is
     c.in_ok-cut.ensures.cuts))
 
@@ -128,44 +127,44 @@ pub returns-in_err-come_back-clause-disks : goal.returns-in_err-come_back-clause
 returns-in_err-come_back-clause-disks g c =
     let there = found_there _ c.args.client c.args.self.now c.index_mut-laptop.result.now c.requires.inside
     c.index_mut-laptop.ensures.value in
-    client_disks g.D.Disk.arms c.args.self.now _ c.args.client c.index_mut-laptop.result.now _ there refl refl refl
+    client_disks g.D.Disk.medium.arms c.args.self.now _ c.args.client c.index_mut-laptop.result.now _ there refl refl refl
     c.come_back.ensures.disk
 
 pub returns-then-not-branch-clause-disks : goal.returns-then-not-branch-clause-disks
 returns-then-not-branch-clause-disks g c =
     let there = found_there _ c.args.client c.args.self.now c.index_mut-laptop.result.now c.requires.inside
     c.index_mut-laptop.ensures.value in
-    client_disks g.D.Disk.arms c.args.self.now _ c.args.client c.index_mut-laptop.result.now _ there refl refl refl
+    client_disks g.D.Disk.medium.arms c.args.self.now _ c.args.client c.index_mut-laptop.result.now _ there refl refl refl
     c.come_back.ensures.disk
 
 pub returns-in_err-cut-clause-disks : goal.returns-in_err-cut-clause-disks
 returns-in_err-cut-clause-disks g c =
     let there = found_there _ c.args.client c.args.self.now c.index_mut-laptop.result.now c.requires.inside
     c.index_mut-laptop.ensures.value in
-    client_disks g.D.Disk.arms c.args.self.now _ c.args.client c.index_mut-laptop.result.now _ there refl refl refl
-    (disk_then g.D.Disk.arms (disk_in c.index_mut-laptop.result.now) (disk_in c.come_back.new.self) _ c.come_back.ensures.disk
+    client_disks g.D.Disk.medium.arms c.args.self.now _ c.args.client c.index_mut-laptop.result.now _ there refl refl refl
+    (disk_then g.D.Disk.medium.arms (disk_in c.index_mut-laptop.result.now) (disk_in c.come_back.new.self) _ c.come_back.ensures.disk
     c.cut_off.ensures.disk)
 
 pub returns-in_err-say_cut-in-Some-clause-disks : goal.returns-in_err-say_cut-in-Some-clause-disks
 returns-in_err-say_cut-in-Some-clause-disks g c =
     let there = found_there _ c.args.client c.args.self.now c.index_mut-laptop.result.now c.requires.inside
     c.index_mut-laptop.ensures.value in
-    client_disks g.D.Disk.arms c.args.self.now _ c.args.client c.index_mut-laptop.result.now _ there refl refl refl
-    (disk_then g.D.Disk.arms (disk_in c.index_mut-laptop.result.now) (disk_in c.come_back.new.self) _ c.come_back.ensures.disk
+    client_disks g.D.Disk.medium.arms c.args.self.now _ c.args.client c.index_mut-laptop.result.now _ there refl refl refl
+    (disk_then g.D.Disk.medium.arms (disk_in c.index_mut-laptop.result.now) (disk_in c.come_back.new.self) _ c.come_back.ensures.disk
     c.cut_off.ensures.disk)
 
 pub returns-in_ok-say_cut-in-Some-clause-disks : goal.returns-in_ok-say_cut-in-Some-clause-disks
 returns-in_ok-say_cut-in-Some-clause-disks g c =
     let there = found_there _ c.args.client c.args.self.now c.index_mut-laptop.result.now c.requires.inside
     c.index_mut-laptop.ensures.value in
-    client_disks g.D.Disk.arms c.args.self.now _ c.args.client c.index_mut-laptop.result.now _ there refl refl refl
-    (disk_then g.D.Disk.arms (disk_in c.index_mut-laptop.result.now) (disk_in c.come_back.new.self) _ c.come_back.ensures.disk
+    client_disks g.D.Disk.medium.arms c.args.self.now _ c.args.client c.index_mut-laptop.result.now _ there refl refl refl
+    (disk_then g.D.Disk.medium.arms (disk_in c.index_mut-laptop.result.now) (disk_in c.come_back.new.self) _ c.come_back.ensures.disk
     c.cut_off.ensures.disk)
 
 pub returns-in-None-clause-disks : goal.returns-in-None-clause-disks
 returns-in-None-clause-disks g c =
     let there = found_there _ c.args.client c.args.self.now c.index_mut-laptop.result.now c.requires.inside
     c.index_mut-laptop.ensures.value in
-    client_disks g.D.Disk.arms c.args.self.now _ c.args.client c.index_mut-laptop.result.now _ there refl refl refl
-    (disk_then g.D.Disk.arms (disk_in c.index_mut-laptop.result.now) (disk_in c.come_back.new.self) _ c.come_back.ensures.disk
+    client_disks g.D.Disk.medium.arms c.args.self.now _ c.args.client c.index_mut-laptop.result.now _ there refl refl refl
+    (disk_then g.D.Disk.medium.arms (disk_in c.index_mut-laptop.result.now) (disk_in c.come_back.new.self) _ c.come_back.ensures.disk
     c.cut_off.ensures.disk)

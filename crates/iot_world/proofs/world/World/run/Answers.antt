@@ -11,7 +11,7 @@ runs-requires g c = found_some _ c.args.client c.args.self.now c.index.result.no
 
 pub returns-in_err-say-clause-disks : goal.returns-in_err-say-clause-disks
 returns-in_err-say-clause-disks g c =
-    (untouched_disks g.D.Disk.arms c.args.self.now c.args.self.now refl refl refl)
+    (untouched_disks g.D.Disk.medium.arms c.args.self.now c.args.self.now refl refl refl)
 
 pub returns-then-runs-clause-step : goal.returns-then-runs-clause-step
 returns-then-runs-clause-step g c =
@@ -21,7 +21,7 @@ returns-then-runs-clause-step g c =
 
 pub returns-then-runs-clause-disks : goal.returns-then-runs-clause-disks
 returns-then-runs-clause-disks g c =
-    untouched_disks g.D.Disk.arms c.args.self.now c.args.self.now refl refl refl
+    untouched_disks g.D.Disk.medium.arms c.args.self.now c.args.self.now refl refl refl
 
 pub returns-in_ok-run_script-clause-step : goal.returns-in_ok-run_script-clause-step
 returns-in_ok-run_script-clause-step g c =
@@ -37,12 +37,12 @@ returns-in_ok-run_script-clause-counts g c =
 
 pub returns-in_ok-run_script-clause-disks : goal.returns-in_ok-run_script-clause-disks
 returns-in_ok-run_script-clause-disks g c =
-    disks_then g.D.Disk.arms c.args.self.now c.sync_if_up.new.self c.run_script.new.self
+    disks_then g.D.Disk.medium.arms c.args.self.now c.sync_if_up.new.self c.run_script.new.self
     c.in_ok-sync_if_up.ensures.disks c.in_ok-run_script.ensures.disks
 
 pub returns-in_err-run_script-clause-disks : goal.returns-in_err-run_script-clause-disks
 returns-in_err-run_script-clause-disks g c =
-    disks_then g.D.Disk.arms c.args.self.now c.sync_if_up.new.self c.run_script.new.self
+    disks_then g.D.Disk.medium.arms c.args.self.now c.sync_if_up.new.self c.run_script.new.self
     c.in_ok-sync_if_up.ensures.disks c.in_err-run_script.ensures.disks
 
 pub returns-else-branch-clause-step : goal.returns-else-branch-clause-step

@@ -44,8 +44,9 @@ returns-in_err-end-clause-step g c =
 
 pub returns-in_err-end-clause-disks : goal.returns-in_err-end-clause-disks
 returns-in_err-end-clause-disks g c =
-    disks_then g.D.Disk.arms c.args.self.now c.steps.new.self c.end.new.self
-    (disks_then g.D.Disk.arms c.args.self.now c.begin.new.self c.steps.new.self c.in_ok-begin.ensures.disks c.in_ok-steps.ensures.disks)
+    disks_then g.D.Disk.medium.arms c.args.self.now c.steps.new.self c.end.new.self
+    (disks_then g.D.Disk.medium.arms c.args.self.now c.begin.new.self c.steps.new.self
+    c.in_ok-begin.ensures.disks c.in_ok-steps.ensures.disks)
     c.in_err-end.ensures.disks
 
 pub returns-in_ok-end-clause-step : goal.returns-in_ok-end-clause-step
@@ -63,8 +64,9 @@ returns-in_ok-end-clause-counts g c =
 
 pub returns-in_ok-end-clause-disks : goal.returns-in_ok-end-clause-disks
 returns-in_ok-end-clause-disks g c =
-    disks_then g.D.Disk.arms c.args.self.now c.steps.new.self c.end.new.self
-    (disks_then g.D.Disk.arms c.args.self.now c.begin.new.self c.steps.new.self c.in_ok-begin.ensures.disks c.in_ok-steps.ensures.disks)
+    disks_then g.D.Disk.medium.arms c.args.self.now c.steps.new.self c.end.new.self
+    (disks_then g.D.Disk.medium.arms c.args.self.now c.begin.new.self c.steps.new.self
+    c.in_ok-begin.ensures.disks c.in_ok-steps.ensures.disks)
     c.in_ok-end.ensures.disks
 
 pub returns-else-goes_on-clause-step : goal.returns-else-goes_on-clause-step
@@ -80,4 +82,5 @@ returns-else-goes_on-clause-counts g c =
 
 pub returns-else-goes_on-clause-disks : goal.returns-else-goes_on-clause-disks
 returns-else-goes_on-clause-disks g c =
-    disks_then g.D.Disk.arms c.args.self.now c.begin.new.self c.steps.new.self c.in_ok-begin.ensures.disks c.in_ok-steps.ensures.disks
+    disks_then g.D.Disk.medium.arms c.args.self.now c.begin.new.self c.steps.new.self
+    c.in_ok-begin.ensures.disks c.in_ok-steps.ensures.disks

@@ -52,10 +52,10 @@ returns-clause-counts g c =
 
 pub returns-clause-disks : goal.returns-clause-disks
 returns-clause-disks g c =
-    client_disks g.D.Disk.arms c.args.self.now _ c.args.client c.index_mut.result.now c.begin.new.self
+    client_disks g.D.Disk.medium.arms c.args.self.now _ c.args.client c.index_mut.result.now c.begin.new.self
     (found _ c.args.client c.args.self.now c.index_mut.result.now c.requires.ready c.index_mut.ensures.value).get refl refl refl
     c.begin.ensures.disk
 
 pub returns-in_err-code-clause-disks : goal.returns-in_err-code-clause-disks
 returns-in_err-code-clause-disks g c =
-    (untouched_disks g.D.Disk.arms c.args.self.now _ refl refl refl)
+    (untouched_disks g.D.Disk.medium.arms c.args.self.now _ refl refl refl)

@@ -40,7 +40,7 @@ returns-then-not-runs-clause-disks g c =
     let old = c.args.self.now in
     let was = c.index_mut-laptop.result.now in
     let at = found _ c.args.client old was c.requires.ready c.index_mut-laptop.ensures.value in
-    back_disks _ g.D.Disk.arms c.args.client old _ was was at refl refl refl c.requires.ready refl
+    back_disks _ g.D.Disk.medium.arms c.args.client old _ was was at refl refl refl c.requires.ready refl
 
 pub step-requires-clause-stands : goal.step-requires-clause-stands
 step-requires-clause-stands g c =
@@ -55,7 +55,7 @@ returns-in_err-step-clause-disks g c =
     let old = c.args.self.now in
     let was = c.index_mut-laptop.result.now in
     let at = found _ c.args.client old was c.requires.ready c.index_mut-laptop.ensures.value in
-    client_disks g.D.Disk.arms old _ c.args.client was c.step.new.self at.get refl refl refl c.in_err-step.ensures.disk
+    client_disks g.D.Disk.medium.arms old _ c.args.client was c.step.new.self at.get refl refl refl c.in_err-step.ensures.disk
 
 pub returns-in_default-clause-step : goal.returns-in_default-clause-step
 returns-in_default-clause-step g c =
@@ -73,7 +73,7 @@ returns-in_default-clause-disks g c =
     let old = c.args.self.now in
     let was = c.index_mut-laptop.result.now in
     let at = found _ c.args.client old was c.requires.ready c.index_mut-laptop.ensures.value in
-    client_disks g.D.Disk.arms old _ c.args.client was c.step.new.self at.get refl refl refl c.in_ok-step.ensures.disk
+    client_disks g.D.Disk.medium.arms old _ c.args.client was c.step.new.self at.get refl refl refl c.in_ok-step.ensures.disk
 
 pub returns-in-Acted-clause-step : goal.returns-in-Acted-clause-step
 returns-in-Acted-clause-step g c =
@@ -105,7 +105,7 @@ returns-in-Acted-clause-disks g c =
     let old = c.args.self.now in
     let was = c.index_mut-laptop.result.now in
     let at = found _ c.args.client old was c.requires.ready c.index_mut-laptop.ensures.value in
-    client_disks g.D.Disk.arms old _ c.args.client was c.step.new.self at.get refl refl refl c.in_ok-step.ensures.disk
+    client_disks g.D.Disk.medium.arms old _ c.args.client was c.step.new.self at.get refl refl refl c.in_ok-step.ensures.disk
 
 pub fetch-requires-clause-ready : goal.fetch-requires-clause-ready
 fetch-requires-clause-ready g c =
@@ -179,8 +179,8 @@ returns-in-Held-clause-disks g c =
     let old = c.args.self.now in
     let was = c.index_mut-laptop.result.now in
     let at = found _ c.args.client old was c.requires.ready c.index_mut-laptop.ensures.value in
-    disks_then g.D.Disk.arms old _ c.fetch.new.self
-    (client_disks g.D.Disk.arms old _ c.args.client was c.step.new.self at.get refl refl refl c.in_ok-step.ensures.disk)
+    disks_then g.D.Disk.medium.arms old _ c.fetch.new.self
+    (client_disks g.D.Disk.medium.arms old _ c.args.client was c.step.new.self at.get refl refl refl c.in_ok-step.ensures.disk)
     c.in_ok-fetch-in-Fetch.ensures.disks
 
 pub returns-in-Missed-clause-step : goal.returns-in-Missed-clause-step
@@ -221,8 +221,8 @@ returns-in-Missed-clause-disks g c =
     let old = c.args.self.now in
     let was = c.index_mut-laptop.result.now in
     let at = found _ c.args.client old was c.requires.ready c.index_mut-laptop.ensures.value in
-    disks_then g.D.Disk.arms old _ c.fetch.new.self
-    (client_disks g.D.Disk.arms old _ c.args.client was c.step.new.self at.get refl refl refl c.in_ok-step.ensures.disk)
+    disks_then g.D.Disk.medium.arms old _ c.fetch.new.self
+    (client_disks g.D.Disk.medium.arms old _ c.args.client was c.step.new.self at.get refl refl refl c.in_ok-step.ensures.disk)
     c.in_ok-fetch-in-Fetch.ensures.disks
 
 pub returns-in-Fetch-clause-step : goal.returns-in-Fetch-clause-step
@@ -249,8 +249,8 @@ returns-in-Fetch-clause-disks g c =
     let old = c.args.self.now in
     let was = c.index_mut-laptop.result.now in
     let at = found _ c.args.client old was c.requires.ready c.index_mut-laptop.ensures.value in
-    disks_then g.D.Disk.arms old _ c.fetch.new.self
-    (client_disks g.D.Disk.arms old _ c.args.client was c.step.new.self at.get refl refl refl c.in_ok-step.ensures.disk)
+    disks_then g.D.Disk.medium.arms old _ c.fetch.new.self
+    (client_disks g.D.Disk.medium.arms old _ c.args.client was c.step.new.self at.get refl refl refl c.in_ok-step.ensures.disk)
     c.in_ok-fetch-in-Fetch.ensures.disks
 
 pub returns-in_err-fetch-in-Fetch-clause-disks : goal.returns-in_err-fetch-in-Fetch-clause-disks
@@ -258,8 +258,8 @@ returns-in_err-fetch-in-Fetch-clause-disks g c =
     let old = c.args.self.now in
     let was = c.index_mut-laptop.result.now in
     let at = found _ c.args.client old was c.requires.ready c.index_mut-laptop.ensures.value in
-    disks_then g.D.Disk.arms old _ c.fetch.new.self
-    (client_disks g.D.Disk.arms old _ c.args.client was c.step.new.self at.get refl refl refl c.in_ok-step.ensures.disk)
+    disks_then g.D.Disk.medium.arms old _ c.fetch.new.self
+    (client_disks g.D.Disk.medium.arms old _ c.args.client was c.step.new.self at.get refl refl refl c.in_ok-step.ensures.disk)
     c.in_err-fetch-in-Fetch.ensures.disks
 
 pub returns-in_err-say_fetched-in-Held-clause-disks : goal.returns-in_err-say_fetched-in-Held-clause-disks
@@ -267,8 +267,8 @@ returns-in_err-say_fetched-in-Held-clause-disks g c =
     let old = c.args.self.now in
     let was = c.index_mut-laptop.result.now in
     let at = found _ c.args.client old was c.requires.ready c.index_mut-laptop.ensures.value in
-    disks_then g.D.Disk.arms old _ c.fetch.new.self
-    (client_disks g.D.Disk.arms old _ c.args.client was c.step.new.self at.get refl refl refl c.in_ok-step.ensures.disk)
+    disks_then g.D.Disk.medium.arms old _ c.fetch.new.self
+    (client_disks g.D.Disk.medium.arms old _ c.args.client was c.step.new.self at.get refl refl refl c.in_ok-step.ensures.disk)
     c.in_ok-fetch-in-Fetch.ensures.disks
 
 pub returns-in_err-say_fetched-in-Missed-clause-disks : goal.returns-in_err-say_fetched-in-Missed-clause-disks
@@ -276,8 +276,8 @@ returns-in_err-say_fetched-in-Missed-clause-disks g c =
     let old = c.args.self.now in
     let was = c.index_mut-laptop.result.now in
     let at = found _ c.args.client old was c.requires.ready c.index_mut-laptop.ensures.value in
-    disks_then g.D.Disk.arms old _ c.fetch.new.self
-    (client_disks g.D.Disk.arms old _ c.args.client was c.step.new.self at.get refl refl refl c.in_ok-step.ensures.disk)
+    disks_then g.D.Disk.medium.arms old _ c.fetch.new.self
+    (client_disks g.D.Disk.medium.arms old _ c.args.client was c.step.new.self at.get refl refl refl c.in_ok-step.ensures.disk)
     c.in_ok-fetch-in-Fetch.ensures.disks
 
 pub returns-in-AtEnd-clause-step : goal.returns-in-AtEnd-clause-step
@@ -308,7 +308,7 @@ returns-in-AtEnd-clause-disks g c =
     let old = c.args.self.now in
     let was = c.index_mut-laptop.result.now in
     let at = found _ c.args.client old was c.requires.ready c.index_mut-laptop.ensures.value in
-    client_disks g.D.Disk.arms old _ c.args.client was c.step.new.self at.get refl refl refl c.in_ok-step.ensures.disk
+    client_disks g.D.Disk.medium.arms old _ c.args.client was c.step.new.self at.get refl refl refl c.in_ok-step.ensures.disk
 
 pub returns-clause-step : goal.returns-clause-step
 returns-clause-step g c =
@@ -340,4 +340,4 @@ returns-clause-disks g c =
     let old = c.args.self.now in
     let was = c.index_mut-laptop.result.now in
     let at = found _ c.args.client old was c.requires.ready c.index_mut-laptop.ensures.value in
-    client_disks g.D.Disk.arms old _ c.args.client was c.step.new.self at.get refl refl refl c.in_ok-step.ensures.disk
+    client_disks g.D.Disk.medium.arms old _ c.args.client was c.step.new.self at.get refl refl refl c.in_ok-step.ensures.disk

@@ -49,11 +49,11 @@ returns-else-goes_on-clause-counts g c =
 
 pub returns-in_err-say-clause-disks : goal.returns-in_err-say-clause-disks
 returns-in_err-say-clause-disks g c =
-    (untouched_disks g.D.Disk.arms c.args.self.now _ refl refl refl)
+    (untouched_disks g.D.Disk.medium.arms c.args.self.now _ refl refl refl)
 
 pub returns-then-not-runs-clause-disks : goal.returns-then-not-runs-clause-disks
 returns-then-not-runs-clause-disks g c =
-    untouched_disks g.D.Disk.arms c.args.self.now _ refl refl refl
+    untouched_disks g.D.Disk.medium.arms c.args.self.now _ refl refl refl
 
 pub say_stepped-requires : goal.say_stepped-requires
 say_stepped-requires g c =

@@ -7,7 +7,7 @@ use Rattle.iot_world.proofs.world.World.steps.Goals as goal
 pub steps-init : goal.steps-init
 steps-init g c = (
   steps_start _ c.args.client c.args.loud c.args.most c.args.self.now c.args.out.now c.requires.ready,
-  untouched_disks g.D.Disk.arms c.args.self.now _ refl refl refl,
+  untouched_disks g.D.Disk.medium.arms c.args.self.now _ refl refl refl,
 )
 
 pub step-requires : goal.step-requires
@@ -30,7 +30,7 @@ steps-preserved g c = (
   steps_on _ c.args.client c.args.loud c.args.most c.args.self.now c.args.out.now c.steps.counter
       c.steps.self c.step.new.self c.steps.out c.step.new.out (stepped_of c.in_ok-stepped.stepped) c.steps-test.true c.steps.invariant.0
       c.in_ok-stepped.ensures.step (sym c.ends.ensures ∙ c.if-ends.false) c.in_ok-stepped.ensures.counts,
-  disks_then g.D.Disk.arms c.args.self.now c.steps.self c.step.new.self c.steps.invariant.1
+  disks_then g.D.Disk.medium.arms c.args.self.now c.steps.self c.step.new.self c.steps.invariant.1
       c.in_ok-stepped.ensures.disks,
 )
 

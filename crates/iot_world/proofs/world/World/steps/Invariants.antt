@@ -1,4 +1,3 @@
-use Rattle.iot_world.specs.Disks.{medium}
 use Rattle.iot_world.specs.World.{SameDisks}
 use Rattle.iot_world.proofs.TransactionsLaws.{AfterSteps}
 use Rattle.iot_world.proofs.world.World.steps.Given as goal
@@ -6,6 +5,6 @@ use Rattle.iot_world.proofs.world.World.steps.Given as goal
 -- what is left after these steps makes the whole, and no disk was armed in them
 abbrev pub invariant-steps : goal.invariant-steps
 invariant-steps g l =
-    AfterSteps (medium g.D.Disk.reads g.D.Disk.may_leave g.D.Disk.faults g.D.Disk.arms) l.client l.loud l.most
+    AfterSteps g.D.Disk.medium l.client l.loud l.most
     l.initial.self l.initial.out l.counter l.self l.out
-    × SameDisks g.D.Disk.arms l.initial.self l.self
+    × SameDisks g.D.Disk.medium.arms l.initial.self l.self

@@ -9,15 +9,17 @@ arm-requires g c = has_disk _ _ c.args.self.now.server c.requires.machine.server
 
 pub returns-in_err-arm-clause-disks : goal.returns-in_err-arm-clause-disks
 returns-in_err-arm-clause-disks g c =
-    keeps_of g.D.Disk.arms c.args.self.now _ (server_disks g.D.Disk.arms c.args.self.now _ refl refl c.in_err-arm.ensures.disk)
+    keeps_of g.D.Disk.medium.arms c.args.self.now _ (server_disks g.D.Disk.medium.arms c.args.self.now _ refl refl
+    c.in_err-arm.ensures.disk)
 
 pub returns-in_err-arm-clause-arms : goal.returns-in_err-arm-clause-arms
 returns-in_err-arm-clause-arms g c =
     if_err _ _
-    (arms_of_same g.D.Disk.arms c.args.self.now _ (server_disks g.D.Disk.arms c.args.self.now _ refl refl c.in_err-arm.ensures.disk))
+    (arms_of_same g.D.Disk.medium.arms c.args.self.now _ (server_disks g.D.Disk.medium.arms c.args.self.now _ refl refl
+    c.in_err-arm.ensures.disk))
 
 pub returns-clause-disks : goal.returns-clause-disks
-returns-clause-disks g c = server_keeps g.D.Disk.arms c.args.self.now _ refl refl c.in_ok-arm.ensures.has
+returns-clause-disks g c = server_keeps g.D.Disk.medium.arms c.args.self.now _ refl refl c.in_ok-arm.ensures.has
 
 pub returns-clause-step : goal.returns-clause-step
 returns-clause-step g c =

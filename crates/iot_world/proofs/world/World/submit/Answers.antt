@@ -1,5 +1,4 @@
 use Rattle.std.proofs.Common.{◌≡◌, false, slice_index_or, refl, sym, ap, subst, ◌∙◌}
-use Rattle.iot_world.specs.Disks.{medium}
 use Rattle.iot_world.specs.Nodes.{state_in}
 use Rattle.iot_world.specs.Laptops.{head_reads, Settles}
 use Rattle.iot_world.specs.Messages.{IsVerdict, SpellsVerdict, verdict_of}
@@ -22,7 +21,7 @@ pub settle-requires-clause-stands : goal.settle-requires-clause-stands
 settle-requires-clause-stands g c =
     let now = c.index_mut.result.now in
     let value = c.index_mut.ensures.value ∙ ap (λ ls. slice_index_or ls c.args.client now)
-    (same_clients (medium g.D.Disk.reads g.D.Disk.may_leave g.D.Disk.faults g.D.Disk.arms)
+    (same_clients g.D.Disk.medium
     c.args.client c.args.self.now c.exchange.new.self c.args.out.now c.exchange.new.out
     c.in_ok-reply.field-0 c.in-Some.reply c.in-Some.is c.in_ok-reply.ensures.clients) in
     found_some _ c.args.client c.args.self.now now c.requires.ready value
@@ -31,12 +30,12 @@ pub settle-requires-clause-submitted : goal.settle-requires-clause-submitted
 settle-requires-clause-submitted g c =
     let now = c.index_mut.result.now in
     let value = c.index_mut.ensures.value ∙ ap (λ ls. slice_index_or ls c.args.client now)
-    (same_clients (medium g.D.Disk.reads g.D.Disk.may_leave g.D.Disk.faults g.D.Disk.arms)
+    (same_clients g.D.Disk.medium
     c.args.client c.args.self.now c.exchange.new.self c.args.out.now c.exchange.new.out
     c.in_ok-reply.field-0 c.in-Some.reply c.in-Some.is c.in_ok-reply.ensures.clients) in
     let before = found _ c.args.client c.args.self.now now c.requires.ready value in
     let first = first_of now c.args.transaction.now _ refl (c.requires.head now before.get) in
-    submitted_head (medium g.D.Disk.reads g.D.Disk.may_leave g.D.Disk.faults g.D.Disk.arms)
+    submitted_head g.D.Disk.medium
     c.args.client c.args.self.now now before c.args.transaction.now first
     c.args.message.now (c.requires.hands now before.get)
 
@@ -44,7 +43,7 @@ pub settle-requires-clause-told : goal.settle-requires-clause-told
 settle-requires-clause-told g c =
     let now = c.index_mut.result.now in
     let value = c.index_mut.ensures.value ∙ ap (λ ls. slice_index_or ls c.args.client now)
-    (same_clients (medium g.D.Disk.reads g.D.Disk.may_leave g.D.Disk.faults g.D.Disk.arms)
+    (same_clients g.D.Disk.medium
     c.args.client c.args.self.now c.exchange.new.self c.args.out.now c.exchange.new.out
     c.in_ok-reply.field-0 c.in-Some.reply c.in-Some.is c.in_ok-reply.ensures.clients) in
     let before = found _ c.args.client c.args.self.now now c.requires.ready value in
@@ -67,15 +66,15 @@ returns-in_ok-say_told-in-Some-clause-step g c =
     let now = c.index_mut.result.now in
     let keeps = c.in_ok-reply.ensures.clients in
     let value = c.index_mut.ensures.value ∙ ap (λ ls. slice_index_or ls c.args.client now)
-    (same_clients (medium g.D.Disk.reads g.D.Disk.may_leave g.D.Disk.faults g.D.Disk.arms)
+    (same_clients g.D.Disk.medium
     c.args.client c.args.self.now c.exchange.new.self c.args.out.now c.exchange.new.out
     c.in_ok-reply.field-0 c.in-Some.reply c.in-Some.is keeps) in
     let before = found _ c.args.client c.args.self.now now c.requires.ready value in
-    let there = there_too (medium g.D.Disk.reads g.D.Disk.may_leave g.D.Disk.faults g.D.Disk.arms)
+    let there = there_too g.D.Disk.medium
     c.args.client c.args.self.now c.exchange.new.self c.args.out.now
     c.exchange.new.out c.in_ok-reply.field-0 c.in-Some.reply now c.in-Some.is keeps before in
     let first = first_of now c.args.transaction.now _ refl (c.requires.head now before.get) in
-    let settles = some_is (Settles (medium g.D.Disk.reads g.D.Disk.may_leave g.D.Disk.faults g.D.Disk.arms)
+    let settles = some_is (Settles g.D.Disk.medium
     c.deref.result.now now c.settle.new.self) c.in_ok-settled-in-Some.settled c.in-Some-settled.told c.in-Some-settled.is
     c.in_ok-settled-in-Some.ensures.settles in
     syncs_told _ c.args.client c.args.self.now now before c.args.transaction.now first
@@ -95,11 +94,11 @@ returns-in_default-clause-step g c =
     let now = c.index_mut.result.now in
     let keeps = c.in_ok-reply.ensures.clients in
     let value = c.index_mut.ensures.value ∙ ap (λ ls. slice_index_or ls c.args.client now)
-    (same_clients (medium g.D.Disk.reads g.D.Disk.may_leave g.D.Disk.faults g.D.Disk.arms)
+    (same_clients g.D.Disk.medium
     c.args.client c.args.self.now c.exchange.new.self c.args.out.now c.exchange.new.out
     c.in_ok-reply.field-0 c.in-Some.reply c.in-Some.is keeps) in
     let before = found _ c.args.client c.args.self.now now c.requires.ready value in
-    let there = there_too (medium g.D.Disk.reads g.D.Disk.may_leave g.D.Disk.faults g.D.Disk.arms)
+    let there = there_too g.D.Disk.medium
     c.args.client c.args.self.now c.exchange.new.self c.args.out.now
     c.exchange.new.out c.in_ok-reply.field-0 c.in-Some.reply now c.in-Some.is keeps before in
     let first = first_of now c.args.transaction.now _ refl (c.requires.head now before.get) in
@@ -115,15 +114,15 @@ returns-in_ok-say_told-in-Some-clause-counts g c =
     let now = c.index_mut.result.now in
     let keeps = c.in_ok-reply.ensures.clients in
     let value = c.index_mut.ensures.value ∙ ap (λ ls. slice_index_or ls c.args.client now)
-    (same_clients (medium g.D.Disk.reads g.D.Disk.may_leave g.D.Disk.faults g.D.Disk.arms)
+    (same_clients g.D.Disk.medium
     c.args.client c.args.self.now c.exchange.new.self c.args.out.now c.exchange.new.out
     c.in_ok-reply.field-0 c.in-Some.reply c.in-Some.is keeps) in
     let before = found _ c.args.client c.args.self.now now c.requires.ready value in
-    let there = there_too (medium g.D.Disk.reads g.D.Disk.may_leave g.D.Disk.faults g.D.Disk.arms)
+    let there = there_too g.D.Disk.medium
     c.args.client c.args.self.now c.exchange.new.self c.args.out.now
     c.exchange.new.out c.in_ok-reply.field-0 c.in-Some.reply now c.in-Some.is keeps before in
     let first = first_of now c.args.transaction.now _ refl (c.requires.head now before.get) in
-    let settles = some_is (Settles (medium g.D.Disk.reads g.D.Disk.may_leave g.D.Disk.faults g.D.Disk.arms)
+    let settles = some_is (Settles g.D.Disk.medium
     c.deref.result.now now c.settle.new.self) c.in_ok-settled-in-Some.settled c.in-Some-settled.told c.in-Some-settled.is
     c.in_ok-settled-in-Some.ensures.settles in
     let ready = ready_told _ c.args.client c.args.self.now now before c.args.transaction.now first
@@ -146,15 +145,15 @@ returns-in_err-settled-in-Some-clause-disks g c =
     let now = c.index_mut.result.now in
     let keeps = c.in_ok-reply.ensures.clients in
     let value = c.index_mut.ensures.value ∙ ap (λ ls. slice_index_or ls c.args.client now)
-    (same_clients (medium g.D.Disk.reads g.D.Disk.may_leave g.D.Disk.faults g.D.Disk.arms)
+    (same_clients g.D.Disk.medium
     c.args.client c.args.self.now c.exchange.new.self c.args.out.now c.exchange.new.out
     c.in_ok-reply.field-0 c.in-Some.reply c.in-Some.is keeps) in
     let before = found _ c.args.client c.args.self.now now c.requires.ready value in
-    let there = there_too (medium g.D.Disk.reads g.D.Disk.may_leave g.D.Disk.faults g.D.Disk.arms)
+    let there = there_too g.D.Disk.medium
     c.args.client c.args.self.now c.exchange.new.self c.args.out.now
     c.exchange.new.out c.in_ok-reply.field-0 c.in-Some.reply now c.in-Some.is keeps before in
-    disks_then g.D.Disk.arms c.args.self.now c.exchange.new.self _ c.in_ok-reply.ensures.disks
-    (client_disks g.D.Disk.arms c.exchange.new.self _ c.args.client now c.settle.new.self there.get
+    disks_then g.D.Disk.medium.arms c.args.self.now c.exchange.new.self _ c.in_ok-reply.ensures.disks
+    (client_disks g.D.Disk.medium.arms c.exchange.new.self _ c.args.client now c.settle.new.self there.get
     refl refl refl c.in_err-settled-in-Some.ensures.disk)
 
 pub returns-in_err-say_told-in-Some-clause-disks : goal.returns-in_err-say_told-in-Some-clause-disks
@@ -162,15 +161,15 @@ returns-in_err-say_told-in-Some-clause-disks g c =
     let now = c.index_mut.result.now in
     let keeps = c.in_ok-reply.ensures.clients in
     let value = c.index_mut.ensures.value ∙ ap (λ ls. slice_index_or ls c.args.client now)
-    (same_clients (medium g.D.Disk.reads g.D.Disk.may_leave g.D.Disk.faults g.D.Disk.arms)
+    (same_clients g.D.Disk.medium
     c.args.client c.args.self.now c.exchange.new.self c.args.out.now c.exchange.new.out
     c.in_ok-reply.field-0 c.in-Some.reply c.in-Some.is keeps) in
     let before = found _ c.args.client c.args.self.now now c.requires.ready value in
-    let there = there_too (medium g.D.Disk.reads g.D.Disk.may_leave g.D.Disk.faults g.D.Disk.arms)
+    let there = there_too g.D.Disk.medium
     c.args.client c.args.self.now c.exchange.new.self c.args.out.now
     c.exchange.new.out c.in_ok-reply.field-0 c.in-Some.reply now c.in-Some.is keeps before in
-    disks_then g.D.Disk.arms c.args.self.now c.exchange.new.self _ c.in_ok-reply.ensures.disks
-    (client_disks g.D.Disk.arms c.exchange.new.self _ c.args.client now c.settle.new.self there.get
+    disks_then g.D.Disk.medium.arms c.args.self.now c.exchange.new.self _ c.in_ok-reply.ensures.disks
+    (client_disks g.D.Disk.medium.arms c.exchange.new.self _ c.args.client now c.settle.new.self there.get
     refl refl refl c.in_ok-settled-in-Some.ensures.disk)
 
 pub returns-in_default-clause-disks : goal.returns-in_default-clause-disks
@@ -178,15 +177,15 @@ returns-in_default-clause-disks g c =
     let now = c.index_mut.result.now in
     let keeps = c.in_ok-reply.ensures.clients in
     let value = c.index_mut.ensures.value ∙ ap (λ ls. slice_index_or ls c.args.client now)
-    (same_clients (medium g.D.Disk.reads g.D.Disk.may_leave g.D.Disk.faults g.D.Disk.arms)
+    (same_clients g.D.Disk.medium
     c.args.client c.args.self.now c.exchange.new.self c.args.out.now c.exchange.new.out
     c.in_ok-reply.field-0 c.in-Some.reply c.in-Some.is keeps) in
     let before = found _ c.args.client c.args.self.now now c.requires.ready value in
-    let there = there_too (medium g.D.Disk.reads g.D.Disk.may_leave g.D.Disk.faults g.D.Disk.arms)
+    let there = there_too g.D.Disk.medium
     c.args.client c.args.self.now c.exchange.new.self c.args.out.now
     c.exchange.new.out c.in_ok-reply.field-0 c.in-Some.reply now c.in-Some.is keeps before in
-    disks_then g.D.Disk.arms c.args.self.now c.exchange.new.self _ c.in_ok-reply.ensures.disks
-    (client_disks g.D.Disk.arms c.exchange.new.self _ c.args.client now c.settle.new.self there.get
+    disks_then g.D.Disk.medium.arms c.args.self.now c.exchange.new.self _ c.in_ok-reply.ensures.disks
+    (client_disks g.D.Disk.medium.arms c.exchange.new.self _ c.args.client now c.settle.new.self there.get
     refl refl refl c.in_ok-settled-in-Some.ensures.disk)
 
 pub returns-in_ok-say_told-in-Some-clause-disks : goal.returns-in_ok-say_told-in-Some-clause-disks
@@ -194,13 +193,13 @@ returns-in_ok-say_told-in-Some-clause-disks g c =
     let now = c.index_mut.result.now in
     let keeps = c.in_ok-reply.ensures.clients in
     let value = c.index_mut.ensures.value ∙ ap (λ ls. slice_index_or ls c.args.client now)
-    (same_clients (medium g.D.Disk.reads g.D.Disk.may_leave g.D.Disk.faults g.D.Disk.arms)
+    (same_clients g.D.Disk.medium
     c.args.client c.args.self.now c.exchange.new.self c.args.out.now c.exchange.new.out
     c.in_ok-reply.field-0 c.in-Some.reply c.in-Some.is keeps) in
     let before = found _ c.args.client c.args.self.now now c.requires.ready value in
-    let there = there_too (medium g.D.Disk.reads g.D.Disk.may_leave g.D.Disk.faults g.D.Disk.arms)
+    let there = there_too g.D.Disk.medium
     c.args.client c.args.self.now c.exchange.new.self c.args.out.now
     c.exchange.new.out c.in_ok-reply.field-0 c.in-Some.reply now c.in-Some.is keeps before in
-    disks_then g.D.Disk.arms c.args.self.now c.exchange.new.self _ c.in_ok-reply.ensures.disks
-    (client_disks g.D.Disk.arms c.exchange.new.self _ c.args.client now c.settle.new.self there.get
+    disks_then g.D.Disk.medium.arms c.args.self.now c.exchange.new.self _ c.in_ok-reply.ensures.disks
+    (client_disks g.D.Disk.medium.arms c.exchange.new.self _ c.args.client now c.settle.new.self there.get
     refl refl refl c.in_ok-settled-in-Some.ensures.disk)

@@ -10,7 +10,7 @@ use Rattle.iot_world.proofs.world.World.sync.Goals as goal
 
 pub returns-in_err-say-clause-disks : goal.returns-in_err-say-clause-disks
 returns-in_err-say-clause-disks g c =
-    (untouched_disks g.D.Disk.arms c.args.self.now c.args.self.now refl refl refl)
+    (untouched_disks g.D.Disk.medium.arms c.args.self.now c.args.self.now refl refl refl)
 
 pub returns-in_default-clause-step : goal.returns-in_default-clause-step
 returns-in_default-clause-step g c =
@@ -20,7 +20,7 @@ returns-in_default-clause-step g c =
 
 pub returns-in_default-clause-disks : goal.returns-in_default-clause-disks
 returns-in_default-clause-disks g c =
-    untouched_disks g.D.Disk.arms c.args.self.now c.args.self.now refl refl refl
+    untouched_disks g.D.Disk.medium.arms c.args.self.now c.args.self.now refl refl refl
 
 pub need-requires-clause-stands : goal.need-requires-clause-stands
 need-requires-clause-stands g c =
@@ -37,7 +37,7 @@ need-requires-clause-waits g c =
 
 pub returns-in_err-message-clause-disks : goal.returns-in_err-message-clause-disks
 returns-in_err-message-clause-disks g c =
-    (untouched_disks g.D.Disk.arms c.args.self.now c.args.self.now refl refl refl)
+    (untouched_disks g.D.Disk.medium.arms c.args.self.now c.args.self.now refl refl refl)
 
 pub submit-requires-clause-head : goal.submit-requires-clause-head
 submit-requires-clause-head g c =
@@ -82,11 +82,11 @@ returns-in_ok-say_manual-in-Decision-clause-step g c =
 
 pub returns-in_err-say_manual-in-Decision-clause-disks : goal.returns-in_err-say_manual-in-Decision-clause-disks
 returns-in_err-say_manual-in-Decision-clause-disks g c =
-    (untouched_disks g.D.Disk.arms c.args.self.now c.args.self.now refl refl refl)
+    (untouched_disks g.D.Disk.medium.arms c.args.self.now c.args.self.now refl refl refl)
 
 pub returns-in_ok-say_manual-in-Decision-clause-disks : goal.returns-in_ok-say_manual-in-Decision-clause-disks
 returns-in_ok-say_manual-in-Decision-clause-disks g c =
-    untouched_disks g.D.Disk.arms c.args.self.now c.args.self.now refl refl refl
+    untouched_disks g.D.Disk.medium.arms c.args.self.now c.args.self.now refl refl refl
 
 pub head-requires : goal.head-requires
 head-requires g c =

@@ -10,13 +10,13 @@ use Rattle.iot_world.proofs.world.World.sync_all.Goals as goal
 
 pub returns-in_err-most-clause-disks : goal.returns-in_err-most-clause-disks
 returns-in_err-most-clause-disks g c =
-    (untouched_disks g.D.Disk.arms c.args.self.now _ refl refl refl)
+    (untouched_disks g.D.Disk.medium.arms c.args.self.now _ refl refl refl)
 
 pub syncs-init : goal.syncs-init
 syncs-init g c = (
   syncs_start _ c.args.client c.in_ok-most.most c.args.self.now c.args.out.now c.index.result.now
       (found _ c.args.client c.args.self.now c.index.result.now c.requires.ready c.index.ensures) c.in_ok-most.ensures c.requires.ready,
-  untouched_disks g.D.Disk.arms c.args.self.now _ refl refl refl,
+  untouched_disks g.D.Disk.medium.arms c.args.self.now _ refl refl refl,
 )
 
 pub returns-then-not-waits-clause-step : goal.returns-then-not-waits-clause-step
@@ -56,7 +56,7 @@ syncs-preserved g c = (
       (waiting c.waits.result (waits_of (state_in c.index-in-syncs.result.now).items) c.waits.ensures c.if-not-waits.false)
       c.sync.new.self c.sync.new.out
       (synced_of c.in_ok-synced.synced) (sym c.ends.ensures ∙ c.if-ends.false) c.in_ok-synced.ensures.step c.in_ok-synced.ensures.counts,
-  disks_then g.D.Disk.arms c.args.self.now c.syncs.self c.sync.new.self c.syncs.invariant.1
+  disks_then g.D.Disk.medium.arms c.args.self.now c.syncs.self c.sync.new.self c.syncs.invariant.1
       c.in_ok-synced.ensures.disks,
 )
 

@@ -13,7 +13,7 @@ returns-then-not-is_up-clause-step g c =
 
 pub returns-then-not-is_up-clause-disks : goal.returns-then-not-is_up-clause-disks
 returns-then-not-is_up-clause-disks g c =
-    untouched_disks g.D.Disk.arms c.args.self.now c.args.self.now refl refl refl
+    untouched_disks g.D.Disk.medium.arms c.args.self.now c.args.self.now refl refl refl
 
 pub returns-clause-step : goal.returns-clause-step
 returns-clause-step g c =

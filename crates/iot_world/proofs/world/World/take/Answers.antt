@@ -12,7 +12,7 @@ runs-requires g c = found_some _ c.args.client c.args.self.now c.index.result.no
 
 pub returns-in_err-say-clause-disks : goal.returns-in_err-say-clause-disks
 returns-in_err-say-clause-disks g c =
-    (untouched_disks g.D.Disk.arms c.args.self.now c.args.self.now refl refl refl)
+    (untouched_disks g.D.Disk.medium.arms c.args.self.now c.args.self.now refl refl refl)
 
 pub returns-then-runs-clause-step : goal.returns-then-runs-clause-step
 returns-then-runs-clause-step g c =
@@ -22,11 +22,11 @@ returns-then-runs-clause-step g c =
 
 pub returns-then-runs-clause-disks : goal.returns-then-runs-clause-disks
 returns-then-runs-clause-disks g c =
-    untouched_disks g.D.Disk.arms c.args.self.now c.args.self.now refl refl refl
+    untouched_disks g.D.Disk.medium.arms c.args.self.now c.args.self.now refl refl refl
 
 pub returns-in_err-say-2-clause-disks : goal.returns-in_err-say-2-clause-disks
 returns-in_err-say-2-clause-disks g c =
-    (untouched_disks g.D.Disk.arms c.args.self.now c.args.self.now refl refl refl)
+    (untouched_disks g.D.Disk.medium.arms c.args.self.now c.args.self.now refl refl refl)
 
 pub returns-then-waits-clause-step : goal.returns-then-waits-clause-step
 returns-then-waits-clause-step g c =
@@ -39,7 +39,7 @@ returns-then-waits-clause-step g c =
 
 pub returns-then-waits-clause-disks : goal.returns-then-waits-clause-disks
 returns-then-waits-clause-disks g c =
-    untouched_disks g.D.Disk.arms c.args.self.now c.args.self.now refl refl refl
+    untouched_disks g.D.Disk.medium.arms c.args.self.now c.args.self.now refl refl refl
 
 pub bring-requires-clause-can : goal.bring-requires-clause-can
 bring-requires-clause-can g c =
