@@ -1,0 +1,4 @@
+pub mod Disks
+pub mod Keeping
+pub mod Posts
+pub mod Steps

@@ -1,0 +1,123 @@
+-- Which node of the machine a node over a keeper stands for.
+use Rattle.std.specs.Prelude.{◌≡◌, ◌⊎◌, ℕ, ◌+◌, leb, if◌then◌else◌, Bool, true, false, List, ◌++◌, Option, None, Some, Result, Ok, Err, codes}
+use Rattle.iot_disk.specs.Disk.{Medium, Only}
+use Rattle.iot_disk.specs.declared.faults.JournalFault.{JournalFault}
+use Rattle.iot_machine.specs.Calls.{Call}
+use Rattle.iot_machine.specs.Nodes.{Node}
+use Rattle.iot_machine.specs.Texts.{line, kept_line, lost_line}
+use Rattle.iot_node.specs.Disks.{counts_on}
+use Rattle.iot_node.specs.Keeping.{Keeping, EachIs}
+use Rattle.iot_node.specs.declared.halt.Halt.{Halt}
+use Rattle.iot_node.specs.declared.halt.Halt.TheVariants.{NoMemory, Over}
+use Rattle.iot_node.specs.declared.post.Doubt.{Doubt}
+use Rattle.iot_node.specs.declared.post.Fallen.{Fallen}
+use Rattle.iot_node.specs.declared.post.Post.{Post}
+use Rattle.iot_node.specs.declared.post.Post.TheVariants.{Up, Down, Between}
+
+abbrev pub is_on : {K D : Type 0} → Post K D → Bool
+is_on (Up keeper) = true
+is_on (Down fallen) = false
+is_on Between = false
+
+abbrev pub is_fallen : {K D : Type 0} → Post K D → Bool
+is_fallen (Up keeper) = false
+is_fallen (Down fallen) = true
+is_fallen Between = false
+
+-- its disk, which it has except inside a call that starts or stops it
+abbrev pub disk_of : {K D : Type 0} → (K → D) → Post K D → Option D
+disk_of disk (Up keeper) = Some (disk keeper)
+disk_of disk (Down fallen) = Some fallen.disk
+disk_of disk Between = None
+
+-- never started, on a disk with one image
+abbrev pub Ready : {K D : Type 0} → Medium D → Post K D → Type 0
+Ready medium (Up keeper) = ⊥
+Ready medium (Down fallen) = (fallen.doubt ≡ None) × Only (medium.reads fallen.disk) (medium.may_leave fallen.disk)
+Ready medium Between = ⊥
+
+-- what is said of one that is back with so many records
+abbrev pub back_said : List ℕ → Option Doubt → (number : ℕ) → List ℕ
+back_said name None number = line (codes "restart " ++ name)
+back_said name (Some doubt) number = if leb number doubt.count then lost_line name else kept_line name ++ doubt.lines
+
+-- the call that was answered so went on, or ended its event
+abbrev pub Answered : {T : Type 0} → (Bool → Type 0) → Result T JournalFault → Result T Halt → Type 0
+Answered step answer (Ok done) = (answer ≡ Ok done) × step true
+Answered step answer (Err NoMemory) = Unit {0}
+Answered step answer (Err Over) = step false
+
+-- a step by this call from this node, to one for which the new one stands
+abbrev pub StepsFrom : {W M A : Type 0} → (W → M → Type 0) → Call M A → M → (new : W) → (x y : List ℕ) → A → Type 0
+StepsFrom {M = M} stands call node new x y a = (text : List ℕ) × (n : M) × (y ≡ x ++ text) × call node text a n × stands new n
+
+module _ {K S D : Type 0} (keeping : Keeping K S D) (medium : Medium D) (says : S → S → List ℕ) where
+  pub record UpStands (keeper : K) (node : Node S) : Type 0 where
+    pub alive : node.alive ≡ true
+    pub sure : node.doubt ≡ None
+    pub counts : counts_on medium (keeping.disk keeper) ≡ node.counts
+    pub count : ℕ
+    pub stands : keeping.stands keeper count node.durable
+
+  pub record Sure (images : List ℕ → Type 0) (count : ℕ) (node : Node S) : Type 0 where
+    pub sure : node.doubt ≡ None
+    pub each : EachIs images (λ bytes. keeping.image bytes count node.durable)
+
+  pub record InDoubt (images : List ℕ → Type 0) (count : ℕ) (doubt : Doubt) (node : Node S) : Type 0 where
+    pub after : S
+    pub is : node.doubt ≡ Some after
+    pub each : EachIs images (λ bytes. keeping.image bytes count node.durable ⊎ keeping.image bytes (count + 1) after)
+    pub counted : doubt.count ≡ count
+    pub lines : doubt.lines ≡ says node.durable after
+
+  abbrev pub HoldsBy : (images : List ℕ → Type 0) → ℕ → Option Doubt → Node S → Type 0
+  HoldsBy images count None node = Sure images count node
+  HoldsBy images count (Some doubt) node = InDoubt images count doubt node
+
+  pub record DownStands (fallen : Fallen D) (node : Node S) : Type 0 where
+    pub alive : node.alive ≡ false
+    pub counts : counts_on medium fallen.disk ≡ node.counts
+    pub count : ℕ
+    pub holds : HoldsBy (medium.may_leave fallen.disk) count fallen.doubt node
+
+  abbrev pub PostStands : Post K D → Node S → Type 0
+  PostStands (Up keeper) node = UpStands keeper node
+  PostStands (Down fallen) node = DownStands fallen node
+  PostStands Between node = ⊥
+
+-- it stands for some node
+pub record IsStanding {K S D : Type 0} (keeping : Keeping K S D) (medium : Medium D) (post : Post K D) : Type 0 where
+  pub says : S → S → List ℕ
+  pub node : Node S
+  pub stands : PostStands keeping medium says post node
+
+module _ {K S D : Type 0} (keeping : Keeping K S D) (medium : Medium D) where
+  -- ---- what its disk holds, whatever became of a call
+
+  -- what is durable, or the state that is in doubt
+  abbrev pub HoldsEither : (count : ℕ) → Node S → List ℕ → Type 0
+  HoldsEither count node bytes =
+      keeping.image bytes count node.durable
+      ⊎ ((after : S) × (node.doubt ≡ Some after) × keeping.image bytes (count + 1) after)
+
+  -- each image of its disk holds that
+  pub record Lasts (post : Post K D) (node : Node S) : Type 0 where
+    pub disk : D
+    pub has : disk_of keeping.disk post ≡ Some disk
+    pub count : ℕ
+    pub each : EachIs (medium.may_leave disk) (HoldsEither count node)
+
+  -- ---- how it came back
+
+  -- from one of the images that its disk might have: that decides whether the record in doubt was kept, and it is said
+  pub record CameFrom (fallen : Fallen D) (name x y : List ℕ) (node : Node S) : Type 0 where
+    pub image : List ℕ
+    pub left : medium.may_leave fallen.disk image
+    pub count : ℕ
+    pub said : ((y ≡ x ++ back_said name fallen.doubt count) × keeping.image image count node.durable)
+        ⊎ ((after : S) × (y ≡ x ++ back_said name fallen.doubt (count + 1)) × (node.doubt ≡ Some after)
+        × keeping.image image (count + 1) after)
+
+  abbrev pub CameIf : (on : Bool) → Post K D → (name x y : List ℕ) → Node S → Type 0
+  CameIf true (Down fallen) name x y node = CameFrom fallen name x y node
+  CameIf on post name x y node = Unit {0}

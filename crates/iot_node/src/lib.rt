@@ -1,0 +1,13 @@
+//! A node over its disk, alive or down, whatever it keeps: it starts, stops, crashes and comes back. Here alone a disk that fails becomes
+//! a stop.
+#![tactic(auto)]
+
+mod halt;
+mod keeper;
+mod lines;
+mod post;
+
+pub use halt::Halt;
+pub use keeper::Keeper;
+pub use lines::{Transaction, say};
+pub use post::{Doubt, Fallen, Post};

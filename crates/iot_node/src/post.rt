@@ -1,0 +1,319 @@
+//! A node over any keeper: alive, or down with its disk. Here alone a disk that fails becomes a stop.
+ghost use Rattle.std.specs.Prelude.{◌≡◌, ◌++◌, ℕ, List, Bool, true, false, Option, Some, None, IfOk, IfErr, OnOk, IsSome};
+ghost use Rattle.iot_disk.specs.Disk.{Only};
+ghost use Rattle.iot_machine.specs.Nodes.{Node};
+ghost use Rattle.iot_machine.specs.Refining.{Refines};
+ghost use Rattle.iot_machine.specs.Stops.{OpensNode, Appends, ComesBack, Crashes, ArmsDisk};
+ghost use Rattle.iot_machine.specs.Texts.{line, stopped_line, stop_line, pick_text};
+ghost use Rattle.iot_disk.specs.declared.faults.StartFault.TheVariants.{Stopped};
+ghost use Rattle.iot_node.specs.Disks.{KeepsDisk};
+ghost use Rattle.iot_node.specs.Keeping.{Keeping, EachIs, Appended, Doubts, TakesBytes};
+ghost use Rattle.iot_node.specs.Posts.{PostStands, is_on, is_fallen, disk_of, Ready, Answered, UpStands, StepsFrom, back_said, Lasts, CameIf, IsStanding};
+ghost use Rattle.iot_text.specs.Texts.{Extends};
+
+use crate::halt::Halt;
+use crate::keeper::Keeper;
+use crate::lines::say;
+use iot_disk::{Disk, JournalFault, Pick, StartFault};
+use iot_text::{NoMemory, Text};
+use std::alloc::Global;
+use std::mem;
+
+/// A record that is in doubt, since its node stopped in the append.
+#[derive(Drop)]
+pub struct Doubt {
+    /// How many there are before it.
+    pub count: u64,
+
+    /// What is said after the line of a restart if it was kept.
+    pub lines: Text,
+}
+
+/// A node that is down: of all that it had only its disk is left, and what was in doubt when it stopped.
+#[derive(Drop)]
+pub struct Fallen<D> {
+    pub disk: D,
+    pub doubt: Option<Doubt>,
+}
+
+/// A node, alive or down.
+#[derive(Drop)]
+pub enum Post<K, D> {
+    /// Alive.
+    Up(K),
+
+    /// Down.
+    Down(Fallen<D>),
+
+    /// Inside a call that starts or stops it.
+    Between,
+}
+
+impl<K: Keeper<D> + Drop, D: Disk + Drop> Post<K, D> {
+    ghost use Rattle.iot_node.specs.declared.post.Post.TheVariants.{Up, Down, Between};
+
+    /// Whether it is alive.
+    pub fn is_up(&self) -> bool
+        ensures { result ≡ is_on self.now }
+    {
+        matches!(self, Post::Up(_))
+    }
+
+    /// Starts for the first time, at this place among its kind, and tells whether it did. Else it has stopped, which is said.
+    pub fn open(
+        &mut self,
+        alloc: Global,
+        place: u64,
+        name: &[u8],
+        out: &mut Text,
+    ) -> Result<bool, NoMemory>
+        requires ready { Ready D.medium self.old }
+        requires stands { IsStanding (K.keeping place) D.medium self.old }
+        ensures step { IfOk result (λ on. (says : K.Kept → K.Kept → List ℕ)
+            → Refines (PostStands (K.keeping place) D.medium says) (OpensNode name.now) self.old self.new out.old out.new on) }
+        ensures disk { KeepsDisk D.medium (disk_of (K.keeping place).disk self.old) (disk_of (K.keeping place).disk self.new) }
+        ensures lasts { (says : K.Kept → K.Kept → List ℕ) (node : Node K.Kept)
+            → PostStands (K.keeping place) D.medium says self.old node → Lasts (K.keeping place) D.medium self.new node }
+        ensures text { Extends out.old out.new }
+    {
+        match mem::replace(self, Post::Between) {
+            Post::Down(Fallen { disk, doubt }) => match K::start(alloc, disk, place) {
+                Ok(keeper) => {
+                    *self = Post::Up(keeper);
+                    Ok(true)
+                }
+                Err((disk, fault)) => {
+                    *self = Post::Down(Fallen { disk, doubt });
+                    say_refused(fault, name, out)?;
+                    Ok(false)
+                }
+            },
+            _other => unreachable!(),
+        }
+    }
+
+    /// What a call of its keeper answered that was to append a record. If its disk failed in that, the node has stopped: it is down, with
+    /// this record in doubt, which is said, and its event is over.
+    pub fn take<T>(
+        &mut self,
+        answer: Result<T, JournalFault>,
+        doubt: Doubt,
+        name: &[u8],
+        out: &mut Text,
+    ) -> Result<T, Halt>
+        requires { is_on self.old ≡ true }
+        ensures step { (place : ℕ) (old new : K) (says : K.Kept → K.Kept → List ℕ) (change : K.Kept → K.Kept) (node : Node K.Kept)
+            → self.old ≡ Up new
+            → UpStands (K.keeping place) D.medium says old node
+            → Appended (K.keeping place) D.medium change node.durable old new answer
+            → Doubts (K.keeping place) says change old doubt
+            → Answered (StepsFrom (PostStands (K.keeping place) D.medium says) (Appends name.now change) node self.new out.old out.new)
+            answer result }
+        ensures disk { (place : ℕ) → disk_of (K.keeping place).disk self.new ≡ disk_of (K.keeping place).disk self.old }
+    {
+        match answer {
+            Ok(done) => Ok(done),
+            Err(fault) => match fault {
+                JournalFault::NoMemory => Err(Halt::NoMemory),
+                JournalFault::Stopped => {
+                    self.fall(Some(doubt));
+                    say_stopped(name, out)?;
+                    Err(Halt::Over)
+                }
+            },
+        }
+    }
+
+    /// Is down from now on, with this in doubt.
+    fn fall(&mut self, doubt: Option<Doubt>)
+        requires { is_on self.old ≡ true }
+        ensures down { (place : ℕ) (keeper : K) → self.old ≡ Up keeper
+            → self.new ≡ Down (record { disk = (K.keeping place).disk keeper; doubt = doubt }) }
+        ensures disk { (place : ℕ) → disk_of (K.keeping place).disk self.new ≡ disk_of (K.keeping place).disk self.old }
+        ensures images { (place n : ℕ) (keeper : K) (s : K.Kept) → self.old ≡ Up keeper → (K.keeping place).stands keeper n s
+            → EachIs (D.medium.may_leave ((K.keeping place).disk keeper)) (λ bytes. (K.keeping place).image bytes n s) }
+    {
+        match mem::replace(self, Post::Between) {
+            Post::Up(keeper) => {
+                *self = Post::Down(Fallen {
+                    disk: keeper.into_disk(),
+                    doubt,
+                });
+            }
+            _down => unreachable!(),
+        }
+    }
+
+    /// Loses its memory: what is not on its disk is gone.
+    pub fn crash(&mut self, name: &[u8], out: &mut Text) -> Result<(), NoMemory>
+        ensures step { OnOk result ((place : ℕ) (says : K.Kept → K.Kept → List ℕ)
+            → Refines (PostStands (K.keeping place) D.medium says) (Crashes name.now) self.old self.new out.old out.new tt) }
+        ensures disk { (place : ℕ) → disk_of (K.keeping place).disk self.new ≡ disk_of (K.keeping place).disk self.old }
+    {
+        if !self.is_up() {
+            say(b"down", out)?;
+            return Ok(());
+        }
+        self.fall(None);
+        say_node(b"crash ", name, out)?;
+        Ok(())
+    }
+
+    /// Comes back, at its place among its kind, from one of the images that its disk may have, and tells whether it did. Else it has
+    /// stopped again, which is said, and what was in doubt still is.
+    pub fn come_back(
+        &mut self,
+        alloc: Global,
+        place: u64,
+        name: &[u8],
+        out: &mut Text,
+    ) -> Result<bool, NoMemory>
+        requires down { is_fallen self.old ≡ true }
+        requires stands { IsStanding (K.keeping place) D.medium self.old }
+        ensures step { IfOk result (λ on. (says : K.Kept → K.Kept → List ℕ)
+            → Refines (PostStands (K.keeping place) D.medium says) (ComesBack name.now says) self.old self.new out.old out.new on) }
+
+        // The image that it came back from decides whether the record in doubt was kept.
+        ensures came { IfOk result (λ on. (says : K.Kept → K.Kept → List ℕ) (node : Node K.Kept)
+            → PostStands (K.keeping place) D.medium says self.old node
+            → CameIf (K.keeping place) D.medium on self.old name.now out.old out.new node) }
+        ensures disk { KeepsDisk D.medium (disk_of (K.keeping place).disk self.old) (disk_of (K.keeping place).disk self.new) }
+        ensures lasts { (says : K.Kept → K.Kept → List ℕ) (node : Node K.Kept)
+            → PostStands (K.keeping place) D.medium says self.old node → Lasts (K.keeping place) D.medium self.new node }
+    {
+        match mem::replace(self, Post::Between) {
+            Post::Down(Fallen { mut disk, doubt }) => {
+                disk.restart();
+                match K::start(alloc, disk, place) {
+                    Ok(keeper) => {
+                        let number = keeper.records();
+                        *self = Post::Up(keeper);
+                        say_back(doubt, number, name, out)?;
+                        Ok(true)
+                    }
+                    Err((disk, fault)) => {
+                        *self = Post::Down(Fallen { disk, doubt });
+                        say_refused(fault, name, out)?;
+                        Ok(false)
+                    }
+                }
+            }
+            _other => unreachable!(),
+        }
+    }
+
+    /// Makes a later call of its disk fail, and says so.
+    pub fn arm(
+        &mut self,
+        calls: u64,
+        pick: Pick,
+        name: &[u8],
+        out: &mut Text,
+    ) -> Result<(), NoMemory>
+        ensures step { OnOk result ((place : ℕ) (says : K.Kept → K.Kept → List ℕ)
+            → Refines (PostStands (K.keeping place) D.medium says) (ArmsDisk name.now calls pick)
+            self.old self.new out.old out.new tt) }
+        ensures same { IfErr result (λ _. self.new ≡ self.old) }
+        ensures text { Extends out.old out.new }
+    {
+        say_stop(name, calls, pick, out)?;
+        match self {
+            Post::Up(keeper) => keeper.arm(calls, pick),
+            Post::Down(fallen) => fallen.disk.arm(calls, pick),
+            Post::Between => (),
+        }
+        Ok(())
+    }
+
+    /// Gives its disk back.
+    pub fn into_disk(self) -> D
+        requires { (place : ℕ) → IsSome (disk_of (K.keeping place).disk self) }
+        ensures { (place : ℕ) → disk_of (K.keeping place).disk self ≡ Some result }
+    {
+        match self {
+            Post::Up(keeper) => keeper.into_disk(),
+            Post::Down(fallen) => fallen.disk,
+            Post::Between => unreachable!(),
+        }
+    }
+}
+
+// ---- what is said
+
+/// A line of a word and a node's name.
+fn say_node(word: &[u8], name: &[u8], out: &mut Text) -> Result<(), NoMemory>
+    ensures { OnOk result (out.new ≡ out.old ++ line (word.now ++ name.now)) }
+{
+    out.append(word)?;
+    out.append(name)?;
+    out.push(b'\n')
+}
+
+/// That the node of this name has stopped.
+fn say_stopped(name: &[u8], out: &mut Text) -> Result<(), NoMemory>
+    ensures says { OnOk result (out.new ≡ out.old ++ stopped_line name.now) }
+    ensures text { Extends out.old out.new }
+{
+    out.append(name)?;
+    out.append(b" stopped\n")
+}
+
+/// That a start failed: if its disk did, the node has stopped.
+fn say_refused(fault: StartFault, name: &[u8], out: &mut Text) -> Result<(), NoMemory>
+    requires { TakesBytes fault }
+    ensures stopped { OnOk result (fault ≡ Stopped) }
+    ensures says { OnOk result (out.new ≡ out.old ++ stopped_line name.now) }
+    ensures text { Extends out.old out.new }
+{
+    match fault {
+        StartFault::Stopped => say_stopped(name, out),
+        StartFault::NoMemory => Err(NoMemory),
+        StartFault::Foreign | StartFault::Damaged { .. } => unreachable!(),
+    }
+}
+
+/// That it is back with so many records, and what became of the one that was in doubt.
+fn say_back(doubt: Option<Doubt>, number: u64, name: &[u8], out: &mut Text) -> Result<(), NoMemory>
+    ensures { OnOk result (out.new ≡ out.old ++ back_said name.now doubt number) }
+{
+    let Some(doubt) = doubt else {
+        say_node(b"restart ", name, out)?;
+        return Ok(());
+    };
+    if number <= doubt.count {
+        out.append(b"restart ")?;
+        out.append(name)?;
+        out.append(b" lost\n")?;
+        return Ok(());
+    }
+    out.append(b"restart ")?;
+    out.append(name)?;
+    out.append(b" kept\n")?;
+    out.append(doubt.lines.as_bytes())?;
+    Ok(())
+}
+
+/// `stop NODE K PICK`.
+fn say_stop(name: &[u8], calls: u64, pick: Pick, out: &mut Text) -> Result<(), NoMemory>
+    ensures says { OnOk result (out.new ≡ out.old ++ stop_line name.now calls pick) }
+    ensures text { Extends out.old out.new }
+{
+    out.append(b"stop ")?;
+    out.append(name)?;
+    out.push(b' ')?;
+    out.append_number(calls)?;
+    out.push(b' ')?;
+    say_pick(pick, out)?;
+    out.push(b'\n')
+}
+
+fn say_pick(pick: Pick, out: &mut Text) -> Result<(), NoMemory>
+    ensures says { OnOk result (out.new ≡ out.old ++ pick_text pick) }
+    ensures text { Extends out.old out.new }
+{
+    match pick {
+        Pick::Old => out.append(b"old"),
+        Pick::New => out.append(b"new"),
+        Pick::Fill(byte) => out.append_number(byte as u64),
+    }
+}
