@@ -6,7 +6,7 @@ use Rattle.iot_event.specs.declared.event.Event.{Event}
 use Rattle.iot_event.specs.declared.event.Event.TheVariants as events
 use Rattle.iot_machine.specs.Calls.{Call, Part, At, either, goes_on}
 use Rattle.iot_machine.specs.Clients.{Running, ClientState, view, cut}
-use Rattle.iot_machine.specs.Counting.{IsSteady, StopsOnce, Since, base_of, EventCounts}
+use Rattle.iot_machine.specs.Counting.{IsSteady, StopsOnce, Since, base_of, EventCounts, EventKeepsSound, OpeningCounts, OpeningIsSound}
 use Rattle.iot_machine.specs.Events.{add_client, Declares, declare_script, IfUp, cuts_off, CutsOff, no_text, comes_back, RestartsClient}
 use Rattle.iot_machine.specs.Events.{syncs_on, counts_anew, RestartsServer, chosen, event_part}
 use Rattle.iot_machine.specs.Machine.{Machine, Client, Commit, client_in, put_client, server, node_at, tree_after, handed}
@@ -289,7 +289,7 @@ event_good (events.Reads client item) m n text sound step =
 event_good events.Log m n text sound step = same_event m events.Log refl
     (asks_then (keeps_either (keeps_does (good_first m)) (keeps_does (good_first m)))) n text sound step
 
-pub sound_event : (event : Event) (m n : Machine) (text : List ℕ) → IsSound m → event_part event m text tt n → IsSound n
+pub sound_event : EventKeepsSound
 sound_event event m n text sound step = (event_good event m n text sound step).sound
 
 pub counted_event : EventCounts
@@ -310,9 +310,9 @@ opening_good : (counts : List Counts) (m : Machine) (text : List ℕ) → Openin
 opening_good counts m text step =
     (opens_good (handed counts)).at (handed counts) m text tt ((sound_handed counts, refl), (refl, refl)) step
 
-pub sound_opening : (counts : List Counts) (m : Machine) (text : List ℕ) → Opening (handed counts) text tt m → IsSound m
+pub sound_opening : OpeningIsSound
 sound_opening counts m text step = (opening_good counts m text step).sound
 
 -- in the opening the server alone may stop
-pub counted_opening : (counts : List Counts) (m : Machine) (text : List ℕ) → Opening (handed counts) text tt m → Since (handed counts) m
+pub counted_opening : OpeningCounts
 counted_opening counts m text step = (opening_good counts m text step).since

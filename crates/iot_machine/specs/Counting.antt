@@ -1,12 +1,13 @@
--- What an event does to what the machine's disks count: how often they have failed, and how they were armed.
+-- What events do to what the machine's disks count: how often they have failed, and how they were armed. And that a machine stays sound.
 use Rattle.std.specs.Prelude.{◌≡◌, ◌⊎◌, ℕ, ◌+◌, false, List, length}
 use Rattle.iot_count.specs.Counts.{Rose}
 use Rattle.iot_event.specs.declared.event.Event.{Event}
 use Rattle.iot_event.specs.declared.event.Event.TheVariants as events
 use Rattle.iot_machine.specs.Events.{add_client, event_part}
-use Rattle.iot_machine.specs.Machine.{Machine, client_in, put_client}
-use Rattle.iot_machine.specs.Nodes.{Node, armed}
+use Rattle.iot_machine.specs.Machine.{Machine, handed, client_in, put_client}
+use Rattle.iot_machine.specs.Nodes.{Node, Counts, armed}
 use Rattle.iot_machine.specs.Sound.{IsSound}
+use Rattle.iot_machine.specs.Transcript.{Opening}
 
 -- it has not stopped, its disk has not failed and was not armed
 pub record IsSteady {S : Type 0} (node n : Node S) : Type 0 where
@@ -41,3 +42,15 @@ base_of other m = m
 abbrev pub EventCounts : Type 0
 EventCounts = (event : Event) (m n : Machine) (text : List ℕ) → IsSound m → event_part event m text tt n
     → Since (base_of event m) n
+
+-- in the opening the server stops at most once, and its disk's count of faults rises exactly if it does
+abbrev pub OpeningCounts : Type 0
+OpeningCounts = (counts : List Counts) (m : Machine) (text : List ℕ) → Opening (handed counts) text tt m → Since (handed counts) m
+
+-- no event makes a sound machine unsound
+abbrev pub EventKeepsSound : Type 0
+EventKeepsSound = (event : Event) (m n : Machine) (text : List ℕ) → IsSound m → event_part event m text tt n → IsSound n
+
+-- a machine is sound after its opening
+abbrev pub OpeningIsSound : Type 0
+OpeningIsSound = (counts : List Counts) (m : Machine) (text : List ℕ) → Opening (handed counts) text tt m → IsSound m

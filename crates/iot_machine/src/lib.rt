@@ -1,5 +1,5 @@
-//! The plain machine: what the service does, without disks, messages or records. Its only code is a law about what was cut; all
-//! else are the definitions that the crates above cite, and the law that each event keeps a machine sound.
+//! The plain machine: what the service does, without disks, messages or records. Its only code are laws, each the contract of a function
+//! that does nothing; all else are the definitions that the crates above cite.
 #![tactic(auto)]
 
 pub mod laws;

@@ -1,5 +1,6 @@
 -- A node over any keeper does what the machine's node does.
-use Rattle.std.proofs.Common.{◌≡◌, ◌⊎◌, ℕ, ◌+◌, ◌≤◌, leb, if◌then◌else◌, Bool, true, false, List, [], ◌++◌, Option, None, Some, IsSome, Result, Ok, Err}
+use Rattle.std.proofs.Common.{◌≡◌, ◌⊎◌, ℕ, ◌+◌, ◌≤◌, leb, if◌then◌else◌, Bool, true, false, List, [], ◌++◌}
+use Rattle.std.proofs.Common.{Option, None, Some, IsSome, Result, Ok, Err}
 use Rattle.std.proofs.Common.{refl, sym, ap, subst, ◌∙◌, inl, inr, arith, codes}
 use Rattle.std.proofs.lemmas.List.{append-nil}
 use Rattle.std.proofs.lemmas.Bool.Decides.{nat_tests}
@@ -18,7 +19,8 @@ use Rattle.iot_machine.specs.Stops.{IsStopped, OpensNode, Appends, Settles, Come
 use Rattle.iot_machine.specs.Texts.{line, stopped_line, stop_line, kept_line, lost_line}
 use Rattle.iot_node.specs.Disks.{counts_on, KeepsDisk}
 use Rattle.iot_node.specs.Keeping.{Keeping, EachIs, Failed, Comes, Fails, Armed, Appended, Doubts, CountsStart, TakesBytes}
-use Rattle.iot_node.specs.Posts.{is_on, disk_of, Ready, back_said, UpStands, HoldsBy, DownStands, PostStands, StepsFrom, HoldsEither, Lasts, CameFrom, CameIf}
+use Rattle.iot_node.specs.Posts.{is_on, disk_of, Ready, back_said, UpStands, HoldsBy, DownStands, PostStands, StepsFrom}
+use Rattle.iot_node.specs.Posts.{HoldsEither, Lasts, CameFrom, CameIf}
 use Rattle.iot_node.specs.declared.post.Doubt.{Doubt}
 use Rattle.iot_node.specs.declared.post.Fallen.{Fallen}
 use Rattle.iot_node.specs.declared.post.Post.{Post}
@@ -144,7 +146,8 @@ module _ {K S D : Type 0} (keeping : Keeping K S D) (medium : Medium D) (says : 
   pub post_open_stops : (disk left : D) (name x y : List ℕ) → medium.may_leave disk (medium.reads disk)
       → ((k : ℕ) (s : S) → keeping.image (medium.reads disk) k s → EachIs (medium.may_leave left) (λ bytes. keeping.image bytes k s))
       → Failed (counts_on medium disk) (counts_on medium left) → y ≡ x ++ stopped_line name
-      → Refines Stands (OpensNode name) (Down (record { disk = disk; doubt = None })) (Down (record { disk = left; doubt = None })) x y false
+      → Refines Stands (OpensNode name) (Down (record { disk = disk; doubt = None })) (Down (record { disk = left; doubt = None })) x y
+      false
   post_open_stops disk left name x y image images failed wrote = record {
     step = λ node here. (
       stopped_line name,
@@ -169,7 +172,8 @@ module _ {K S D : Type 0} (keeping : Keeping K S D) (medium : Medium D) (says : 
       → counts_on medium disk ≡ counts_on medium old
       → ((k : ℕ) (s : S) → keeping.image (medium.reads disk) k s → EachIs (medium.may_leave left) (λ bytes. keeping.image bytes k s))
       → Failed (counts_on medium disk) (counts_on medium left) → y ≡ x ++ stopped_line name
-      → Refines Stands (ComesBack name says) (Down (record { disk = old; doubt = doubt })) (Down (record { disk = left; doubt = doubt })) x y
+      → Refines Stands (ComesBack name says) (Down (record { disk = old; doubt = doubt })) (Down (record { disk = left; doubt = doubt }))
+      x y
       false
   post_stops_again old disk left doubt name x y image same images failed wrote = record {
     step = λ node here. (
@@ -280,7 +284,8 @@ module _ {K S D : Type 0} (keeping : Keeping K S D) (medium : Medium D) (says : 
 
   rearms : (calls : ℕ) (pick : Pick) (node : Node S) (old new : D) → counts_on medium old ≡ node.counts → Armed medium calls pick old new
       → counts_on medium new ≡ (armed calls pick node).counts
-  rearms calls pick node old new same it = it.is ∙ ap (λ (c : Counts). record { faults = c.faults; arms = armed_with c.arms calls pick }) same
+  rearms calls pick node old new same it = it.is ∙ ap (λ (c : Counts). record { faults = c.faults; arms = armed_with c.arms calls pick })
+      same
 
   pub post_arms_up : (old new : K) (calls : ℕ) (pick : Pick) (name x y : List ℕ)
       → ((n : ℕ) (s : S) → keeping.stands old n s → keeping.stands new n s)
@@ -300,7 +305,8 @@ module _ {K S D : Type 0} (keeping : Keeping K S D) (medium : Medium D) (says : 
   pub post_arms_down : (old new : D) (doubt : Option Doubt) (calls : ℕ) (pick : Pick) (name x y : List ℕ)
       → SameImages (medium.may_leave old) (medium.may_leave new) → Armed medium calls pick old new
       → y ≡ x ++ stop_line name calls pick
-      → Refines Stands (ArmsDisk name calls pick) (Down (record { disk = old; doubt = doubt })) (Down (record { disk = new; doubt = doubt }))
+      → Refines Stands (ArmsDisk name calls pick) (Down (record { disk = old; doubt = doubt }))
+      (Down (record { disk = new; doubt = doubt }))
       x y tt
   post_arms_down old new doubt calls pick name x y same it wrote = does (Down _) (Down _) x y (λ node here. (
     wrote,

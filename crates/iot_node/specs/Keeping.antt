@@ -71,6 +71,7 @@ module _ {K S D : Type 0} (keeping : Keeping K S D) (medium : Medium D) where
       × Failed (counts_on medium (keeping.disk old)) (counts_on medium (keeping.disk new))
 
 -- how many records there were, and what this one would say
-pub record Doubts {K S D : Type 0} (keeping : Keeping K S D) (says : S → S → List ℕ) (change : S → S) (old : K) (doubt : Doubt) : Type 0 where
+pub record Doubts {K S D : Type 0} (keeping : Keeping K S D) (says : S → S → List ℕ) (change : S → S) (old : K) (doubt : Doubt)
+    : Type 0 where
   pub count : (n : ℕ) (s : S) → keeping.stands old n s → doubt.count ≡ n
   pub lines : (n : ℕ) (s : S) → keeping.stands old n s → doubt.lines ≡ says s (change s)

@@ -1,5 +1,24 @@
 -- Which node of the machine a node over a keeper stands for.
-use Rattle.std.specs.Prelude.{◌≡◌, ◌⊎◌, ℕ, ◌+◌, leb, if◌then◌else◌, Bool, true, false, List, ◌++◌, Option, None, Some, Result, Ok, Err, codes}
+use Rattle.std.specs.Prelude.{
+  ◌≡◌,
+  ◌⊎◌,
+  ℕ,
+  ◌+◌,
+  leb,
+  if◌then◌else◌,
+  Bool,
+  true,
+  false,
+  List,
+  ◌++◌,
+  Option,
+  None,
+  Some,
+  Result,
+  Ok,
+  Err,
+  codes,
+}
 use Rattle.iot_disk.specs.Disk.{Medium, Only}
 use Rattle.iot_disk.specs.declared.faults.JournalFault.{JournalFault}
 use Rattle.iot_machine.specs.Calls.{Call}

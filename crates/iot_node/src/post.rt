@@ -8,7 +8,8 @@ ghost use Rattle.iot_machine.specs.Texts.{line, stopped_line, stop_line, pick_te
 ghost use Rattle.iot_disk.specs.declared.faults.StartFault.TheVariants.{Stopped};
 ghost use Rattle.iot_node.specs.Disks.{KeepsDisk};
 ghost use Rattle.iot_node.specs.Keeping.{Keeping, EachIs, Appended, Doubts, TakesBytes};
-ghost use Rattle.iot_node.specs.Posts.{PostStands, is_on, is_fallen, disk_of, Ready, Answered, UpStands, StepsFrom, back_said, Lasts, CameIf, IsStanding};
+ghost use Rattle.iot_node.specs.Posts.{PostStands, is_on, is_fallen, disk_of, Ready, Answered, UpStands, StepsFrom, back_said, Lasts};
+ghost use Rattle.iot_node.specs.Posts.{CameIf, IsStanding};
 ghost use Rattle.iot_text.specs.Texts.{Extends};
 
 use crate::halt::Halt;
