@@ -23,7 +23,7 @@ use Rattle.iot_machine.proofs.SoundLaws.{sound_event}
 use Rattle.iot_server.specs.declared.server.Server.{Server}
 use Rattle.std.specs.List.{AllByRecursion}
 use Rattle.iot_world.specs.Disks.{IsEmpty, counts_on}
-use Rattle.iot_world.specs.Laptops.{LaptopStands, ClientStands, awake, fallen, ItemsStand, RunningStandsIfAny}
+use Rattle.iot_world.specs.Laptops.{IsLent, LaptopStands, ClientStands, awake, fallen, ItemsStand, RunningStandsIfAny}
 use Rattle.iot_world.specs.Nodes.{state_by, live_by, disk_by, lent_by, state_in, live_in, disk_in}
 use Rattle.iot_world.specs.Servers.{is_up, lent_of, ServerStands, HasAnswered, answered_since}
 use Rattle.iot_world.specs.World.{Each, ScriptStands, StandsFor, Steps, EventSteps, ArePlaced, LendsServer, LendsClient, ClientIs}
@@ -33,7 +33,7 @@ use Rattle.iot_world.specs.declared.server.ServerNode.TheVariants.{Up, Down, Bet
 use Rattle.iot_world.specs.declared.world.DeclaredScript.{DeclaredScript}
 use Rattle.iot_world.specs.declared.world.World.{World}
 use Rattle.iot_world.proofs.LaptopsLaws.{view_is}
-use Rattle.iot_world.proofs.NodesLaws.{is_awake, lent_up, lent_alive, lent_none, own_in}
+use Rattle.iot_world.proofs.NodesLaws.{is_awake, lent_at, lent_up, lent_alive, lent_none, own_in}
 use Rattle.iot_world.proofs.ListLaws.{each_length}
 use Rattle.iot_world.proofs.ReadyLaws.{one_at}
 use Rattle.iot_world.proofs.StepsLaws.{IsAt, inside, client_stands, laptop_stands}
@@ -155,14 +155,18 @@ module _ {D : Type 0} (medium : Medium D) where
   -- the client at a place is the machine's there
   module _ (world : World D) (place : ℕ) (laptop : Laptop D) (get : slice_get world.clients.items place ≡ Some laptop) where
     pub lends_client : (it : Client D) → Some it ≡ lent_by laptop.node → (m : Machine) → StandsFor medium world m
-        → LendsClient (Some it) place m
+        → LendsClient medium (Some it) place m
     lends_client it is m here =
         let at : IsAt world place laptop = record { get = get; up = lent_alive laptop.node it (sym is) } in
         let there : LaptopStands medium m.scripts laptop (client_in m place) =
         laptop_stands medium world m place laptop at here in
         let same : state_in laptop ≡ state_of it = ap state_by (lent_up laptop.node it (sym is)) in
-        let same_live : live_in laptop ≡ live_of it = ap live_by (lent_up laptop.node it (sym is)) in (
-          inside medium world m place laptop at here,
+        let same_live : live_in laptop ≡ live_of it = ap live_by (lent_up laptop.node it (sym is)) in
+        let lent : IsLent medium laptop it = lent_at medium laptop it (lent_up laptop.node it (sym is))
+            (record { scripts = m.scripts; machine = client_in m place; stands = there }) in
+        let within : place < length m.clients = inside medium world m place laptop at here in
+        let same_length = each_length (ClientStands medium m.scripts) world.clients.items m.clients here.clients in (
+          within,
           record {
             alive = there.alive;
             held = ap (λ (s : kept.State). s.held) (sym same) ∙ there.state.held;
@@ -177,11 +181,15 @@ module _ {D : Type 0} (medium : Medium D) where
                 (subst
                 (λ (l : Option Live). RunningStandsIfAny (state_in laptop).running l (client_in m place).first (kept_by place m).running)
                 same_live there.state.running);
+            tied = lent.tied;
+            begun = lent.begun;
+            place_is = lent.place ∙ here.placed place laptop get;
+            few = omega (arith, within, same_length, here.eight);
           },
         )
 
     pub lends_fallen : None ≡ lent_by laptop.node → (m : Machine) → StandsFor medium world m
-        → LendsClient {D = D} None place m
+        → LendsClient medium None place m
     lends_fallen is m here = inr (by (client_stands medium world m place laptop get here))
       where
         by : ClientStands medium m.scripts laptop (client_in m place) → (client_in m place).node.alive ≡ false
@@ -190,7 +198,7 @@ module _ {D : Type 0} (medium : Medium D) where
 
     -- whether it is alive or down
     pub lends_any : (o : Option (Client D)) → o ≡ lent_by laptop.node → (m : Machine) → StandsFor medium world m
-        → LendsClient o place m
+        → LendsClient medium o place m
     lends_any None is = lends_fallen is
     lends_any (Some it) is = lends_client it is
 
@@ -204,7 +212,7 @@ module _ {D : Type 0} (medium : Medium D) where
         ∙ ap disk_by (lent_up laptop.node it (sym is))
 
   pub lends_none : (world : World D) (place : ℕ) → length world.clients.items ≤ place → (m : Machine)
-      → StandsFor medium world m → LendsClient {D = D} None place m
+      → StandsFor medium world m → LendsClient medium None place m
   lends_none world place without m here =
       let e = each_length (ClientStands medium m.scripts) world.clients.items m.clients here.clients in
       inl (omega (arith, without, e))

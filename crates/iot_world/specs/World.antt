@@ -11,7 +11,7 @@ use Rattle.iot_tree.specs.Tree.{Nodes}
 use Rattle.iot_tree.specs.declared.want.Want.{Want}
 use Rattle.iot_client.specs.Messages.{IsRefresh}
 use Rattle.iot_kept.specs.States as states
-use Rattle.iot_client.specs.Ties.{state_of, live_of}
+use Rattle.iot_client.specs.Ties.{state_of, live_of, place_of, IsTied, IsBegunIfAny}
 use Rattle.iot_client.specs.declared.client.Client.{Client}
 use Rattle.iot_event.specs.Declarations.{AreDeclared}
 use Rattle.iot_event.specs.declared.event.Choice.{Choice}
@@ -347,15 +347,19 @@ abbrev pub LendsServer : {D : Type 0} → Option (Server D) → Machine → Type
 LendsServer None m = m.server.alive ≡ false
 LendsServer (Some it) m = IsServerOf it m
 
--- a client with the machine's held tree, view, queue and running transaction
-pub record IsClientOf {D : Type 0} (it : Client D) (m : machines.Client) : Type 0 where
+-- a client with the machine's held tree, view, queue and running transaction; it can be looked at, and asked for what it submits
+pub record IsClientOf {D : Type 0} (medium : Medium D) (it : Client D) (place : ℕ) (m : machines.Client) : Type 0 where
   pub alive : m.node.alive ≡ true
   pub held : (state_of it).held ≡ m.node.durable.held
   pub view : states.view (state_of it) ≡ clients.view m.node.durable
   pub queue : ItemsStand (state_of it).items (state_of it).held m.node.durable.items
   pub running : RunningStandsIfAny (state_of it).running (live_of it) m.first m.node.durable.running
+  pub tied : IsTied medium it
+  pub begun : IsBegunIfAny (state_of it).running (live_of it)
+  pub place_is : place_of it ≡ place
+  pub few : place ≤ 7
 
 -- none is lent of a client that is not declared, or is down
-abbrev pub LendsClient : {D : Type 0} → Option (Client D) → ℕ → Machine → Type 0
-LendsClient None place m = (length m.clients ≤ place) ⊎ ((client_in m place).node.alive ≡ false)
-LendsClient (Some it) place m = (place < length m.clients) × IsClientOf it (client_in m place)
+abbrev pub LendsClient : {D : Type 0} → Medium D → Option (Client D) → ℕ → Machine → Type 0
+LendsClient medium None place m = (length m.clients ≤ place) ⊎ ((client_in m place).node.alive ≡ false)
+LendsClient medium (Some it) place m = (place < length m.clients) × IsClientOf medium it place (client_in m place)
