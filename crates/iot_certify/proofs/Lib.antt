@@ -1,3 +1,4 @@
 pub mod ReadsLaws
 pub mod WalkLaws
 pub mod AccessLaws
+mod SilentLaws

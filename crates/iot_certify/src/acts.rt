@@ -8,13 +8,13 @@ ghost use Rattle.iot_certify.specs.Verdicts.{IsVerdictOnActs, IfDiffers};
 
 use crate::Verdict;
 use crate::reads::{differs, first_wrong, place_after};
-use crate::updates::{apply, current, fits};
+use crate::updates::{apply, current, fits, is_unseen};
 use iot_text::NoMemory;
 use iot_tree::{Act, Acts, Answer, Tree};
 use std::alloc::Global;
 
 /// Whether the acts hold on the tree: each read is the answer in its turn, and each update fits in its turn. If not, the first read
-/// that differs or the first update that does not fit decides. Copies the tree when the first update comes.
+/// that differs or the first update that does not fit decides. Copies the tree at the first update that later acts may see.
 pub fn certify_acts(alloc: Global, t: &Tree, acts: &Acts) -> Result<Verdict, NoMemory>
     ensures verdict { IfOk result (IsVerdictOnActs t.now acts.now) }
     ensures holds { IfOk result (λ verdict. (verdict ≡ Verdict.Holds) ↔ ActsHold t.now acts.now) }
@@ -33,7 +33,7 @@ fn walk(alloc: Global, t: &Tree, acts: &[Act]) -> Result<Verdict, NoMemory>
 {
     let mut changed = None;
     let mut place = 1;
-    'acts: for act in acts {
+    'acts: for (turn, act) in acts.iter().enumerate() {
         let now = current(t, &changed);
         let reads = act.reads.as_slice();
         if let Some(at) = first_wrong(now, reads) {
@@ -41,6 +41,9 @@ fn walk(alloc: Global, t: &Tree, acts: &[Act]) -> Result<Verdict, NoMemory>
         }
         if !fits(now, &act.update) {
             return misfit(acts);
+        }
+        if is_unseen(&act.update, &acts[turn + 1..]) {
+            return Ok(Verdict::Holds);
         }
         changed = apply(alloc, t, changed, &act.update)?;
         place = place_after(place, reads.len())?;

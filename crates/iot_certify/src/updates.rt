@@ -1,9 +1,12 @@
 //! Updates of acts in turn, on a copy of a tree.
-ghost use Rattle.std.specs.Prelude.{◌≡◌, ◌↔◌, IsTrue, IfOk, unwrap_or};
-ghost use Rattle.iot_acts.specs.Traces.{FitsIfAny, after_update};
+ghost use Rattle.std.specs.Prelude.{◌≡◌, ◌↔◌, IsTrue, IfOk, unwrap_or, true};
+ghost use Rattle.std.specs.List.{list_all};
+ghost use Rattle.iot_tree.specs.Tree.{Nodes};
+ghost use Rattle.iot_acts.specs.Traces.{ActsHold, FitsIfAny, after_update};
+ghost use Rattle.iot_certify.specs.Silent.{is_silent};
 
 use iot_text::NoMemory;
-use iot_tree::{Tree, Update};
+use iot_tree::{Act, Tree, Update};
 use std::alloc::Global;
 
 /// The tree after the updates so far: the changed one, if there is one.
@@ -43,4 +46,29 @@ pub(crate) fn apply(
     };
     tree.apply(alloc, update)?;
     Ok(Some(tree))
+}
+
+/// Whether there is an update that no later act can see: they read and change nothing, and so hold on every tree.
+pub(crate) fn is_unseen(update: &Option<Update>, later: &[Act]) -> bool
+    ensures { result ≡ true → (t : Nodes) → ActsHold t later.now }
+{
+    // Without an update there is nothing to spare, and the later acts need no look.
+    if update.is_none() {
+        return false;
+    }
+    are_silent(later)
+}
+
+/// Whether each of the acts reads and changes nothing.
+fn are_silent(acts: &[Act]) -> bool
+    ensures { result ≡ list_all is_silent acts.now }
+{
+    acts.iter().all(|act| is_silent(act))
+}
+
+/// Whether the act reads and changes nothing.
+fn is_silent(act: &Act) -> bool
+    ensures { result ≡ is_silent act.now }
+{
+    act.reads.is_empty() && act.update.is_none()
 }
