@@ -7,7 +7,7 @@ ghost use Rattle.iot_held.specs.Fitting.{UpdatesFit};
 
 use iot_prune::known;
 use iot_text::NoMemory;
-use iot_tree::{Acts, Node, Paths, Tree, Update};
+use iot_tree::{Act, Acts, Node, Paths, Tree, Update};
 use std::alloc::Global;
 use std::marker::Model;
 
@@ -71,19 +71,36 @@ impl Held {
         ensures err { OnErr result (self.new ≡ self.old) }
     {
         let mut tree = self.tree.copy(alloc)?;
-        'acts: for act in acts.as_slice() {
-            make(alloc, &mut tree, &act.update)?;
-        }
+        make_all(alloc, &mut tree, acts.as_slice())?;
         self.tree = tree;
         Ok(())
     }
+
+    /// Makes the updates of the acts in turn, in place: no row is copied that this tree alone has. After an error nothing is said of
+    /// it.
+    pub fn pass_in_place(&mut self, alloc: Global, acts: &Acts) -> Result<(), NoMemory>
+        requires { UpdatesFit self.old acts.now }
+        ensures { OnOk result (self.new ≡ after_acts self.old acts.now) }
+    {
+        make_all(alloc, &mut self.tree, acts.as_slice())
+    }
 }
 
-/// Makes the update, if there is one. After an error the tree is as it was.
+/// Makes the updates of the acts in turn.
+fn make_all(alloc: Global, tree: &mut Tree, acts: &[Act]) -> Result<(), NoMemory>
+    requires { UpdatesFit tree.old acts.now }
+    ensures { OnOk result (tree.new ≡ after_acts tree.old acts.now) }
+{
+    'acts: for act in acts {
+        make(alloc, tree, &act.update)?;
+    }
+    Ok(())
+}
+
+/// Makes the update, if there is one.
 fn make(alloc: Global, tree: &mut Tree, update: &Option<Update>) -> Result<(), NoMemory>
     requires { FitsIfAny tree.old update.now }
-    ensures ok { OnOk result (tree.new ≡ after_update tree.old update.now) }
-    ensures err { OnErr result (tree.new ≡ tree.old) }
+    ensures { OnOk result (tree.new ≡ after_update tree.old update.now) }
 {
     match update {
         Some(update) => tree.apply(alloc, update),

@@ -200,7 +200,7 @@ impl Durable {
             self.held.merge(visible.copy(alloc)?);
             return Ok(());
         }
-        self.held.pass(alloc, &head.acts)
+        self.held.pass_in_place(alloc, &head.acts)
     }
 
     /// Whether nothing waits and nothing runs.

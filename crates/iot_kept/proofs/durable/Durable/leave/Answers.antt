@@ -3,8 +3,8 @@ use Rattle.iot_kept.specs.Memory.{transaction_of}
 use Rattle.iot_kept.proofs.StatesLaws.{head_fits, left_alone}
 use Rattle.iot_kept.proofs.durable.Durable.leave.Goals as goal
 
-pub pass-requires : goal.pass-requires
-pass-requires c =
+pub pass_in_place-requires : goal.pass_in_place-requires
+pass_in_place-requires c =
     head_fits c.in-Some.head c.leave_head.new.self c.args.self.now.queue c.args.self.now.held c.in-Some.ensures.rest c.requires.hold.items
 
 pub returns-then-is_quiet-clause-state : goal.returns-then-is_quiet-clause-state
