@@ -17,7 +17,7 @@ use std::alloc::Global;
 fn joined(alloc: Global, one: &[u8], two: &[u8]) -> Result<Blob, NoMemory>
     ensures { IfOk result (λ both. both ≡ one.now ++ two.now) }
 {
-    let mut both = Vec::with_capacity(alloc, one.len())?;
+    let mut both = Vec::with_capacity(alloc, one.len() + two.len())?;
     both.extend_from_slice(one)?;
     both.extend_from_slice(two)?;
     Blob::from_vec(both)
@@ -99,14 +99,14 @@ impl<'t> Asking<'t> {
     }
 
     /// `append P W`
-    pub(crate) fn append(&mut self, path: Path, more: &Text) -> Result<Success, Stop>
+    pub(crate) fn append(&mut self, path: Path, more: &[u8]) -> Result<Success, Stop>
         ensures { Ends self.old (append path more.now) self.new result }
     {
         let bytes = self.contents(&path)?;
-        if are_too_large(bytes, more.as_bytes()) {
+        if are_too_large(bytes, more) {
             return Err(self.fail(&path, Reason::TooLarge));
         }
-        let both = joined(self.alloc, bytes, more.as_bytes())?;
+        let both = joined(self.alloc, bytes, more)?;
         Ok(Success::Makes(Update::Put(path, both)))
     }
 

@@ -1,5 +1,5 @@
 //! What a script keeps beside the tree.
-ghost use Rattle.std.specs.Prelude.{◌≡◌, ◌++◌, ◌≤◌, length, OnOk, IfOk};
+ghost use Rattle.std.specs.Prelude.{◌≡◌, ◌++◌, ◌≤◌, length, Ok, OnOk, IfOk, IfSome};
 ghost use Rattle.iot_exec.specs.Values.{fresh, with_variable, piece_value, word_value};
 ghost use Rattle.iot_text.specs.Paths.{path_of};
 ghost use Rattle.iot_exec.specs.Operands.{OrNoMemory, word_operand, path_operand, path_or_bad};
@@ -36,17 +36,31 @@ impl Env {
         self.variables.set(name, value)
     }
 
-    /// Appends the value of a piece.
-    fn append(&self, piece: &Piece, out: &mut Text) -> Result<(), NoMemory>
-        ensures { OnOk result (out.new ≡ out.old ++ piece_value self.now piece.now) }
+    /// The value of a piece, lent. Does not allocate.
+    fn piece<'e>(&'e self, piece: &'e Piece) -> &'e [u8]
+        ensures { result.now ≡ piece_value self.now piece.now }
     {
         match piece {
-            Piece::Plain(text) | Piece::Quoted(text) => out.append_text(text),
+            Piece::Plain(text) | Piece::Quoted(text) => text.as_bytes(),
             Piece::Var(name) => match self.variables.get(name) {
-                Some(value) => out.append_text(value),
-                None => Ok(()),
+                Some(value) => value.as_bytes(),
+                None => &[],
             },
         }
+    }
+
+    /// The value of a word that is a single piece and not too large, lent. Does not allocate.
+    pub(crate) fn lent<'e>(&'e self, word: &'e Word) -> Option<&'e [u8]>
+        ensures { IfSome result (λ bytes. word_operand self.now word.now ≡ Ok bytes.now) }
+    {
+        let [piece] = word.pieces() else {
+            return None;
+        };
+        let value = self.piece(piece);
+        if value.len() > CONTENTS_LIMIT {
+            return None;
+        }
+        Some(value)
     }
 
     /// The value of a word, or its refusal as too large.
@@ -55,7 +69,7 @@ impl Env {
     {
         let mut value = Text::new(alloc);
         'pieces: for piece in word.pieces() {
-            self.append(piece, &mut value)?;
+            value.append(self.piece(piece))?;
             if value.len() > CONTENTS_LIMIT {
                 return Err(Stop::Refused(Refusal::TooLarge));
             }
@@ -67,6 +81,9 @@ impl Env {
     pub(crate) fn path(&self, alloc: Global, word: &Word) -> Result<Path, Stop>
         ensures { OrNoMemory result (path_operand self.now word.now) }
     {
+        if let Some(text) = self.lent(word) {
+            return parse_path(alloc, text);
+        }
         let text = self.word(alloc, word)?;
         parse_path(alloc, text.as_bytes())
     }

@@ -38,7 +38,10 @@ impl<'t> Asking<'t> {
             }
             Command::Append(path, word) => {
                 let path = env.path(alloc, path)?;
-                self.append(path, &env.word(alloc, word)?)
+                match env.lent(word) {
+                    Some(more) => self.append(path, more),
+                    None => self.append(path, env.word(alloc, word)?.as_bytes()),
+                }
             }
             Command::Copy(from, to) => {
                 let from = env.path(alloc, from)?;

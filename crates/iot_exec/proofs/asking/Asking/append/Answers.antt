@@ -5,4 +5,4 @@ use Rattle.iot_exec.proofs.asking.Asking.append.Goals as goal
 pub returns-then-are_too_large : goal.returns-then-are_too_large
 returns-then-are_too_large c =
     append_large _ _ c.args.path c.args.more.now c.in_ok-bytes.bytes.now _ c.in_ok-bytes.ensures
-    (rw (c.as_bytes.ensures) at (sym c.are_too_large.ensures ∙ c.if-are_too_large.true)) c.fail.ensures
+    (sym c.are_too_large.ensures ∙ c.if-are_too_large.true) c.fail.ensures
