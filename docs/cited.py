@@ -85,3 +85,18 @@ def faults(page, crates):
     cited = list(cited_in(page, crates))
     missing = [f'there is no {kind} {name} in {" or ".join(names)}' for names, kind, name in cited if not crates.has(kind, names, name)]
     return missing if cited else ['nothing is cited']
+
+
+def is_named(span, crates):
+    """Whether what is named so in a sentence is there: a definition or a lemma, an item, or a crate; anything else is no such name."""
+    if re.fullmatch(r'[A-Z][a-z]\w*\.[\w-]+', span):
+        return crates.has('definition', crates.all, span)
+    if re.fullmatch(r'(\w+::)+\w+', span):
+        return any(re.search(rf'\b{span.rpartition("::")[2]}\b', crate.code) for crate in crates.all.values())
+    return not re.fullmatch(r'iot_\w+', span) or span in crates.all
+
+
+def strangers(page, crates):
+    """What the sentences of the page name in code, and is not there."""
+    spans = re.findall(r'`([^`\n]+)`', re.sub(r'```.*?```', '', page, flags=re.S))
+    return [f'there is no {span}' for span in dict.fromkeys(spans) if not is_named(span, crates)]
