@@ -1,7 +1,6 @@
 use Rattle.std.proofs.Common.{◌≡◌, length}
 use Rattle.std.specs.List.{AllByRecursion}
-use Rattle.iot_disk.specs.Failures.{arms_of}
-use Rattle.iot_disk.specs.Memory.{images_of}
+use Rattle.iot_disk.specs.Memory.{in_memory}
 use Rattle.iot_world.specs.Disks.{IsEmpty}
 use Rattle.iot_app.specs.Disks.{AreUnarmed, AreFaultless}
 use Rattle.iot_app.proofs.disks.empty_disks.Given as goal
@@ -9,8 +8,7 @@ use Rattle.iot_app.proofs.disks.empty_disks.Given as goal
 abbrev pub invariant-disks : goal.invariant-disks
 invariant-disks l = record {
   count : length l.disks.items ≡ l.counter;
-  each : AllByRecursion (IsEmpty (medium (λ disk. disk.written) images_of (λ disk. disk.failures.faults) (λ disk. arms_of disk.failures)))
-      l.disks.items;
+  each : AllByRecursion (IsEmpty in_memory) l.disks.items;
   arms : AreUnarmed l.disks.items;
   faults : AreFaultless l.disks.items;
 }

@@ -1,5 +1,6 @@
 use Rattle.std.proofs.Common.{map}
 use Rattle.std.specs.Io.KnownBytes.{Appends}
+use Rattle.iot_world.specs.Disks.{counts_on}
 use Rattle.iot_app.specs.Keeping.{DisksKeep, DisksKeepUnread, AreArmed}
 use Rattle.iot_app.specs.Saving.{first_reads}
 use Rattle.iot_app.proofs.RunningLaws.{played_did}
@@ -8,7 +9,7 @@ use Rattle.iot_app.proofs.doing.do_events.Goals as goal
 pub returns-in-Transcript-clause-ends : goal.returns-in-Transcript-clause-ends
 returns-in-Transcript-clause-ends g c =
     let it = g.D.Disk.medium in
-    let counts = map it.counts c.args.disks.items in
+    let counts = map (counts_on it) c.args.disks.items in
     let back = c.play.result.1.items in
     rw c.in-Transcript.is
     (played_did counts (Appends (g.K.Sink.written c.args.sink.now) (g.K.Sink.written c.play.new.sink))

@@ -1,5 +1,6 @@
 use Rattle.std.proofs.Common.{◌≡◌, ℕ, List, map, subst, sym}
 use Rattle.std.specs.Io.KnownBytes.{Appends}
+use Rattle.iot_world.specs.Disks.{counts_on}
 use Rattle.iot_app.specs.Keeping.{DisksKeep, DisksKeepUnread, AreArmed}
 use Rattle.iot_app.specs.Played.{Reported, DidFirst}
 use Rattle.iot_app.specs.Running.{tells}
@@ -11,7 +12,7 @@ use Rattle.iot_app.proofs.doing.report.Goals as goal
 pub returns-in-Ok-clause-ends : goal.returns-in-Ok-clause-ends
 returns-in-Ok-clause-ends g c =
     let it = g.D.Disk.medium in
-    let counts = map it.counts c.args.disks.items in
+    let counts = map (counts_on it) c.args.disks.items in
     let back = c.run_events-told.result.1.items in
     let told =
     if_ok c.run_events-told.result.0
@@ -32,7 +33,7 @@ returns-in-Ok-clause-ends g c =
 pub returns-in-Err-clause-ends : goal.returns-in-Err-clause-ends
 returns-in-Err-clause-ends g c =
     let it = g.D.Disk.medium in
-    let counts = map it.counts c.args.disks.items in
+    let counts = map (counts_on it) c.args.disks.items in
     let back = c.run_events-told.result.1.items in
     nothing_did counts (Appends (g.K.Sink.written c.args.sink.now) (g.K.Sink.written c.args.sink.now))
     (DisksKeep it c.args.disks.items back) (AreArmed it back) (DisksKeepUnread it c.args.disks.items back)

@@ -1,5 +1,6 @@
 use Rattle.std.proofs.Common.{List, map, subst, sym}
 use Rattle.std.specs.Io.KnownBytes.{Appends}
+use Rattle.iot_world.specs.Disks.{counts_on}
 use Rattle.iot_app.specs.Keeping.{DisksKeep, AreArmed}
 use Rattle.iot_app.specs.Played.{Played}
 use Rattle.iot_app.proofs.PlayedLaws.{opened_on, disks_keep, none_played, holds_as}
@@ -11,7 +12,7 @@ into_disks-requires g c = c.play_on-status.ensures.disks.has c.in-Ok.ensures.ope
 pub play_on-status-requires-clause-opened : goal.play_on-status-requires-clause-opened
 play_on-status-requires-clause-opened g c =
     let it = g.D.Disk.medium in
-    let counts = map it.counts c.args.disks.items in
+    let counts = map (counts_on it) c.args.disks.items in
     record {
       handed = counts;
       is = opened_on it c.args.disks.items c.new-opening.result c.new.new.out c.in-Ok.world c.new-opening.ensures c.in-Ok.ensures.opens;
@@ -20,7 +21,7 @@ play_on-status-requires-clause-opened g c =
 pub returns-in-Ok-clause-ends : goal.returns-in-Ok-clause-ends
 returns-in-Ok-clause-ends g c =
     let it = g.D.Disk.medium in
-    let counts = map it.counts c.args.disks.items in
+    let counts = map (counts_on it) c.args.disks.items in
     subst
     (λ (back : List g.row.D.Denot). Played counts c.play_on-status.result
     (Appends (g.K.Sink.written c.args.sink.now) (g.K.Sink.written c.play_on-status.new.sink))

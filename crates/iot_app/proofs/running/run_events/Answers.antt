@@ -1,6 +1,7 @@
 use Rattle.std.proofs.Common.{◌≡◌, List, map, sym, subst}
 use Rattle.std.specs.Prelude.{IfOk}
 use Rattle.std.proofs.lemmas.Result.{IfOk-weaker}
+use Rattle.iot_world.specs.Disks.{counts_on}
 use Rattle.iot_app.specs.Keeping.{DisksKeep}
 use Rattle.iot_app.specs.Played.{Reported}
 use Rattle.iot_app.specs.Running.{tells}
@@ -14,7 +15,7 @@ into_disks-requires g c = c.run_in-told.ensures.disks.has c.in-Ok.ensures.opens.
 pub run_in-told-requires-clause-opened : goal.run_in-told-requires-clause-opened
 run_in-told-requires-clause-opened g c =
     let it = g.D.Disk.medium in
-    let counts = map it.counts c.args.disks.items in
+    let counts = map (counts_on it) c.args.disks.items in
     record {
       handed = counts;
       is = opened_on it c.args.disks.items c.new-opening.result c.new.new.out c.in-Ok.world c.new-opening.ensures c.in-Ok.ensures.opens;
@@ -23,7 +24,7 @@ run_in-told-requires-clause-opened g c =
 pub returns-in-Ok-clause-told : goal.returns-in-Ok-clause-told
 returns-in-Ok-clause-told g c =
     let it = g.D.Disk.medium in
-    let counts = map it.counts c.args.disks.items in
+    let counts = map (counts_on it) c.args.disks.items in
     subst
     (λ (back : List g.row.D.Denot). IfOk c.run_in-told.result (λ text. Reported counts (λ told. text ≡ told)
     (DisksKeep it c.args.disks.items back) (tells c.args.job) c.args.events.now))
@@ -38,7 +39,7 @@ returns-in-Ok-clause-told g c =
 pub returns-in-Ok-clause-failed : goal.returns-in-Ok-clause-failed
 returns-in-Ok-clause-failed g c =
     let it = g.D.Disk.medium in
-    let counts = map it.counts c.args.disks.items in
+    let counts = map (counts_on it) c.args.disks.items in
     rw c.into_disks.ensures
     (failed_as c.run_in-told.result _ _
     (λ failed. failed counts

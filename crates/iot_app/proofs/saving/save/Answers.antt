@@ -1,6 +1,7 @@
 use Rattle.std.proofs.Common.{◌≡◌, ℕ, List, Vec, Global, map, ◌∙◌, slice_set}
 use Rattle.std.specs.Io.KnownBytes.{Appends}
 use Rattle.iot_words.specs.declared.jobs.Job.TheVariants.{Save}
+use Rattle.iot_world.specs.Disks.{counts_on}
 use Rattle.iot_app.specs.Keeping.{DisksKeep, DisksKeepUnread, AreArmed}
 use Rattle.iot_app.specs.Played.{Reported, DidFirst}
 use Rattle.iot_app.specs.Running.{tells}
@@ -12,7 +13,7 @@ use Rattle.iot_app.proofs.saving.save.Goals as goal
 pub returns-in-Ok-read_whole-clause-ends : goal.returns-in-Ok-read_whole-clause-ends
 returns-in-Ok-read_whole-clause-ends g c =
     let it = g.D.Disk.medium in
-    let counts = map it.counts c.args.disks.items in
+    let counts = map (counts_on it) c.args.disks.items in
     let old = c.run_events-told.result.1.items in
     let new = slice_set old 0 c.read_whole.new.disk in
     let told =
@@ -37,7 +38,7 @@ returns-in-Ok-read_whole-clause-ends g c =
 pub returns-in-Ok-clause-ends : goal.returns-in-Ok-clause-ends
 returns-in-Ok-clause-ends g c =
     let it = g.D.Disk.medium in
-    let counts = map it.counts c.args.disks.items in
+    let counts = map (counts_on it) c.args.disks.items in
     let old = c.run_events-told.result.1.items in
     let new = slice_set old 0 c.read_whole.new.disk in
     let told =
@@ -55,7 +56,7 @@ returns-in-Ok-clause-ends g c =
 pub returns-clause-ends : goal.returns-clause-ends
 returns-clause-ends g c =
     let it = g.D.Disk.medium in
-    let counts = map it.counts c.args.disks.items in
+    let counts = map (counts_on it) c.args.disks.items in
     record {
       did =
           if_err c.run_events-told.result.0
