@@ -47,18 +47,25 @@ pub struct Outcome<D> {
 /// - 2: the words name no job, or two. Nothing was read, and the usage line was written.
 /// - 3: a read failed. Nothing was written.
 /// - 4: a write failed, or took nothing. A front of what there was to say was written. If that is a transcript, the input
-///   was read to its end, and the event whose text was cut is the last that was done; another job has done all its events then.
+///   was read to its end, and the event whose text was cut is the last that was done, or none was done if the text of the opening was cut;
+///   another job has done all its events then.
 /// - 5: memory ran out. Nothing was written; or a transcript is wanted, the input was read to its end, and what its first events say was
 ///   written.
 /// - 6: the server's disk could not be read to be saved. All events were done, and nothing was written.
 ///
 /// A disk that fails ends no run: its node stops, which is a line of the transcript, and is down until it is restarted.
 ///
-/// After all events, or a cut transcript of those that were done, the first disk holds the commits, and the disk of each
-/// client what it keeps, whichever of its images a crash leaves; if a record is in doubt, without it or with it. The disks that no client
-/// has are as they were. The count of a disk's faults rises in each event in which its node stops, and in no other, and a disk is armed by
-/// the `stop` events of its node alone. If no event was done, with the statuses 1 to 5, all are as they were. Of the disks after some
-/// events and status 5 only their arms are known: those of the events that were done.
+/// # The disks
+///
+/// If the words name no job, or the input is refused or was not read to its end, the disks are as they were, whatever the status.
+///
+/// Else, with the statuses 0, 4 and 6, the first disk holds the commits, and the disk of each client what it keeps, whichever of its
+/// images a crash leaves; if a record is in doubt, without it or with it. That is so after all events; or, if a transcript was cut, after
+/// the event whose text was cut, or after the opening, if its text was. The disks that no client has are as they were. The count of a
+/// disk's faults rises in each event in which its node stops, in the opening if the server stops there, with status 6 once more, and at
+/// no other time. A disk is armed by the `stop` events of its node alone.
+///
+/// With status 5 the disks are as they were, or only their arms are known: those of the events that were done.
 pub fn run<S: Source, K: Sink, D: Disk>(
     alloc: Global,
     words: &[&str],
