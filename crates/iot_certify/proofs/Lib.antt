@@ -2,3 +2,4 @@ pub mod ReadsLaws
 pub mod WalkLaws
 pub mod AccessLaws
 mod SilentLaws
+mod MadeLaws

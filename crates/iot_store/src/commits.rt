@@ -1,5 +1,5 @@
 //! The commits in memory: the tree that they make, their labels, and the number of each.
-ghost use Rattle.std.specs.Prelude.{◌≡◌, ◌↔◌, IsTrue, OnOk, IfOk};
+ghost use Rattle.std.specs.Prelude.{◌≡◌, ◌↔◌, IsTrue, OnOk, IfOk, IfSome};
 ghost use Rattle.iot_acts.specs.Traces.{ReadsHold, FitsIfAny, after_update, ActsHold, after_acts};
 ghost use Rattle.iot_store.specs.Commits.{UpdatesIf, MakesIf, MakesAllIf};
 
@@ -71,12 +71,19 @@ impl Commits {
         self.numbers.get(&(client, tid)).copied()
     }
 
-    /// Adds a commit that can follow.
-    pub(crate) fn add(&mut self, alloc: Global, label: Label, acts: &[Act]) -> Result<(), NoMemory>
-        requires { CanFollow self.old label acts.now }
+    /// Adds a commit that can follow. The tree after its acts may be at hand.
+    pub(crate) fn add(
+        &mut self,
+        alloc: Global,
+        label: Label,
+        acts: &[Act],
+        made: Option<Tree>,
+    ) -> Result<(), NoMemory>
+        requires follows { CanFollow self.old label acts.now }
+        requires made { IfSome made (λ tree. tree ≡ after_acts self.old.tree acts.now) }
         ensures { OnOk result (self.new ≡ after_commit self.old label acts.now) }
     {
-        apply_all(alloc, &mut self.tree, acts)?;
+        pass(alloc, &mut self.tree, acts, made)?;
         self.list(label)
     }
 
@@ -115,6 +122,21 @@ impl Commits {
                 Err(AllocError)
             }
         }
+    }
+}
+
+/// Makes of the tree what it is after acts that hold: the tree at hand, if there is one.
+fn pass(alloc: Global, tree: &mut Tree, acts: &[Act], made: Option<Tree>) -> Result<(), NoMemory>
+    requires holds { ActsHold tree.old acts.now }
+    requires made { IfSome made (λ made. made ≡ after_acts tree.old acts.now) }
+    ensures { OnOk result (tree.new ≡ after_acts tree.old acts.now) }
+{
+    match made {
+        Some(made) => {
+            *tree = made;
+            Ok(())
+        }
+        None => apply_all(alloc, tree, acts),
     }
 }
 

@@ -1,5 +1,5 @@
 //! The store itself.
-ghost use Rattle.std.specs.Prelude.{◌≡◌, ◌≤◌, ◌+◌, ◌^◌, ◌++◌, [], ◌∷◌, length, IfOk, IfErr, OnOk, IsErrOf, MatchResult, true};
+ghost use Rattle.std.specs.Prelude.{◌≡◌, ◌≤◌, ◌+◌, ◌^◌, ◌++◌, [], ◌∷◌, length, IfOk, IfErr, IfSome, OnOk, IsErrOf, MatchResult, true};
 ghost use Rattle.iot_disk.specs.Bodies.{bodies_of};
 ghost use Rattle.iot_disk.specs.Disk.{armed_with, Only, SameImages};
 ghost use Rattle.iot_disk.specs.Faults.{CountsJournalFault};
@@ -8,6 +8,7 @@ ghost use Rattle.iot_journal.specs.Images.{EachDecodes, EachDecodesEither};
 ghost use Rattle.iot_journal.specs.Start.{ChangesNothing};
 ghost use Rattle.iot_codec.specs.Rules.{IsLabel, AreActs};
 ghost use Rattle.iot_codec.specs.Spelling.{label_spelling, acts_spelling};
+ghost use Rattle.iot_acts.specs.Traces.{after_acts};
 ghost use Rattle.iot_store.specs.States.{State, opening, CanFollow, after_commit};
 ghost use Rattle.iot_store.specs.Commits.{ReplaysIf};
 ghost use Rattle.iot_store.specs.Records.{record_spelling};
@@ -140,7 +141,7 @@ impl<D: Disk> Store<D> {
         ensures arms { D.medium.arms (disk_of self.new) ≡ D.medium.arms (disk_of self.old) }
     {
         spell(&mut self.buffer, &label, acts)?;
-        self.commit_buffer(alloc, label, acts)
+        self.commit_buffer(alloc, label, acts, None)
     }
 
     /// The same, if the spellings of the label and of the acts are at hand, one after the other: these are copied, and not made again.
@@ -185,21 +186,27 @@ impl<D: Disk> Store<D> {
             (D.medium.faults (disk_of self.old)) (D.medium.faults (disk_of self.new)) }
         ensures arms { D.medium.arms (disk_of self.new) ≡ D.medium.arms (disk_of self.old) }
     {
-        take_spelling(&mut self.buffer, spelling)?;
-        self.commit_buffer(alloc, label, acts)
+        self.commit_made(alloc, label, acts, spelling, None)
     }
 
-    /// Adds the commit whose record the buffer is.
-    fn commit_buffer(
+    /// The same, if the tree after the acts may be at hand, too: then that is taken, and no update is made again.
+    ///
+    /// # Errors
+    ///
+    /// As of `commit`.
+    pub fn commit_made(
         &mut self,
         alloc: Global,
         label: Label,
         acts: &Acts,
+        spelling: &[u8],
+        made: Option<Tree>,
     ) -> Result<u64, JournalFault>
         requires synced { IsSynced D.medium self.old }
         requires label { IsLabel label }
         requires acts { AreActs acts.now }
-        requires spelled { self.old.buffer ≡ record_spelling label acts.now }
+        requires spelled { spelling.now ≡ label_spelling label ++ acts_spelling acts.now }
+        requires made { IfSome made (λ tree. tree ≡ after_acts (state_of self.old).tree acts.now) }
         requires follows { CanFollow (state_of self.old) label acts.now }
 
         // However this returns, every image stands for the commits before or for those with the new one: its records are
@@ -226,7 +233,50 @@ impl<D: Disk> Store<D> {
             (D.medium.faults (disk_of self.old)) (D.medium.faults (disk_of self.new)) }
         ensures arms { D.medium.arms (disk_of self.new) ≡ D.medium.arms (disk_of self.old) }
     {
-        self.commits.add(alloc, label, acts.as_slice())?;
+        take_spelling(&mut self.buffer, spelling)?;
+        self.commit_buffer(alloc, label, acts, made)
+    }
+
+    /// Adds the commit whose record the buffer is. The tree after its acts may be at hand.
+    fn commit_buffer(
+        &mut self,
+        alloc: Global,
+        label: Label,
+        acts: &Acts,
+        made: Option<Tree>,
+    ) -> Result<u64, JournalFault>
+        requires synced { IsSynced D.medium self.old }
+        requires label { IsLabel label }
+        requires acts { AreActs acts.now }
+        requires spelled { self.old.buffer ≡ record_spelling label acts.now }
+        requires made { IfSome made (λ tree. tree ≡ after_acts (state_of self.old).tree acts.now) }
+        requires follows { CanFollow (state_of self.old) label acts.now }
+
+        // However this returns, every image stands for the commits before or for those with the new one: its records are
+        // those before, or those and the record of this commit.
+        ensures images { EachStandsEither (D.medium.may_leave (disk_of self.new))
+            (state_of self.old) (after_commit (state_of self.old) label acts.now) }
+        ensures one_record { EachDecodesEither (D.medium.may_leave (disk_of self.new))
+            (Encodes (bodies_on D.medium self.old))
+            (Encodes (bodies_on D.medium self.old ++ record_spelling label acts.now ∷ [])) }
+        ensures no_memory { IsErrOf result JournalFault.NoMemory
+            → EachStands (D.medium.may_leave (disk_of self.new)) (state_of self.old) }
+        ensures no_record { IsErrOf result JournalFault.NoMemory
+            → EachDecodes (D.medium.may_leave (disk_of self.new)) (Encodes (bodies_on D.medium self.old)) }
+        ensures committed { OnOk result (EachStands (D.medium.may_leave (disk_of self.new))
+            (after_commit (state_of self.old) label acts.now)) }
+
+        ensures state { OnOk result (state_of self.new ≡ after_commit (state_of self.old) label acts.now) }
+        ensures recorded { OnOk result (bodies_on D.medium self.new
+            ≡ bodies_on D.medium self.old ++ record_spelling label acts.now ∷ []) }
+        ensures synced { OnOk result (IsSynced D.medium self.new) }
+        ensures number { IfOk result (λ number. number ≡ length (state_of self.old).labels + 1) }
+
+        ensures faults { CountsJournalFault result
+            (D.medium.faults (disk_of self.old)) (D.medium.faults (disk_of self.new)) }
+        ensures arms { D.medium.arms (disk_of self.new) ≡ D.medium.arms (disk_of self.old) }
+    {
+        self.commits.add(alloc, label, acts.as_slice(), made)?;
         self.journal.append(self.buffer.as_bytes())?;
         Ok(self.number())
     }
