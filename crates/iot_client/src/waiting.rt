@@ -1,7 +1,9 @@
 //! The calls on the first transaction that waits.
-ghost use Rattle.std.specs.Prelude.{◌≡◌, ◌≤◌, Ok, IfOk, IfErr, OnOk, IsErrOf};
+ghost use Rattle.std.specs.Prelude.{◌≡◌, ◌≤◌, Ok, IfOk, IfErr, OnOk, IsErrOf, true};
+ghost use Rattle.iot_acts.specs.Traces.{after_acts};
 ghost use Rattle.iot_changes.specs.Rules.{IsResolution};
 ghost use Rattle.iot_codec.specs.Rules.{IsTreeOfRows};
+ghost use Rattle.iot_held.specs.Fitting.{UpdatesFit};
 ghost use Rattle.iot_kept.specs.Changes.{HeadIs, IsSubmitted};
 ghost use Rattle.iot_kept.specs.States.{view};
 ghost use Rattle.iot_client.specs.Calls.{empty_queue, not_manual, RefusesFor, Refuses, RefusesReply, Notes, CutsOff, CutsOffByVerdict};
@@ -22,7 +24,7 @@ use iot_lang::Script;
 use iot_queue::Resolution;
 use iot_resolve::{plan_of, resolve};
 use iot_text::{Name, NoMemory};
-use iot_tree::{Duplicate, Tree};
+use iot_tree::{Acts, Duplicate, Tree};
 use std::alloc::Global;
 use std::rc::Rc;
 
@@ -204,12 +206,24 @@ impl<D: Disk> Client<D> {
         let Some(plan) = plan_of(head) else {
             unreachable!();
         };
-        let mut local = Held::new(alloc)?;
-        local.merge(self.kept.held().copy(alloc)?);
-        local.pass(alloc, &head.acts)?;
+        let local = local_tree(alloc, self.kept.held(), plan.keeps, &head.acts)?;
         let _block = script.block();
         resolve(alloc, &plan, script, local.tree(), server)
     }
+}
+
+/// The held tree after the acts, if a run keeps files of it. Any other run does not look at it, and then it is the held one as it is.
+fn local_tree(alloc: Global, held: &Tree, keeps: bool, acts: &Acts) -> Result<Held, NoMemory>
+    requires { UpdatesFit held.now acts.now }
+    ensures { IfOk result (λ local. keeps ≡ true → local ≡ after_acts held.now acts.now) }
+{
+    let mut local = Held::new(alloc)?;
+    local.merge(held.copy(alloc)?);
+    if !keeps {
+        return Ok(local);
+    }
+    local.pass_in_place(alloc, acts)?;
+    Ok(local)
 }
 
 /// The change by what is said of the first transaction that waits.
