@@ -144,52 +144,8 @@ impl<D: Disk> Store<D> {
         self.commit_buffer(alloc, label, acts, None)
     }
 
-    /// The same, if the spellings of the label and of the acts are at hand, one after the other: these are copied, and not made again.
-    ///
-    /// # Errors
-    ///
-    /// As of `commit`.
-    pub fn commit_spelled(
-        &mut self,
-        alloc: Global,
-        label: Label,
-        acts: &Acts,
-        spelling: &[u8],
-    ) -> Result<u64, JournalFault>
-        requires synced { IsSynced D.medium self.old }
-        requires label { IsLabel label }
-        requires acts { AreActs acts.now }
-        requires spelled { spelling.now ≡ label_spelling label ++ acts_spelling acts.now }
-        requires follows { CanFollow (state_of self.old) label acts.now }
-
-        // However this returns, every image stands for the commits before or for those with the new one: its records are
-        // those before, or those and the record of this commit.
-        ensures images { EachStandsEither (D.medium.may_leave (disk_of self.new))
-            (state_of self.old) (after_commit (state_of self.old) label acts.now) }
-        ensures one_record { EachDecodesEither (D.medium.may_leave (disk_of self.new))
-            (Encodes (bodies_on D.medium self.old))
-            (Encodes (bodies_on D.medium self.old ++ record_spelling label acts.now ∷ [])) }
-        ensures no_memory { IsErrOf result JournalFault.NoMemory
-            → EachStands (D.medium.may_leave (disk_of self.new)) (state_of self.old) }
-        ensures no_record { IsErrOf result JournalFault.NoMemory
-            → EachDecodes (D.medium.may_leave (disk_of self.new)) (Encodes (bodies_on D.medium self.old)) }
-        ensures committed { OnOk result (EachStands (D.medium.may_leave (disk_of self.new))
-            (after_commit (state_of self.old) label acts.now)) }
-
-        ensures state { OnOk result (state_of self.new ≡ after_commit (state_of self.old) label acts.now) }
-        ensures recorded { OnOk result (bodies_on D.medium self.new
-            ≡ bodies_on D.medium self.old ++ record_spelling label acts.now ∷ []) }
-        ensures synced { OnOk result (IsSynced D.medium self.new) }
-        ensures number { IfOk result (λ number. number ≡ length (state_of self.old).labels + 1) }
-
-        ensures faults { CountsJournalFault result
-            (D.medium.faults (disk_of self.old)) (D.medium.faults (disk_of self.new)) }
-        ensures arms { D.medium.arms (disk_of self.new) ≡ D.medium.arms (disk_of self.old) }
-    {
-        self.commit_made(alloc, label, acts, spelling, None)
-    }
-
-    /// The same, if the tree after the acts may be at hand, too: then that is taken, and no update is made again.
+    /// The same, if the spellings of the label and of the acts are at hand, one after the other: these are copied, and not made again. If
+    /// the tree after the acts is at hand too, it is taken, and no update is made again.
     ///
     /// # Errors
     ///
