@@ -1,2 +1,3 @@
 pub mod StepsLaws
+pub mod StepsToLaws
 pub mod PostsLaws

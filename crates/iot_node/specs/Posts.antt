@@ -49,6 +49,12 @@ disk_of disk (Up keeper) = Some (disk keeper)
 disk_of disk (Down fallen) = Some fallen.disk
 disk_of disk Between = None
 
+-- what it has besides, if it is alive
+abbrev pub live_of : {K D L : Type 0} → (K → L) → Post K D → Option L
+live_of live (Up keeper) = Some (live keeper)
+live_of live (Down fallen) = None
+live_of live Between = None
+
 -- never started, on a disk with one image
 abbrev pub Ready : {K D : Type 0} → Medium D → Post K D → Type 0
 Ready medium (Up keeper) = ⊥

@@ -14,10 +14,20 @@ pub trait Keeper<D: Disk> {
     /// For which state, with how many records, a keeper at this place among its kind stands, and the bytes of a disk; and its disk.
     ghost keeping: { ℕ → Keeping Self Kept D };
 
+    /// What a keeper has besides, of which its disk knows nothing.
+    ghost Live: { Type 0 };
+
+    /// That of this keeper.
+    ghost live: { Self → Live };
+
+    /// That of one that was just started.
+    ghost fresh: { Live };
+
     /// Starts from its disk, at this place among its kind. The disk comes back if this gives no keeper.
     fn start(alloc: Global, disk: D, place: u64) -> Result<Self, (D, StartFault)>
         requires { Only (D.medium.reads disk) (D.medium.may_leave disk) }
         ensures comes { IfOk result (Comes (keeping place) D.medium disk) }
+        ensures live { IfOk result (λ made. live made ≡ fresh) }
         ensures fails { IfErr result (λ refused. Fails (keeping place) D.medium disk refused.0 refused.1) };
 
     /// How many records there are.
@@ -27,7 +37,8 @@ pub trait Keeper<D: Disk> {
     /// Makes a later device call of the disk fail.
     fn arm(&mut self, calls: u64, pick: Pick)
         ensures stands { (place n : ℕ) (s : Kept) → (keeping place).stands self.old n s → (keeping place).stands self.new n s }
-        ensures counts { (place : ℕ) → Armed D.medium calls pick ((keeping place).disk self.old) ((keeping place).disk self.new) };
+        ensures counts { (place : ℕ) → Armed D.medium calls pick ((keeping place).disk self.old) ((keeping place).disk self.new) }
+        ensures live { live self.new ≡ live self.old };
 
     /// Gives the disk back.
     fn into_disk(self) -> D

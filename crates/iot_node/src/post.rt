@@ -1,15 +1,18 @@
 //! A node over any keeper: alive, or down with its disk. Here alone a disk that fails becomes a stop.
-ghost use Rattle.std.specs.Prelude.{◌≡◌, ◌++◌, ℕ, List, Bool, true, false, Option, Some, None, IfOk, IfErr, OnOk, IsSome};
+ghost use Rattle.std.specs.Prelude.{◌≡◌, ◌++◌, ℕ, List, Bool, true, false, if◌then◌else◌, Option, Some, None, Ok, Err, IfOk, IfErr, OnOk};
+ghost use Rattle.std.specs.Prelude.{IsErrOf, IsSome};
 ghost use Rattle.iot_disk.specs.Disk.{Only};
 ghost use Rattle.iot_machine.specs.Nodes.{Node};
 ghost use Rattle.iot_machine.specs.Refining.{Refines};
 ghost use Rattle.iot_machine.specs.Stops.{OpensNode, Appends, ComesBack, Crashes, ArmsDisk};
 ghost use Rattle.iot_machine.specs.Texts.{line, stopped_line, stop_line, pick_text};
+ghost use Rattle.iot_disk.specs.declared.faults.JournalFault.TheVariants as append;
 ghost use Rattle.iot_disk.specs.declared.faults.StartFault.TheVariants.{Stopped};
 ghost use Rattle.iot_node.specs.Disks.{KeepsDisk};
 ghost use Rattle.iot_node.specs.Keeping.{Keeping, EachIs, Appended, Doubts, TakesBytes};
-ghost use Rattle.iot_node.specs.Posts.{PostStands, is_on, is_fallen, disk_of, Ready, Answered, UpStands, StepsFrom, back_said, Lasts};
-ghost use Rattle.iot_node.specs.Posts.{CameIf, IsStanding};
+ghost use Rattle.iot_node.specs.Posts.{PostStands, is_on, is_fallen, disk_of, live_of, Ready, Answered, UpStands, StepsFrom, back_said};
+ghost use Rattle.iot_node.specs.Posts.{Lasts, CameIf, IsStanding};
+ghost use Rattle.iot_node.specs.declared.halt.Halt.TheVariants.{Over};
 ghost use Rattle.iot_text.specs.Texts.{Extends};
 
 use crate::halt::Halt;
@@ -72,6 +75,8 @@ impl<K: Keeper<D> + Drop, D: Disk + Drop> Post<K, D> {
         requires stands { IsStanding (K.keeping place) D.medium self.old }
         ensures step { IfOk result (λ on. (says : K.Kept → K.Kept → List ℕ)
             → Refines (PostStands (K.keeping place) D.medium says) (OpensNode name.now) self.old self.new out.old out.new on) }
+        ensures on { IfOk result (λ on. is_on self.new ≡ on) }
+        ensures live { IfOk result (λ on. live_of K.live self.new ≡ if on then Some K.fresh else None) }
         ensures disk { KeepsDisk D.medium (disk_of (K.keeping place).disk self.old) (disk_of (K.keeping place).disk self.new) }
         ensures lasts { (says : K.Kept → K.Kept → List ℕ) (node : Node K.Kept)
             → PostStands (K.keeping place) D.medium says self.old node → Lasts (K.keeping place) D.medium self.new node }
@@ -110,6 +115,10 @@ impl<K: Keeper<D> + Drop, D: Disk + Drop> Post<K, D> {
             → Doubts (K.keeping place) says change old doubt
             → Answered (StepsFrom (PostStands (K.keeping place) D.medium says) (Appends name.now change) node self.new out.old out.new)
             answer result }
+        ensures answers { IfOk result (λ done. answer ≡ Ok done) }
+        ensures same { OnOk result (self.new ≡ self.old) }
+        ensures stopped { IsErrOf result Over → answer ≡ Err append.Stopped }
+        ensures off { IsErrOf result Over → is_on self.new ≡ false }
         ensures disk { (place : ℕ) → disk_of (K.keeping place).disk self.new ≡ disk_of (K.keeping place).disk self.old }
     {
         match answer {
@@ -130,6 +139,7 @@ impl<K: Keeper<D> + Drop, D: Disk + Drop> Post<K, D> {
         requires { is_on self.old ≡ true }
         ensures down { (place : ℕ) (keeper : K) → self.old ≡ Up keeper
             → self.new ≡ Down (record { disk = (K.keeping place).disk keeper; doubt = doubt }) }
+        ensures off { is_on self.new ≡ false }
         ensures disk { (place : ℕ) → disk_of (K.keeping place).disk self.new ≡ disk_of (K.keeping place).disk self.old }
         ensures images { (place n : ℕ) (keeper : K) (s : K.Kept) → self.old ≡ Up keeper → (K.keeping place).stands keeper n s
             → EachIs (D.medium.may_leave ((K.keeping place).disk keeper)) (λ bytes. (K.keeping place).image bytes n s) }
@@ -149,6 +159,7 @@ impl<K: Keeper<D> + Drop, D: Disk + Drop> Post<K, D> {
     pub fn crash(&mut self, name: &[u8], out: &mut Text) -> Result<(), NoMemory>
         ensures step { OnOk result ((place : ℕ) (says : K.Kept → K.Kept → List ℕ)
             → Refines (PostStands (K.keeping place) D.medium says) (Crashes name.now) self.old self.new out.old out.new tt) }
+        ensures down { OnOk result (is_on self.new ≡ false) }
         ensures disk { (place : ℕ) → disk_of (K.keeping place).disk self.new ≡ disk_of (K.keeping place).disk self.old }
     {
         if !self.is_up() {
@@ -178,6 +189,8 @@ impl<K: Keeper<D> + Drop, D: Disk + Drop> Post<K, D> {
         ensures came { IfOk result (λ on. (says : K.Kept → K.Kept → List ℕ) (node : Node K.Kept)
             → PostStands (K.keeping place) D.medium says self.old node
             → CameIf (K.keeping place) D.medium on self.old name.now out.old out.new node) }
+        ensures on { IfOk result (λ on. is_on self.new ≡ on) }
+        ensures live { IfOk result (λ on. live_of K.live self.new ≡ if on then Some K.fresh else None) }
         ensures disk { KeepsDisk D.medium (disk_of (K.keeping place).disk self.old) (disk_of (K.keeping place).disk self.new) }
         ensures lasts { (says : K.Kept → K.Kept → List ℕ) (node : Node K.Kept)
             → PostStands (K.keeping place) D.medium says self.old node → Lasts (K.keeping place) D.medium self.new node }
@@ -214,6 +227,7 @@ impl<K: Keeper<D> + Drop, D: Disk + Drop> Post<K, D> {
         ensures step { OnOk result ((place : ℕ) (says : K.Kept → K.Kept → List ℕ)
             → Refines (PostStands (K.keeping place) D.medium says) (ArmsDisk name.now calls pick)
             self.old self.new out.old out.new tt) }
+        ensures live { live_of K.live self.new ≡ live_of K.live self.old }
         ensures same { IfErr result (λ _. self.new ≡ self.old) }
         ensures text { Extends out.old out.new }
     {
