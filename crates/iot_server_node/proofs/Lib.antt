@@ -1,0 +1,5 @@
+mod RecordsLaws
+mod KeepersLaws
+pub mod ServersLaws
+mod LendingLaws
+mod JudgesLaws

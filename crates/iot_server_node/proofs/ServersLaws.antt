@@ -1,0 +1,506 @@
+-- What a server does is what is said of it.
+use Rattle.std.proofs.Common.{◌≡◌, ◌<◌, ℕ, suc, zero, ◌+◌, ◌%◌, ◌^◌, Bool, true, false, if◌then◌else◌, List, [], ◌∷◌, ◌++◌, length, drop}
+use Rattle.std.proofs.Common.{Option, Some, None, IsSome, Err, codes, refl, sym, ap, subst, ◌∙◌, arith, inl, inr, slice_index_or}
+use Rattle.std.proofs.lemmas.List.{length-append}
+use Rattle.std.proofs.lemmas.Option.{same_Some}
+use Rattle.std.proofs.Math.Nat.{mod-add-mod}
+use Rattle.std.specs.Prelude.{Result, IfOk, IfErr, Vec}
+use Rattle.std.specs.declared.alloc.Global.{Global}
+use Rattle.iot_disk.specs.Disk.{Medium}
+use Rattle.iot_disk.specs.declared.disk.Pick.{Pick}
+use Rattle.iot_disk.specs.declared.faults.JournalFault.{JournalFault}
+use Rattle.iot_journal.specs.Decoding.{Encodes, decoded}
+use Rattle.iot_store.specs.Records.{record_spelling}
+use Rattle.iot_store.specs.States.{State, after_commit}
+use Rattle.iot_server.specs.Servers as servers
+use Rattle.iot_server.specs.Traffic.{no_traffic}
+use Rattle.iot_server.specs.declared.server.Server.{Server}
+use Rattle.iot_server.specs.declared.traffic.Traffic.{Traffic}
+use Rattle.iot_tree.specs.Tree.{Nodes}
+use Rattle.iot_tree.specs.declared.acts.Act.{Act}
+use Rattle.iot_tree.specs.declared.labels.Label.{Label}
+use Rattle.iot_machine.specs.Calls.{Call, Does, Says, either}
+use Rattle.iot_machine.specs.Machine.{Commit, add_commit, tree_after}
+use Rattle.iot_machine.specs.Nodes.{Node, fallen, changed, back, unopened}
+use Rattle.iot_machine.specs.Refining.{Refines}
+use Rattle.iot_machine.specs.Serving.{server_name, added_text, commit_text, kept_text}
+use Rattle.iot_machine.specs.Stops.{OpensNode, Appends, ComesBack, Settles, Crashes, Restarts, ArmsDisk, Shows}
+use Rattle.iot_machine.specs.Texts.{line, tree_text, transaction_name}
+use Rattle.iot_node.specs.Disks.{IsEmpty, KeepsDisk, counts_on}
+use Rattle.iot_node.specs.Keeping.{Doubts}
+use Rattle.iot_node.specs.Posts as posts
+use Rattle.iot_node.specs.Posts.{is_on, is_fallen, live_of, PostStands, HoldsBy, Answered, StepsFrom, IsStanding, Lasts, CameIf}
+use Rattle.iot_node.specs.Steps.{StepsTo}
+use Rattle.iot_node.specs.declared.halt.Halt.{Halt}
+use Rattle.iot_node.specs.declared.halt.Halt.TheVariants.{Over}
+use Rattle.iot_node.specs.declared.post.Doubt.{Doubt}
+use Rattle.iot_node.specs.declared.post.Post.{Post}
+use Rattle.iot_node.specs.declared.post.Post.TheVariants.{Up, Down, Between}
+use Rattle.iot_server_node.specs.Keepers.{lists, traffic_in, Handles, Refuses}
+use Rattle.iot_server_node.specs.Servers.{is_up, count_in, count_of, lent_in, IsKnown, AreKnown, AreKnownIfAny, NodeIsKnown}
+use Rattle.iot_server_node.specs.Servers.{HasAnsweredIn, ServerStands}
+use Rattle.iot_server_node.specs.Servers.{HavingAnswered, ServerIsSound, IsUnopened, answered_since, AreOf, live, IsLive, Handled, Refused}
+use Rattle.iot_server_node.specs.declared.keeper.ServerKeeper.{ServerKeeper}
+use Rattle.iot_server_node.specs.declared.server.ServerNode.{ServerNode}
+use Rattle.iot_server_node.proofs.KeepersLaws.{keeps_images, if_ok, if_err}
+use Rattle.iot_server_node.proofs.RecordsLaws.{all_more, few_commits, record_is, state_is}
+use Rattle.iot_node.proofs.PostsLaws.{holds_each}
+use Rattle.iot_node.proofs.StepsToLaws.{bind, asks, says, says_this, nothing}
+
+-- no bytes are a journal without a body
+nothing_decoded : decoded [] ≡ Encodes []
+unfolding decoded
+nothing_decoded = refl
+
+-- ---- what is known of the commits
+
+module _ (names : List (List ℕ)) where
+  known_so : (node after : Node (List Commit)) → after.durable ≡ node.durable → after.doubt ≡ node.doubt → NodeIsKnown names node
+      → NodeIsKnown names after
+  known_so node after durable doubt known = record {
+    durable = subst (AreKnown names) (sym durable) known.durable;
+    doubt = subst (AreKnownIfAny names) (sym doubt) known.doubt;
+  }
+
+  pub known_opens : (node after : Node (List Commit)) (text : List ℕ) (on : Bool) → OpensNode server_name node text on after
+      → NodeIsKnown names node → NodeIsKnown names after
+  known_opens node after text on (inl is) known =
+      known_so node after (ap (λ (n : Node (List Commit)). n.durable) is.2) (ap (λ (n : Node (List Commit)). n.doubt) is.2) known
+  known_opens node after text on (inr is) known =
+      known_so node after (ap (λ (n : Node (List Commit)). n.durable) is.2.is) (ap (λ (n : Node (List Commit)). n.doubt) is.2.is) known
+
+  known_back : (s : List Commit) (node after : Node (List Commit)) → after ≡ back s node → AreKnown names s → NodeIsKnown names after
+  known_back s node after is known = record {
+    durable = subst (AreKnown names) (sym (ap (λ (n : Node (List Commit)). n.durable) is)) known;
+    doubt = subst (AreKnownIfAny names) (sym (ap (λ (n : Node (List Commit)). n.doubt) is)) tt;
+  }
+
+  known_settled : (doubt : Option (List Commit)) (node after : Node (List Commit)) (text : List ℕ)
+      → Settles server_name (kept_text names) doubt node text after → AreKnown names node.durable → AreKnownIfAny names doubt
+      → NodeIsKnown names after
+  known_settled None node after text is durable doubt = known_back node.durable node after is.1 durable
+  known_settled (Some s) node after text (inl is) durable doubt = known_back s node after is.1 doubt
+  known_settled (Some s) node after text (inr is) durable doubt = known_back node.durable node after is.1 durable
+
+  pub known_comes_back : (node after : Node (List Commit)) (text : List ℕ) (on : Bool)
+      → ComesBack server_name (kept_text names) node text on after → NodeIsKnown names node → NodeIsKnown names after
+  known_comes_back node after text on (inl is) known = known_settled node.doubt node after text is.1 known.durable known.doubt
+  known_comes_back node after text on (inr is) known =
+      known_so node after (ap (λ (n : Node (List Commit)). n.durable) is.2.is) (ap (λ (n : Node (List Commit)). n.doubt) is.2.is) known
+
+  pub known_armed : (calls : ℕ) (pick : Pick) (node after : Node (List Commit)) (text : List ℕ) (answer : Unit {0})
+      → ArmsDisk server_name calls pick node text answer after → NodeIsKnown names node → NodeIsKnown names after
+  known_armed calls pick node after text answer is known =
+      known_so node after (ap (λ (n : Node (List Commit)). n.durable) is.1) (ap (λ (n : Node (List Commit)). n.doubt) is.1) known
+
+  known_fallen : (on : Bool) (node after : Node (List Commit)) (text : List ℕ) (answer : Unit {0})
+      → either (Does (λ _. line (codes "crash " ++ server_name)) fallen) (Says (λ _. line (codes "down"))) on node text answer after
+      → NodeIsKnown names node → NodeIsKnown names after
+  known_fallen true node after text answer is known =
+      known_so node after (ap (λ (n : Node (List Commit)). n.durable) is.1) (ap (λ (n : Node (List Commit)). n.doubt) is.1) known
+  known_fallen false node after text answer is known = subst (NodeIsKnown names) (sym is.1) known
+
+  pub known_crash : (node after : Node (List Commit)) (text : List ℕ) (answer : Unit {0}) → Crashes server_name node text answer after
+      → NodeIsKnown names node → NodeIsKnown names after
+  known_crash node after text answer it known =
+      known_fallen it.answer it.mid after it.rest answer it.second (subst (NodeIsKnown names) (sym it.first.2) known)
+
+-- one client more has a name
+module _ (names : List (List ℕ)) (name : List ℕ) where
+  front_at : (names : List (List ℕ)) (c : ℕ) → c < length names → slice_index_or (names ++ name ∷ []) c [] ≡ slice_index_or names c []
+  front_at [] c within = absurd (omega (arith, within))
+  front_at (first ∷ names) zero within = refl
+  front_at (first ∷ names) (suc c) within = front_at names c (omega (arith, within))
+
+  known_more : (commits : List Commit) → AreKnown names commits → AreKnown (names ++ name ∷ []) commits
+  known_more [] known = tt
+  known_more (commit ∷ commits) known = (
+    record {
+      spelled = known.0.spelled;
+      client =
+          let few = known.0.client in
+          let more = length-append names (name ∷ []) in
+          omega (arith, few, more);
+    },
+    known_more commits known.1,
+  )
+
+  known_more_if_any : (commits : Option (List Commit)) → AreKnownIfAny names commits → AreKnownIfAny (names ++ name ∷ []) commits
+  known_more_if_any None known = tt
+  known_more_if_any (Some commits) known = known_more commits known
+
+  -- what a list says that has one commit more is the same
+  same_added : (before added : List Commit) → AreKnown names added
+      → added_text (names ++ name ∷ []) before added ≡ added_text names before added
+  same_added before [] known = refl
+  same_added before (commit ∷ later) known =
+      ap (λ (client : List ℕ). commit_text (transaction_name client commit.entry.number) commit before)
+      (front_at names commit.entry.client known.0.client)
+
+  known_dropped : (count : ℕ) (commits : List Commit) → AreKnown names commits → AreKnown names (drop count commits)
+  known_dropped zero commits known = known
+  known_dropped (suc count) [] known = tt
+  known_dropped (suc count) (commit ∷ commits) known = known_dropped count commits known.1
+
+  pub same_kept : (before after : List Commit) → AreKnown names after
+      → kept_text (names ++ name ∷ []) before after ≡ kept_text names before after
+  same_kept before after known = same_added before (drop (length before) after) (known_dropped (length before) after known)
+
+-- ---- its post
+
+module _ {D : Type 0} where
+  pub answered_off : (post : Post (ServerKeeper D) D) (n : ℕ) → is_on post ≡ false → HasAnsweredIn n post
+  answered_off (Up keeper) n off = absurd cc
+  answered_off (Down fallen) n off = tt
+  answered_off Between n off = tt
+
+  -- one that was just started has answered none
+  pub answered_fresh : (post : Post (ServerKeeper D) D) (on : Bool) → live_of traffic_in post ≡ if on then Some no_traffic else None
+      → HasAnsweredIn 0 post
+  answered_fresh (Up keeper) true is =
+      ap (λ (traffic : Traffic). traffic.requests) (same_Some (traffic_in keeper) no_traffic is)
+  answered_fresh (Up keeper) false is = absurd cc
+  answered_fresh (Down fallen) on is = tt
+  answered_fresh Between on is = tt
+
+  pub answered_same : (old new : Post (ServerKeeper D) D) (n : ℕ) → live_of traffic_in new ≡ live_of traffic_in old → HasAnsweredIn n old
+      → HasAnsweredIn n new
+  answered_same (Up was) (Up now) n same had =
+      ap (λ (traffic : Traffic). traffic.requests) (same_Some (traffic_in now) (traffic_in was) same) ∙ had
+  answered_same (Down fallen) (Up now) n same had = absurd cc
+  answered_same Between (Up now) n same had = absurd cc
+  answered_same old (Down fallen) n same had = tt
+  answered_same old Between n same had = tt
+
+  -- as it has a disk, it has the same after a call that leaves it
+  pub keeps_same : (medium : Medium D) (old new : Option D) → IsSome old → new ≡ old → KeepsDisk medium old new
+  keeps_same medium None new some same = absurd cc
+  keeps_same medium (Some disk) new some same =
+      record { was = disk; now = disk; old_has = refl; new_has = same; arms = refl; faults = inl refl }
+
+module _ {D : Type 0} (medium : Medium D) (names : List (List ℕ)) where
+  abbrev Stands : ℕ → ServerNode D → Node (List Commit) → Type 0
+  Stands n = HavingAnswered medium names n
+
+  abbrev Posted : Post (ServerKeeper D) D → Node (List Commit) → Type 0
+  Posted = PostStands (lists medium) medium (kept_text names)
+
+  alive_is : (post : Post (ServerKeeper D) D) (node : Node (List Commit)) → Posted post node → node.alive ≡ is_on post
+  alive_is (Up keeper) node here = here.alive
+  alive_is (Down fallen) node here = here.alive
+  alive_is Between node here = absurd here
+
+  pub has_disk : (post : Post (ServerKeeper D) D) (node : Node (List Commit)) → Posted post node
+      → IsSome (posts.disk_of (lists medium).disk post)
+  has_disk (Up keeper) node here = refl
+  has_disk (Down fallen) node here = refl
+  has_disk Between node here = absurd here
+
+  pub off_is_fallen : (post : Post (ServerKeeper D) D) (node : Node (List Commit)) → Posted post node → is_on post ≡ false
+      → is_fallen post ≡ true
+  off_is_fallen (Up keeper) node here off = absurd cc
+  off_is_fallen (Down fallen) node here off = refl
+  off_is_fallen Between node here off = absurd here
+
+  -- what its post does, it does
+  pub with_known : {A : Type 0} (call : Call (Node (List Commit)) A) (old new : ServerNode D) (n k : ℕ) (x y : List ℕ) (a : A)
+      → Refines Posted call old.post new.post x y a
+      → ((node after : Node (List Commit)) (text : List ℕ) → call node text a after → NodeIsKnown names node → NodeIsKnown names after)
+      → (HasAnsweredIn n old.post → HasAnsweredIn k new.post) → StepsTo (Stands n) (Stands k) call old new x y a
+  with_known call old new n k x y a one keeps counts = record {
+    step = λ node here.
+        let s = one.step node here.post in
+        (s.0, s.1, s.2, s.3, record { post = s.4; known = keeps node s.1 s.0 s.3 here.known; answered = counts here.answered });
+  }
+
+  -- ---- never started
+
+  pub unopened_stands : (disk : D) (n : ℕ) → IsEmpty medium disk
+      → ServerStands medium names (record { post = Down (record { disk = disk; doubt = None }) }) (unopened [] (counts_on medium disk)) n
+  unopened_stands disk n empty = record {
+    post = record {
+      alive = refl;
+      counts = refl;
+      count = 0;
+      holds = record {
+        sure = refl;
+        each = record {
+          each = λ bytes there. record {
+            has_records = ap decoded (empty.synced.is bytes there ∙ empty.empty) ∙ nothing_decoded;
+            leads = refl;
+            counted = refl;
+          };
+        };
+      };
+    };
+    known = record { durable = tt; doubt = tt };
+    answered = tt;
+  }
+
+  -- ---- a restart
+
+  pub restart_up : (server : ServerNode D) (n : ℕ) (x y : List ℕ) → is_up server ≡ true → y ≡ x ++ line (codes "up")
+      → StepsTo (Stands n) (Stands (answered_since (is_up server) n)) (Restarts server_name (kept_text names)) server server x y tt
+  restart_up server n x y up wrote =
+      subst (λ (on : Bool). StepsTo (Stands n) (Stands (answered_since on n)) (Restarts server_name (kept_text names)) server server x y tt)
+      (sym up)
+      (bind server server server x x y true tt
+      (asks server x true (λ node here. sym (alive_is server.post node here.post ∙ up)))
+      (says_this _ server x y wrote))
+
+  pub restart_down : (old new : ServerNode D) (n : ℕ) (x y : List ℕ) (on : Bool) → is_up old ≡ false
+      → Refines Posted (ComesBack server_name (kept_text names)) old.post new.post x y on
+      → live_of traffic_in new.post ≡ if on then Some no_traffic else None
+      → StepsTo (Stands n) (Stands (answered_since (is_up old) n)) (Restarts server_name (kept_text names)) old new x y tt
+  restart_down old new n x y on down one fresh =
+      subst (λ (on : Bool). StepsTo (Stands n) (Stands (answered_since on n)) (Restarts server_name (kept_text names)) old new x y tt)
+      (sym down)
+      (bind old old new x x y false tt
+      (asks old x false (λ node here. sym (alive_is old.post node here.post ∙ down)))
+      (bind old new new x y y on tt
+      (with_known (ComesBack server_name (kept_text names)) old new n 0 x y on one
+      (λ node after text. known_comes_back names node after text on) (λ had. answered_fresh new.post on fresh))
+      (nothing new y)))
+
+  pub came_up : (post : Post (ServerKeeper D) D) (node : Node (List Commit)) (x y : List ℕ) → is_on post ≡ true
+      → CameIf (lists medium) medium (is_on post) post server_name x y node
+  came_up (Up keeper) node x y on = tt
+  came_up (Down fallen) node x y on = absurd cc
+  came_up Between node x y on = absurd cc
+
+  lasts_in : (post : Post (ServerKeeper D) D) (node : Node (List Commit)) → Posted post node → Lasts (lists medium) medium post node
+  lasts_in (Up keeper) node here = record {
+    disk = servers.disk_of keeper.server;
+    has = refl;
+    count = here.count;
+    each = record { each = λ bytes there. inl ((keeps_images medium keeper.server here.count node.durable here.stands).each bytes there) };
+  }
+  lasts_in (Down fallen) node here = record {
+    disk = fallen.disk;
+    has = refl;
+    count = here.count;
+    each = record { each = holds_each (lists medium) medium (kept_text names) fallen node here };
+  }
+  lasts_in Between node here = absurd here
+
+  -- what its disk holds
+  pub lasts : (server : ServerNode D) (node : Node (List Commit)) (n : ℕ) → ServerStands medium names server node n
+      → Lasts (lists medium) medium server.post node
+  lasts server node n here = lasts_in server.post node here.post
+
+  -- it is alive if the node is
+  pub up_is : (server : ServerNode D) (node : Node (List Commit)) (n : ℕ) → ServerStands medium names server node n
+      → node.alive ≡ is_up server
+  up_is server node n here = alive_is server.post node here.post
+
+  -- ---- what it shows
+
+  tree_in : (post : Post (ServerKeeper D) D) (node : Node (List Commit)) → Posted post node → (it : Server D) → lent_in post ≡ Some it
+      → (node.alive ≡ true) × ((servers.state_of it).tree ≡ tree_after node.durable)
+  tree_in (Up keeper) node here it has = (
+    here.alive,
+    ap (λ (it : Server D). (servers.state_of it).tree) (sym (same_Some keeper.server it has))
+        ∙ ap (λ (s : State). s.tree) here.stands.has_state,
+  )
+  tree_in (Down fallen) node here it has = absurd cc
+  tree_in Between node here it has = absurd cc
+
+  down_in : (post : Post (ServerKeeper D) D) (node : Node (List Commit)) → Posted post node → lent_in post ≡ None → node.alive ≡ false
+  down_in (Up keeper) node here none = absurd cc
+  down_in (Down fallen) node here none = here.alive
+  down_in Between node here none = absurd here
+
+  pub shows_tree : (server : ServerNode D) (n : ℕ) (it : Server D) (x y : List ℕ) → lent_in server.post ≡ Some it
+      → y ≡ x ++ tree_text (servers.state_of it).tree
+      → StepsTo (Stands n) (Stands n) (Shows (λ commits. tree_text (tree_after commits))) server server x y tt
+  shows_tree server n it x y has wrote =
+      bind server server server x x y true tt (asks server x true (λ node here. sym (tree_in server.post node here.post it has).0))
+      (says server x y (λ node here. wrote ∙ ap (λ (t : Nodes). x ++ tree_text t) (tree_in server.post node here.post it has).1))
+
+  pub shows_down : (server : ServerNode D) (n : ℕ) (x y : List ℕ) → lent_in server.post ≡ None → y ≡ x ++ line (codes "down")
+      → StepsTo (Stands n) (Stands n) (Shows (λ commits. tree_text (tree_after commits))) server server x y tt
+  shows_down server n x y none wrote =
+      bind server server server x x y false tt (asks server x false (λ node here. sym (down_in server.post node here.post none)))
+      (says_this _ server x y wrote)
+
+  -- ---- a request
+
+  is_live_in : (post : Post (ServerKeeper D) D) (node : Node (List Commit)) → Posted post node → is_on post ≡ true
+      → IsLive medium (record { post = post })
+  is_live_in (Up keeper) node here up = record { it = keeper.server; up = refl; synced = here.stands.synced }
+  is_live_in (Down fallen) node here up = absurd cc
+  is_live_in Between node here up = absurd cc
+
+  -- a server that is alive takes requests
+  pub is_live : (server : ServerNode D) (node : Node (List Commit)) (n : ℕ) → is_up server ≡ true → ServerStands medium names server node n
+      → IsLive medium server
+  is_live server node n up here = is_live_in server.post node here.post up
+
+  -- a server counts a request
+  counts_one : (was now : Server D) (n : ℕ) → (servers.traffic_of now).requests ≡ ((servers.traffic_of was).requests + 1) % 2 ^ 64
+      → (servers.traffic_of was).requests ≡ n % 2 ^ 64 → (servers.traffic_of now).requests ≡ (n + 1) % 2 ^ 64
+  counts_one was now n one had =
+      one ∙ ap (λ (requests : ℕ). (requests + 1) % 2 ^ 64) had ∙ mod-add-mod n (2 ^ 64) 1
+
+  module _ (was now : Server D) (asked reply : List ℕ) (it : Handles medium asked reply was now) where
+    -- one that has the records and the state that it had stands for what it stood for
+    pub stands_still : (node : Node (List Commit)) (n : ℕ) → servers.bodies_on medium now ≡ servers.bodies_on medium was
+        → servers.state_of now ≡ servers.state_of was
+        → ServerStands medium names (live was) node n → ServerStands medium names (live now) node (n + 1)
+    stands_still node n recorded made here = record {
+      post = record {
+        alive = here.post.alive;
+        sure = here.post.sure;
+        counts = it.counts ∙ here.post.counts;
+        count = here.post.count;
+        stands = record {
+          synced = it.synced;
+          has_records = recorded ∙ here.post.stands.has_records;
+          has_state = made ∙ here.post.stands.has_state;
+          counted = here.post.stands.counted;
+        };
+      };
+      known = here.known;
+      answered = counts_one was now n it.requests here.answered;
+    }
+
+    -- one that has one record more, of this commit, and the state after it, stands for a list with this commit
+    pub stands_longer : (node : Node (List Commit)) (n : ℕ) (commit : Commit) (label : Label) (acts : List Act)
+        → servers.bodies_on medium now ≡ servers.bodies_on medium was ++ record_spelling label acts ∷ []
+        → servers.state_of now ≡ after_commit (servers.state_of was) label acts
+        → AreOf commit (tree_after node.durable) label acts → IsKnown names commit → ServerStands medium names (live was) node n
+        → ServerStands medium names (live now) (changed (add_commit commit) node) (n + 1)
+    stands_longer node n commit label acts recorded made are known here = record {
+      post = record {
+        alive = here.post.alive;
+        sure = here.post.sure;
+        counts = it.counts ∙ here.post.counts;
+        count = here.post.count + 1;
+        stands = record {
+          synced = it.synced;
+          has_records =
+              recorded ∙ ap (λ (bodies : List (List ℕ)). bodies ++ record_spelling label acts ∷ []) here.post.stands.has_records
+              ∙ sym (record_is node.durable commit label acts are);
+          has_state =
+              made ∙ ap (λ (s : State). after_commit s label acts) here.post.stands.has_state
+              ∙ sym (state_is node.durable commit label acts are);
+          counted = ap (λ (k : ℕ). k + 1) here.post.stands.counted ∙ sym (length-append node.durable (commit ∷ []));
+        };
+      };
+      known = record { durable = all_more (IsKnown names) node.durable commit here.known.durable known; doubt = here.known.doubt };
+      answered = counts_one was now n it.requests here.answered;
+    }
+
+-- ---- an append that failed
+
+-- the event is over
+pub over_is : {D : Type 0} (medium : Medium D) (names : List (List ℕ)) (change : List Commit → List Commit) (node : Node (List Commit))
+    (new : Post (ServerKeeper D) D) (x y : List ℕ) (fault : JournalFault) (halt : Halt) → halt ≡ Over
+    → Answered {T = Unit {0}}
+    (StepsFrom (PostStands (lists medium) medium (kept_text names)) (Appends server_name change) node new x y) (Err fault) (Err halt)
+    → StepsFrom (PostStands (lists medium) medium (kept_text names)) (Appends server_name change) node new x y false
+over_is medium names change node new x y fault halt is answered =
+    subst
+    (λ (h : Halt).
+    Answered {T = Unit {0}}
+    (StepsFrom (PostStands (lists medium) medium (kept_text names)) (Appends server_name change) node new x y) (Err fault) (Err h))
+    is answered
+
+pub doubts_too : {D : Type 0} (medium : Medium D) (names : List (List ℕ)) (change : List Commit → List Commit) (was : ServerKeeper D)
+    (count : ℕ) (one other : List ℕ) → one ≡ other
+    → Doubts (lists medium) (kept_text names) change was (record { count = count; lines = other })
+    → Doubts (lists medium) (kept_text names) change was (record { count = count; lines = one })
+doubts_too medium names change was count one other same doubts =
+    record { count = doubts.count; lines = λ n commits keeps. same ∙ doubts.lines n commits keeps }
+
+-- a server that is alive has not as many commits as can be counted
+few_in : {D : Type 0} (medium : Medium D) (names : List (List ℕ)) (post : Post (ServerKeeper D) D) (node : Node (List Commit))
+    → PostStands (lists medium) medium (kept_text names) post node → count_in post + 1 < 2 ^ 64
+few_in medium names (Up keeper) node here = few_commits medium keeper.server here.stands.synced
+few_in medium names (Down fallen) node here = omega arith
+few_in medium names Between node here = omega arith
+
+pub few_there : {D : Type 0} (medium : Medium D) (server : ServerNode D) → ServerIsSound medium server → count_of server + 1 < 2 ^ 64
+few_there medium server sound = few_in medium sound.names server.post sound.node sound.stands.post
+
+-- ---- how it handles a request
+
+module _ {D : Type 0} (medium : Medium D) (old : ServerNode D) (was now : ServerKeeper D) (given asked : List ℕ) (is : old.post ≡ Up was)
+    (same : given ≡ asked) (result : Result (Vec ℕ Global) JournalFault) where
+  abbrev at : Post (ServerKeeper D) D → ServerNode D
+  at post = record { post = post }
+
+  pub handled_by : IfOk result (λ reply. Handles medium given reply.items was.server now.server)
+      → IfOk result (λ reply. Handled medium asked reply.items old (at (Up now)))
+  handled_by =
+      if_ok result (λ reply by. record {
+        was = was.server;
+        now = now.server;
+        old_is = ap at is;
+        new_is = refl;
+        by = subst (λ (bytes : List ℕ). Handles medium bytes reply.items was.server now.server) same by;
+      })
+
+  pub refused_by : IfErr result (λ fault. Refuses medium given fault was.server now.server)
+      → IfErr result (λ fault. Refused medium asked fault old (at (Up now)))
+  refused_by =
+      if_err result (λ fault by. record {
+        was = was.server;
+        now = now.server;
+        old_is = ap at is;
+        new_is = refl;
+        by = subst (λ (bytes : List ℕ). Refuses medium bytes fault was.server now.server) same by;
+      })
+
+-- one that was never started stands for some node
+pub is_standing : {D : Type 0} (medium : Medium D) (server : ServerNode D) → IsUnopened medium server
+    → IsStanding (lists medium) medium server.post
+is_standing medium server never = record {
+  says = kept_text [];
+  node = unopened [] (counts_on medium never.disk);
+  stands =
+      subst (λ (post : Post _ _). PostStands (lists medium) medium (kept_text []) post (unopened [] (counts_on medium never.disk)))
+      (sym never.down) (unopened_stands medium [] never.disk 0 never.empty).post;
+}
+
+-- ---- one client more is declared
+
+module _ {D : Type 0} (medium : Medium D) (names : List (List ℕ)) (name : List ℕ) where
+  holds_more : (images : List ℕ → Type 0) (count : ℕ) (doubt : Option Doubt) (node : Node (List Commit)) → NodeIsKnown names node
+      → HoldsBy (lists medium) medium (kept_text names) images count doubt node
+      → HoldsBy (lists medium) medium (kept_text (names ++ name ∷ [])) images count doubt node
+  holds_more images count None node known it = record { sure = it.sure; each = it.each }
+  holds_more images count (Some doubt) node known it = record {
+    after = it.after;
+    is = it.is;
+    each = it.each;
+    counted = it.counted;
+    lines =
+        it.lines
+        ∙ sym (same_kept names name node.durable it.after (subst (AreKnownIfAny names) it.is known.doubt));
+  }
+
+  posted_more : (post : Post (ServerKeeper D) D) (node : Node (List Commit)) → NodeIsKnown names node
+      → PostStands (lists medium) medium (kept_text names) post node
+      → PostStands (lists medium) medium (kept_text (names ++ name ∷ [])) post node
+  posted_more (Up keeper) node known here =
+      record { alive = here.alive; sure = here.sure; counts = here.counts; count = here.count; stands = here.stands }
+  posted_more (Down fallen) node known here = record {
+    alive = here.alive;
+    counts = here.counts;
+    count = here.count;
+    holds = holds_more (medium.may_leave fallen.disk) here.count fallen.doubt node known here.holds;
+  }
+  posted_more Between node known here = absurd here
+
+  -- a server stands where its clients have these names, and one more
+  pub more_names : (server : ServerNode D) (node : Node (List Commit)) (n : ℕ) → ServerStands medium names server node n
+      → ServerStands medium (names ++ name ∷ []) server node n
+  more_names server node n here = record {
+    post = posted_more server.post node here.known here.post;
+    known = record {
+      durable = known_more names name node.durable here.known.durable;
+      doubt = known_more_if_any names name node.doubt here.known.doubt;
+    };
+    answered = here.answered;
+  }

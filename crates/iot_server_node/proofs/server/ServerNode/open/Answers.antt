@@ -1,0 +1,17 @@
+use Rattle.iot_machine.specs.Serving.{server_name, kept_text}
+use Rattle.iot_machine.specs.Stops.{OpensNode}
+use Rattle.iot_server_node.proofs.KeepersLaws.{if_ok_both}
+use Rattle.iot_server_node.proofs.ServersLaws.{is_standing, with_known, known_opens, answered_fresh}
+use Rattle.iot_server_node.proofs.server.ServerNode.open.Goals as goal
+
+pub open-requires-clause-stands : goal.open-requires-clause-stands
+open-requires-clause-stands g c = is_standing g.D.Disk.medium c.args.self.now c.requires
+
+pub returns-clause-step : goal.returns-clause-step
+returns-clause-step g c =
+    if_ok_both c.open.result
+    (λ on step fresh names n.
+    with_known g.D.Disk.medium names (OpensNode server_name) c.args.self.now (record { post = c.open.new.self }) n 0 c.args.out.now
+    c.open.new.out on (step (kept_text names)) (λ node after text. known_opens names node after text on)
+    (λ had. answered_fresh c.open.new.self on fresh))
+    c.open.ensures.step c.open.ensures.live

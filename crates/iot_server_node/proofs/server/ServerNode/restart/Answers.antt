@@ -1,0 +1,24 @@
+use Rattle.std.proofs.Common.{sym, ◌∙◌}
+use Rattle.iot_machine.specs.Serving.{kept_text}
+use Rattle.iot_server_node.proofs.ServersLaws.{lasts, restart_up, restart_down}
+use Rattle.iot_server_node.proofs.server.ServerNode.restart.Goals as goal
+
+pub returns-in_err-say-clause-lasts : goal.returns-in_err-say-clause-lasts
+returns-in_err-say-clause-lasts g c names n node here =
+    lasts g.D.Disk.medium names c.args.self.now node n here
+
+pub returns-then-is_up-clause-lasts : goal.returns-then-is_up-clause-lasts
+returns-then-is_up-clause-lasts g c names n node here =
+    lasts g.D.Disk.medium names c.args.self.now node n here
+
+pub returns-then-is_up-clause-step : goal.returns-then-is_up-clause-step
+returns-then-is_up-clause-step g c names n =
+    restart_up g.D.Disk.medium names c.args.self.now n c.args.out.now c.say.new.out (sym c.is_up.ensures ∙ c.if-is_up.true)
+    c.in_ok-say.ensures
+
+pub returns-clause-step : goal.returns-clause-step
+returns-clause-step g c names n =
+    restart_down g.D.Disk.medium names c.args.self.now (record { post = c.come_back.new.self }) n c.args.out.now
+    c.come_back.new.out c.in_ok-come_back.field-0 (sym c.is_up.ensures ∙ c.if-is_up.false)
+    (c.in_ok-come_back.ensures.step (kept_text names))
+    c.in_ok-come_back.ensures.live

@@ -1,0 +1,5 @@
+use Rattle.iot_server_node.proofs.ServersLaws.{unopened_stands}
+use Rattle.iot_server_node.proofs.server.ServerNode.unopened.Goals as goal
+
+pub returns-clause-stands : goal.returns-clause-stands
+returns-clause-stands g c names n = unopened_stands g.D.Disk.medium names c.args.disk n c.requires

@@ -1,0 +1,4 @@
+pub mod Keepers
+pub mod Messages
+pub mod Records
+pub mod Servers

@@ -1,0 +1,30 @@
+-- What the server's disk keeps of the machine's list: one record for each commit.
+use Rattle.std.specs.Prelude.{◌≡◌, ℕ, List, [], ◌∷◌, length, map}
+use Rattle.iot_tree.specs.Tree.{Nodes, root_alone}
+use Rattle.iot_tree.specs.declared.nodes.Node.TheVariants.{Dir}
+use Rattle.iot_exec.specs.Serial.{run_entry}
+use Rattle.iot_journal.specs.Decoding.{Encodes, decoded}
+use Rattle.iot_store.specs.States.{State, opening}
+use Rattle.iot_store.specs.Records.{record_spelling}
+use Rattle.iot_store.specs.Standing.{Leads}
+use Rattle.iot_machine.specs.Machine.{Commit, tree_after}
+pub use Rattle.iot_machine.specs.Recorded.{label_of}
+
+-- the records of commits from a tree on: of each its label, and the acts of its script's run
+abbrev pub records_from : List Commit → Nodes → List (List ℕ)
+records_from [] t = []
+records_from (commit ∷ commits) t =
+    record_spelling (label_of commit) (run_entry commit.entry t).acts ∷ records_from commits (run_entry commit.entry t).tree
+
+abbrev pub records_of : List Commit → List (List ℕ)
+records_of commits = records_from commits (root_alone Dir)
+
+-- the tree and the labels of a list
+abbrev pub state_of : List Commit → State
+state_of commits = record { tree = tree_after commits; labels = map label_of commits }
+
+-- the bytes are a journal of the records of this list, which are so many: each can follow the ones before it, and they lead to its state
+pub record IsImage (bytes : List ℕ) (count : ℕ) (commits : List Commit) : Type 0 where
+  pub has_records : decoded bytes ≡ Encodes (records_of commits)
+  pub leads : Leads (records_of commits) opening (state_of commits)
+  pub counted : count ≡ length commits

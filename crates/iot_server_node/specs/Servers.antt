@@ -1,0 +1,235 @@
+-- The server as a node, alive or down: for which node of the machine it stands, and what it does.
+use Rattle.std.specs.Prelude.{◌≡◌, ℕ, ◌+◌, ◌<◌, ◌%◌, ◌^◌, Bool, true, false, List, [], ◌++◌, length, map, Option, Some, None, IsSome}
+use Rattle.std.specs.Prelude.{slice_index_or, option_map, Err}
+use Rattle.std.specs.List.{AllByRecursion}
+use Rattle.iot_tree.specs.Tree.{Nodes, IsTree}
+use Rattle.iot_tree.specs.declared.acts.Act.{Act}
+use Rattle.iot_tree.specs.declared.labels.Label.{Label}
+use Rattle.iot_acts.specs.Traces.{after_acts}
+use Rattle.iot_acts.specs.Turns.{reads_of}
+use Rattle.iot_disk.specs.Disk.{Medium}
+use Rattle.iot_disk.specs.declared.faults.JournalFault.{JournalFault}
+use Rattle.iot_exec.specs.Serial.{run_entry}
+use Rattle.iot_judging.specs.Entries.{IsSpelledEntry}
+use Rattle.iot_machine.specs.Calls.{Call}
+use Rattle.iot_machine.specs.Machine.{Commit, tree_after}
+use Rattle.iot_machine.specs.Nodes.{Node}
+use Rattle.iot_machine.specs.Serving.{Submission, server_name, kept_text}
+use Rattle.iot_machine.specs.Stops.{Appends}
+use Rattle.iot_machine.specs.Texts.{transaction_name, acts_output}
+use Rattle.iot_node.specs.Disks.{IsEmpty}
+use Rattle.iot_node.specs.Posts as posts
+use Rattle.iot_node.specs.Keeping.{Appended, Doubts}
+use Rattle.iot_node.specs.Posts.{PostStands, UpStands, StepsFrom, is_on}
+use Rattle.iot_node.specs.Steps.{StepsTo}
+use Rattle.iot_node.specs.declared.lines.Transaction.{Transaction}
+use Rattle.iot_node.specs.declared.post.Doubt.{Doubt}
+use Rattle.iot_node.specs.declared.post.Post.{Post}
+use Rattle.iot_node.specs.declared.post.Post.TheVariants.{Up, Down, Between}
+use Rattle.iot_server.specs.Servers as servers
+use Rattle.iot_server.specs.declared.server.Server.{Server}
+use Rattle.iot_wire.specs.Messages.{IsMessage}
+use Rattle.iot_wire.specs.Rules.{IsRequest}
+use Rattle.iot_wire.specs.Spelling.{request_spelling}
+use Rattle.iot_wire.specs.declared.requests.Request.TheVariants as requests
+use Rattle.iot_server_node.specs.Keepers.{lists, traffic_in, Handles, Refuses}
+use Rattle.iot_server_node.specs.Messages.{said_of}
+use Rattle.iot_server_node.specs.Records.{label_of}
+use Rattle.iot_server_node.specs.declared.keeper.ServerKeeper.{ServerKeeper}
+use Rattle.iot_server_node.specs.declared.message.Handed.{Handed}
+use Rattle.iot_server_node.specs.declared.message.Message.{Message}
+use Rattle.iot_server_node.specs.declared.server.Served.{Served}
+use Rattle.iot_server_node.specs.declared.server.ServerNode.{ServerNode}
+
+-- ---- what it has
+
+abbrev pub post_of : {D : Type 0} → ServerNode D → Post (ServerKeeper D) D
+post_of server = server.post
+
+abbrev pub is_up : {D : Type 0} → ServerNode D → Bool
+is_up server = is_on server.post
+
+-- its disk, which it has except inside a call that starts or stops it
+abbrev pub disk_of : {D : Type 0} → ServerNode D → Option D
+disk_of server = posts.disk_of (λ keeper. servers.disk_of keeper.server) server.post
+
+-- it has a disk
+abbrev pub HasDisk : {D : Type 0} → ServerNode D → Type 0
+HasDisk server = IsSome (disk_of server)
+
+-- the live server itself
+abbrev pub lent_in : {D : Type 0} → Post (ServerKeeper D) D → Option (Server D)
+lent_in (Up keeper) = Some keeper.server
+lent_in (Down fallen) = None
+lent_in Between = None
+
+abbrev pub lent_of : {D : Type 0} → ServerNode D → Option (Server D)
+lent_of server = lent_in server.post
+
+-- the tree of a live server
+abbrev pub tree_of : {D : Type 0} → ServerNode D → Option Nodes
+tree_of server = option_map (λ it. (servers.state_of it).tree) (lent_of server)
+
+-- how many commits a live server has
+abbrev pub count_in : {D : Type 0} → Post (ServerKeeper D) D → ℕ
+count_in (Up keeper) = length (servers.state_of keeper.server).labels
+count_in (Down fallen) = 0
+count_in Between = 0
+
+abbrev pub count_of : {D : Type 0} → ServerNode D → ℕ
+count_of server = count_in server.post
+
+-- ---- for which node of the machine it stands
+
+-- the script of a commit has a spelling, so that what the tree holds has one too, and its client has its name among these
+pub record IsKnown (names : List (List ℕ)) (commit : Commit) : Type 0 where
+  pub spelled : IsSpelledEntry commit.entry
+  pub client : commit.entry.client < length names
+
+abbrev pub AreKnown : List (List ℕ) → List Commit → Type 0
+AreKnown names commits = AllByRecursion (IsKnown names) commits
+
+abbrev pub AreKnownIfAny : List (List ℕ) → Option (List Commit) → Type 0
+AreKnownIfAny names None = Unit {0}
+AreKnownIfAny names (Some commits) = AreKnown names commits
+
+-- so is each commit of what is durable, and of what is in doubt
+pub record NodeIsKnown (names : List (List ℕ)) (node : Node (List Commit)) : Type 0 where
+  pub durable : AreKnown names node.durable
+  pub doubt : AreKnownIfAny names node.doubt
+
+-- a live server has answered so many requests since its start, as far as it can count
+abbrev pub HasAnsweredIn : {D : Type 0} → ℕ → Post (ServerKeeper D) D → Type 0
+HasAnsweredIn n (Up keeper) = (traffic_in keeper).requests ≡ n % 2 ^ 64
+HasAnsweredIn n (Down fallen) = Unit {0}
+HasAnsweredIn n Between = Unit {0}
+
+abbrev pub HasAnswered : {D : Type 0} → ℕ → ServerNode D → Type 0
+HasAnswered n server = HasAnsweredIn n server.post
+
+-- it stands for this node of the machine, where the clients have these names, and has answered so many requests
+pub record ServerStands {D : Type 0} (medium : Medium D) (names : List (List ℕ)) (server : ServerNode D) (node : Node (List Commit))
+    (requests : ℕ) : Type 0 where
+  pub post : PostStands (lists medium) medium (kept_text names) server.post node
+  pub known : NodeIsKnown names node
+  pub answered : HasAnswered requests server
+
+-- the same, of those that have answered so many
+abbrev pub HavingAnswered : {D : Type 0} → Medium D → (names : List (List ℕ)) → (requests : ℕ) → ServerNode D → Node (List Commit) → Type 0
+HavingAnswered medium names requests server node = ServerStands medium names server node requests
+
+-- it stands for some node
+pub record ServerIsSound {D : Type 0} (medium : Medium D) (server : ServerNode D) : Type 0 where
+  pub names : List (List ℕ)
+  pub node : Node (List Commit)
+  pub requests : ℕ
+  pub stands : ServerStands medium names server node requests
+
+-- a live server with the tree and the labels of this node, which has answered so many requests, as far as it can count
+pub record IsServerOf {D : Type 0} (it : Server D) (node : Node (List Commit)) (count : ℕ) : Type 0 where
+  pub alive : node.alive ≡ true
+  pub tree : (servers.state_of it).tree ≡ tree_after node.durable
+  pub labels : (servers.state_of it).labels ≡ map label_of node.durable
+  pub requests : (servers.traffic_of it).requests ≡ count % 2 ^ 64
+
+-- what is lent of it
+abbrev pub LendsServer : {D : Type 0} → Option (Server D) → Node (List Commit) → ℕ → Type 0
+LendsServer None node count = node.alive ≡ false
+LendsServer (Some it) node count = IsServerOf it node count
+
+-- it was never started, and its disk is empty
+pub record IsUnopened {D : Type 0} (medium : Medium D) (server : ServerNode D) : Type 0 where
+  pub disk : D
+  pub down : server.post ≡ Down (record { disk = disk; doubt = None })
+  pub empty : IsEmpty medium disk
+
+-- how many requests it has answered, if it is started unless it is alive
+abbrev pub answered_since : (was_alive : Bool) → ℕ → ℕ
+answered_since true n = n
+answered_since false n = 0
+
+-- ---- submissions
+
+-- this label and these acts are those of a commit, whose script is run on this tree
+pub record AreOf (commit : Commit) (tree : Nodes) (label : Label) (acts : List Act) : Type 0 where
+  pub has_label : label_of commit ≡ label
+  pub has_acts : (run_entry commit.entry tree).acts ≡ acts
+  pub made : (run_entry commit.entry tree).tree ≡ after_acts tree acts
+  -- so that the tree that it makes has a spelling
+  pub spelled : IsSpelledEntry commit.entry
+
+-- this label, these acts and this name are those of a submission, whose script was run on some tree
+pub record IsSubmission (label : Label) (acts : List Act) (transaction : Transaction) (it : Submission) : Type 0 where
+  pub name : it.name ≡ transaction_name transaction.client transaction.number
+  pub has_label : label_of it.commit ≡ label
+  pub base : Nodes
+  pub tree : IsTree base
+  pub has_acts : acts ≡ (run_entry it.commit.entry base).acts
+  pub reads : it.reads ≡ reads_of acts
+  pub spelled : IsSpelledEntry it.commit.entry
+
+-- the message hands in this transaction, and has with it its way and what it printed
+pub record IsHanded (message : Message) (it : Submission) : Type 0 where
+  pub label : Label
+  pub acts : List Act
+  pub asked : IsMessage IsRequest request_spelling message.request.items (requests.Commit label acts)
+  pub transaction : Transaction
+  pub handed : message.handed
+      ≡ Some (record { printed = record { transaction = transaction; output = acts_output acts }; way = label.way })
+  pub submission : IsSubmission label acts transaction it
+
+-- the client of a submission has its name among these
+pub record IsNamedIn (names : List (List ℕ)) (it : Submission) : Type 0 where
+  pub client : it.commit.entry.client < length names
+  pub name : it.name ≡ transaction_name (slice_index_or names it.commit.entry.client []) it.commit.entry.number
+
+-- ---- requests
+
+-- it is this server, alive
+abbrev pub live : {D : Type 0} → Server D → ServerNode D
+live it = record { post = Up (record { server = it }) }
+
+-- it is alive, and nothing is under way
+pub record IsLive {D : Type 0} (medium : Medium D) (server : ServerNode D) : Type 0 where
+  pub it : Server D
+  pub up : server ≡ live it
+  pub synced : servers.IsSynced medium it
+
+-- a live server has handled a request, and replied
+pub record Handled {D : Type 0} (medium : Medium D) (asked reply : List ℕ) (old new : ServerNode D) : Type 0 where
+  pub was : Server D
+  pub now : Server D
+  pub old_is : old ≡ live was
+  pub new_is : new ≡ live now
+  pub by : Handles medium asked reply was now
+
+-- a live server gave no reply
+pub record Refused {D : Type 0} (medium : Medium D) (asked : List ℕ) (fault : JournalFault) (old new : ServerNode D) : Type 0 where
+  pub was : Server D
+  pub now : Server D
+  pub old_is : old ≡ live was
+  pub new_is : new ≡ live now
+  pub by : Refuses medium asked fault was now
+
+-- A live server that was to append a commit gives up for this fault, with this in doubt: if that changes the list of the node so, it is
+-- what a node does that stops in an append.
+pub record GivesUp {D : Type 0} (medium : Medium D) (names : List (List ℕ)) (fault : JournalFault) (doubt : Doubt) (old new : ServerNode D)
+    (before after : List ℕ) : Type 0 where
+  pub step : (was now : ServerKeeper D) (change : List Commit → List Commit) (node : Node (List Commit)) → old.post ≡ Up now
+      → UpStands (lists medium) medium (kept_text names) was node
+      → Appended (lists medium) medium {T = Unit {0}} change node.durable was now (Err fault)
+      → Doubts (lists medium) (kept_text names) change was doubt
+      → StepsFrom (PostStands (lists medium) medium (kept_text names)) (Appends server_name change) node new.post before after false
+
+-- The call is what a live server does with a request: it stops and gives no reply, which it says; or it answers what the bytes of the
+-- reply spell, and says nothing. What is to be said of a commit is what the call says: whoever called says it.
+abbrev pub ServesBy : {D A : Type 0} → Medium D → (names : List (List ℕ)) → Call (Node (List Commit)) (Option A) → (List ℕ → A → Type 0)
+    → Option Handed → Option Served → (old new : ServerNode D) → (before after : List ℕ) → Type 0
+ServesBy medium names call Spelled handed None old new before after =
+    (n : ℕ) → StepsTo (HavingAnswered medium names n) (HavingAnswered medium names n) call old new before after None
+ServesBy {A = A} medium names call Spelled handed (Some served) old new before after =
+    (after ≡ before)
+    × ((answer : A) × Spelled served.reply.items answer
+    × ((n : ℕ) (x : List ℕ)
+    → StepsTo (HavingAnswered medium names n) (HavingAnswered medium names (n + 1)) call old new x (x ++ said_of served.committed handed)
+    (Some answer)))

@@ -1,0 +1,298 @@
+//! The server as a node: it answers requests as long as it is alive.
+ghost use Rattle.std.specs.Prelude.{◌≡◌, ◌+◌, ◌<◌, ◌^◌, [], ℕ, List, true, false, Some, IfOk, IfErr, OnOk, IfSome, is_some};
+ghost use Rattle.std.specs.Option.{option_copied};
+ghost use Rattle.iot_disk.specs.declared.faults.JournalFault.TheVariants.{Stopped};
+ghost use Rattle.iot_machine.specs.Machine.{Commit, add_commit, tree_after};
+ghost use Rattle.iot_machine.specs.Nodes.{Node, unopened, doubting};
+ghost use Rattle.iot_machine.specs.Serving.{Submission, Lends, Judges, server_name, kept_text};
+ghost use Rattle.iot_machine.specs.Stops.{OpensNode, Crashes, Restarts, ArmsDisk, Shows};
+ghost use Rattle.iot_machine.specs.Texts.{tree_text};
+ghost use Rattle.iot_node.specs.Disks.{IsEmpty, KeepsDisk, counts_on};
+ghost use Rattle.iot_node.specs.Posts.{Lasts, CameIf};
+ghost use Rattle.iot_node.specs.Steps.{StepsTo};
+ghost use Rattle.iot_server.specs.Servers as servers;
+ghost use Rattle.iot_server_node.specs.Keepers.{lists};
+ghost use Rattle.iot_server_node.specs.Messages.{committed_since};
+ghost use Rattle.iot_text.specs.Texts.{Extends};
+ghost use Rattle.iot_tree.specs.Tree.{Nodes};
+ghost use Rattle.iot_tree.specs.declared.want.Want.{Want};
+
+use crate::keeper::ServerKeeper;
+use crate::message::Message;
+use crate::texts::say_tree;
+use iot_disk::{Disk, JournalFault, Pick};
+use iot_node::{Doubt, Fallen, Halt, Post, say};
+use iot_server::Server;
+use iot_text::{NoMemory, Text};
+use iot_tree::Tree;
+use std::alloc::Global;
+
+/// The server, alive or down.
+#[derive(Drop)]
+pub struct ServerNode<D: Disk> {
+    post: Post<ServerKeeper<D>, D>,
+}
+
+/// What came of a request that the server answered.
+#[derive(Drop)]
+pub struct Served {
+    /// The reply, in bytes.
+    pub reply: Vec<u8>,
+
+    /// The number under which the transaction was committed that the message handed in, if it was committed in this call.
+    pub committed: Option<u64>,
+}
+
+impl<D: Disk + Drop> ServerNode<D> {
+    ghost use Rattle.iot_server_node.specs.Messages.{IsSomeRequest, IsRefresh, SpellsCut, SpellsVerdict, printed_under};
+    ghost use Rattle.iot_server_node.specs.Servers.{is_up, disk_of, post_of, count_of, tree_of, lent_of, ServerStands, HavingAnswered};
+    ghost use Rattle.iot_server_node.specs.Servers.{ServerIsSound, IsUnopened, HasDisk, IsLive, Handled, Refused, GivesUp, ServesBy};
+    ghost use Rattle.iot_server_node.specs.Servers.{IsHanded, IsNamedIn, LendsServer, answered_since};
+
+    /// A server on an empty disk, which was never started.
+    pub fn unopened(disk: D) -> ServerNode<D>
+        requires { IsEmpty D.medium disk }
+        ensures stands { (names : List (List ℕ)) (n : ℕ)
+            → ServerStands D.medium names result (unopened [] (counts_on D.medium disk)) n }
+        ensures unopened { IsUnopened D.medium result }
+        ensures disk { disk_of result ≡ Some disk }
+    {
+        ServerNode {
+            post: Post::Down(Fallen { disk, doubt: None }),
+        }
+    }
+
+    /// Starts for the first time, and tells whether it did. Else it has stopped, which is said.
+    pub fn open(&mut self, alloc: Global, out: &mut Text) -> Result<bool, NoMemory>
+        requires { IsUnopened D.medium self.old }
+        ensures step { IfOk result (λ on. (names : List (List ℕ)) (n : ℕ)
+            → StepsTo (HavingAnswered D.medium names n) (HavingAnswered D.medium names 0) (OpensNode server_name)
+            self.old self.new out.old out.new on) }
+        ensures disk { KeepsDisk D.medium (disk_of self.old) (disk_of self.new) }
+        ensures text { Extends out.old out.new }
+    {
+        self.post.open(alloc, 0, b"server", out)
+    }
+
+    // ---- requests
+
+    /// Answers a request. If that commits the transaction that the message hands in, nothing is said of it yet. If the disk fails in the
+    /// commit, the server has stopped: it is down, with the commit in doubt, that is said, and no reply comes.
+    pub fn serve(
+        &mut self,
+        alloc: Global,
+        message: &Message,
+        out: &mut Text,
+    ) -> Result<Option<Served>, NoMemory>
+        requires up { is_up self.old ≡ true }
+        requires sound { ServerIsSound D.medium self.old }
+        requires request { IsSomeRequest message.now.request.items }
+        ensures up { IfOk result (λ served. is_up self.new ≡ is_some served) }
+        ensures lends { IfOk result (λ served. (client : ℕ) (held : Nodes) (want : Want) (names : List (List ℕ))
+            → IsRefresh client held want message.now.request.items
+            → ServesBy D.medium names (Lends held want) (SpellsCut held want) message.now.handed served
+            self.old self.new out.old out.new) }
+        ensures judges { IfOk result (λ served. (it : Submission) (names : List (List ℕ))
+            → IsHanded message.now it → IsNamedIn names it
+            → ServesBy D.medium names (Judges it) (SpellsVerdict it.reads) message.now.handed served
+            self.old self.new out.old out.new) }
+
+        // If memory runs out, the disk still holds the list of commits, or that and the transaction that was handed in.
+        ensures lends_lasts { IfErr result (λ _. (client : ℕ) (held : Nodes) (want : Want) (names : List (List ℕ)) (n : ℕ)
+            (node : Node (List Commit)) → IsRefresh client held want message.now.request.items
+            → ServerStands D.medium names self.old node n → Lasts (lists D.medium) D.medium (post_of self.new) node) }
+        ensures judges_lasts { IfErr result (λ _. (it : Submission) (names : List (List ℕ)) (n : ℕ)
+            (node : Node (List Commit)) → IsHanded message.now it
+            → ServerStands D.medium names self.old node n
+            → Lasts (lists D.medium) D.medium (post_of self.new) (doubting (add_commit it.commit) node)) }
+        ensures disk { KeepsDisk D.medium (disk_of self.old) (disk_of self.new) }
+    {
+        let before = self.number();
+        match self.handle(alloc, message) {
+            Ok(reply) => Ok(Some(Served {
+                reply,
+                committed: committed_by(before, self.number()),
+            })),
+            Err(fault) => {
+                self.give_up(alloc, fault, message, before, out)?;
+                Ok(None)
+            }
+        }
+    }
+
+    /// What the server replies to the request.
+    fn handle(&mut self, alloc: Global, message: &Message) -> Result<Vec<u8>, JournalFault>
+        requires synced { IsLive D.medium self.old }
+        requires request { IsSomeRequest message.now.request.items }
+        ensures handled { IfOk result (λ reply.
+            Handled D.medium message.now.request.items reply.items self.old self.new) }
+        ensures refused { IfErr result (λ fault. Refused D.medium message.now.request.items fault self.old self.new) }
+        ensures disk { KeepsDisk D.medium (disk_of self.old) (disk_of self.new) }
+    {
+        match &mut self.post {
+            Post::Up(keeper) => keeper.handle(alloc, &message.request),
+            Post::Down(_) | Post::Between => unreachable!(),
+        }
+    }
+
+    /// No reply comes, for this fault: unless there is no memory, the server has stopped, with the commit of this message in doubt, behind
+    /// so many.
+    fn give_up(
+        &mut self,
+        alloc: Global,
+        fault: JournalFault,
+        message: &Message,
+        before: u64,
+        out: &mut Text,
+    ) -> Result<(), NoMemory>
+        requires up { is_up self.old ≡ true }
+        requires few { before + 1 < 2 ^ 64 }
+        ensures stopped { OnOk result (fault ≡ Stopped) }
+        ensures down { OnOk result (is_up self.new ≡ false) }
+        ensures step { OnOk result ((names : List (List ℕ)) → GivesUp D.medium names fault
+            (record { count = before; lines = printed_under (before + 1) message.now.handed }) self.old self.new out.old out.new) }
+        ensures disk { disk_of self.new ≡ disk_of self.old }
+    {
+        let mut lines = Text::new(alloc);
+        message.say_under(before + 1, &mut lines)?;
+        let doubt = Doubt {
+            count: before,
+            lines,
+        };
+        let answer: Result<(), JournalFault> = Err(fault);
+        match self.post.take(answer, doubt, b"server", out) {
+            Ok(()) => Ok(()),
+            Err(halt) => match halt {
+                Halt::Over => Ok(()),
+                Halt::NoMemory => Err(NoMemory),
+            },
+        }
+    }
+
+    // ---- crashes, restarts, and its disk
+
+    /// Loses its memory: what is not on its disk is gone.
+    pub fn crash(&mut self, out: &mut Text) -> Result<(), NoMemory>
+        requires { HasDisk self.old }
+        ensures down { OnOk result (is_up self.new ≡ false) }
+        ensures step { OnOk result ((names : List (List ℕ)) (n : ℕ)
+            → StepsTo (HavingAnswered D.medium names n) (HavingAnswered D.medium names n) (Crashes server_name)
+            self.old self.new out.old out.new tt) }
+        ensures same { disk_of self.new ≡ disk_of self.old }
+        ensures disk { KeepsDisk D.medium (disk_of self.old) (disk_of self.new) }
+    {
+        self.post.crash(b"server", out)
+    }
+
+    /// Comes back from one of the images that its disk may have. A commit that was in doubt is printed if it was kept. If the disk fails
+    /// in that, the server has stopped again, and what was in doubt still is.
+    pub fn restart(&mut self, alloc: Global, out: &mut Text) -> Result<(), NoMemory>
+        requires { ServerIsSound D.medium self.old }
+
+        // It counts the requests that it answers anew, unless it was alive.
+        ensures step { OnOk result ((names : List (List ℕ)) (n : ℕ)
+            → StepsTo (HavingAnswered D.medium names n) (HavingAnswered D.medium names (answered_since (is_up self.old) n))
+            (Restarts server_name (kept_text names)) self.old self.new out.old out.new tt) }
+
+        // The image that it came back from decides whether the commit in doubt was kept.
+        ensures came { OnOk result ((names : List (List ℕ)) (n : ℕ) (node : Node (List Commit))
+            → ServerStands D.medium names self.old node n
+            → CameIf (lists D.medium) D.medium (is_up self.new) (post_of self.old) server_name out.old out.new node) }
+        ensures lasts { (names : List (List ℕ)) (n : ℕ) (node : Node (List Commit))
+            → ServerStands D.medium names self.old node n → Lasts (lists D.medium) D.medium (post_of self.new) node }
+        ensures disk { KeepsDisk D.medium (disk_of self.old) (disk_of self.new) }
+    {
+        if self.is_up() {
+            say(b"up", out)?;
+            return Ok(());
+        }
+        self.post.come_back(alloc, 0, b"server", out)?;
+        Ok(())
+    }
+
+    /// Makes a later call of its disk fail, and says so.
+    pub fn arm(&mut self, calls: u64, pick: Pick, out: &mut Text) -> Result<(), NoMemory>
+        requires { HasDisk self.old }
+        ensures step { OnOk result ((names : List (List ℕ)) (n : ℕ)
+            → StepsTo (HavingAnswered D.medium names n) (HavingAnswered D.medium names n) (ArmsDisk server_name calls pick)
+            self.old self.new out.old out.new tt) }
+        ensures same { IfErr result (λ _. self.new ≡ self.old) }
+        ensures disk { IfErr result (λ _. KeepsDisk D.medium (disk_of self.old) (disk_of self.new)) }
+        ensures text { Extends out.old out.new }
+    {
+        self.post.arm(calls, pick, b"server", out)
+    }
+
+    /// Gives its disk back.
+    pub fn into_disk(self) -> D
+        requires { HasDisk self }
+        ensures { disk_of self ≡ Some result }
+    {
+        self.post.into_disk()
+    }
+
+    // ---- looking in
+
+    /// Prints its tree, if it is alive; else `down`.
+    pub fn show(&self, out: &mut Text) -> Result<(), NoMemory>
+        ensures { OnOk result ((names : List (List ℕ)) (n : ℕ)
+            → StepsTo (HavingAnswered D.medium names n) (HavingAnswered D.medium names n)
+            (Shows (λ commits. tree_text (tree_after commits))) self.now self.now out.old out.new tt) }
+    {
+        match self.tree() {
+            Some(tree) => say_tree(tree, out)?,
+            None => say(b"down", out)?,
+        }
+        Ok(())
+    }
+
+    /// Whether it is alive.
+    pub fn is_up(&self) -> bool
+        ensures { result ≡ is_up self.now }
+    {
+        self.post.is_up()
+    }
+
+    /// The server, if it is alive.
+    pub fn lent(&self) -> Option<&Server<D>>
+        ensures is { option_copied result ≡ lent_of self.now }
+        ensures lends { (names : List (List ℕ)) (n : ℕ) (node : Node (List Commit)) → ServerStands D.medium names self.now node n
+            → LendsServer (option_copied result) node n }
+        ensures disk { IfSome (option_copied result) (λ it. disk_of self.now ≡ Some (servers.disk_of it)) }
+    {
+        match &self.post {
+            Post::Up(keeper) => Some(&keeper.server),
+            Post::Down(_) | Post::Between => None,
+        }
+    }
+
+    /// Its tree, if it is alive.
+    fn tree(&self) -> Option<&Tree>
+        ensures { option_copied result ≡ tree_of self.now }
+    {
+        match &self.post {
+            Post::Up(keeper) => Some(keeper.server.store().tree()),
+            Post::Down(_) | Post::Between => None,
+        }
+    }
+
+    /// How many commits it has, if it is alive.
+    fn number(&self) -> u64
+        ensures { result ≡ count_of self.now }
+    {
+        match &self.post {
+            Post::Up(keeper) => keeper.server.store().number(),
+            Post::Down(_) | Post::Between => 0,
+        }
+    }
+}
+
+/// The number under which something was committed, if there were so many commits before, and there are so many now.
+fn committed_by(before: u64, now: u64) -> Option<u64>
+    ensures { result ≡ committed_since before now }
+{
+    if now <= before {
+        return None;
+    }
+    Some(now)
+}
