@@ -3,3 +3,4 @@ mod KeepersLaws
 pub mod ServersLaws
 mod LendingLaws
 mod JudgesLaws
+mod DecidingLaws

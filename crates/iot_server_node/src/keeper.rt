@@ -20,7 +20,7 @@ pub struct ServerKeeper<D: Disk> {
 impl<D: Disk> ServerKeeper<D> {
     ghost use Rattle.iot_server_node.specs.Keepers.{Handles, Refuses};
 
-    /// What the server replies to the request. Why there is no reply to one that is well formed is a matter of its journal.
+    /// What the server replies to a request that is well formed. It has no reply only if there is no memory, or the disk fails.
     pub(crate) fn handle(&mut self, alloc: Global, request: &[u8]) -> Result<Vec<u8>, JournalFault>
         requires synced { IsSynced D.medium self.old.server }
         requires request { IsSomeRequest request.now }

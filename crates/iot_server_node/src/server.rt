@@ -11,6 +11,7 @@ ghost use Rattle.iot_node.specs.Disks.{IsEmpty, KeepsDisk, counts_on};
 ghost use Rattle.iot_node.specs.Posts.{Lasts, CameIf};
 ghost use Rattle.iot_node.specs.Steps.{StepsTo};
 ghost use Rattle.iot_server.specs.Servers as servers;
+ghost use Rattle.iot_server_node.specs.Deciding.{DecidesServer};
 ghost use Rattle.iot_server_node.specs.Keepers.{lists};
 ghost use Rattle.iot_server_node.specs.Messages.{committed_since};
 ghost use Rattle.iot_text.specs.Texts.{Extends};
@@ -198,6 +199,9 @@ impl<D: Disk + Drop> ServerNode<D> {
         ensures came { OnOk result ((names : List (List ℕ)) (n : ℕ) (node : Node (List Commit))
             → ServerStands D.medium names self.old node n
             → CameIf (lists D.medium) D.medium (is_up self.new) (post_of self.old) server_name out.old out.new node) }
+
+        // So if all images of its disk have the commit that is in doubt, or none has it, that decides whether it is kept.
+        ensures decided { OnOk result (DecidesServer D.medium self.old out.old out.new) }
         ensures lasts { (names : List (List ℕ)) (n : ℕ) (node : Node (List Commit))
             → ServerStands D.medium names self.old node n → Lasts (lists D.medium) D.medium (post_of self.new) node }
         ensures disk { KeepsDisk D.medium (disk_of self.old) (disk_of self.new) }

@@ -1,5 +1,6 @@
 use Rattle.std.proofs.Common.{sym, ◌∙◌}
 use Rattle.iot_machine.specs.Serving.{kept_text}
+use Rattle.iot_server_node.proofs.DecidingLaws.{decides, decides_up}
 use Rattle.iot_server_node.proofs.ServersLaws.{lasts, restart_up, restart_down}
 use Rattle.iot_server_node.proofs.server.ServerNode.restart.Goals as goal
 
@@ -22,3 +23,14 @@ returns-clause-step g c names n =
     c.come_back.new.out c.in_ok-come_back.field-0 (sym c.is_up.ensures ∙ c.if-is_up.false)
     (c.in_ok-come_back.ensures.step (kept_text names))
     c.in_ok-come_back.ensures.live
+
+pub returns-then-is_up-clause-decided : goal.returns-then-is_up-clause-decided
+returns-then-is_up-clause-decided g c =
+    decides_up g.D.Disk.medium c.args.self.now.post c.args.out.now c.say.new.out (sym c.is_up.ensures ∙ c.if-is_up.true)
+
+pub returns-clause-decided : goal.returns-clause-decided
+returns-clause-decided g c =
+    let sound = c.requires in
+    decides g.D.Disk.medium sound.names sound.node c.come_back.new.self c.args.out.now c.come_back.new.out c.args.self.now.post
+    c.in_ok-come_back.field-0 sound.stands.post (c.in_ok-come_back.ensures.step (kept_text sound.names))
+    (c.in_ok-come_back.ensures.came (kept_text sound.names) sound.node sound.stands.post)

@@ -1,0 +1,44 @@
+-- If all images of a disk have the commit that is in doubt, or none has it, that decides whether it is kept.
+use Rattle.std.specs.Prelude.{◌≡◌, ◌⊎◌, ℕ, ◌+◌, List, ◌++◌, length, Option, Some, None}
+use Rattle.iot_disk.specs.Disk.{Medium}
+use Rattle.iot_journal.specs.Decoding.{Encodes, decoded}
+use Rattle.iot_machine.specs.Serving.{server_name}
+use Rattle.iot_machine.specs.Texts.{stopped_line, kept_line, lost_line}
+use Rattle.iot_node.specs.declared.post.Doubt.{Doubt}
+use Rattle.iot_node.specs.declared.post.Post.{Post}
+use Rattle.iot_node.specs.declared.post.Post.TheVariants.{Up, Down, Between}
+use Rattle.iot_server_node.specs.declared.keeper.ServerKeeper.{ServerKeeper}
+use Rattle.iot_server_node.specs.declared.server.ServerNode.{ServerNode}
+
+-- the bytes are a journal of so many records
+pub record HasCount (count : ℕ) (bytes : List ℕ) : Type 0 where
+  pub records : List (List ℕ)
+  pub read : decoded bytes ≡ Encodes records
+  pub counted : length records ≡ count
+
+-- each of the images is one
+pub record EachHas (images : List ℕ → Type 0) (count : ℕ) : Type 0 where
+  pub each : (image : List ℕ) → images image → HasCount count image
+
+-- the text was added, and perhaps more
+pub record Begins (text before after : List ℕ) : Type 0 where
+  pub rest : List ℕ
+  pub is : after ≡ before ++ (text ++ rest)
+
+-- a node of this name that comes back says so of the record behind so many, or that it has stopped again
+pub record DecidesBy (images : List ℕ → Type 0) (count : ℕ) (name before after : List ℕ) : Type 0 where
+  pub kept : EachHas images (count + 1) → Begins (kept_line name) before after ⊎ Begins (stopped_line name) before after
+  pub lost : EachHas images count → Begins (lost_line name) before after ⊎ Begins (stopped_line name) before after
+
+abbrev pub DecidesIfAny : (images : List ℕ → Type 0) → Option Doubt → (name before after : List ℕ) → Type 0
+DecidesIfAny images None name before after = Unit {0}
+DecidesIfAny images (Some doubt) name before after = DecidesBy images doubt.count name before after
+
+-- the server, if it is down with a commit in doubt
+abbrev pub DecidesPost : {D : Type 0} → Medium D → Post (ServerKeeper D) D → (before after : List ℕ) → Type 0
+DecidesPost medium (Up keeper) before after = Unit {0}
+DecidesPost medium (Down fallen) before after = DecidesIfAny (medium.may_leave fallen.disk) fallen.doubt server_name before after
+DecidesPost medium Between before after = Unit {0}
+
+abbrev pub DecidesServer : {D : Type 0} → Medium D → ServerNode D → (before after : List ℕ) → Type 0
+DecidesServer medium server before after = DecidesPost medium server.post before after
