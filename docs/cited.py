@@ -29,7 +29,8 @@ class Crate:
     def has_in_module(self, cited):
         """Whether this module is there and has what is cited of it, if anything is."""
         module, _, name = cited.rpartition('/')[2].partition('.')
-        return module in self.modules and (not name or re.search(rf'(?<![\w-]){re.escape(name)}(?![\w-])', self.modules[module]) is not None)
+        text = self.modules.get(module)
+        return text is not None and (not name or re.search(rf'(?<![\w-]){re.escape(name)}(?![\w-])', text) is not None)
 
     def has_function(self, cited):
         """Whether there is a function or a type of this name, or a clause of it."""
