@@ -8,6 +8,8 @@ mod accesses;
 #[cfg(test)]
 mod certifies;
 #[cfg(test)]
+mod embeds;
+#[cfg(test)]
 mod execs;
 #[cfg(test)]
 mod fixtures;
