@@ -117,6 +117,7 @@ impl<K: Keeper<D> + Drop, D: Disk + Drop> Post<K, D> {
             answer result }
         ensures answers { IfOk result (λ done. answer ≡ Ok done) }
         ensures same { OnOk result (self.new ≡ self.old) }
+        ensures silent { OnOk result (out.new ≡ out.old) }
         ensures stopped { IsErrOf result Over → answer ≡ Err append.Stopped }
         ensures off { IsErrOf result Over → is_on self.new ≡ false }
         ensures disk { (place : ℕ) → disk_of (K.keeping place).disk self.new ≡ disk_of (K.keeping place).disk self.old }
