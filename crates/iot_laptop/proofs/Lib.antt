@@ -1,0 +1,17 @@
+pub mod BroughtLaws
+pub mod CallsLaws
+pub mod EventsLaws
+pub mod HeadsLaws
+pub mod KeptStatesLaws
+pub mod LaptopStepsLaws
+pub mod LaptopsLaws
+pub mod LinksLaws
+pub mod NodesLaws
+pub mod RecordsLaws
+pub mod ResolutionLaws
+pub mod SeatsLaws
+pub mod StepsLaws
+pub mod TransactionsLaws
+pub mod VerdictLaws
+pub mod ReturnsLaws
+pub mod RestartLaws

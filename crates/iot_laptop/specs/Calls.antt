@@ -1,0 +1,297 @@
+-- What the calls of a laptop answer, and what they make of the client of the machine.
+use Rattle.std.specs.Prelude.{◌≡◌, ℕ, Bool, true, false, List, [], ◌∷◌, ◌++◌, Option, Some, None, Result, Ok, Err, codes}
+use Rattle.iot_acts.specs.Turns.{reads_of}
+use Rattle.iot_tree.specs.Tree.{Nodes}
+use Rattle.iot_tree.specs.declared.acts.Act.{Act}
+use Rattle.iot_tree.specs.declared.acts.Read.{Read}
+use Rattle.iot_tree.specs.declared.labels.Label.{Label}
+use Rattle.iot_tree.specs.declared.labels.OnConflict.{OnConflict}
+use Rattle.iot_tree.specs.declared.want.Want.TheVariants as wanted
+use Rattle.iot_wire.specs.Messages.{IsMessage}
+use Rattle.iot_wire.specs.Rules.{IsRequest}
+use Rattle.iot_wire.specs.Spelling.{request_spelling}
+use Rattle.iot_wire.specs.declared.requests.Request.TheVariants.{Commit}
+use Rattle.iot_queue.specs.declared.items.Item.{Item}
+use Rattle.iot_queue.specs.declared.items.Stage.{Stage}
+use Rattle.iot_queue.specs.declared.items.Stage.TheVariants as stages
+use Rattle.iot_resolve.specs.Plans as resolves
+use Rattle.iot_resolve.specs.declared.plan.Plan as plans
+use Rattle.iot_kept.specs.Changes.{IsSubmitted}
+use Rattle.iot_kept.specs.States.{Transaction}
+use Rattle.iot_client.specs.Messages.{IsRefresh, IsWholeRequest, label_of, resolved_label}
+use Rattle.iot_client.specs.declared.fault.ClientFault.{ClientFault}
+use Rattle.iot_client.specs.declared.fault.ClientFault.TheVariants as faults
+use Rattle.iot_client.specs.declared.steps.Step.{Step}
+use Rattle.iot_client.specs.declared.steps.Step.TheVariants as steps
+use Rattle.iot_disk.specs.Disk.{Medium}
+use Rattle.iot_disk.specs.declared.faults.JournalFault.{JournalFault}
+use Rattle.iot_disk.specs.declared.faults.JournalFault.TheVariants as append
+use Rattle.iot_machine.specs.Clients as clients
+use Rattle.iot_machine.specs.Clients.{Declared, ClientState, base, so_far, begin, act_once, repair, reach, Plan, plan_of, resolution_of}
+use Rattle.iot_machine.specs.Clients.{Next, AtEnd, AtLimit, Acts, Fetches, next_step}
+use Rattle.iot_machine.specs.Machine as machine
+use Rattle.iot_machine.specs.Options as options
+use Rattle.iot_machine.specs.Serving as serving
+use Rattle.iot_machine.specs.Texts.{transaction_name, acts_output, stopped_line}
+use Rattle.iot_node.specs.Posts.{CameIf}
+use Rattle.iot_node.specs.Steps.{Ends}
+use Rattle.iot_node.specs.declared.halt.Halt.{Halt}
+use Rattle.iot_node.specs.declared.halt.Halt.TheVariants.{NoMemory, Over}
+use Rattle.iot_node.specs.declared.lines.Transaction as names
+use Rattle.iot_laptop.specs.Alone.{Try, NotesAlone, StartsAlone}
+use Rattle.iot_laptop.specs.Laptops.{LaptopStands, ClientStands, NodeStands, state_in, live_in, waits_of, IsFirst}
+use Rattle.iot_laptop.specs.Messages.{name_of, SpellsVerdict, verdict_of, told_change}
+use Rattle.iot_laptop.specs.Scripts.{IsNamed, HasNamed, AreNamed, option_named}
+use Rattle.iot_laptop.specs.Seats.{seating}
+use Rattle.iot_laptop.specs.declared.laptop.Laptop.{Laptop}
+use Rattle.iot_laptop.specs.declared.needs.Gone.{Gone}
+use Rattle.iot_laptop.specs.declared.needs.Need.{Need}
+use Rattle.iot_laptop.specs.declared.needs.Need.TheVariants as needs
+use Rattle.iot_laptop.specs.declared.needs.Submitted.{Submitted}
+use Rattle.iot_laptop.specs.declared.needs.Undecided.{Undecided}
+use Rattle.iot_laptop.specs.declared.needs.Undecided.TheVariants.{Nothing, NotManual}
+use Rattle.iot_laptop.specs.declared.verdict.Told.{Told}
+
+-- ---- a record
+
+-- a fault of a call that was not refused, as one of the journal
+abbrev pub of_client : ClientFault → JournalFault
+of_client faults.Stopped = append.Stopped
+of_client other = append.NoMemory
+
+abbrev pub appended : {T : Type 0} → Result T ClientFault → Result T JournalFault
+appended (Ok t) = Ok t
+appended (Err fault) = Err (of_client fault)
+
+-- that it was done, or why not
+abbrev pub done : {T : Type 0} → Result T Halt → Result (Unit {0}) Halt
+done (Ok t) = Ok tt
+done (Err halt) = Err halt
+
+-- among any scripts it stands for a client by this call: it is alive after that, or the event is over, and it may be down
+abbrev pub EndsAlone : {D : Type 0} → Medium D → List Declared → Try machine.Client (Unit {0}) → (old new : Laptop D) → (x y : List ℕ)
+    → Result (Unit {0}) Halt → Type 0
+EndsAlone medium scripts call old new x y result =
+    Ends (LaptopStands medium scripts) (ClientStands medium scripts) call old new x y result
+
+-- it notes this change, or stops in that
+abbrev pub Changes : {D : Type 0} → Medium D → (ClientState → ClientState) → (old new : Laptop D) → (x y : List ℕ)
+    → Result (Unit {0}) Halt → Type 0
+Changes medium change old new x y result =
+    (scripts : List Declared) → EndsAlone medium scripts (NotesAlone change) old new x y result
+
+-- its next transaction begins, with each option that this one may mean
+abbrev pub Begins : {D : Type 0} → Medium D → Declared → OnConflict → (first : Bool) → (old new : Laptop D) → (x y : List ℕ)
+    → Result (Unit {0}) Halt → Type 0
+Begins medium script option first old new x y result =
+    (scripts : List Declared) (on_conflict : options.OnConflict Declared) → IsNamed scripts script → HasNamed scripts on_conflict
+    → option ≡ option_named on_conflict
+    → EndsAlone medium scripts (StartsAlone script on_conflict first) old new x y result
+
+-- the first that waits is to be resolved by the script of this name
+abbrev pub Repairs : {D : Type 0} → Medium D → (name : List ℕ) → (old new : Laptop D) → (x y : List ℕ) → Result (Unit {0}) Halt → Type 0
+Repairs medium name old new x y result =
+    (scripts : List Declared) (script : Declared) → IsNamed scripts script → script.name ≡ name
+    → EndsAlone medium scripts (NotesAlone (repair script)) old new x y result
+
+-- what the machine plans for its first that waits
+abbrev pub head_plan : (held : Nodes) → List clients.Item → Option Plan
+head_plan held [] = None
+head_plan held (m ∷ ms) = plan_of held m
+
+-- each client for which it stands plans this for its first that waits
+abbrev pub Plans : {D : Type 0} → Medium D → List Declared → Laptop D → Plan → Type 0
+Plans medium scripts laptop plan =
+    (m : machine.Client) → LaptopStands medium scripts laptop m
+    → head_plan m.node.durable.held m.node.durable.items ≡ Some plan
+
+-- the first that waits was resolved on this tree as it is planned
+abbrev pub Resolves : {D : Type 0} → Medium D → List Declared → Plan → (t : Nodes) → (old new : Laptop D) → (x y : List ℕ)
+    → Result (Unit {0}) Halt → Type 0
+Resolves medium scripts plan t old new x y result =
+    EndsAlone medium scripts (NotesAlone (reach (clients.Resolved (resolution_of plan t)))) old new x y result
+
+-- ---- the first that waits
+
+-- its name
+abbrev pub head_name : {D : Type 0} → Laptop D → List Item → Option names.Transaction
+head_name laptop [] = None
+head_name laptop (item ∷ items) = Some (record { client = laptop.name; number = item.tid })
+
+abbrev pub head_option : List Item → Option OnConflict
+head_option [] = None
+head_option (item ∷ items) = Some item.option
+
+-- the first that waits, if it is to be decided by hand
+abbrev pub decision_on : {D : Type 0} → Laptop D → Item → Stage → Result names.Transaction Undecided
+decision_on laptop item stages.Waiting = Err NotManual
+decision_on laptop item stages.Conflict = Err NotManual
+decision_on laptop item stages.Manual = Ok (record { client = laptop.name; number = item.tid })
+decision_on laptop item (stages.Resolved done) = Err NotManual
+
+abbrev pub decision : {D : Type 0} → Laptop D → List Item → Result names.Transaction Undecided
+decision laptop [] = Err Nothing
+decision laptop (item ∷ items) = decision_on laptop item item.stage
+
+-- why nothing is decided of the first that waits
+abbrev pub undecided_word : Undecided → List ℕ
+undecided_word Nothing = codes "nothing"
+undecided_word NotManual = codes "not manual"
+
+-- the plan is the one for the first that waits
+abbrev pub IsHeadPlan : List Item → plans.Plan → Type 0
+IsHeadPlan [] plan = ⊥
+IsHeadPlan (item ∷ items) plan = (item.stage ≡ stages.Conflict) × (resolves.plan_of item ≡ Some plan)
+
+-- one that was resolved submits the acts of its resolution, and another one those of its own run
+abbrev pub acts_in : Item → Stage → List Act
+acts_in item (stages.Resolved done) = done.acts
+acts_in item other = item.acts
+
+abbrev pub label_in : ℕ → Item → Stage → Label
+label_in place item (stages.Resolved done) = resolved_label place item.tid item.option done
+label_in place item other = label_of place item
+
+-- what it submits has read
+abbrev pub head_reads : List Item → List Read
+head_reads [] = []
+head_reads (item ∷ items) = reads_of (acts_in item item.stage)
+
+-- the transaction is submitted with its way and with what it printed
+pub record HandsIn {D : Type 0} (laptop : Laptop D) (item : Item) (it : Submitted) : Type 0 where
+  pub submitted : IsSubmitted item
+  pub asked : IsMessage IsRequest request_spelling it.request.items
+      (Commit (label_in (laptop.place) item item.stage) (acts_in item item.stage))
+  pub transaction : it.printed.transaction ≡ record { client = laptop.name; number = item.tid }
+  pub output : it.printed.output ≡ acts_output (acts_in item item.stage)
+  pub way : it.way ≡ (label_in (laptop.place) item item.stage).way
+
+-- the request asks for the server's whole tree
+pub record AsksAll {D : Type 0} (laptop : Laptop D) (item : Item) (request : List ℕ) : Type 0 where
+  pub conflict : item.stage ≡ stages.Conflict
+  pub asked : IsWholeRequest (laptop.place) request
+
+-- what a transaction that waits needs of the server
+abbrev pub IsNeed : {D : Type 0} → Laptop D → Item → Need → Type 0
+IsNeed laptop item (needs.Verdict it) = HandsIn laptop item it
+IsNeed laptop item (needs.Tree request) = AsksAll laptop item request.items
+IsNeed laptop item needs.Decision = item.stage ≡ stages.Manual
+
+-- ---- single steps
+
+-- what the machine's next step is if the client's is this one
+abbrev pub next_as : Step → Next
+next_as (steps.Acted acts ended) = Acts
+next_as (steps.Fetch request path) = Fetches path
+next_as (steps.AtEnd acts) = AtEnd
+next_as (steps.AtLimit acts) = AtLimit
+
+-- this is the next step of each client for which it stands
+abbrev pub IsNext : {D : Type 0} → Medium D → Laptop D → Next → Type 0
+IsNext medium laptop next =
+    (scripts : List Declared) (m : machine.Client) (it : clients.Running) → LaptopStands medium scripts laptop m
+    → m.node.durable.running ≡ Some it
+    → next_step m.first (base m.node.durable) it ≡ next
+
+-- if it stops in a step, that was an act
+abbrev pub NextIs : {D : Type 0} → Medium D → Laptop D → Result Step Halt → Type 0
+NextIs medium laptop (Ok step) = IsNext medium laptop (next_as step)
+NextIs medium laptop (Err NoMemory) = Unit {0}
+NextIs medium laptop (Err Over) = IsNext medium laptop Acts
+
+-- the client has done an act, or stopped in that, and else is as it was
+abbrev pub Steps : {D : Type 0} → Medium D → (old new : Laptop D) → (x y : List ℕ) → Result Step Halt → Type 0
+Steps medium old new x y (Ok (steps.Acted acts ended)) = Changes medium act_once old new x y (Ok tt)
+Steps medium old new x y (Ok (steps.Fetch request path)) =
+    (new ≡ old) × (y ≡ x) × IsRefresh (old.place) (state_in old).held (wanted.Path path) request × IsFirst old
+Steps medium old new x y (Ok (steps.AtEnd acts)) = (new ≡ old) × (y ≡ x)
+Steps medium old new x y (Ok (steps.AtLimit acts)) = (new ≡ old) × (y ≡ x)
+Steps medium old new x y (Err halt) = Changes medium act_once old new x y (Err halt)
+
+-- ---- the end
+
+abbrev pub IsOver : Next → Type 0
+IsOver AtEnd = Unit {0}
+IsOver AtLimit = Unit {0}
+IsOver Acts = ⊥
+IsOver (Fetches path) = ⊥
+
+abbrev pub IsUnended : Next → Type 0
+IsUnended AtEnd = ⊥
+IsUnended AtLimit = ⊥
+IsUnended Acts = Unit {0}
+IsUnended (Fetches path) = Unit {0}
+
+-- each client for which it stands has done all that its transaction may do
+abbrev pub IsDoneIn : {D : Type 0} → Medium D → Laptop D → Type 0
+IsDoneIn medium laptop =
+    (scripts : List Declared) (m : machine.Client) (it : clients.Running) → LaptopStands medium scripts laptop m
+    → m.node.durable.running ≡ Some it → IsOver (next_step m.first (base m.node.durable) it)
+
+-- what is told of the transaction that ends is what it is in each client for which the laptop stands
+pub record IsEndOf (gone : Gone) (m : machine.Client) (it : clients.Running) : Type 0 where
+  pub name : name_of gone.printed.transaction ≡ transaction_name m.name it.number
+  pub class : gone.first ≡ m.first
+  pub did : gone.printed.output ≡ acts_output (so_far (base m.node.durable) it).acts
+
+abbrev pub IsGone : {D : Type 0} → Medium D → Laptop D → Gone → Type 0
+IsGone medium laptop gone =
+    (scripts : List Declared) (m : machine.Client) (it : clients.Running) → LaptopStands medium scripts laptop m
+    → m.node.durable.running ≡ Some it → IsEndOf gone m it
+
+-- then one waits
+abbrev pub waits_after : {D : Type 0} → Laptop D → Result Gone Halt → Type 0
+waits_after laptop (Ok gone) = waits_of (state_in laptop).items ≡ true
+waits_after laptop (Err halt) = Unit {0}
+
+-- ---- verdicts
+
+-- it was told this of the first that waits, which the reply says
+pub record IsTold {D : Type 0} (reply : List ℕ) (laptop : Laptop D) (said : Told) : Type 0 where
+  pub verdict : (told : serving.Verdict) → SpellsVerdict (head_reads (state_in laptop).items) reply told → verdict_of said.verdict ≡ told
+  pub option : head_option (state_in laptop).items ≡ Some said.option
+
+-- what the reply says of it was noted, by its option
+abbrev pub Settles : {D : Type 0} → Medium D → (reply : List ℕ) → (old new : Laptop D) → (x y : List ℕ) → Result (Unit {0}) Halt → Type 0
+Settles medium reply old new x y result =
+    (told : serving.Verdict) (option : OnConflict) → SpellsVerdict (head_reads (state_in old).items) reply told
+    → head_option (state_in old).items ≡ Some option
+    → Changes medium (told_change told option) old new x y result
+
+-- ---- a restart
+
+-- what is so of a call that did not fail for want of memory
+abbrev pub UnlessNoMemory : {A : Type 0} → Result A Halt → Type 0 → Type 0
+UnlessNoMemory (Ok a) P = P
+UnlessNoMemory (Err NoMemory) P = Unit {0}
+UnlessNoMemory (Err Over) P = P
+
+-- one that has just come back: what it found running has no script yet, and is only to be cut off
+pub record ReturnedStands {D : Type 0} (medium : Medium D) (scripts : List Declared) (laptop : Laptop D) (m : machine.Client) : Type
+    0 where
+  pub name : laptop.name ≡ m.name
+  pub link : laptop.link ≡ m.link
+  pub alive : m.node.alive ≡ true
+  pub node : NodeStands medium laptop m
+  pub live : live_in laptop ≡ None
+  pub named : AreNamed scripts m.node.durable
+
+pub record Returned {D : Type 0} (medium : Medium D) (laptop : Laptop D) : Type 0 where
+  pub scripts : List Declared
+  pub machine : machine.Client
+  pub stands : ReturnedStands medium scripts laptop machine
+
+-- the name of the transaction that runs
+abbrev pub running_name : {D : Type 0} → Laptop D → Option Transaction → Option names.Transaction
+running_name laptop None = None
+running_name laptop (Some running) = Some (record { client = laptop.name; number = running.number })
+
+-- The image that it came back from decides whether the record in doubt was kept, which is said, before anything is said of what ran; or
+-- it has stopped again, which is all that is said.
+pub record Came {D : Type 0} (medium : Medium D) (old : Laptop D) (x y : List ℕ) (m : machine.Client) : Type 0 where
+  pub on : Bool
+  pub mid : List ℕ
+  pub rest : List ℕ
+  pub came : CameIf (seating medium old.place) medium on old.post old.name x mid m.node
+  pub whole : y ≡ mid ++ rest
+  pub stopped : on ≡ false → y ≡ x ++ stopped_line old.name

@@ -1,0 +1,84 @@
+-- What a client keeps, as it is on its disk, beside what a client of the machine keeps.
+use Rattle.std.specs.Prelude.{◌≡◌, ◌≤◌, List, [], ◌∷◌, length, Option, Some, None}
+use Rattle.std.specs.FinMap.{entries}
+use Rattle.iot_tree.specs.Tree.{Nodes, IsTree}
+use Rattle.iot_tree.specs.declared.limits.TheConstants.{ACT_LIMIT}
+use Rattle.iot_lang.specs.Scripts.{IsScript}
+use Rattle.iot_acts.specs.Traces.{after_acts}
+use Rattle.iot_exec.specs.Runs.{run}
+use Rattle.iot_limits.specs.Spelled.{IsSpelledTree, AreSpelledFiles}
+use Rattle.iot_queue.specs.declared.items.Item.{Item}
+use Rattle.iot_queue.specs.declared.items.Resolution.{Resolution}
+use Rattle.iot_queue.specs.declared.items.Stage.{Stage}
+use Rattle.iot_queue.specs.declared.items.Stage.TheVariants as stages
+use Rattle.iot_kept.specs.States.{Transaction, State}
+use Rattle.iot_machine.specs.Clients as clients
+use Rattle.iot_machine.specs.Clients.{ClientState, local_run, base, so_far}
+use Rattle.iot_machine.specs.Sound.{HasPlan}
+use Rattle.iot_laptop.specs.Scripts.{option_named}
+
+-- ---- what is durable
+
+-- a resolution is one of the machine's: its acts are those of its script on the server's tree of then
+pub record ResolutionStands (done : Resolution) (m : clients.Resolution) : Type 0 where
+  pub name : done.script ≡ m.script.name
+  pub budget : done.budget ≡ m.budget
+  pub kept : done.kept ≡ entries m.kept
+  pub script : IsScript m.script.code
+  pub acts : done.acts ≡ (run m.script.code m.kept m.tree m.budget).acts
+  pub tree : IsTree m.tree
+  pub files : AreSpelledFiles m.kept
+
+abbrev pub StageStands : Stage → clients.Stage → Type 0
+StageStands stages.Waiting clients.Waiting = Unit {0}
+StageStands stages.Conflict clients.Conflict = Unit {0}
+StageStands stages.Manual clients.Manual = Unit {0}
+StageStands (stages.Resolved done) (clients.Resolved m) = ResolutionStands done m
+StageStands stage other = ⊥
+
+-- an item is a transaction of the machine that waits: its acts are those of its own run on the tree before it
+pub record ItemStands (t : Nodes) (item : Item) (m : clients.Item) : Type 0 where
+  pub number : item.tid ≡ m.number
+  pub name : item.script ≡ m.script.name
+  pub budget : item.budget ≡ m.budget
+  pub few : m.budget ≤ ACT_LIMIT
+  pub script : IsScript m.script.code
+  pub acts : item.acts ≡ (local_run t m).acts
+  pub tree : after_acts t item.acts ≡ (local_run t m).tree
+  pub option : item.option ≡ option_named m.option
+  pub stage : StageStands item.stage m.stage
+  pub planned : HasPlan m
+
+abbrev pub ItemsStand : List Item → Nodes → List clients.Item → Type 0
+ItemsStand [] t [] = Unit {0}
+ItemsStand [] t (m ∷ ms) = ⊥
+ItemsStand (item ∷ items) t [] = ⊥
+ItemsStand (item ∷ items) t (m ∷ ms) = ItemStands t item m × ItemsStand items (after_acts t item.acts) ms
+
+-- ---- on a disk
+
+-- the running transaction, as it is on a disk: its acts are those of its script so far, on the tree after those that wait
+pub record RunningKept (t : Nodes) (running : Transaction) (m : clients.Running) : Type 0 where
+  pub number : running.number ≡ m.number
+  pub name : running.script ≡ m.script.name
+  pub script : IsScript m.script.code
+  pub few : m.acts ≤ ACT_LIMIT
+  pub count : length running.acts ≡ m.acts
+  pub acts : running.acts ≡ (so_far t m).acts
+  pub tree : after_acts t running.acts ≡ (so_far t m).tree
+  pub option : running.option ≡ option_named m.option
+
+abbrev pub RunningKeptIfAny : Nodes → Option Transaction → Option clients.Running → Type 0
+RunningKeptIfAny t None None = Unit {0}
+RunningKeptIfAny t None (Some m) = ⊥
+RunningKeptIfAny t (Some running) None = ⊥
+RunningKeptIfAny t (Some running) (Some m) = RunningKept t running m
+
+-- the state is what a client of the machine keeps
+pub record StateKept (state : State) (m : ClientState) : Type 0 where
+  pub held : state.held ≡ m.held
+  pub items : ItemsStand state.items state.held m.items
+  pub running : RunningKeptIfAny (base m) state.running m.running
+  pub last : state.last ≡ m.last
+  pub tree : IsTree state.held
+  pub spelled : IsSpelledTree state.held

@@ -1,0 +1,222 @@
+-- Which client of the machine a laptop stands for.
+use Rattle.std.specs.Prelude.{◌≡◌, ℕ, Bool, true, false, List, [], ◌∷◌, length, Option, Some, None}
+use Rattle.iot_tree.specs.Tree.{Nodes, IsTree}
+use Rattle.iot_lang.specs.Scripts.{IsScript}
+use Rattle.iot_limits.specs.Spelled.{IsSpelledTree}
+use Rattle.iot_queue.specs.declared.items.Item.{Item}
+use Rattle.iot_kept.specs.States.{Transaction, State, opening}
+use Rattle.iot_client.specs.Ties as client
+use Rattle.iot_client.specs.Ties.{Live}
+use Rattle.iot_client.specs.declared.client.Client.{Client}
+use Rattle.iot_disk.specs.Disk.{Medium}
+use Rattle.iot_link.specs.Links as link
+use Rattle.iot_link.specs.Links.{LinkState}
+use Rattle.iot_link.specs.declared.passages.Passage.{Passage}
+use Rattle.iot_link.specs.declared.passages.Passage.TheVariants as passages
+use Rattle.iot_machine.specs.Clients as clients
+use Rattle.iot_machine.specs.Clients.{Declared, ClientState, new_client, view}
+use Rattle.iot_machine.specs.Machine as machine
+use Rattle.iot_machine.specs.Nodes.{Counts, unopened}
+use Rattle.iot_machine.specs.Sound.{Possibly}
+use Rattle.iot_node.specs.Disks.{IsEmpty}
+use Rattle.iot_node.specs.Posts.{is_on, disk_of, PostStands}
+use Rattle.iot_node.specs.declared.post.Post.{Post}
+use Rattle.iot_node.specs.declared.post.Post.TheVariants.{Up, Down, Between}
+use Rattle.iot_laptop.specs.Alone.{no_text, break, cut_off}
+use Rattle.iot_laptop.specs.Kept.{ItemsStand}
+pub use Rattle.iot_laptop.specs.Kept.{ResolutionStands, StageStands, ItemStands, ItemsStand, RunningKept, RunningKeptIfAny, StateKept}
+use Rattle.iot_laptop.specs.Scripts.{AreNamed, option_named}
+use Rattle.iot_laptop.specs.Seats.{seating}
+use Rattle.iot_laptop.specs.declared.laptop.Laptop.{Laptop}
+use Rattle.iot_laptop.specs.declared.seated.Seated.{Seated}
+
+-- ---- what a laptop has
+
+-- what is durable of a client that is alive
+abbrev pub state_by : {D : Type 0} → Post (Seated D) D → State
+state_by (Up seated) = client.state_of seated.client
+state_by (Down fallen) = opening
+state_by Between = opening
+
+-- what is known of its running transaction besides
+abbrev pub live_by : {D : Type 0} → Post (Seated D) D → Option Live
+live_by (Up seated) = client.live_of seated.client
+live_by (Down fallen) = None
+live_by Between = None
+
+-- the live client itself
+abbrev pub lent_by : {D : Type 0} → Post (Seated D) D → Option (Client D)
+lent_by (Up seated) = Some seated.client
+lent_by (Down fallen) = None
+lent_by Between = None
+
+-- how many records a client has that is alive
+abbrev pub records_by : {D : Type 0} → Post (Seated D) D → ℕ
+records_by (Up seated) = client.records_of seated.client
+records_by (Down fallen) = 0
+records_by Between = 0
+
+abbrev pub is_alive : {D : Type 0} → Laptop D → Bool
+is_alive laptop = is_on laptop.post
+
+abbrev pub state_in : {D : Type 0} → Laptop D → State
+state_in laptop = state_by laptop.post
+
+abbrev pub live_in : {D : Type 0} → Laptop D → Option Live
+live_in laptop = live_by laptop.post
+
+abbrev pub records_in : {D : Type 0} → Laptop D → ℕ
+records_in laptop = records_by laptop.post
+
+-- the disk of a client's node, which it has except inside a call that starts or stops it
+abbrev pub disk_by : {D : Type 0} → Post (Seated D) D → Option D
+disk_by post = disk_of (λ seated. client.disk_of seated.client) post
+
+abbrev pub disk_in : {D : Type 0} → Laptop D → Option D
+disk_in laptop = disk_by laptop.post
+
+-- ---- what is live
+
+-- the running transaction, its class and its script
+pub record RunningStands (running : Transaction) (live : Live) (first : Bool) (m : clients.Running) : Type 0 where
+  pub number : running.number ≡ m.number
+  pub name : running.script ≡ m.script.name
+  pub code : live.code ≡ m.script.code
+  pub script : IsScript m.script.code
+  pub acts : length running.acts ≡ m.acts
+  pub option : running.option ≡ option_named m.option
+  pub class : live.first ≡ first
+
+abbrev pub RunningStandsIfAny : Option Transaction → Option Live → Bool → Option clients.Running → Type 0
+RunningStandsIfAny None live first None = live ≡ None
+RunningStandsIfAny None live first (Some m) = ⊥
+RunningStandsIfAny (Some running) live first None = ⊥
+RunningStandsIfAny (Some running) None first (Some m) = ⊥
+RunningStandsIfAny (Some running) (Some live) first (Some m) = RunningStands running live first m
+
+pub record StateStands (state : State) (live : Option Live) (first : Bool) (m : ClientState) : Type 0 where
+  pub held : state.held ≡ m.held
+  pub items : ItemsStand state.items state.held m.items
+  pub running : RunningStandsIfAny state.running live first m.running
+  pub last : state.last ≡ m.last
+  pub tree : IsTree state.held
+  pub spelled : IsSpelledTree state.held
+
+-- ---- a laptop
+
+-- its node, over its disk; nothing follows the line of a record that was kept
+abbrev pub NodeStands : {D : Type 0} → Medium D → Laptop D → machine.Client → Type 0
+NodeStands medium laptop m = PostStands (seating medium laptop.place) medium no_text laptop.post m.node
+
+-- one that is alive, among these scripts
+pub record LaptopStands {D : Type 0} (medium : Medium D) (scripts : List Declared) (laptop : Laptop D)
+    (m : machine.Client) : Type 0 where
+  pub name : laptop.name ≡ m.name
+  pub link : laptop.link ≡ m.link
+  pub alive : m.node.alive ≡ true
+  pub node : NodeStands medium laptop m
+  pub state : StateStands (state_in laptop) (live_in laptop) m.first m.node.durable
+  pub named : AreNamed scripts m.node.durable
+
+-- one that is down
+pub record FallenStands {D : Type 0} (medium : Medium D) (scripts : List Declared) (laptop : Laptop D)
+    (m : machine.Client) : Type 0 where
+  pub name : laptop.name ≡ m.name
+  pub link : laptop.link ≡ m.link
+  pub alive : m.node.alive ≡ false
+  pub node : NodeStands medium laptop m
+  pub named : Possibly (AreNamed scripts) m.node
+
+pub data ClientStands {D : Type 0} (medium : Medium D) (scripts : List Declared) (laptop : Laptop D)
+    (m : machine.Client) : Type 0 where
+  awake : LaptopStands medium scripts laptop m → ClientStands medium scripts laptop m
+  fallen : FallenStands medium scripts laptop m → ClientStands medium scripts laptop m
+
+-- it is alive, and stands for some client, among some scripts
+pub record Stands {D : Type 0} (medium : Medium D) (laptop : Laptop D) : Type 0 where
+  pub scripts : List Declared
+  pub machine : machine.Client
+  pub stands : LaptopStands medium scripts laptop machine
+
+-- alive or down, it stands for some client
+pub record StandsAnyhow {D : Type 0} (medium : Medium D) (laptop : Laptop D) : Type 0 where
+  pub scripts : List Declared
+  pub machine : machine.Client
+  pub stands : ClientStands medium scripts laptop machine
+
+-- this is its client, which is alive
+pub record IsLent {D : Type 0} (medium : Medium D) (laptop : Laptop D) (it : Client D) : Type 0 where
+  pub post : laptop.post ≡ Up (record { client = it })
+  pub state : client.state_of it ≡ state_in laptop
+  pub live : client.live_of it ≡ live_in laptop
+  pub place : client.place_of it ≡ laptop.place
+  pub tied : client.IsTied medium it
+  pub begun : client.IsBegunIfAny (client.state_of it).running (client.live_of it)
+
+-- a client that was declared, and never started, on a disk that counts this
+abbrev pub unopened_laptop : List ℕ → Counts → machine.Client
+unopened_laptop name counts = record { name = name; node = unopened new_client counts; link = link.opened; first = false }
+
+-- it is so, with an empty disk
+pub record IsUnopened {D : Type 0} (medium : Medium D) (laptop : Laptop D) : Type 0 where
+  pub disk : D
+  pub down : laptop.post ≡ Down (record { disk = disk; doubt = None })
+  pub empty : IsEmpty medium disk
+
+-- whether transactions wait
+abbrev pub waits_of : List Item → Bool
+waits_of [] = false
+waits_of (item ∷ items) = true
+
+-- a transaction runs, and it is first class
+abbrev pub IsFirstOf : Option Live → Type 0
+IsFirstOf None = ⊥
+IsFirstOf (Some live) = live.first ≡ true
+
+abbrev pub IsFirst : {D : Type 0} → Laptop D → Type 0
+IsFirst laptop = IsFirstOf (live_in laptop)
+
+-- the tree that each client sees for which it stands
+abbrev pub IsView : {D : Type 0} → Medium D → Nodes → Laptop D → Type 0
+IsView medium t laptop =
+    (scripts : List Declared) (m : machine.Client) → LaptopStands medium scripts laptop m → t ≡ view m.node.durable
+
+-- ---- its link
+
+-- it is at the place where it was
+abbrev pub SamePlace : {D : Type 0} → Laptop D → Laptop D → Type 0
+SamePlace old new = new.place ≡ old.place
+
+-- after an exchange that got so far
+abbrev pub after_passage : Passage → machine.Client → machine.Client
+after_passage passages.Away m = record m { first = false }
+after_passage passages.RequestLost m = break m
+after_passage passages.ReplyLost m = break m
+after_passage passages.Both m = m
+
+-- its link is another now, and what runs is first class or not
+pub record Relinked {D : Type 0} (medium : Medium D) (change : machine.Client → machine.Client)
+    (old new : Laptop D) : Type 0 where
+  pub place : SamePlace old new
+  pub state : state_in new ≡ state_in old
+  pub stands : (scripts : List Declared) (m : machine.Client) → LaptopStands medium scripts old m
+      → LaptopStands medium scripts new (change m)
+
+-- what runs is second class now
+pub record IsSecondNow {D : Type 0} (medium : Medium D) (old new : Laptop D) : Type 0 where
+  pub place : SamePlace old new
+  pub state : state_in new ≡ state_in old
+  pub link : new.link ≡ old.link
+  pub disk : disk_in new ≡ disk_in old
+  pub alive : is_alive new ≡ is_alive old
+  pub stands : (scripts : List Declared) (m : machine.Client) → LaptopStands medium scripts old m
+      → LaptopStands medium scripts new (record m { first = false })
+
+-- its link is not up, and what runs is second class
+pub record IsCutLink {D : Type 0} (medium : Medium D) (old new : Laptop D) : Type 0 where
+  pub place : SamePlace old new
+  pub name : new.name ≡ old.name
+  pub alive : is_alive new ≡ is_alive old
+  pub disk : disk_in new ≡ disk_in old
+  pub stands : (scripts : List Declared) (m : machine.Client) → ClientStands medium scripts old m
+      → ClientStands medium scripts new (cut_off m)

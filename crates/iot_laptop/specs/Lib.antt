@@ -1,0 +1,7 @@
+pub mod Alone
+pub mod Calls
+pub mod Kept
+pub mod Laptops
+pub mod Messages
+pub mod Scripts
+pub mod Seats

@@ -1,0 +1,305 @@
+//! The calls of a client that append a record. It is alive before each; if its disk fails in one, it has stopped.
+ghost use Rattle.std.specs.Prelude.{◌≡◌, ◌≤◌, List, true, [], None, Some, Ok, Err, IfOk, IfErr, OnOk, IsErrOf, is_some};
+ghost use Rattle.iot_client.specs.Calls.{may_end};
+ghost use Rattle.iot_client.specs.Faults.{MayFail};
+ghost use Rattle.iot_client.specs.Ties.{records_of};
+ghost use Rattle.iot_kept.specs.Changes.{HeadIs, IsSubmitted, IsByHand};
+ghost use Rattle.iot_kept.specs.States.{acts_of};
+ghost use Rattle.iot_lang.specs.Scripts.{IsScript};
+ghost use Rattle.iot_machine.specs.Clients.{Declared, ClientState, Plan, hold, fetch, end, leave};
+ghost use Rattle.iot_machine.specs.Nodes.{Node};
+ghost use Rattle.iot_machine.specs.Stops.{Appends};
+ghost use Rattle.iot_machine.specs.Texts.{acts_output};
+ghost use Rattle.iot_node.specs.Disks.{KeepsDisk};
+ghost use Rattle.iot_node.specs.Keeping.{Appended};
+ghost use Rattle.iot_node.specs.Posts.{Answered, StepsFrom, PostStands, UpStands};
+ghost use Rattle.iot_disk.specs.declared.faults.JournalFault.TheVariants as append;
+ghost use Rattle.iot_node.specs.declared.halt.Halt.TheVariants.{Over};
+ghost use Rattle.iot_node.specs.declared.post.Post.TheVariants.{Up};
+ghost use Rattle.iot_queue.specs.declared.items.Stage.TheVariants.{Conflict as in_conflict};
+ghost use Rattle.iot_tree.specs.Tree.{Nodes, IsWhole};
+ghost use Rattle.iot_laptop.specs.Alone.{no_text};
+ghost use Rattle.iot_laptop.specs.Calls.{of_client, appended, done};
+ghost use Rattle.iot_laptop.specs.Messages.{BringsTree, SpellsTree, IsVerdict};
+ghost use Rattle.iot_laptop.specs.Seats.{seating};
+ghost use Rattle.iot_laptop.specs.declared.seated.Seated.{Seated};
+
+use crate::laptop::Laptop;
+use crate::needs::{Gone, Printed};
+use crate::texts::output_of;
+use crate::verdict::Told;
+use iot_client::{ClientFault, Step};
+use iot_disk::{Disk, JournalFault};
+use iot_lang::Script;
+use iot_node::{Doubt, Halt, Post};
+use iot_text::{Name, NoMemory, Text};
+use iot_tree::OnConflict;
+use std::alloc::Global;
+use std::rc::Rc;
+
+impl<D: Disk + Drop> Laptop<D> {
+    ghost use Rattle.iot_laptop.specs.Laptops.{Stands, SamePlace, IsFirst, is_alive, state_in, live_in, disk_in};
+    ghost use Rattle.iot_laptop.specs.Calls.{Changes, Begins, Repairs, Plans, Resolves, NextIs, Steps, IsDoneIn, IsGone, waits_after};
+    ghost use Rattle.iot_laptop.specs.Calls.{IsTold, Settles, head_reads};
+
+    /// Holds what the reply brings.
+    pub fn take(&mut self, alloc: Global, reply: &[u8], out: &mut Text) -> Result<(), Halt>
+        requires stands { Stands D.medium self.old }
+        requires idle { (state_in self.old).running ≡ None }
+        requires none { (state_in self.old).items ≡ [] }
+        requires brings { BringsTree reply.now }
+        ensures does { (t : Nodes) → SpellsTree reply.now t → Changes D.medium (hold t) self.old self.new out.old out.new result }
+        ensures place { SamePlace self.old self.new }
+        ensures disk { KeepsDisk D.medium (disk_in self.old) (disk_in self.new) }
+    {
+        let count = self.records();
+        let answer = match &mut self.post {
+            Post::Up(seated) => seated.client.take_objects(alloc, reply),
+            Post::Down(_) | Post::Between => unreachable!(),
+        };
+        self.goes_on(alloc, answer, count, out)
+    }
+
+    /// Holds what the reply brings for the transaction that runs, which begins anew.
+    pub fn fetched(&mut self, alloc: Global, reply: &[u8], out: &mut Text) -> Result<(), Halt>
+        requires stands { Stands D.medium self.old }
+        requires first { IsFirst self.old }
+        requires brings { BringsTree reply.now }
+        ensures does { (t : Nodes) → SpellsTree reply.now t → Changes D.medium (fetch t) self.old self.new out.old out.new result }
+        ensures place { SamePlace self.old self.new }
+        ensures disk { KeepsDisk D.medium (disk_in self.old) (disk_in self.new) }
+    {
+        let count = self.records();
+        let answer = match &mut self.post {
+            Post::Up(seated) => seated.client.fetched(alloc, reply),
+            Post::Down(_) | Post::Between => unreachable!(),
+        };
+        self.goes_on(alloc, answer, count, out)
+    }
+
+    /// Begins its next transaction, which does this if it conflicts, first class or not, and gives its number.
+    pub fn begin(
+        &mut self,
+        alloc: Global,
+        name: &Name,
+        script: Rc<Script>,
+        option: OnConflict,
+        first: bool,
+        out: &mut Text,
+    ) -> Result<u64, Halt>
+        requires stands { Stands D.medium self.old }
+        requires idle { (state_in self.old).running ≡ None }
+        requires alone { first ≡ true → (state_in self.old).items ≡ [] }
+        requires script { IsScript script.value }
+        ensures does { Begins D.medium (record { name = name.now; code = script.value }) option first
+            self.old self.new out.old out.new (done result) }
+        ensures place { SamePlace self.old self.new }
+        ensures disk { KeepsDisk D.medium (disk_in self.old) (disk_in self.new) }
+    {
+        let count = self.records();
+        let answer = match &mut self.post {
+            Post::Up(seated) => seated.client.begin(alloc, name, script, option, first),
+            Post::Down(_) | Post::Between => unreachable!(),
+        };
+        self.goes_on(alloc, answer, count, out)
+    }
+
+    /// Does the next act of the transaction that runs, or gives why none is done.
+    pub fn step(&mut self, alloc: Global, out: &mut Text) -> Result<Step, Halt>
+        requires stands { Stands D.medium self.old }
+        requires place { self.old.place ≤ 7 }
+        requires runs { is_some (state_in self.old).running ≡ true }
+        ensures next { NextIs D.medium self.old result }
+        ensures does { Steps D.medium self.old self.new out.old out.new result }
+        ensures place { SamePlace self.old self.new }
+        ensures disk { KeepsDisk D.medium (disk_in self.old) (disk_in self.new) }
+    {
+        let count = self.records();
+        let answer = match &mut self.post {
+            Post::Up(seated) => seated.client.step(alloc),
+            Post::Down(_) | Post::Between => unreachable!(),
+        };
+        self.goes_on(alloc, answer, count, out)
+    }
+
+    /// Lets the transaction that runs wait, whose script has ended or may do no more acts, and tells what it was.
+    pub fn end(&mut self, alloc: Global, out: &mut Text) -> Result<Gone, Halt>
+        requires stands { Stands D.medium self.old }
+        requires over { may_end (state_in self.old) (live_in self.old) ≡ true }
+        ensures over { IsDoneIn D.medium self.old }
+        ensures does { Changes D.medium end self.old self.new out.old out.new (done result) }
+        ensures gone { IfOk result (IsGone D.medium self.old) }
+        ensures waits { waits_after self.new result }
+        ensures place { SamePlace self.old self.new }
+        ensures disk { KeepsDisk D.medium (disk_in self.old) (disk_in self.new) }
+    {
+        let output = self.output(alloc)?;
+        let count = self.records();
+        let answer = match &mut self.post {
+            Post::Up(seated) => seated.client.end(alloc),
+            Post::Down(_) | Post::Between => unreachable!(),
+        };
+        match self.goes_on(alloc, answer, count, out) {
+            Ok(ended) => Ok(Gone {
+                printed: Printed {
+                    transaction: self.transaction(ended.tid),
+                    output,
+                },
+                first: ended.first,
+            }),
+            Err(halt) => Err(halt),
+        }
+    }
+
+    /// What the transaction that runs has printed.
+    fn output(&self, alloc: Global) -> Result<Text, NoMemory>
+        requires { Stands D.medium self.now }
+        ensures { IfOk result (λ output. output ≡ acts_output (acts_of (state_in self.now).running)) }
+    {
+        match self.running() {
+            Some(running) => output_of(alloc, running.acts.as_slice()),
+            None => Ok(Text::new(alloc)),
+        }
+    }
+
+    /// Takes the reply to the submission of the first that waits, and tells what that says of it.
+    pub fn settle(&mut self, alloc: Global, reply: &[u8], out: &mut Text) -> Result<Told, Halt>
+        requires stands { Stands D.medium self.old }
+        requires submitted { HeadIs IsSubmitted (state_in self.old).items }
+        requires told { IsVerdict (head_reads (state_in self.old).items) reply.now }
+        ensures does { Settles D.medium reply.now self.old self.new out.old out.new (done result) }
+        ensures told { IfOk result (IsTold reply.now self.old) }
+        ensures place { SamePlace self.old self.new }
+        ensures disk { KeepsDisk D.medium (disk_in self.old) (disk_in self.new) }
+    {
+        let told = self.told(alloc, reply)?;
+        let count = self.records();
+        let answer = match &mut self.post {
+            Post::Up(seated) => seated.client.take_verdict(alloc, reply),
+            Post::Down(_) | Post::Between => unreachable!(),
+        };
+        match self.goes_on(alloc, answer, count, out) {
+            Ok(_) => Ok(told),
+            Err(halt) => Err(halt),
+        }
+    }
+
+    /// Resolves the first that waits by the script that is planned for it, on the whole tree that the reply brings.
+    pub fn resolve(
+        &mut self,
+        alloc: Global,
+        reply: &[u8],
+        script: Rc<Script>,
+        out: &mut Text,
+    ) -> Result<(), Halt>
+        requires stands { Stands D.medium self.old }
+        requires conflict { HeadIs (λ item. item.stage ≡ in_conflict) (state_in self.old).items }
+        requires brings { BringsTree reply.now }
+        requires whole { (t : Nodes) → SpellsTree reply.now t → IsWhole t }
+        requires script { IsScript script.value }
+        ensures does { (t : Nodes) → SpellsTree reply.now t → (scripts : List Declared) (plan : Plan) → Plans D.medium scripts self.old plan
+            → plan.script.code ≡ script.value → Resolves D.medium scripts plan t self.old self.new out.old out.new result }
+        ensures place { SamePlace self.old self.new }
+        ensures disk { KeepsDisk D.medium (disk_in self.old) (disk_in self.new) }
+    {
+        let count = self.records();
+        let answer = match &mut self.post {
+            Post::Up(seated) => seated.client.resolve(alloc, reply, script),
+            Post::Down(_) | Post::Between => unreachable!(),
+        };
+        self.goes_on(alloc, answer, count, out)
+    }
+
+    /// Has the first that waits, which is to be decided by hand, resolved by the script of this name.
+    pub fn repair(&mut self, alloc: Global, script: &Name, out: &mut Text) -> Result<(), Halt>
+        requires stands { Stands D.medium self.old }
+        requires manual { HeadIs IsByHand (state_in self.old).items }
+        ensures does { Repairs D.medium script.now self.old self.new out.old out.new result }
+        ensures place { SamePlace self.old self.new }
+        ensures disk { KeepsDisk D.medium (disk_in self.old) (disk_in self.new) }
+    {
+        let count = self.records();
+        let answer = match &mut self.post {
+            Post::Up(seated) => seated.client.repair(alloc, script),
+            Post::Down(_) | Post::Between => unreachable!(),
+        };
+        self.goes_on(alloc, answer, count, out)
+    }
+
+    /// Lets the first that waits, which is to be decided by hand, leave.
+    pub fn discard(&mut self, alloc: Global, out: &mut Text) -> Result<(), Halt>
+        requires stands { Stands D.medium self.old }
+        requires manual { HeadIs IsByHand (state_in self.old).items }
+        ensures does { Changes D.medium leave self.old self.new out.old out.new result }
+        ensures place { SamePlace self.old self.new }
+        ensures disk { KeepsDisk D.medium (disk_in self.old) (disk_in self.new) }
+    {
+        let count = self.records();
+        let answer = match &mut self.post {
+            Post::Up(seated) => seated.client.discard(alloc),
+            Post::Down(_) | Post::Between => unreachable!(),
+        };
+        self.goes_on(alloc, answer, count, out)
+    }
+
+    /// What a call of its client answered that was to append a record after so many others. If its disk failed in that, it has stopped.
+    pub(crate) fn goes_on<T>(
+        &mut self,
+        alloc: Global,
+        answer: Result<T, ClientFault>,
+        count: u64,
+        out: &mut Text,
+    ) -> Result<T, Halt>
+        requires alive { is_alive self.old ≡ true }
+        requires fault { IfErr answer MayFail }
+        ensures step { (was now : Seated D) (change : ClientState → ClientState) (node : Node ClientState) → self.old.post ≡ Up now
+            → UpStands (seating D.medium self.old.place) D.medium no_text was node
+            → Appended (seating D.medium self.old.place) D.medium change node.durable was now (appended answer)
+            → count ≡ records_of was.client
+            → Answered
+            (StepsFrom (PostStands (seating D.medium self.old.place) D.medium no_text) (Appends self.old.name change) node self.new.post
+            out.old out.new)
+            (appended answer) result }
+        ensures answers { IfOk result (λ done. appended answer ≡ Ok done) }
+        ensures same { OnOk result (self.new ≡ self.old) }
+        ensures silent { OnOk result (out.new ≡ out.old) }
+        ensures stopped { IsErrOf result Over → appended answer ≡ Err append.Stopped }
+        ensures rest { self.new ≡ record self.old { post = self.new.post } }
+        ensures disk { disk_in self.new ≡ disk_in self.old }
+    {
+        let doubt = Doubt {
+            count,
+            lines: Text::new(alloc),
+        };
+        self.post
+            .take(journaled(answer), doubt, self.name.as_bytes(), out)
+    }
+}
+
+/// An answer of a client's call that was not refused, as one of its journal.
+fn journaled<T>(answer: Result<T, ClientFault>) -> Result<T, JournalFault>
+    requires { IfErr answer MayFail }
+    ensures { result ≡ appended answer }
+{
+    match answer {
+        Ok(done) => Ok(done),
+        Err(fault) => Err(of_journal(fault)),
+    }
+}
+
+fn of_journal(fault: ClientFault) -> JournalFault
+    requires { MayFail fault }
+    ensures { result ≡ of_client fault }
+{
+    match fault {
+        ClientFault::NoMemory => JournalFault::NoMemory,
+        ClientFault::Stopped => JournalFault::Stopped,
+        ClientFault::Busy
+        | ClientFault::Pending
+        | ClientFault::Idle
+        | ClientFault::NotAtEnd
+        | ClientFault::Nothing
+        | ClientFault::NotManual
+        | ClientFault::BadReply { .. } => unreachable!(),
+    }
+}

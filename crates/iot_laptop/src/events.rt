@@ -1,0 +1,176 @@
+//! The events of a client alone: its link, and what may befall its node.
+ghost use Rattle.std.specs.Prelude.{◌≡◌, List, true, Some, IsSome, IfOk, IfErr, OnOk};
+ghost use Rattle.iot_machine.specs.Clients.{Declared};
+ghost use Rattle.iot_machine.specs.Machine as machine;
+ghost use Rattle.iot_machine.specs.Refining.{Refines};
+ghost use Rattle.iot_node.specs.Disks.{KeepsDisk};
+ghost use Rattle.iot_node.specs.Posts.{is_fallen};
+ghost use Rattle.iot_node.specs.Steps.{StepsTo};
+ghost use Rattle.iot_text.specs.Texts.{Extends};
+
+use crate::laptop::Laptop;
+use crate::texts::{say_connect, say_cut, say_disconnect, say_lose};
+use iot_disk::{Disk, Pick};
+use iot_link::Loss;
+use iot_node::{Halt, Post, Transaction, say};
+use iot_text::{NoMemory, Text};
+use std::alloc::Global;
+
+impl<D: Disk + Drop> Laptop<D> {
+    ghost use Rattle.iot_laptop.specs.Alone.{Connects, Disconnects, Loses, OpensClient, CrashesClient, RestartsClient, ArmsClient, CutsOff};
+    ghost use Rattle.iot_laptop.specs.Laptops.{ClientStands, LaptopStands, StandsAnyhow, IsUnopened, SamePlace, is_alive, state_in};
+    ghost use Rattle.iot_laptop.specs.Laptops.{disk_in};
+    ghost use Rattle.iot_laptop.specs.Calls.{UnlessNoMemory, ReturnedStands, Returned, running_name, Came};
+
+    // ---- its link
+
+    /// Makes its link up.
+    pub fn connect(&mut self, out: &mut Text) -> Result<(), NoMemory>
+        ensures step { OnOk result ((scripts : List Declared)
+            → Refines (ClientStands D.medium scripts) Connects self.old self.new out.old out.new tt) }
+        ensures place { SamePlace self.old self.new }
+        ensures alive { is_alive self.new ≡ is_alive self.old }
+        ensures disk { disk_in self.new ≡ disk_in self.old }
+    {
+        self.link.connect();
+        say_connect(&self.name, out)
+    }
+
+    /// Makes its link not up. What runs is second class from then on.
+    pub fn disconnect(&mut self, out: &mut Text) -> Result<(), NoMemory>
+        requires { StandsAnyhow D.medium self.old }
+        ensures step { OnOk result ((scripts : List Declared)
+            → Refines (ClientStands D.medium scripts) Disconnects self.old self.new out.old out.new tt) }
+        ensures place { SamePlace self.old self.new }
+        ensures alive { is_alive self.new ≡ is_alive self.old }
+        ensures disk { disk_in self.new ≡ disk_in self.old }
+    {
+        self.cut_link();
+        say_disconnect(&self.name, out)
+    }
+
+    /// Arms its link to lose a message.
+    pub fn lose(&mut self, loss: Loss, out: &mut Text) -> Result<(), NoMemory>
+        ensures step { OnOk result ((scripts : List Declared)
+            → Refines (ClientStands D.medium scripts) (Loses loss) self.old self.new out.old out.new tt) }
+        ensures place { SamePlace self.old self.new }
+        ensures alive { is_alive self.new ≡ is_alive self.old }
+        ensures disk { disk_in self.new ≡ disk_in self.old }
+    {
+        self.link.arm(loss);
+        say_lose(&self.name, loss, out)
+    }
+
+    // ---- its node
+
+    /// Starts for the first time, and tells whether it did. It knows nothing yet. Else it has stopped, which is said.
+    pub fn open(&mut self, alloc: Global, out: &mut Text) -> Result<bool, NoMemory>
+        requires { IsUnopened D.medium self.old }
+        ensures step { IfOk result (λ on. (scripts : List Declared)
+            → Refines (ClientStands D.medium scripts) OpensClient self.old self.new out.old out.new on) }
+        ensures alive { IfOk result (λ on. is_alive self.new ≡ on) }
+        ensures place { SamePlace self.old self.new }
+        ensures disk { KeepsDisk D.medium (disk_in self.old) (disk_in self.new) }
+    {
+        self.post.open(alloc, self.place, self.name.as_bytes(), out)
+    }
+
+    /// Loses its memory: what is not on its disk is gone.
+    pub fn crash(&mut self, out: &mut Text) -> Result<(), NoMemory>
+        ensures step { OnOk result ((scripts : List Declared)
+            → Refines (ClientStands D.medium scripts) CrashesClient self.old self.new out.old out.new tt) }
+        ensures place { SamePlace self.old self.new }
+        ensures disk { disk_in self.new ≡ disk_in self.old }
+    {
+        self.post.crash(self.name.as_bytes(), out)
+    }
+
+    /// Comes back from one of the images that its disk may have, and cuts off what ran, if something did: that waits from now on with
+    /// the acts that it has done. Or it stops again, which is said.
+    pub fn restart(&mut self, alloc: Global, out: &mut Text) -> Result<(), NoMemory>
+        requires { StandsAnyhow D.medium self.old }
+        ensures step { OnOk result ((scripts : List Declared)
+            → Refines (ClientStands D.medium scripts) RestartsClient self.old self.new out.old out.new tt) }
+
+        // The image that it came back from decides whether the record in doubt was kept.
+        ensures came { is_fallen self.old.post ≡ true → OnOk result ((scripts : List Declared) (m : machine.Client)
+            → ClientStands D.medium scripts self.old m → Came D.medium self.old out.old out.new m) }
+        ensures place { SamePlace self.old self.new }
+        ensures disk { KeepsDisk D.medium (disk_in self.old) (disk_in self.new) }
+    {
+        if self.is_alive() {
+            say(b"up", out)?;
+            return Ok(());
+        }
+        if !self
+            .post
+            .come_back(alloc, self.place, self.name.as_bytes(), out)?
+        {
+            return Ok(());
+        }
+        match self.cut_off(alloc, out) {
+            Ok(()) => Ok(()),
+            Err(Halt::Over) => Ok(()),
+            Err(Halt::NoMemory) => Err(NoMemory),
+        }
+    }
+
+    /// Cuts off what ran when it lost its memory, if something did.
+    fn cut_off(&mut self, alloc: Global, out: &mut Text) -> Result<(), Halt>
+        requires { Returned D.medium self.old }
+        ensures cuts { UnlessNoMemory result ((scripts : List Declared)
+            → StepsTo (ReturnedStands D.medium scripts) (ClientStands D.medium scripts) CutsOff self.old self.new out.old out.new tt) }
+        ensures place { SamePlace self.old self.new }
+        ensures disk { KeepsDisk D.medium (disk_in self.old) (disk_in self.new) }
+    {
+        let Some(transaction) = self.found() else {
+            return Ok(());
+        };
+        let count = self.records();
+        let answer = match &mut self.post {
+            Post::Up(seated) => seated.client.cut(alloc),
+            Post::Down(_) | Post::Between => unreachable!(),
+        };
+        match self.goes_on(alloc, answer, count, out) {
+            Ok(Some(acts)) => {
+                say_cut(&transaction, acts, out)?;
+                Ok(())
+            }
+            Ok(None) => unreachable!(),
+            Err(halt) => Err(halt),
+        }
+    }
+
+    /// The name of the transaction that it found running when it came back, if it found one.
+    fn found(&self) -> Option<Transaction>
+        requires { Returned D.medium self.now }
+        ensures { result ≡ running_name self.now (state_in self.now).running }
+    {
+        match &self.post {
+            Post::Up(seated) => match seated.client.running() {
+                Some(running) => Some(self.transaction(running.tid)),
+                None => None,
+            },
+            Post::Down(_) | Post::Between => unreachable!(),
+        }
+    }
+
+    /// Makes a later call of its disk fail, and says so.
+    pub fn arm(&mut self, calls: u64, pick: Pick, out: &mut Text) -> Result<(), NoMemory>
+        ensures step { OnOk result ((scripts : List Declared)
+            → Refines (ClientStands D.medium scripts) (ArmsClient calls pick) self.old self.new out.old out.new tt) }
+        ensures place { SamePlace self.old self.new }
+        ensures same { IfErr result (λ _. self.new ≡ self.old) }
+        ensures text { Extends out.old out.new }
+    {
+        self.post.arm(calls, pick, self.name.as_bytes(), out)
+    }
+
+    /// Gives its disk back.
+    pub fn into_disk(self) -> D
+        requires { IsSome (disk_in self) }
+        ensures { disk_in self ≡ Some result }
+    {
+        self.post.into_disk()
+    }
+}

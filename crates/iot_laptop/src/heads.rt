@@ -1,0 +1,153 @@
+//! The first transaction that waits: what it needs of the server, and what is planned for it.
+ghost use Rattle.std.specs.Prelude.{◌≡◌, ◌≤◌, ℕ, true, IfOk};
+ghost use Rattle.iot_client.specs.Messages.{way_of};
+ghost use Rattle.iot_kept.specs.Changes.{HeadIs, IsSubmitted};
+ghost use Rattle.iot_machine.specs.Texts.{acts_output};
+ghost use Rattle.iot_queue.specs.declared.items.Stage.TheVariants.{Conflict as in_conflict};
+ghost use Rattle.iot_laptop.specs.Calls.{acts_in, label_in};
+ghost use Rattle.iot_laptop.specs.Messages.{IsVerdict};
+
+use crate::laptop::{Laptop, memory};
+use crate::needs::{Need, Printed, Submitted, Undecided};
+use crate::texts::output_of;
+use crate::verdict::{Told, verdict_in};
+use iot_client::Ask;
+use iot_disk::Disk;
+use iot_node::Transaction;
+use iot_queue::{Item, Stage};
+use iot_resolve::{Plan, plan_of};
+use iot_text::NoMemory;
+use iot_tree::{Act, OnConflict, Way};
+use std::alloc::Global;
+
+impl<D: Disk> Laptop<D> {
+    ghost use Rattle.iot_laptop.specs.Laptops.{Stands, state_in, waits_of};
+    ghost use Rattle.iot_laptop.specs.Calls.{head_name, decision, decision_on, IsNeed, head_reads, IsTold, IsHeadPlan};
+
+    /// The name of the first that waits.
+    pub fn head(&self) -> Option<Transaction>
+        requires { Stands D.medium self.now }
+        ensures { result ≡ head_name self.now (state_in self.now).items }
+    {
+        match self.client().queue().head() {
+            Some(item) => Some(self.transaction(item.tid)),
+            None => None,
+        }
+    }
+
+    /// The first that waits, if it is to be decided by hand.
+    pub fn decision(&self) -> Result<Transaction, Undecided>
+        requires { Stands D.medium self.now }
+        ensures { result ≡ decision self.now (state_in self.now).items }
+    {
+        match self.client().queue().head() {
+            Some(item) => self.decision_on(item),
+            None => Err(Undecided::Nothing),
+        }
+    }
+
+    fn decision_on(&self, item: &Item) -> Result<Transaction, Undecided>
+        ensures { result ≡ decision_on self.now item.now item.now.stage }
+    {
+        match &item.stage {
+            Stage::Manual => Ok(self.transaction(item.tid)),
+            Stage::Waiting | Stage::Conflict | Stage::Resolved(_) => Err(Undecided::NotManual),
+        }
+    }
+
+    /// What the first that waits needs of the server.
+    pub fn need(&self, alloc: Global) -> Result<Need, NoMemory>
+        requires stands { Stands D.medium self.now }
+        requires place { self.now.place ≤ 7 }
+        requires waits { waits_of (state_in self.now).items ≡ true }
+        ensures { IfOk result (λ need. HeadIs (λ item. IsNeed self.now item need) (state_in self.now).items) }
+    {
+        let Some(item) = self.client().queue().head() else {
+            unreachable!();
+        };
+        match self.client().submission(alloc) {
+            Ok(Ask::Commit(request)) => Ok(Need::Verdict(Submitted {
+                request: request.into_bytes(),
+                printed: self.printed(alloc, item)?,
+                way: way_of(item),
+            })),
+            Ok(Ask::Whole(request)) => Ok(Need::Tree(request.into_bytes())),
+            Ok(Ask::Manual) => Ok(Need::Decision),
+            Err(fault) => Err(memory(fault)),
+        }
+    }
+
+    /// The transaction, and what the acts have printed that it submits.
+    fn printed(&self, alloc: Global, item: &Item) -> Result<Printed, NoMemory>
+        ensures { IfOk result (λ printed. printed ≡ record {
+          transaction = record { client = self.now.name; number = item.now.tid };
+          output = acts_output (acts_in item.now item.now.stage);
+        }) }
+    {
+        Ok(Printed {
+            transaction: self.transaction(item.tid),
+            output: output_of(alloc, submitted(item))?,
+        })
+    }
+
+    /// What the reply to the submission of the first that waits says of it.
+    pub(crate) fn told(&self, alloc: Global, reply: &[u8]) -> Result<Told, NoMemory>
+        requires stands { Stands D.medium self.now }
+        requires submitted { HeadIs IsSubmitted (state_in self.now).items }
+        requires told { IsVerdict (head_reads (state_in self.now).items) reply.now }
+        ensures { IfOk result (λ said. IsTold reply.now self.now said) }
+    {
+        let Some(item) = self.client().queue().head() else {
+            unreachable!();
+        };
+        Ok(Told {
+            verdict: verdict_in(alloc, submitted(item), reply)?,
+            option: item.option,
+        })
+    }
+
+    /// What is planned for the first that waits, which conflicts.
+    pub fn plan(&self) -> Plan
+        requires stands { Stands D.medium self.now }
+        requires conflict { HeadIs (λ item. item.stage ≡ in_conflict) (state_in self.now).items }
+        ensures { IsHeadPlan (state_in self.now).items result }
+    {
+        let Some(item) = self.client().queue().head() else {
+            unreachable!();
+        };
+        match plan_of(item) {
+            Some(plan) => plan,
+            None => unreachable!(),
+        }
+    }
+}
+
+/// The acts that a transaction submits: those of its resolution, or of its own run.
+fn submitted(item: &Item) -> &[Act]
+    ensures { result.now ≡ acts_in item.now item.now.stage }
+{
+    match &item.stage {
+        Stage::Resolved(done) => done.acts.as_slice(),
+        Stage::Waiting | Stage::Conflict | Stage::Manual => item.acts.as_slice(),
+    }
+}
+
+/// The way on which a transaction is committed that is submitted so.
+fn way_of(item: &Item) -> Way
+    ensures { (place : ℕ) → result ≡ (label_in place item.now item.now.stage).way }
+{
+    match &item.stage {
+        Stage::Resolved(_) => resolved_way(item.option),
+        Stage::Waiting | Stage::Conflict | Stage::Manual => Way::Certified,
+    }
+}
+
+/// The way of a resolution.
+fn resolved_way(option: OnConflict) -> Way
+    ensures { result ≡ way_of option }
+{
+    match option {
+        OnConflict::Reexec => Way::Reexecuted,
+        OnConflict::Resolver(_) | OnConflict::Abort | OnConflict::Manual => Way::Resolved,
+    }
+}

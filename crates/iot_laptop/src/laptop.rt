@@ -1,0 +1,221 @@
+//! A client that was declared, by its name and its place, and its link with the server.
+ghost use Rattle.std.specs.Prelude.{◌≡◌, ◌≤◌, ◌*◌, ◌&&◌, not, true, [], List, None, Some, IfOk, IfSome, is_some, length};
+ghost use Rattle.std.specs.Option.{option_copied};
+ghost use Rattle.iot_client.specs.Messages.{IsRefresh};
+ghost use Rattle.iot_client.specs.Calls.{may_end, is_over_if_any};
+ghost use Rattle.iot_client.specs.Ties.{class_by};
+ghost use Rattle.iot_kept.specs.Memory.{transaction_of, class_of};
+ghost use Rattle.iot_client.specs.declared.fault.ClientFault.TheVariants.{NoMemory as no_memory};
+ghost use Rattle.iot_machine.specs.Clients.{Declared};
+
+use crate::seated::Seated;
+use iot_client::{Client, ClientFault, Running};
+use iot_disk::Disk;
+use iot_link::Link;
+use iot_node::{Fallen, Post, Transaction};
+use iot_text::{Name, NoMemory};
+use iot_tree::{ACT_LIMIT, Tree, Want};
+use std::alloc::Global;
+
+/// A client, its name, its place in the order of declaration, and its link.
+#[derive(Drop)]
+pub struct Laptop<D: Disk> {
+    pub(crate) name: Name,
+    pub(crate) place: u64,
+    pub(crate) post: Post<Seated<D>, D>,
+    pub(crate) link: Link,
+}
+
+impl<D: Disk> Laptop<D> {
+    ghost use Rattle.iot_node.specs.Disks.{IsEmpty, counts_on};
+    ghost use Rattle.iot_laptop.specs.Laptops.{is_alive, state_in, live_in, disk_in, lent_by, records_in, waits_of, IsView};
+    ghost use Rattle.iot_laptop.specs.Laptops.{Stands, StandsAnyhow, FallenStands, IsLent, IsUnopened, unopened_laptop};
+
+    /// The client of this name at this place, on an empty disk. It was never started.
+    pub fn unopened(name: Name, place: u64, disk: D) -> Laptop<D>
+        requires { IsEmpty D.medium disk }
+        ensures stands { (scripts : List Declared) → FallenStands D.medium scripts result
+            (unopened_laptop name (counts_on D.medium disk)) }
+        ensures unopened { IsUnopened D.medium result }
+        ensures place { result.place ≡ place }
+        ensures name { result.name ≡ name }
+        ensures disk { disk_in result ≡ Some disk }
+    {
+        Laptop {
+            name,
+            place,
+            post: Post::Down(Fallen { disk, doubt: None }),
+            link: Link::new(),
+        }
+    }
+
+    /// Its name.
+    pub fn name(&self) -> &Name
+        ensures { result.now ≡ self.now.name }
+    {
+        &self.name
+    }
+
+    /// Its place in the order of declaration.
+    pub fn place(&self) -> u64
+        ensures { result ≡ self.now.place }
+    {
+        self.place
+    }
+
+    /// Whether it is alive.
+    pub fn is_alive(&self) -> bool
+        ensures { result ≡ is_alive self.now }
+    {
+        matches!(self.post, Post::Up(_))
+    }
+
+    /// The client, if it is alive.
+    pub fn lent(&self) -> Option<&Client<D>>
+        ensures lent { option_copied result ≡ lent_by self.now.post }
+        ensures stands { Stands D.medium self.now → IfSome (option_copied result) (IsLent D.medium self.now) }
+    {
+        match &self.post {
+            Post::Up(seated) => Some(&seated.client),
+            Post::Down(_) | Post::Between => None,
+        }
+    }
+
+    /// The client, which is alive.
+    pub(crate) fn client(&self) -> &Client<D>
+        requires { Stands D.medium self.now }
+        ensures { IsLent D.medium self.now result.now }
+    {
+        match &self.post {
+            Post::Up(seated) => &seated.client,
+            Post::Down(_) | Post::Between => unreachable!(),
+        }
+    }
+
+    /// Whether a transaction runs.
+    pub fn runs(&self) -> bool
+        requires { Stands D.medium self.now }
+        ensures { result ≡ is_some (state_in self.now).running }
+    {
+        self.running().is_some()
+    }
+
+    /// Whether transactions wait.
+    pub fn waits(&self) -> bool
+        requires { Stands D.medium self.now }
+        ensures { result ≡ waits_of (state_in self.now).items }
+    {
+        self.client().queue().head().is_some()
+    }
+
+    /// Whether the transaction that runs may end.
+    pub fn may_end(&self) -> bool
+        requires { Stands D.medium self.now }
+        ensures { result ≡ may_end (state_in self.now) (live_in self.now) }
+    {
+        if self.at_end() {
+            return true;
+        }
+        match self.running() {
+            Some(running) => running.acts.len() as u64 >= ACT_LIMIT,
+            None => false,
+        }
+    }
+
+    /// The transaction that runs, if one does.
+    pub fn running(&self) -> Option<&Running>
+        requires { Stands D.medium self.now }
+        ensures running { transaction_of (option_copied result) ≡ (state_in self.now).running }
+        ensures class { class_of (option_copied result) ≡ class_by (state_in self.now).running (live_in self.now) }
+    {
+        self.client().running()
+    }
+
+    /// Whether a transaction runs whose script has ended.
+    pub fn at_end(&self) -> bool
+        requires { Stands D.medium self.now }
+        ensures { result ≡ is_over_if_any (state_in self.now) (live_in self.now) }
+    {
+        self.client().at_end()
+    }
+
+    /// The name of its transaction of this number.
+    pub fn transaction(&self, number: u64) -> Transaction
+        ensures { result ≡ record { client = self.now.name; number = number } }
+    {
+        Transaction {
+            client: self.name,
+            number,
+        }
+    }
+
+    /// The tree that it sees.
+    pub fn view(&self) -> &Tree
+        requires { Stands D.medium self.now }
+        ensures { IsView D.medium result.now self.now }
+    {
+        self.client().view()
+    }
+
+    /// How many transactions wait, three times: how often one drain syncs at most.
+    pub fn most_syncs(&self) -> Result<u64, NoMemory>
+        requires { Stands D.medium self.now }
+        ensures { IfOk result (λ most. most ≡ 3 * length (state_in self.now).items) }
+    {
+        let waiting = self.client().queue().items().len() as u64;
+        match waiting.checked_mul(3) {
+            Some(most) => Ok(most),
+            None => Err(NoMemory),
+        }
+    }
+
+    /// Whether it is alive, its link is up, and nothing waits or runs.
+    pub fn is_drained(&self) -> bool
+        requires { StandsAnyhow D.medium self.now }
+        ensures { result ≡ is_alive self.now && not (waits_of (state_in self.now).items) && not (is_some (state_in self.now).running)
+            && self.now.link.up }
+    {
+        self.is_alive() && !self.waits() && !self.runs() && self.link.is_up()
+    }
+
+    /// How many records it has appended, if it is alive.
+    pub fn records(&self) -> u64
+        ensures { result ≡ records_in self.now }
+    {
+        match &self.post {
+            Post::Up(seated) => seated.client.records(),
+            Post::Down(_) | Post::Between => 0,
+        }
+    }
+
+    /// Asks for what is wanted, in bytes.
+    pub fn ask(&self, alloc: Global, want: &Want) -> Result<Vec<u8>, NoMemory>
+        requires stands { Stands D.medium self.now }
+        requires place { self.now.place ≤ 7 }
+        requires idle { (state_in self.now).running ≡ None }
+        requires none { (state_in self.now).items ≡ [] }
+        ensures { IfOk result (λ request. IsRefresh self.now.place (state_in self.now).held want.now request.items) }
+    {
+        match self.client().ask(alloc, want) {
+            Ok(request) => Ok(request),
+            Err(fault) => Err(memory(fault)),
+        }
+    }
+}
+
+/// The one fault of a client's call that is not refused and appends nothing.
+pub(crate) fn memory(fault: ClientFault) -> NoMemory
+    requires { fault ≡ no_memory }
+{
+    match fault {
+        ClientFault::NoMemory => NoMemory,
+        ClientFault::Stopped
+        | ClientFault::Busy
+        | ClientFault::Pending
+        | ClientFault::Idle
+        | ClientFault::NotAtEnd
+        | ClientFault::Nothing
+        | ClientFault::NotManual
+        | ClientFault::BadReply { .. } => unreachable!(),
+    }
+}

@@ -1,0 +1,17 @@
+//! A client with its name, its place and its link: what it does alone, and what it makes of each reply of the server.
+#![tactic(auto)]
+
+mod calls;
+mod events;
+mod heads;
+mod laptop;
+mod links;
+mod needs;
+mod seated;
+mod texts;
+mod verdict;
+
+pub use laptop::Laptop;
+pub use needs::{Gone, Need, Printed, Submitted, Undecided};
+pub use seated::Seated;
+pub use verdict::{Told, Verdict};

@@ -1,0 +1,70 @@
+//! The link of a client with the server.
+ghost use Rattle.std.specs.Prelude.{◌≡◌};
+ghost use Rattle.iot_link.specs.Links.{passage};
+ghost use Rattle.iot_link.specs.declared.passages.Passage.TheVariants.{Both};
+
+use crate::laptop::Laptop;
+use iot_disk::Disk;
+use iot_link::Passage;
+use iot_node::Post;
+
+impl<D: Disk> Laptop<D> {
+    ghost use Rattle.iot_laptop.specs.Alone.{break};
+    ghost use Rattle.iot_laptop.specs.Laptops.{Stands, StandsAnyhow, IsCutLink, Relinked, IsSecondNow, after_passage, disk_in};
+
+    /// Whether its link is up.
+    pub fn is_connected(&self) -> bool
+        ensures { result ≡ self.now.link.up }
+    {
+        self.link.is_up()
+    }
+
+    /// Makes its link not up, and what runs second class, if it is alive.
+    pub(crate) fn cut_link(&mut self)
+        requires { StandsAnyhow D.medium self.old }
+        ensures { IsCutLink D.medium self.old self.new }
+    {
+        self.link.disconnect();
+        if let Post::Up(seated) = &mut self.post {
+            seated.client.second();
+        }
+    }
+
+    /// Takes one exchange with a server that is alive or not, and tells how far it gets. What runs is second class after one that
+    /// did not get through.
+    pub fn pass(&mut self, server_up: bool) -> Passage
+        requires { Stands D.medium self.old }
+        ensures passage { result ≡ passage self.old.link server_up }
+        ensures after { Relinked D.medium (after_passage result) self.old self.new }
+        ensures both { result ≡ Both → self.new ≡ self.old }
+        ensures disk { disk_in self.new ≡ disk_in self.old }
+    {
+        let passage = self.link.outcome(server_up);
+        match passage {
+            Passage::Both => (),
+            Passage::Away | Passage::RequestLost | Passage::ReplyLost => self.second(),
+        }
+        passage
+    }
+
+    /// Its link is broken, since the server stopped in an exchange. What runs is second class from then on.
+    pub fn broke(&mut self)
+        requires { Stands D.medium self.old }
+        ensures after { Relinked D.medium break self.old self.new }
+        ensures disk { disk_in self.new ≡ disk_in self.old }
+    {
+        self.link.broke();
+        self.second();
+    }
+
+    /// What runs is second class from now on.
+    fn second(&mut self)
+        requires { Stands D.medium self.old }
+        ensures { IsSecondNow D.medium self.old self.new }
+    {
+        match &mut self.post {
+            Post::Up(seated) => seated.client.second(),
+            Post::Down(_) | Post::Between => unreachable!(),
+        }
+    }
+}

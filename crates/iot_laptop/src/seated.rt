@@ -1,0 +1,48 @@
+//! A client as that which keeps a node's state on its disk.
+use iot_client::Client;
+use iot_disk::{Disk, Pick, StartFault};
+use iot_node::Keeper;
+use std::alloc::Global;
+
+/// A client, as the keeper of a node.
+#[derive(Drop)]
+pub struct Seated<D: Disk> {
+    pub(crate) client: Client<D>,
+}
+
+impl<D: Disk> Keeper<D> for Seated<D> {
+    ghost use Rattle.std.specs.Prelude.{Option, None};
+    ghost use Rattle.iot_client.specs.Ties.{Live};
+    ghost use Rattle.iot_machine.specs.Clients.{ClientState};
+    ghost use Rattle.iot_laptop.specs.Seats.{seating, besides};
+
+    ghost Kept = { ClientState };
+
+    ghost keeping = { seating D.medium };
+
+    // The script of what runs, and its class, are on no disk.
+    ghost Live = { Option Live };
+
+    ghost live = { besides };
+
+    ghost fresh = { None };
+
+    fn start(alloc: Global, disk: D, place: u64) -> Result<Self, (D, StartFault)> {
+        match Client::start(alloc, disk, place) {
+            Ok(client) => Ok(Seated { client }),
+            Err(refused) => Err(refused),
+        }
+    }
+
+    fn records(&self) -> u64 {
+        self.client.records()
+    }
+
+    fn arm(&mut self, calls: u64, pick: Pick) {
+        self.client.arm(calls, pick);
+    }
+
+    fn into_disk(self) -> D {
+        self.client.into_disk()
+    }
+}

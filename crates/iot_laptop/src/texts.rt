@@ -1,0 +1,89 @@
+//! The lines of a client alone.
+ghost use Rattle.std.specs.Prelude.{◌≡◌, ◌++◌, IfOk, OnOk};
+ghost use Rattle.iot_machine.specs.Texts.{connect_line, disconnect_line, lose_line, cut_line, output, acts_output, output_line};
+ghost use Rattle.iot_laptop.specs.Messages.{name_of};
+
+use iot_link::Loss;
+use iot_node::Transaction;
+use iot_text::{Name, NoMemory, Text};
+use iot_tree::Act;
+use std::alloc::Global;
+
+/// `connect C`
+pub(crate) fn say_connect(name: &Name, out: &mut Text) -> Result<(), NoMemory>
+    ensures { OnOk result (out.new ≡ out.old ++ connect_line name.now) }
+{
+    out.append(b"connect ")?;
+    out.append(name.as_bytes())?;
+    out.push(b'\n')
+}
+
+/// `disconnect C`
+pub(crate) fn say_disconnect(name: &Name, out: &mut Text) -> Result<(), NoMemory>
+    ensures { OnOk result (out.new ≡ out.old ++ disconnect_line name.now) }
+{
+    out.append(b"disconnect ")?;
+    out.append(name.as_bytes())?;
+    out.push(b'\n')
+}
+
+/// `lose C request`, or `reply`
+pub(crate) fn say_lose(name: &Name, loss: Loss, out: &mut Text) -> Result<(), NoMemory>
+    ensures { OnOk result (out.new ≡ out.old ++ lose_line name.now loss) }
+{
+    out.append(b"lose ")?;
+    out.append(name.as_bytes())?;
+    out.append(match loss {
+        Loss::Request => b" request\n",
+        Loss::Reply => b" reply\n",
+    })
+}
+
+/// `cut TID K acts`
+pub(crate) fn say_cut(transaction: &Transaction, acts: u64, out: &mut Text) -> Result<(), NoMemory>
+    ensures { OnOk result (out.new ≡ out.old ++ cut_line (name_of transaction.now) acts) }
+{
+    out.append(b"cut ")?;
+    transaction.write_to(out)?;
+    out.push(b' ')?;
+    out.append_number(acts)?;
+    out.append(b" acts\n")
+}
+
+/// One line that a script printed, after its bar.
+fn say_line(text: &Text, out: &mut Text) -> Result<(), NoMemory>
+    ensures { OnOk result (out.new ≡ out.old ++ output_line text.now) }
+{
+    out.push(b'|')?;
+    out.append_text(text)?;
+    out.push(b'\n')
+}
+
+/// The lines that one act printed.
+fn say_lines(lines: &[Text], out: &mut Text) -> Result<(), NoMemory>
+    ensures { OnOk result (out.new ≡ out.old ++ output lines.now) }
+{
+    for line in lines {
+        say_line(line, out)?;
+    }
+    Ok(())
+}
+
+/// The lines that a run printed.
+fn say_output(acts: &[Act], out: &mut Text) -> Result<(), NoMemory>
+    ensures { OnOk result (out.new ≡ out.old ++ acts_output acts.now) }
+{
+    for act in acts {
+        say_lines(act.lines.as_slice(), out)?;
+    }
+    Ok(())
+}
+
+/// What a run printed, by itself.
+pub(crate) fn output_of(alloc: Global, acts: &[Act]) -> Result<Text, NoMemory>
+    ensures { IfOk result (λ output. output ≡ acts_output acts.now) }
+{
+    let mut output = Text::new(alloc);
+    say_output(acts, &mut output)?;
+    Ok(output)
+}

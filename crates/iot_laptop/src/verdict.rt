@@ -1,0 +1,65 @@
+//! What a client is told of a transaction that it submitted.
+ghost use Rattle.std.specs.Prelude.{◌≡◌, ◌-◌, ◌<◌, ◌≤◌, Some, IfOk, length, slice_get};
+ghost use Rattle.iot_acts.specs.Turns.{reads_of};
+ghost use Rattle.iot_machine.specs.Serving as serving;
+ghost use Rattle.iot_tree.specs.declared.acts.Read.{Read};
+ghost use Rattle.iot_laptop.specs.Messages.{SpellsVerdict, IsVerdict, verdict_of};
+
+use iot_codec::CodecFault;
+use iot_text::NoMemory;
+use iot_tree::{Act, Duplicate, OnConflict, Question};
+use iot_wire::{Reply, read_reply};
+use std::alloc::Global;
+
+/// What a client is told of a transaction that it submitted.
+#[derive(Drop)]
+pub enum Verdict {
+    /// It is in the list under this number.
+    Settled { number: u64 },
+
+    /// This read of it, counted from 1, which asked this, has another answer now.
+    Conflict { read: u64, question: Question },
+}
+
+/// What a client is told, and what becomes of its transaction if that conflicts.
+#[derive(Drop)]
+pub struct Told {
+    pub verdict: Verdict,
+    pub option: OnConflict,
+}
+
+/// What the reply says of a transaction that did these acts.
+pub(crate) fn verdict_in(alloc: Global, acts: &[Act], reply: &[u8]) -> Result<Verdict, NoMemory>
+    requires { IsVerdict (reads_of acts.now) reply.now }
+    ensures { IfOk result (λ verdict. (told : serving.Verdict)
+        → SpellsVerdict (reads_of acts.now) reply.now told → verdict_of verdict ≡ told) }
+{
+    match read_reply(alloc, reply) {
+        Ok(Reply::Committed { number }) => Ok(Verdict::Settled { number }),
+        Ok(Reply::Already { number }) => Ok(Verdict::Settled { number }),
+        Ok(Reply::Conflict { read, answer: _ }) => {
+            let question = question_at(alloc, acts, read)?;
+            Ok(Verdict::Conflict { read, question })
+        }
+        Ok(Reply::Objects(_)) => unreachable!(),
+        Err(CodecFault::NoMemory) => Err(NoMemory),
+        Err(CodecFault::Malformed { .. }) => unreachable!(),
+    }
+}
+
+/// What the read at this place, counted from 1, asked.
+fn question_at(alloc: Global, acts: &[Act], place: u64) -> Result<Question, NoMemory>
+    requires first { 1 ≤ place }
+    requires within { place - 1 < length (reads_of acts.now) }
+    ensures { IfOk result (λ question. (read : Read) → slice_get (reads_of acts.now) (place - 1) ≡ Some read → question ≡ read.question) }
+{
+    let mut left = place - 1;
+    'acts: for act in acts {
+        let reads = act.reads.as_slice();
+        if left < reads.len() as u64 {
+            return reads[left as usize].question.copy(alloc);
+        }
+        left -= reads.len() as u64;
+    }
+    unreachable!()
+}
