@@ -163,7 +163,7 @@ module _ {D : Type 0} (medium : Medium D) where
         let same : state_in laptop ≡ state_of it = ap state_by (lent_up laptop.node it (sym is)) in
         let same_live : live_in laptop ≡ live_of it = ap live_by (lent_up laptop.node it (sym is)) in
         let lent : IsLent medium laptop it = lent_at medium laptop it (lent_up laptop.node it (sym is))
-            (record { scripts = m.scripts; machine = client_in m place; stands = there }) in
+        (record { scripts = m.scripts; machine = client_in m place; stands = there }) in
         let within : place < length m.clients = inside medium world m place laptop at here in
         let same_length = each_length (ClientStands medium m.scripts) world.clients.items m.clients here.clients in (
           within,
