@@ -2,37 +2,35 @@
 use Rattle.std.proofs.Common.{◌≡◌, ℕ, ◌+◌, ◌<◌, ◌||◌, not, nat_lt, true, List, [], ◌∷◌, ◌++◌, length, bytes_eq}
 use Rattle.std.proofs.Common.{codes, Option, Some, None}
 use Rattle.std.proofs.Common.{refl, sym, subst, arith, length-append}
-use Rattle.std.specs.Option.{option_map, option_to_list}
+use Rattle.std.specs.Option.{option_to_list}
 use Rattle.std.proofs.lemmas.List.Quantifiers.{position-Some}
 use Rattle.std.proofs.lemmas.Bool.{cond_both}
 use Rattle.std.proofs.lemmas.Bool.Decides.{nat_tests}
 use Rattle.iot_lines.specs.Lines.{lines}
 use Rattle.iot_lines.specs.Words.{words, is_skipped}
-use Rattle.iot_text.specs.Paths.{path_of}
-use Rattle.iot_text.proofs.PathTextsLaws.{path_of-spells}
 use Rattle.iot_lang.specs.Code.{Code}
 use Rattle.iot_event.specs.declared.declared.TheConstants.{CLIENT_LIMIT, SCRIPT_LIMIT}
 use Rattle.iot_event.specs.declared.event.Choice.{Choice}
 use Rattle.iot_event.specs.declared.event.Choice.TheVariants.{Reexec, Resolver, Abort, Manual}
+use Rattle.iot_event.specs.declared.event.Task.{Task}
+use Rattle.iot_event.specs.declared.event.Task.TheVariants as tasks
+use Rattle.iot_event.specs.declared.event.ClientEvent.{ClientEvent}
+use Rattle.iot_event.specs.declared.event.ClientEvent.TheVariants as client_events
 use Rattle.iot_event.specs.declared.event.Event.{Event}
-use Rattle.iot_event.specs.declared.event.Event.TheVariants.{Client, Script, Run, Hoard, Refresh, Begin, Step, End, ShowClient}
-use Rattle.iot_event.specs.declared.event.Event.TheVariants.{StopClient, CrashClient, RestartClient, Queue, Reads}
-use Rattle.iot_event.specs.declared.event.Event.TheVariants.{Connect, Disconnect, Lose, Sync, Drain, Repair, Discard}
+use Rattle.iot_event.specs.declared.event.Event.TheVariants.{Client, Script, At}
 use Rattle.iot_event.specs.declared.fault.EventFault.TheVariants as faults
 use Rattle.iot_event.specs.declared.form.Form.{Form}
 use Rattle.iot_event.specs.declared.form.Form.TheVariants as forms
-use Rattle.iot_event.specs.declared.form.NamedChoice.{NamedChoice}
-use Rattle.iot_event.specs.declared.form.NamedChoice.TheVariants as named
 use Rattle.iot_event.specs.Bytes.{fits_line}
 use Rattle.iot_event.specs.Forms.{form_of}
 use Rattle.iot_event.specs.Closing.{Closed, closed_by}
-use Rattle.iot_event.specs.Meanings.{Scope, nothing_declared, Meaning, Refused, Skipped, Says, Opens, is_declared, place_of, choice_of}
-use Rattle.iot_event.specs.Meanings.{client_line, script_line}
-use Rattle.iot_event.specs.Meanings.{if_known, of_client, of_script, of_choice, hoard_at, meaning_of_form, meaning_of}
+use Rattle.iot_event.specs.Meanings.{Scope, nothing_declared, Meaning, Refused, Skipped, Says, Opens, is_declared, place_of}
+use Rattle.iot_event.specs.Meanings.{choice_of, script_with, task_of, event_of}
+use Rattle.iot_event.specs.Meanings.{client_line, script_line, if_known, at_line, meaning_of_form, meaning_of}
 use Rattle.iot_event.specs.Events.{Stops, Goes, IsStepOf, Outcome, Events, Fault, after_events, LinesGive, at_end, stop, go, Gives}
 use Rattle.iot_event.specs.Events as steps
-use Rattle.iot_event.specs.Declarations.{AreDeclared, ResolverIsDeclared}
-use Rattle.iot_event.proofs.FormsLaws.{IsCounted, form_counted}
+use Rattle.iot_event.specs.Declarations.{AreDeclared, ResolverIsDeclared, TaskIsDeclared, ClientEventIsDeclared}
+use Rattle.iot_event.proofs.FormsLaws.{Fits, none_fits, some_fits, map_fits, then_fits, TaskFits, EventFits, FormFits, form_fits}
 
 -- the events are declared, after so much as the scope says
 abbrev Allows : Scope → List Event → Type 0
@@ -49,7 +47,7 @@ IsSound scope Skipped = Unit {0}
 IsSound scope (Says event after) = Leads scope event after
 IsSound scope (Opens name script after) = (code : Code) → Leads scope (Script name code) after
 
--- ---- each form of lines
+-- ---- what names stand for
 
 one_more : (names : List (List ℕ)) (name : List ℕ) → length (names ++ name ∷ []) ≡ length names + 1
 one_more names name = length-append names (name ∷ [])
@@ -57,28 +55,45 @@ one_more names name = length-append names (name ∷ [])
 below_limit : (n limit : ℕ) → nat_lt n limit ≡ true → n < limit
 below_limit n limit is = grind (arith, nat_tests)
 
-within : (name : List ℕ) (names : List (List ℕ)) (i : ℕ) → place_of name names ≡ Some i → i < length names
-within name names i is = (position-Some (bytes_eq name) names i [] is).0
+within : (name : List ℕ) (names : List (List ℕ)) (place : Option ℕ) → place_of name names ≡ place → Fits (λ i. i < length names) place
+within name names None is = none_fits
+within name names (Some i) is = record { fits = (position-Some (bytes_eq name) names i [] is).0 }
 
-resolver_at : (script : List ℕ) (scripts : List (List ℕ)) (place : Option ℕ) (choice : Choice) → place_of script scripts ≡ place
-    → option_map (λ s. Resolver s) place ≡ Some choice → ResolverIsDeclared choice (length scripts)
-resolver_at script scripts None choice at is = absurd cc
-resolver_at script scripts (Some i) choice at is =
-    let same : Resolver i ≡ choice = cc in
-    subst (λ (o : Choice). ResolverIsDeclared o (length scripts)) same (within script scripts i at)
+module _ (scripts : List (List ℕ)) where
+  choice_declared : (option : Choice (List ℕ)) → Fits (λ choice. ResolverIsDeclared choice (length scripts)) (choice_of option scripts)
+  choice_declared Reexec = some_fits Reexec tt
+  choice_declared (Resolver script) = map_fits _ _ (within script scripts (place_of script scripts) refl) (λ s few. few)
+  choice_declared Abort = some_fits Abort tt
+  choice_declared Manual = some_fits Manual tt
 
-resolver_within : (option : NamedChoice) (scripts : List (List ℕ)) (choice : Choice) → choice_of option scripts ≡ Some choice
-    → ResolverIsDeclared choice (length scripts)
-resolver_within named.Reexec scripts choice is =
-    let same : Reexec ≡ choice = cc in
-    subst (λ (o : Choice). ResolverIsDeclared o (length scripts)) same tt
-resolver_within (named.Resolver script) scripts choice is = resolver_at script scripts (place_of script scripts) choice refl is
-resolver_within named.Abort scripts choice is =
-    let same : Abort ≡ choice = cc in
-    subst (λ (o : Choice). ResolverIsDeclared o (length scripts)) same tt
-resolver_within named.Manual scripts choice is =
-    let same : Manual ≡ choice = cc in
-    subst (λ (o : Choice). ResolverIsDeclared o (length scripts)) same tt
+  script_declared : (script : List ℕ) (option : Choice (List ℕ)) (task : ℕ → Choice ℕ → Task ℕ)
+      → ((s : ℕ) (o : Choice ℕ) → s < length scripts → ResolverIsDeclared o (length scripts) → TaskIsDeclared (task s o) (length scripts))
+      → Fits (λ it. TaskIsDeclared it (length scripts)) (script_with script option scripts task)
+  script_declared script option task may =
+      then_fits _ _ (within script scripts (place_of script scripts) refl)
+      (λ s few. map_fits _ _ (choice_declared option) (λ o resolves. may s o few resolves))
+
+  task_declared : (task : Task (List ℕ)) → TaskFits task → Fits (λ it. TaskIsDeclared it (length scripts)) (task_of task scripts)
+  task_declared (tasks.Run script option) fit =
+      script_declared script option (λ s o. tasks.Run s o) (λ s o few resolves. (few, resolves))
+  task_declared (tasks.Hoard path) fit = some_fits (tasks.Hoard path) fit
+  task_declared tasks.Refresh fit = some_fits tasks.Refresh tt
+  task_declared (tasks.Begin script option) fit =
+      script_declared script option (λ s o. tasks.Begin s o) (λ s o few resolves. (few, resolves))
+  task_declared (tasks.Step count) fit = some_fits (tasks.Step count) fit
+  task_declared tasks.End fit = some_fits tasks.End tt
+  task_declared tasks.Sync fit = some_fits tasks.Sync tt
+  task_declared tasks.Drain fit = some_fits tasks.Drain tt
+  task_declared (tasks.Repair script) fit = map_fits _ _ (within script scripts (place_of script scripts) refl) (λ s few. few)
+  task_declared tasks.Discard fit = some_fits tasks.Discard tt
+  task_declared tasks.Queue fit = some_fits tasks.Queue tt
+  task_declared (tasks.Reads item) fit = some_fits (tasks.Reads item) fit
+
+  event_declared : (what : ClientEvent (List ℕ)) → EventFits what
+      → Fits (λ it. ClientEventIsDeclared it (length scripts)) (event_of what scripts)
+  event_declared (client_events.Node what) fit = some_fits (client_events.Node what) fit
+  event_declared (client_events.Link what) fit = some_fits (client_events.Link what) tt
+  event_declared (client_events.Task what) fit = map_fits _ _ (task_declared what fit) (λ it may. may)
 
 -- ---- what a line of each form means
 
@@ -115,88 +130,24 @@ module _ (scope : Scope) (number : ℕ) where
       })
       (λ many. tt))
 
-  known_sound : {X : Type 0} (known : Option X) (says : X → Meaning) → ((x : X) → known ≡ Some x → IsSound scope (says x))
-      → IsSound scope (if_known known number says)
-  known_sound None says sound = tt
-  known_sound (Some x) says sound = sound x refl
+  known_sound : {X : Type 0} {P : X → Type 0} (known : Option X) (says : X → Meaning) → Fits P known
+      → ((x : X) → P x → IsSound scope (says x)) → IsSound scope (if_known known number says)
+  known_sound None says fit sound = tt
+  known_sound (Some x) says fit sound = sound x fit.fits
 
-  -- an event of a client that may come after so much was declared
-  client_event_sound : (client : List ℕ) (event : ℕ → Event)
-      → ((i : ℕ) → i < length scope.clients → (events : List Event) → Allows scope events → Allows scope (event i ∷ events))
-      → IsSound scope (of_client scope number client event)
-  client_event_sound client event may =
-      known_sound (place_of client scope.clients) (λ c. Says (event c) scope)
-      (λ c is. record { allows = may c (within client scope.clients c is) })
+  at_sound : (client : List ℕ) (what : ClientEvent (List ℕ)) → EventFits what → IsSound scope (at_line scope number client what)
+  at_sound client what fit =
+      known_sound (place_of client scope.clients) _ (within client scope.clients (place_of client scope.clients) refl)
+      (λ c few. known_sound (event_of what scope.scripts) (λ it. Says (At c it) scope) (event_declared scope.scripts what fit)
+      (λ it may. record { allows = λ events are. (few, may, are) }))
 
-  -- the same of an event of a client and a script
-  script_event_sound : (client script : List ℕ) (event : ℕ → ℕ → Event)
-      → ((i j : ℕ) → i < length scope.clients → j < length scope.scripts
-      → (events : List Event) → Allows scope events → Allows scope (event i j ∷ events))
-      → IsSound scope (of_script scope number client script event)
-  script_event_sound client script event may =
-      known_sound (place_of client scope.clients) _
-      (λ c of_client. known_sound (place_of script scope.scripts) (λ s. Says (event c s) scope)
-      (λ s of_script. record {
-        allows = may c s (within client scope.clients c of_client) (within script scope.scripts s of_script);
-      }))
-
-  -- the same of an event of a client and a script with an option
-  choice_event_sound : (client script : List ℕ) (option : NamedChoice) (event : ℕ → ℕ → Choice → Event)
-      → ((i j : ℕ) (o : Choice) → i < length scope.clients → j < length scope.scripts → ResolverIsDeclared o (length scope.scripts)
-      → (events : List Event) → Allows scope events → Allows scope (event i j o ∷ events))
-      → IsSound scope (of_choice scope number client script option event)
-  choice_event_sound client script option event may =
-      known_sound (place_of client scope.clients) _
-      (λ c of_client. known_sound (place_of script scope.scripts) _
-      (λ s of_script. known_sound (choice_of option scope.scripts) (λ o. Says (event c s o) scope)
-      (λ o of_option. record {
-        allows =
-            may c s o (within client scope.clients c of_client) (within script scope.scripts s of_script)
-            (resolver_within option scope.scripts o of_option);
-      })))
-
-  hoard_sound : (client text : List ℕ) (path : Option (List (List ℕ))) → path_of text ≡ path
-      → IsSound scope (hoard_at path scope number client)
-  hoard_sound client text None is = tt
-  hoard_sound client text (Some path) is =
-      client_event_sound client (λ c. Hoard c path) (λ c few events are. (few, (path_of-spells text path is).names, are))
-
-  form_sound : (form : Option Form) → IsCounted form → (later : List (List ℕ)) → IsSound scope (meaning_of_form form scope number later)
-  form_sound None counts later = tt
-  form_sound (Some (forms.Client name)) counts later = client_sound name
-  form_sound (Some (forms.Script name)) counts later = script_sound name (closed_by later 0)
-  form_sound (Some (forms.Run client script option)) counts later =
-      choice_event_sound client script option (λ c s o. Run c s o) (λ c s o few some resolves events are. (few, some, resolves, are))
-  form_sound (Some (forms.Hoard client text)) counts later = hoard_sound client text (path_of text) refl
-  form_sound (Some (forms.Refresh client)) counts later = client_event_sound client (λ c. Refresh c) (λ c few events are. (few, are))
-  form_sound (Some (forms.Begin client script option)) counts later =
-      choice_event_sound client script option (λ c s o. Begin c s o) (λ c s o few some resolves events are. (few, some, resolves, are))
-  form_sound (Some (forms.Step client count)) (least, most) later =
-      client_event_sound client (λ c. Step c count) (λ c few events are. (few, least, most, are))
-  form_sound (Some (forms.End client)) counts later = client_event_sound client (λ c. End c) (λ c few events are. (few, are))
-  form_sound (Some (forms.Connect client)) counts later = client_event_sound client (λ c. Connect c) (λ c few events are. (few, are))
-  form_sound (Some (forms.Disconnect client)) counts later = client_event_sound client (λ c. Disconnect c) (λ c few events are. (few, are))
-  form_sound (Some (forms.Lose client loss)) counts later = client_event_sound client (λ c. Lose c loss) (λ c few events are. (few, are))
-  form_sound (Some (forms.Sync client)) counts later = client_event_sound client (λ c. Sync c) (λ c few events are. (few, are))
-  form_sound (Some (forms.Drain client)) counts later = client_event_sound client (λ c. Drain c) (λ c few events are. (few, are))
-  form_sound (Some (forms.Repair client script)) counts later =
-      script_event_sound client script (λ c s. Repair c s) (λ c s few some events are. (few, some, are))
-  form_sound (Some (forms.Discard client)) counts later = client_event_sound client (λ c. Discard c) (λ c few events are. (few, are))
-  form_sound (Some forms.ShowServer) counts later = record { allows = λ events are. are }
-  form_sound (Some (forms.ShowClient client)) counts later = client_event_sound client (λ c. ShowClient c) (λ c few events are. (few, are))
-  form_sound (Some (forms.StopServer calls pick)) (least, most) later = record { allows = λ events are. (least, most, are) }
-  form_sound (Some (forms.StopClient client calls pick)) (least, most) later =
-      client_event_sound client (λ c. StopClient c calls pick) (λ c few events are. (few, least, most, are))
-  form_sound (Some forms.CrashServer) counts later = record { allows = λ events are. are }
-  form_sound (Some (forms.CrashClient client)) counts later =
-      client_event_sound client (λ c. CrashClient c) (λ c few events are. (few, are))
-  form_sound (Some forms.RestartServer) counts later = record { allows = λ events are. are }
-  form_sound (Some (forms.RestartClient client)) counts later =
-      client_event_sound client (λ c. RestartClient c) (λ c few events are. (few, are))
-  form_sound (Some (forms.Queue client)) counts later = client_event_sound client (λ c. Queue c) (λ c few events are. (few, are))
-  form_sound (Some (forms.Reads client item)) (least, most) later =
-      client_event_sound client (λ c. Reads c item) (λ c few events are. (few, least, most, are))
-  form_sound (Some forms.Log) counts later = record { allows = λ events are. are }
+  form_sound : (form : Option Form) → Fits FormFits form → (later : List (List ℕ)) → IsSound scope (meaning_of_form form scope number later)
+  form_sound None fit later = tt
+  form_sound (Some (forms.Client name)) fit later = client_sound name
+  form_sound (Some (forms.Script name)) fit later = script_sound name (closed_by later 0)
+  form_sound (Some (forms.At client what)) fit later = at_sound client what fit.fits
+  form_sound (Some (forms.Server what)) fit later = record { allows = λ events are. (fit.fits, are) }
+  form_sound (Some forms.Log) fit later = record { allows = λ events are. are }
 
 -- ---- each line
 
@@ -206,7 +157,7 @@ line_sound scope number line later =
     (λ unfit. tt)
     (λ fits. cond_both (is_skipped line) Skipped (meaning_of_form (form_of (words line)) scope number later) (IsSound scope)
     (λ skipped. tt)
-    (λ said. form_sound scope number (form_of (words line)) (form_counted (words line)).counted later))
+    (λ said. form_sound scope number (form_of (words line)) (form_fits (words line)) later))
 
 -- ---- each step, and all
 

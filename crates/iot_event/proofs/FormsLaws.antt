@@ -1,20 +1,29 @@
--- Laws of the forms of event lines: a form has one to five words, and its number is within its limits.
-use Rattle.std.proofs.Common.{◌≡◌, ℕ, ◌<◌, ◌≤◌, ◌&&◌, not, nat_le, Bool, true, false, List, [], ◌∷◌, length, map, Option, Some, None}
+-- Laws of the forms of event lines: a form has one to five words, its numbers are within their limits, and its path is a path.
+use Rattle.std.proofs.Common.{◌≡◌, ℕ, ◌<◌, ◌≤◌, ◌&&◌, nat_le, Bool, true, false, List, [], ◌∷◌, length, map, Option, Some, None}
 use Rattle.std.proofs.Common.{codes, bytes_eq, refl, arith}
-use Rattle.std.specs.Option.{option_map, option_or, option_and_then}
+use Rattle.std.specs.Option.{option_map, option_or, option_and_then, IfSome}
 use Rattle.std.specs.Prelude.{if◌then◌else◌}
 use Rattle.std.specs.Str.Parse.{digits_value}
 use Rattle.std.proofs.lemmas.Bool.Decides.{nat_tests}
 use Rattle.iot_text.specs.Names.{is_name}
-use Rattle.iot_disk.specs.declared.disk.Pick.{Pick}
-use Rattle.iot_link.specs.declared.passages.Loss.{Loss}
+use Rattle.iot_text.specs.Paths.{IsPath, path_of}
+use Rattle.iot_text.proofs.PathTextsLaws.{path_of-spells}
 use Rattle.iot_event.specs.declared.form.TheConstants.{STEP_LIMIT, READS_LIMIT, STOP_LIMIT}
+use Rattle.iot_event.specs.declared.event.Choice.{Choice}
+use Rattle.iot_event.specs.declared.event.NodeEvent.{NodeEvent}
+use Rattle.iot_event.specs.declared.event.NodeEvent.TheVariants.{Show, Stop, Crash, Restart}
+use Rattle.iot_event.specs.declared.event.LinkEvent.TheVariants.{Lose}
+use Rattle.iot_event.specs.declared.event.Task.{Task}
+use Rattle.iot_event.specs.declared.event.Task.TheVariants as tasks
+use Rattle.iot_event.specs.declared.event.ClientEvent.{ClientEvent}
+use Rattle.iot_event.specs.declared.event.ClientEvent.TheVariants.{Node, Link, Task as Does}
 use Rattle.iot_event.specs.declared.form.Form.{Form}
 use Rattle.iot_event.specs.declared.form.Form.TheVariants as forms
-use Rattle.iot_event.specs.declared.form.NamedChoice.{NamedChoice}
 use Rattle.iot_event.specs.Numbers.{is_number, number_of}
-use Rattle.iot_event.specs.Forms.{server_form, client_form, loss_of, three_words, plain_choice, resolver_choice, script_form}
-use Rattle.iot_event.specs.Forms.{choosing_form, pick_of, stop_form, stop_words, form_of}
+use Rattle.iot_event.specs.Declarations.{IsWithin}
+use Rattle.iot_event.specs.Forms.{node_event, link_event, lone_task, lone_event, two_words}
+use Rattle.iot_event.specs.Forms.{loss_of, event_with, event_of_words, three_words, plain_choice, resolver_choice, script_task}
+use Rattle.iot_event.specs.Forms.{choosing_form, pick_of, node_form, stop_words, form_of}
 
 -- ---- how many words a form has
 
@@ -31,132 +40,152 @@ too_many word (a ∷ b ∷ c ∷ d ∷ []) many = absurd (omega arith)
 too_many word (a ∷ b ∷ c ∷ d ∷ e ∷ []) many = absurd (omega arith)
 too_many word (a ∷ b ∷ c ∷ d ∷ e ∷ f ∷ more) many = refl
 
--- ---- the number in a form
+-- ---- what fits, whatever is declared
 
--- the number of steps, of an item or of a device call, if the form has one, is within its limits
-abbrev pub IsCounted : Option Form → Type 0
-IsCounted (Some (forms.Step client count)) = (1 ≤ count) × (count ≤ STEP_LIMIT)
-IsCounted (Some (forms.Reads client item)) = (1 ≤ item) × (item ≤ READS_LIMIT)
-IsCounted (Some (forms.StopServer calls pick)) = (1 ≤ calls) × (calls ≤ STOP_LIMIT)
-IsCounted (Some (forms.StopClient client calls pick)) = (1 ≤ calls) × (calls ≤ STOP_LIMIT)
-IsCounted _ = Unit {0}
+-- the value, if there is one, fits; as a record, which is found by its name
+pub record Fits {X : Type 0} (P : X → Type 0) (found : Option X) : Type 0 where
+  pub fits : IfSome found P
 
--- the same as a record, which is found by its name
-pub record Counted (form : Option Form) : Type 0 where
-  pub counted : IsCounted form
+pub none_fits : {X : Type 0} {P : X → Type 0} → Fits P None
+none_fits = record { fits = tt }
 
-counted_if : (test : Bool) (yes_ no_ : Option Form) → Counted yes_ → Counted no_ → Counted (if test then yes_ else no_)
-counted_if true yes_ no_ first second = first
-counted_if false yes_ no_ first second = second
+pub some_fits : {X : Type 0} {P : X → Type 0} (x : X) → P x → Fits P (Some x)
+some_fits x fit = record { fits = fit }
 
-counted_or : (first second : Option Form) → Counted first → Counted second → Counted (option_or first second)
-counted_or None second one two = two
-counted_or (Some form) second one two = one
+pub any_fits : {X : Type 0} (found : Option X) → Fits (λ x. Unit {0}) found
+any_fits None = none_fits
+any_fits (Some x) = record { fits = tt }
 
--- a form with a number, if that is within the limit
-counted_number : (form : ℕ → Form) (word : List ℕ) (limit : ℕ) → ((n : ℕ) → 1 ≤ n → n ≤ limit → IsCounted (Some (form n)))
-    → Counted (option_map form (number_of word limit))
-counted_number form word limit within = by (is_number word) (nat_le 1 number) (nat_le number limit) refl refl
+if_fits : {X : Type 0} {P : X → Type 0} (test : Bool) (yes_ no_ : Option X) → Fits P yes_ → Fits P no_
+    → Fits P (if test then yes_ else no_)
+if_fits true yes_ no_ first second = first
+if_fits false yes_ no_ first second = second
+
+or_fits : {X : Type 0} {P : X → Type 0} (first second : Option X) → Fits P first → Fits P second → Fits P (option_or first second)
+or_fits None second one two = two
+or_fits (Some x) second one two = record { fits = one.fits }
+
+pub map_fits : {X Y : Type 0} {P : X → Type 0} {Q : Y → Type 0} (f : X → Y) (found : Option X) → Fits P found
+    → ((x : X) → P x → Q (f x)) → Fits Q (option_map f found)
+map_fits f None fit follows = none_fits
+map_fits f (Some x) fit follows = record { fits = follows x fit.fits }
+
+pub then_fits : {X Y : Type 0} {P : X → Type 0} {Q : Y → Type 0} (f : X → Option Y) (found : Option X) → Fits P found
+    → ((x : X) → P x → Fits Q (f x)) → Fits Q (option_and_then f found)
+then_fits f None fit follows = none_fits
+then_fits f (Some x) fit follows = follows x fit.fits
+
+-- ---- a form's numbers and its path
+
+-- the path of a task is one, and its number is within the limits
+abbrev pub TaskFits : Task (List ℕ) → Type 0
+TaskFits (tasks.Hoard path) = IsPath path
+TaskFits (tasks.Step count) = (1 ≤ count) × (count ≤ STEP_LIMIT)
+TaskFits (tasks.Reads item) = (1 ≤ item) × (item ≤ READS_LIMIT)
+TaskFits _ = Unit {0}
+
+abbrev pub EventFits : ClientEvent (List ℕ) → Type 0
+EventFits (Node what) = IsWithin what
+EventFits (Link what) = Unit {0}
+EventFits (Does what) = TaskFits what
+
+abbrev pub FormFits : Form → Type 0
+FormFits (forms.At client what) = EventFits what
+FormFits (forms.Server what) = IsWithin what
+FormFits _ = Unit {0}
+
+-- a number within its limit
+number_fits : (word : List ℕ) (limit : ℕ) → Fits (λ n. (1 ≤ n) × (n ≤ limit)) (number_of word limit)
+number_fits word limit = by (is_number word) (nat_le 1 number) (nat_le number limit) refl refl
   where
     number : ℕ
     number = digits_value 10 word
 
     by : (is least most : Bool) → nat_le 1 number ≡ least → nat_le number limit ≡ most
-        → Counted (option_map form (if is && least && most then Some number else None))
-    by true true true one two = record { counted = within number (grind (arith, nat_tests, one)) (grind (arith, nat_tests, two)) }
-    by true true false one two = record { counted = tt }
-    by true false most one two = record { counted = tt }
-    by false least most one two = record { counted = tt }
+        → Fits (λ n. (1 ≤ n) × (n ≤ limit)) (if is && least && most then Some number else None)
+    by true true true one two = record { fits = (grind (arith, nat_tests, one), grind (arith, nat_tests, two)) }
+    by true true false one two = none_fits
+    by true false most one two = none_fits
+    by false least most one two = none_fits
 
-none_counted : Counted None
-none_counted = record { counted = tt }
+path_fits : (word : List ℕ) (path : Option (List (List ℕ))) → path_of word ≡ path → Fits IsPath path
+path_fits word None is = none_fits
+path_fits word (Some path) is = record { fits = (path_of-spells word path is).names }
 
--- the same of a form that is made of the number
-counted_then : (form : ℕ → Option Form) (word : List ℕ) (limit : ℕ) → ((n : ℕ) → 1 ≤ n → n ≤ limit → Counted (form n))
-    → Counted (option_and_then form (number_of word limit))
-counted_then form word limit within = by (is_number word) (nat_le 1 number) (nat_le number limit) refl refl
-  where
-    number : ℕ
-    number = digits_value 10 word
+node_event_fits : (word : List ℕ) → Fits IsWithin (node_event word)
+node_event_fits word =
+    if_fits _ _ _ (some_fits Show tt)
+    (if_fits _ _ _ (some_fits Crash tt)
+    (if_fits _ _ _ (some_fits Restart tt) none_fits))
 
-    by : (is least most : Bool) → nat_le 1 number ≡ least → nat_le number limit ≡ most
-        → Counted (option_and_then form (if is && least && most then Some number else None))
-    by true true true one two = within number (grind (arith, nat_tests, one)) (grind (arith, nat_tests, two))
-    by true true false one two = none_counted
-    by true false most one two = none_counted
-    by false least most one two = none_counted
+lone_task_fits : (word : List ℕ) → Fits TaskFits (lone_task word)
+lone_task_fits word =
+    if_fits _ _ _ (some_fits tasks.Refresh tt)
+    (if_fits _ _ _ (some_fits (tasks.Step 1) (omega arith, omega arith))
+    (if_fits _ _ _ (some_fits tasks.End tt)
+    (if_fits _ _ _ (some_fits tasks.Sync tt)
+    (if_fits _ _ _ (some_fits tasks.Drain tt)
+    (if_fits _ _ _ (some_fits tasks.Discard tt)
+    (if_fits _ _ _ (some_fits tasks.Queue tt) none_fits))))))
 
-counted_stop : (node : List ℕ) (calls : ℕ) (pick : Option Pick) → 1 ≤ calls → calls ≤ STOP_LIMIT
-    → Counted (option_and_then (λ p. stop_form node calls p) pick)
-counted_stop node calls None least most = none_counted
-counted_stop node calls (Some pick) least most =
-    counted_if (bytes_eq node (codes "server")) (Some (forms.StopServer calls pick)) _ (record { counted = (least, most) })
-    (counted_if (is_name node) (Some (forms.StopClient node calls pick)) None (record { counted = (least, most) }) none_counted)
+lone_event_fits : (word : List ℕ) → Fits EventFits (lone_event word)
+lone_event_fits word =
+    or_fits _ _ (map_fits _ (node_event word) (node_event_fits word) (λ what fit. fit))
+    (or_fits _ _ (map_fits _ (link_event word) (any_fits (link_event word)) (λ what fit. tt))
+    (map_fits _ (lone_task word) (lone_task_fits word) (λ what fit. fit)))
 
-counted_loss : (client : List ℕ) (loss : Option Loss) → Counted (option_map (λ l. forms.Lose client l) loss)
-counted_loss client None = none_counted
-counted_loss client (Some l) = record { counted = tt }
+event_with_fits : (first word : List ℕ) → Fits EventFits (event_with first word)
+event_with_fits first word =
+    if_fits (bytes_eq first (codes "step")) _ _
+    (map_fits (λ count. Does (tasks.Step count)) _ (number_fits word STEP_LIMIT) (λ count fit. fit))
+    (if_fits (bytes_eq first (codes "reads")) _ _
+    (map_fits (λ item. Does (tasks.Reads item)) _ (number_fits word READS_LIMIT) (λ item fit. fit))
+    (if_fits (bytes_eq first (codes "lose")) _ _
+    (map_fits (λ loss. Link (Lose loss)) _ (any_fits (loss_of word)) (λ loss any. tt))
+    (if_fits (bytes_eq first (codes "repair")) _ _
+    (if_fits (is_name word) _ _ (some_fits (Does (tasks.Repair word)) tt) none_fits) none_fits)))
 
-counted_server : (first second : List ℕ) → Counted (server_form first second)
-counted_server first second =
-    counted_if (not (bytes_eq second (codes "server"))) None _ none_counted
-    (counted_if (bytes_eq first (codes "show")) (Some forms.ShowServer) _ (record { counted = tt })
-    (counted_if (bytes_eq first (codes "crash")) (Some forms.CrashServer) _ (record { counted = tt })
-    (counted_if (bytes_eq first (codes "restart")) (Some forms.RestartServer) None (record { counted = tt }) none_counted)))
+event_of_words_fits : (first word : List ℕ) → Fits EventFits (event_of_words first word)
+event_of_words_fits first word =
+    if_fits _ _ _ (map_fits _ _ (path_fits word (path_of word) refl) (λ path fit. fit)) (event_with_fits first word)
 
-counted_client : (first client : List ℕ) → Counted (client_form first client)
-counted_client first client =
-    counted_if (bytes_eq first (codes "client")) (Some (forms.Client client)) _ (record { counted = tt })
-    (counted_if (bytes_eq first (codes "refresh")) (Some (forms.Refresh client)) _ (record { counted = tt })
-    (counted_if (bytes_eq first (codes "step")) (Some (forms.Step client 1)) _ (record { counted = (omega arith, omega arith) })
-    (counted_if (bytes_eq first (codes "end")) (Some (forms.End client)) _ (record { counted = tt })
-    (counted_if (bytes_eq first (codes "connect")) (Some (forms.Connect client)) _ (record { counted = tt })
-    (counted_if (bytes_eq first (codes "disconnect")) (Some (forms.Disconnect client)) _ (record { counted = tt })
-    (counted_if (bytes_eq first (codes "sync")) (Some (forms.Sync client)) _ (record { counted = tt })
-    (counted_if (bytes_eq first (codes "drain")) (Some (forms.Drain client)) _ (record { counted = tt })
-    (counted_if (bytes_eq first (codes "discard")) (Some (forms.Discard client)) _ (record { counted = tt })
-    (counted_if (bytes_eq first (codes "show")) (Some (forms.ShowClient client)) _ (record { counted = tt })
-    (counted_if (bytes_eq first (codes "crash")) (Some (forms.CrashClient client)) _ (record { counted = tt })
-    (counted_if (bytes_eq first (codes "restart")) (Some (forms.RestartClient client)) _ (record { counted = tt })
-    (counted_if (bytes_eq first (codes "queue")) (Some (forms.Queue client)) None (record { counted = tt })
-    none_counted))))))))))))
+script_task_fits : (first script : List ℕ) (option : Choice (List ℕ)) → Fits TaskFits (script_task first script option)
+script_task_fits first script option =
+    if_fits _ _ _ (some_fits (tasks.Run script option) tt) (if_fits _ _ _ (some_fits (tasks.Begin script option) tt) none_fits)
 
-counted_script : (first client script : List ℕ) (option : NamedChoice) → Counted (script_form first client script option)
-counted_script first client script option =
-    counted_if (bytes_eq first (codes "run")) (Some (forms.Run client script option)) _ (record { counted = tt })
-    (counted_if (bytes_eq first (codes "begin")) (Some (forms.Begin client script option)) None (record { counted = tt }) none_counted)
+choosing_fits : (first client script : List ℕ) (option : Option (Choice (List ℕ)))
+    → Fits FormFits (choosing_form first client script option)
+choosing_fits first client script option =
+    if_fits _ _ _
+    (then_fits _ option (any_fits option) (λ choice any. map_fits _ _ (script_task_fits first script choice) (λ what fit. fit)))
+    none_fits
 
-counted_option : (first client script : List ℕ) (option : Option NamedChoice)
-    → Counted (option_and_then (λ choice. script_form first client script choice) option)
-counted_option first client script None = none_counted
-counted_option first client script (Some choice) = counted_script first client script choice
+node_form_fits : (node : List ℕ) (what : NodeEvent) → IsWithin what → Fits FormFits (node_form node what)
+node_form_fits node what within =
+    if_fits _ _ _ (some_fits (forms.Server what) within) (if_fits _ _ _ (some_fits (forms.At node (Node what)) within) none_fits)
 
-counted_three : (first second third : List ℕ) → Counted (three_words first second third)
-counted_three first second third =
-    counted_if (not (is_name second)) None _ none_counted
-    (counted_if (bytes_eq first (codes "script") && bytes_eq third (codes "{")) (Some (forms.Script second)) _ (record { counted = tt })
-    (counted_if (bytes_eq first (codes "hoard")) (Some (forms.Hoard second third)) _ (record { counted = tt })
-    (counted_if (bytes_eq first (codes "step")) _ _
-    (counted_number (λ count. forms.Step second count) third STEP_LIMIT (λ n least most. (least, most)))
-    (counted_if (bytes_eq first (codes "reads")) _ _
-    (counted_number (λ item. forms.Reads second item) third READS_LIMIT (λ n least most. (least, most)))
-    (counted_if (bytes_eq first (codes "lose")) _ _ (counted_loss second (loss_of third))
-    (counted_if (bytes_eq first (codes "repair")) _ None
-    (counted_if (is_name third) (Some (forms.Repair second third)) None (record { counted = tt }) none_counted) none_counted))))))
+two_words_fits : (first second : List ℕ) → Fits FormFits (two_words first second)
+two_words_fits first second =
+    or_fits _ _ (if_fits _ _ _ (map_fits _ _ (node_event_fits first) (λ what fit. fit)) none_fits)
+    (if_fits _ _ _
+    (if_fits _ _ _ (some_fits (forms.Client second) tt) (map_fits _ _ (lone_event_fits first) (λ what fit. fit)))
+    none_fits)
 
-counted_choosing : (first client script : List ℕ) (option : Option NamedChoice) → Counted (choosing_form first client script option)
-counted_choosing first client script option =
-    counted_if (is_name client && is_name script) _ None (counted_option first client script option) none_counted
+three_words_fits : (first second third : List ℕ) → Fits FormFits (three_words first second third)
+three_words_fits first second third =
+    if_fits _ _ _ none_fits
+    (if_fits _ _ _ (some_fits (forms.Script second) tt) (map_fits _ _ (event_of_words_fits first third) (λ what fit. fit)))
 
-pub form_counted : (found : List (List ℕ)) → Counted (form_of found)
-form_counted [] = none_counted
-form_counted (a ∷ []) = counted_if (bytes_eq a (codes "log")) (Some forms.Log) None (record { counted = tt }) none_counted
-form_counted (a ∷ b ∷ []) =
-    counted_or (server_form a b) _ (counted_server a b) (counted_if (is_name b) _ None (counted_client a b) none_counted)
-form_counted (a ∷ b ∷ c ∷ []) = counted_three a b c
-form_counted (a ∷ b ∷ c ∷ d ∷ []) =
-    counted_if (bytes_eq a (codes "stop")) (stop_words b c d) _
-    (counted_then (λ k. option_and_then (λ p. stop_form b k p) (pick_of d)) c STOP_LIMIT (λ k. counted_stop b k (pick_of d)))
-    (counted_choosing a b c (plain_choice d))
-form_counted (a ∷ b ∷ c ∷ d ∷ e ∷ []) = counted_choosing a b c (resolver_choice d e)
-form_counted (a ∷ b ∷ c ∷ d ∷ e ∷ f ∷ more) = none_counted
+stop_words_fits : (node calls pick : List ℕ) → Fits FormFits (stop_words node calls pick)
+stop_words_fits node calls pick =
+    then_fits _ _ (number_fits calls STOP_LIMIT)
+    (λ k within. then_fits _ _ (any_fits (pick_of pick)) (λ p any. node_form_fits node (Stop k p) within))
+
+pub form_fits : (found : List (List ℕ)) → Fits FormFits (form_of found)
+form_fits [] = none_fits
+form_fits (a ∷ []) = if_fits _ _ _ (some_fits forms.Log tt) none_fits
+form_fits (a ∷ b ∷ []) = two_words_fits a b
+form_fits (a ∷ b ∷ c ∷ []) = three_words_fits a b c
+form_fits (a ∷ b ∷ c ∷ d ∷ []) = if_fits _ _ _ (stop_words_fits b c d) (choosing_fits a b c (plain_choice d))
+form_fits (a ∷ b ∷ c ∷ d ∷ e ∷ []) = choosing_fits a b c (resolver_choice d e)
+form_fits (a ∷ b ∷ c ∷ d ∷ e ∷ f ∷ more) = none_fits

@@ -6,53 +6,57 @@ use Rattle.iot_event.specs.declared.declared.TheConstants.{CLIENT_LIMIT, SCRIPT_
 use Rattle.iot_event.specs.declared.form.TheConstants.{STEP_LIMIT, READS_LIMIT, STOP_LIMIT}
 use Rattle.iot_event.specs.declared.event.Choice.{Choice}
 use Rattle.iot_event.specs.declared.event.Choice.TheVariants.{Reexec, Resolver, Abort, Manual}
+use Rattle.iot_event.specs.declared.event.NodeEvent.{NodeEvent}
+use Rattle.iot_event.specs.declared.event.NodeEvent.TheVariants.{Show, Stop, Crash, Restart}
+use Rattle.iot_event.specs.declared.event.Task.{Task}
+use Rattle.iot_event.specs.declared.event.Task.TheVariants.{Run, Hoard, Refresh, Begin, Step, End}
+use Rattle.iot_event.specs.declared.event.Task.TheVariants.{Sync, Drain, Repair, Discard, Queue, Reads}
+use Rattle.iot_event.specs.declared.event.ClientEvent.{ClientEvent}
+use Rattle.iot_event.specs.declared.event.ClientEvent.TheVariants as client_events
 use Rattle.iot_event.specs.declared.event.Event.{Event}
-use Rattle.iot_event.specs.declared.event.Event.TheVariants.{Client, Script, Run, Hoard, Refresh, Begin, Step, End}
-use Rattle.iot_event.specs.declared.event.Event.TheVariants.{Connect, Disconnect, Lose, Sync, Drain, Repair, Discard}
-use Rattle.iot_event.specs.declared.event.Event.TheVariants.{ShowServer, ShowClient, CrashServer, CrashClient, RestartServer, RestartClient}
-use Rattle.iot_event.specs.declared.event.Event.TheVariants.{StopServer, StopClient, Queue, Reads, Log}
+use Rattle.iot_event.specs.declared.event.Event.TheVariants.{Client, Script, At, Server, Log}
 
 -- the resolver of an option, if it has one, is one of so many scripts
-abbrev pub ResolverIsDeclared : Choice → (scripts : ℕ) → Type 0
+abbrev pub ResolverIsDeclared : Choice ℕ → (scripts : ℕ) → Type 0
 ResolverIsDeclared Reexec scripts = Unit {0}
 ResolverIsDeclared (Resolver script) scripts = script < scripts
 ResolverIsDeclared Abort scripts = Unit {0}
 ResolverIsDeclared Manual scripts = Unit {0}
 
--- After so many clients and scripts of these names were declared: no more are declared than there may be, and no script again, each event
--- names only a client, a script and a resolver that were declared, a path is a path, and a number is within its limits.
+-- its script and its resolver are of so many, its path is a path, and its number is within the limits
+abbrev pub TaskIsDeclared : Task ℕ → (scripts : ℕ) → Type 0
+TaskIsDeclared (Run script option) scripts = (script < scripts) × ResolverIsDeclared option scripts
+TaskIsDeclared (Hoard path) scripts = IsPath path
+TaskIsDeclared Refresh scripts = Unit {0}
+TaskIsDeclared (Begin script option) scripts = (script < scripts) × ResolverIsDeclared option scripts
+TaskIsDeclared (Step count) scripts = (1 ≤ count) × (count ≤ STEP_LIMIT)
+TaskIsDeclared End scripts = Unit {0}
+TaskIsDeclared Sync scripts = Unit {0}
+TaskIsDeclared Drain scripts = Unit {0}
+TaskIsDeclared (Repair script) scripts = script < scripts
+TaskIsDeclared Discard scripts = Unit {0}
+TaskIsDeclared Queue scripts = Unit {0}
+TaskIsDeclared (Reads item) scripts = (1 ≤ item) × (item ≤ READS_LIMIT)
+
+abbrev pub IsWithin : NodeEvent → Type 0
+IsWithin Show = Unit {0}
+IsWithin (Stop calls pick) = (1 ≤ calls) × (calls ≤ STOP_LIMIT)
+IsWithin Crash = Unit {0}
+IsWithin Restart = Unit {0}
+
+abbrev pub ClientEventIsDeclared : ClientEvent ℕ → (scripts : ℕ) → Type 0
+ClientEventIsDeclared (client_events.Node what) scripts = IsWithin what
+ClientEventIsDeclared (client_events.Link what) scripts = Unit {0}
+ClientEventIsDeclared (client_events.Task what) scripts = TaskIsDeclared what scripts
+
+-- After so many clients and scripts of these names were declared: no more are declared than there may be, and no script again, and each
+-- event is of a client that was declared, and says what it may say.
 abbrev pub AreDeclared : List Event → (clients : ℕ) (scripts : List (List ℕ)) → Type 0
 AreDeclared [] clients scripts = Unit {0}
 AreDeclared (Client name ∷ later) clients scripts = (clients < CLIENT_LIMIT) × AreDeclared later (clients + 1) scripts
 AreDeclared (Script name script ∷ later) clients scripts =
     (length scripts < SCRIPT_LIMIT) × (is_declared name scripts ≡ false) × AreDeclared later clients (scripts ++ name ∷ [])
-AreDeclared (Run client script option ∷ later) clients scripts =
-    (client < clients) × (script < length scripts) × ResolverIsDeclared option (length scripts) × AreDeclared later clients scripts
-AreDeclared (Hoard client path ∷ later) clients scripts = (client < clients) × IsPath path × AreDeclared later clients scripts
-AreDeclared (Refresh client ∷ later) clients scripts = (client < clients) × AreDeclared later clients scripts
-AreDeclared (Begin client script option ∷ later) clients scripts =
-    (client < clients) × (script < length scripts) × ResolverIsDeclared option (length scripts) × AreDeclared later clients scripts
-AreDeclared (Step client count ∷ later) clients scripts =
-    (client < clients) × (1 ≤ count) × (count ≤ STEP_LIMIT) × AreDeclared later clients scripts
-AreDeclared (End client ∷ later) clients scripts = (client < clients) × AreDeclared later clients scripts
-AreDeclared (Connect client ∷ later) clients scripts = (client < clients) × AreDeclared later clients scripts
-AreDeclared (Disconnect client ∷ later) clients scripts = (client < clients) × AreDeclared later clients scripts
-AreDeclared (Lose client loss ∷ later) clients scripts = (client < clients) × AreDeclared later clients scripts
-AreDeclared (Sync client ∷ later) clients scripts = (client < clients) × AreDeclared later clients scripts
-AreDeclared (Drain client ∷ later) clients scripts = (client < clients) × AreDeclared later clients scripts
-AreDeclared (Repair client script ∷ later) clients scripts =
-    (client < clients) × (script < length scripts) × AreDeclared later clients scripts
-AreDeclared (Discard client ∷ later) clients scripts = (client < clients) × AreDeclared later clients scripts
-AreDeclared (ShowServer ∷ later) clients scripts = AreDeclared later clients scripts
-AreDeclared (ShowClient client ∷ later) clients scripts = (client < clients) × AreDeclared later clients scripts
-AreDeclared (StopServer calls pick ∷ later) clients scripts = (1 ≤ calls) × (calls ≤ STOP_LIMIT) × AreDeclared later clients scripts
-AreDeclared (StopClient client calls pick ∷ later) clients scripts =
-    (client < clients) × (1 ≤ calls) × (calls ≤ STOP_LIMIT) × AreDeclared later clients scripts
-AreDeclared (CrashServer ∷ later) clients scripts = AreDeclared later clients scripts
-AreDeclared (CrashClient client ∷ later) clients scripts = (client < clients) × AreDeclared later clients scripts
-AreDeclared (RestartServer ∷ later) clients scripts = AreDeclared later clients scripts
-AreDeclared (RestartClient client ∷ later) clients scripts = (client < clients) × AreDeclared later clients scripts
-AreDeclared (Queue client ∷ later) clients scripts = (client < clients) × AreDeclared later clients scripts
-AreDeclared (Reads client item ∷ later) clients scripts =
-    (client < clients) × (1 ≤ item) × (item ≤ READS_LIMIT) × AreDeclared later clients scripts
+AreDeclared (At client what ∷ later) clients scripts =
+    (client < clients) × ClientEventIsDeclared what (length scripts) × AreDeclared later clients scripts
+AreDeclared (Server what ∷ later) clients scripts = IsWithin what × AreDeclared later clients scripts
 AreDeclared (Log ∷ later) clients scripts = AreDeclared later clients scripts

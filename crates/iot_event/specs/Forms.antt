@@ -2,55 +2,78 @@
 use Rattle.std.specs.Prelude.{ℕ, ◌&&◌, not, List, [], ◌∷◌, Option, Some, None, codes, bytes_eq, if◌then◌else◌}
 use Rattle.std.specs.Option.{option_map, option_or, option_and_then}
 use Rattle.iot_text.specs.Names.{is_name}
+use Rattle.iot_text.specs.Paths.{path_of}
 use Rattle.iot_link.specs.declared.passages.Loss.{Loss}
 use Rattle.iot_link.specs.declared.passages.Loss.TheVariants.{Request, Reply}
 use Rattle.iot_disk.specs.declared.disk.Pick.{Pick}
 use Rattle.iot_disk.specs.declared.disk.Pick.TheVariants.{Old, New, Fill}
 use Rattle.iot_event.specs.Numbers.{number_of, byte_of}
 use Rattle.iot_event.specs.declared.form.TheConstants.{STEP_LIMIT, READS_LIMIT, STOP_LIMIT}
+use Rattle.iot_event.specs.declared.event.Choice.{Choice}
+use Rattle.iot_event.specs.declared.event.Choice.TheVariants.{Reexec, Resolver, Abort, Manual}
+use Rattle.iot_event.specs.declared.event.NodeEvent.{NodeEvent}
+use Rattle.iot_event.specs.declared.event.NodeEvent.TheVariants.{Show, Stop, Crash, Restart}
+use Rattle.iot_event.specs.declared.event.LinkEvent.{LinkEvent}
+use Rattle.iot_event.specs.declared.event.LinkEvent.TheVariants.{Connect, Disconnect, Lose}
+use Rattle.iot_event.specs.declared.event.Task as tasks
+use Rattle.iot_event.specs.declared.event.Task.TheVariants.{Run, Hoard, Refresh, Begin, Step, End}
+use Rattle.iot_event.specs.declared.event.Task.TheVariants.{Sync, Drain, Repair, Discard, Queue, Reads}
+use Rattle.iot_event.specs.declared.event.ClientEvent.{ClientEvent}
+use Rattle.iot_event.specs.declared.event.ClientEvent.TheVariants.{Node, Link, Task}
 use Rattle.iot_event.specs.declared.form.Form.{Form}
-use Rattle.iot_event.specs.declared.form.Form.TheVariants.{Client, Script, Run, Hoard, Refresh, Begin, Step, End}
-use Rattle.iot_event.specs.declared.form.Form.TheVariants.{Connect, Disconnect, Lose, Sync, Drain, Repair, Discard}
-use Rattle.iot_event.specs.declared.form.Form.TheVariants.{ShowServer, ShowClient, CrashServer, CrashClient, RestartServer, RestartClient}
-use Rattle.iot_event.specs.declared.form.Form.TheVariants.{StopServer, StopClient, Queue, Reads, Log}
-use Rattle.iot_event.specs.declared.form.NamedChoice.{NamedChoice}
-use Rattle.iot_event.specs.declared.form.NamedChoice.TheVariants.{Reexec, Resolver, Abort, Manual}
+use Rattle.iot_event.specs.declared.form.Form.TheVariants.{Client, Script, At, Server, Log}
 
 -- `log`
 abbrev pub one_word : List ℕ → Option Form
 one_word word = if bytes_eq word (codes "log") then Some Log else None
 
--- `show server`, `crash server` or `restart server`
-abbrev pub server_form : List ℕ → List ℕ → Option Form
-server_form first second =
-    if not (bytes_eq second (codes "server")) then None
-    else if bytes_eq first (codes "show") then Some ShowServer
-    else if bytes_eq first (codes "crash") then Some CrashServer
-    else if bytes_eq first (codes "restart") then Some RestartServer
+-- ---- what one word says of a node, of a link or of a client
+
+abbrev pub node_event : List ℕ → Option NodeEvent
+node_event word =
+    if bytes_eq word (codes "show") then Some Show
+    else if bytes_eq word (codes "crash") then Some Crash
+    else if bytes_eq word (codes "restart") then Some Restart
     else None
 
--- `client N`, `refresh C`, `step C`, `end C`, `connect C`, `disconnect C`, `sync C`, `drain C`, `discard C`, `show C`, `crash C`,
--- `restart C` or `queue C`
+abbrev pub link_event : List ℕ → Option LinkEvent
+link_event word =
+    if bytes_eq word (codes "connect") then Some Connect
+    else if bytes_eq word (codes "disconnect") then Some Disconnect
+    else None
+
+abbrev pub lone_task : List ℕ → Option (tasks.Task (List ℕ))
+lone_task word =
+    if bytes_eq word (codes "refresh") then Some Refresh
+    else if bytes_eq word (codes "step") then Some (Step 1)
+    else if bytes_eq word (codes "end") then Some End
+    else if bytes_eq word (codes "sync") then Some Sync
+    else if bytes_eq word (codes "drain") then Some Drain
+    else if bytes_eq word (codes "discard") then Some Discard
+    else if bytes_eq word (codes "queue") then Some Queue
+    else None
+
+abbrev pub lone_event : List ℕ → Option (ClientEvent (List ℕ))
+lone_event word =
+    option_or (option_map (λ what. Node what) (node_event word))
+    (option_or (option_map (λ what. Link what) (link_event word)) (option_map (λ what. Task what) (lone_task word)))
+
+-- ---- lines of two words
+
+-- `show server`, `crash server` or `restart server`
+abbrev pub server_form : List ℕ → List ℕ → Option Form
+server_form first second = if bytes_eq second (codes "server") then option_map (λ what. Server what) (node_event first) else None
+
+-- `client N`, or an event of a client that one word says
 abbrev pub client_form : List ℕ → (client : List ℕ) → Option Form
 client_form first client =
-    if bytes_eq first (codes "client") then Some (Client client)
-    else if bytes_eq first (codes "refresh") then Some (Refresh client)
-    else if bytes_eq first (codes "step") then Some (Step client 1)
-    else if bytes_eq first (codes "end") then Some (End client)
-    else if bytes_eq first (codes "connect") then Some (Connect client)
-    else if bytes_eq first (codes "disconnect") then Some (Disconnect client)
-    else if bytes_eq first (codes "sync") then Some (Sync client)
-    else if bytes_eq first (codes "drain") then Some (Drain client)
-    else if bytes_eq first (codes "discard") then Some (Discard client)
-    else if bytes_eq first (codes "show") then Some (ShowClient client)
-    else if bytes_eq first (codes "crash") then Some (CrashClient client)
-    else if bytes_eq first (codes "restart") then Some (RestartClient client)
-    else if bytes_eq first (codes "queue") then Some (Queue client)
-    else None
+    if bytes_eq first (codes "client") then Some (Client client) else option_map (λ what. At client what) (lone_event first)
 
 -- what is done with the server, else what is done with a client
 abbrev pub two_words : List ℕ → List ℕ → Option Form
 two_words first second = option_or (server_form first second) (if is_name second then client_form first second else None)
+
+-- ---- lines of three words
 
 -- `request` or `reply`
 abbrev pub loss_of : List ℕ → Option Loss
@@ -59,20 +82,31 @@ loss_of word =
     else if bytes_eq word (codes "reply") then Some Reply
     else None
 
--- `script N {`, `hoard C P`, `step C k`, `reads C i`, `lose C request`, `lose C reply` or `repair C S`
+-- `step C k`, `reads C i`, `lose C request`, `lose C reply` or `repair C S`, without the client
+abbrev pub event_with : List ℕ → List ℕ → Option (ClientEvent (List ℕ))
+event_with first word =
+    if bytes_eq first (codes "step") then option_map (λ count. Task (Step count)) (number_of word STEP_LIMIT)
+    else if bytes_eq first (codes "reads") then option_map (λ item. Task (Reads item)) (number_of word READS_LIMIT)
+    else if bytes_eq first (codes "lose") then option_map (λ loss. Link (Lose loss)) (loss_of word)
+    else if bytes_eq first (codes "repair") then (if is_name word then Some (Task (Repair word)) else None)
+    else None
+
+-- the same, or `hoard C P`
+abbrev pub event_of_words : List ℕ → List ℕ → Option (ClientEvent (List ℕ))
+event_of_words first word =
+    if bytes_eq first (codes "hoard") then option_map (λ path. Task (Hoard path)) (path_of word) else event_with first word
+
+-- `script N {`, or an event of a client that two words say
 abbrev pub three_words : List ℕ → List ℕ → List ℕ → Option Form
 three_words first second third =
     if not (is_name second) then None
     else if bytes_eq first (codes "script") && bytes_eq third (codes "{") then Some (Script second)
-    else if bytes_eq first (codes "hoard") then Some (Hoard second third)
-    else if bytes_eq first (codes "step") then option_map (λ count. Step second count) (number_of third STEP_LIMIT)
-    else if bytes_eq first (codes "reads") then option_map (λ item. Reads second item) (number_of third READS_LIMIT)
-    else if bytes_eq first (codes "lose") then option_map (λ loss. Lose second loss) (loss_of third)
-    else if bytes_eq first (codes "repair") then (if is_name third then Some (Repair second third) else None)
-    else None
+    else option_map (λ what. At second what) (event_of_words first third)
+
+-- ---- lines of four and five words
 
 -- `reexec`, `abort` or `manual`
-abbrev pub plain_choice : List ℕ → Option NamedChoice
+abbrev pub plain_choice : List ℕ → Option (Choice (List ℕ))
 plain_choice word =
     if bytes_eq word (codes "reexec") then Some Reexec
     else if bytes_eq word (codes "abort") then Some Abort
@@ -80,18 +114,21 @@ plain_choice word =
     else None
 
 -- `resolver S`
-abbrev pub resolver_choice : List ℕ → (script : List ℕ) → Option NamedChoice
+abbrev pub resolver_choice : List ℕ → (script : List ℕ) → Option (Choice (List ℕ))
 resolver_choice word script = if bytes_eq word (codes "resolver") && is_name script then Some (Resolver script) else None
 
--- `run C S` or `begin C S`, with its option
-abbrev pub script_form : List ℕ → (client script : List ℕ) → NamedChoice → Option Form
-script_form first client script option =
-    if bytes_eq first (codes "run") then Some (Run client script option)
-    else if bytes_eq first (codes "begin") then Some (Begin client script option)
+-- `run C S` or `begin C S`, with its option, without the client
+abbrev pub script_task : List ℕ → (script : List ℕ) → Choice (List ℕ) → Option (tasks.Task (List ℕ))
+script_task first script option =
+    if bytes_eq first (codes "run") then Some (Run script option)
+    else if bytes_eq first (codes "begin") then Some (Begin script option)
     else None
 
+abbrev pub script_form : List ℕ → (client script : List ℕ) → Choice (List ℕ) → Option Form
+script_form first client script option = option_map (λ what. At client (Task what)) (script_task first script option)
+
 -- the same, if the client and the script are names and the option is one
-abbrev pub choosing_form : List ℕ → (client script : List ℕ) → Option NamedChoice → Option Form
+abbrev pub choosing_form : List ℕ → (client script : List ℕ) → Option (Choice (List ℕ)) → Option Form
 choosing_form first client script option =
     if is_name client && is_name script then option_and_then (λ choice. script_form first client script choice) option else None
 
@@ -102,16 +139,16 @@ pick_of word =
     else if bytes_eq word (codes "new") then Some New
     else option_map (λ byte. Fill byte) (byte_of word)
 
--- `stop server k PICK` or `stop C k PICK`
-abbrev pub stop_form : (node : List ℕ) (calls : ℕ) → Pick → Option Form
-stop_form node calls pick =
-    if bytes_eq node (codes "server") then Some (StopServer calls pick)
-    else if is_name node then Some (StopClient node calls pick)
+-- what befalls the server or a client
+abbrev pub node_form : (node : List ℕ) → NodeEvent → Option Form
+node_form node what =
+    if bytes_eq node (codes "server") then Some (Server what)
+    else if is_name node then Some (At node (Node what))
     else None
 
--- the same, if the number is one and the pick is
+-- `stop NODE k PICK`, if the number is one and the pick is
 abbrev pub stopping_form : (node : List ℕ) → Option ℕ → Option Pick → Option Form
-stopping_form node calls pick = option_and_then (λ k. option_and_then (λ p. stop_form node k p) pick) calls
+stopping_form node calls pick = option_and_then (λ k. option_and_then (λ p. node_form node (Stop k p)) pick) calls
 
 abbrev pub stop_words : (node calls pick : List ℕ) → Option Form
 stop_words node calls pick = stopping_form node (number_of calls STOP_LIMIT) (pick_of pick)

@@ -1,5 +1,5 @@
 -- What the results of the parser's functions say. Running out of memory is always allowed, so of `NoMemory` nothing is said.
-use Rattle.std.specs.Prelude.{ℕ, List, Vec, Option, Some, None, Result, Ok, Err, ok_or, ◌≡◌, ◌⊎◌}
+use Rattle.std.specs.Prelude.{ℕ, List, Vec, Option, Result, Ok, Err, ok_or, ◌≡◌, ◌⊎◌}
 use Rattle.std.specs.declared.alloc.Global.{Global}
 use Rattle.iot_lines.specs.Lines.{lines}
 use Rattle.iot_lang.specs.Code.{Code}
@@ -8,7 +8,7 @@ use Rattle.iot_event.specs.declared.declared.Declared.{Declared}
 use Rattle.iot_event.specs.declared.declared.Step as steps
 use Rattle.iot_event.specs.declared.event.Event.{Event}
 use Rattle.iot_event.specs.declared.fault.EventFault.{EventFault}
-use Rattle.iot_event.specs.declared.fault.EventFault.TheVariants.{NoMemory, BadLine, UnknownName}
+use Rattle.iot_event.specs.declared.fault.EventFault.TheVariants.{NoMemory, UnknownName}
 use Rattle.iot_event.specs.Closing.{Closed}
 use Rattle.iot_event.specs.Scripts.{SpellsScript, HasScriptFault}
 use Rattle.iot_event.specs.Meanings.{Scope, Meaning, Refused, Says, Opens}
@@ -35,11 +35,6 @@ AnswersEvent meaning (Err fault) declared = SaidOf fault (meaning ≡ Refused fa
 -- what a name stands for, unless it was not declared
 abbrev pub AnswersKnown : {X : Type 0} → Option X → (number : ℕ) → Result X EventFault → Type 0
 AnswersKnown known number result = result ≡ ok_or known (UnknownName number)
-
--- the path of a text, unless the text is that of no path
-abbrev pub AnswersPath : Option (List (List ℕ)) → (number : ℕ) → Result (List (List ℕ)) EventFault → Type 0
-AnswersPath path number (Ok parsed) = path ≡ Some parsed
-AnswersPath path number (Err fault) = SaidOf fault ((path ≡ None) × (fault ≡ BadLine number))
 
 -- a line of this meaning opens this script
 abbrev pub AnswersScript : Meaning → List ℕ → Result rust.Closed EventFault → Declared → Type 0

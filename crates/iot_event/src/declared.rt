@@ -1,29 +1,21 @@
 //! The lines of an event script, one at a time: what each says after the names that were declared before it.
 ghost use Rattle.std.specs.Prelude.{◌≡◌, ◌+◌, ◌<◌, ◌≤◌, ◌^◌, length, IfOk, Some};
 ghost use Rattle.iot_lines.specs.Lines.{lines};
-ghost use Rattle.iot_lines.specs.Words.{words};
-ghost use Rattle.iot_text.specs.Paths.{path_of};
-ghost use Rattle.iot_event.specs.Forms.{form_of};
 ghost use Rattle.iot_event.specs.Closing.{closed_by};
-ghost use Rattle.iot_event.specs.Meanings.{Scope, Meaning, nothing_declared, place_of, choice_of, client_line, script_line, run_line};
-ghost use Rattle.iot_event.specs.Meanings.{hoard_line, refresh_line, begin_line, step_line, end_line, show_line};
-ghost use Rattle.iot_event.specs.Meanings.{stop_line, crash_line, restart_line};
-ghost use Rattle.iot_event.specs.Meanings.{connect_line, disconnect_line, lose_line, sync_line, drain_line};
-ghost use Rattle.iot_event.specs.Meanings.{repair_line, discard_line, queue_line, reads_line, meaning_of_form};
+ghost use Rattle.iot_event.specs.Meanings.{Scope, Meaning, nothing_declared, place_of, choice_of, task_of, event_of};
+ghost use Rattle.iot_event.specs.Meanings.{client_line, script_line, at_line, meaning_of_form};
 ghost use Rattle.iot_event.specs.Events.{IsStep, IsStepOf};
-ghost use Rattle.iot_event.specs.Results.{scope_of, AnswersEvent, AnswersKnown, AnswersPath, AnswersScript, Answers};
+ghost use Rattle.iot_event.specs.Results.{scope_of, AnswersEvent, AnswersKnown, AnswersScript, Answers};
 
 use crate::bytes::fits_line;
 use crate::closing::{Closed, find_closing};
-use crate::event::{Choice, Event, SharedScript};
+use crate::event::{Choice, ClientEvent, Event, SharedScript, Task};
 use crate::fault::EventFault;
-use crate::form::{Form, NamedChoice, form_of_line};
+use crate::form::{Form, form_of_line};
 use crate::script::parse_script;
 use indexmap::IndexSet;
-use iot_disk::Pick;
 use iot_lines::is_skipped;
-use iot_link::Loss;
-use iot_text::{Name, Path, TextFault};
+use iot_text::Name;
 use std::alloc::Global;
 
 /// How many clients an input declares at most.
@@ -60,30 +52,68 @@ fn place_of(names: &IndexSet<Name>, name: Name, number: u64) -> Result<u64, Even
 /// The option that a line gives, with the place of its resolver among the scripts that were declared.
 fn choice_of(
     scripts: &IndexSet<Name>,
-    option: NamedChoice,
+    option: Choice<Name>,
     number: u64,
-) -> Result<Choice, EventFault>
+) -> Result<Choice<u64>, EventFault>
     ensures { AnswersKnown (choice_of option scripts.now.keys) number result }
 {
     match option {
-        NamedChoice::Reexec => Ok(Choice::Reexec),
-        NamedChoice::Resolver(script) => {
+        Choice::Reexec => Ok(Choice::Reexec),
+        Choice::Resolver(script) => {
             let place = place_of(scripts, script, number)?;
             Ok(Choice::Resolver(place))
         }
-        NamedChoice::Abort => Ok(Choice::Abort),
-        NamedChoice::Manual => Ok(Choice::Manual),
+        Choice::Abort => Ok(Choice::Abort),
+        Choice::Manual => Ok(Choice::Manual),
     }
 }
 
-/// The path whose text a line gives.
-fn path_of(alloc: Global, text: &[u8], number: u64) -> Result<Path, EventFault>
-    ensures { AnswersPath (path_of text.now) number result }
+/// What a client does by a line, with the places of its scripts among those that were declared.
+fn task_of(scripts: &IndexSet<Name>, task: Task<Name>, number: u64) -> Result<Task<u64>, EventFault>
+    ensures { AnswersKnown (task_of task scripts.now.keys) number result }
 {
-    match Path::parse(alloc, text) {
-        Ok(path) => Ok(path),
-        Err(TextFault::NoMemory) => Err(EventFault::NoMemory),
-        Err(_) => Err(EventFault::BadLine { line: number }),
+    match task {
+        Task::Run { script, option } => {
+            let script = place_of(scripts, script, number)?;
+            let option = choice_of(scripts, option, number)?;
+            Ok(Task::Run { script, option })
+        }
+        Task::Hoard { path } => Ok(Task::Hoard { path }),
+        Task::Refresh => Ok(Task::Refresh),
+        Task::Begin { script, option } => {
+            let script = place_of(scripts, script, number)?;
+            let option = choice_of(scripts, option, number)?;
+            Ok(Task::Begin { script, option })
+        }
+        Task::Step { count } => Ok(Task::Step { count }),
+        Task::End => Ok(Task::End),
+        Task::Sync => Ok(Task::Sync),
+        Task::Drain => Ok(Task::Drain),
+        Task::Repair { script } => {
+            let script = place_of(scripts, script, number)?;
+            Ok(Task::Repair { script })
+        }
+        Task::Discard => Ok(Task::Discard),
+        Task::Queue => Ok(Task::Queue),
+        Task::Reads { item } => Ok(Task::Reads { item }),
+    }
+}
+
+/// The event of a client that a line gives, with the places of its scripts among those that were declared.
+fn event_of(
+    scripts: &IndexSet<Name>,
+    what: ClientEvent<Name>,
+    number: u64,
+) -> Result<ClientEvent<u64>, EventFault>
+    ensures { AnswersKnown (event_of what scripts.now.keys) number result }
+{
+    match what {
+        ClientEvent::Node(what) => Ok(ClientEvent::Node(what)),
+        ClientEvent::Link(what) => Ok(ClientEvent::Link(what)),
+        ClientEvent::Task(what) => {
+            let task = task_of(scripts, what, number)?;
+            Ok(ClientEvent::Task(task))
+        }
     }
 }
 
@@ -156,198 +186,18 @@ impl Declared {
         Ok(script)
     }
 
-    /// `run C S OPTION`
-    fn run_line(
+    /// An event of the client of this name.
+    fn at_line(
         &self,
         client: Name,
-        script: Name,
-        option: NamedChoice,
+        what: ClientEvent<Name>,
         number: u64,
     ) -> Result<Event, EventFault>
-        ensures { AnswersEvent (run_line (scope_of self.now) number client script option) result self.now }
+        ensures { AnswersEvent (at_line (scope_of self.now) number client what) result self.now }
     {
         let client = place_of(&self.clients, client, number)?;
-        let script = place_of(&self.scripts, script, number)?;
-        let option = choice_of(&self.scripts, option, number)?;
-        Ok(Event::Run {
-            client,
-            script,
-            option,
-        })
-    }
-
-    /// `begin C S OPTION`
-    fn begin_line(
-        &self,
-        client: Name,
-        script: Name,
-        option: NamedChoice,
-        number: u64,
-    ) -> Result<Event, EventFault>
-        ensures { AnswersEvent (begin_line (scope_of self.now) number client script option) result self.now }
-    {
-        let client = place_of(&self.clients, client, number)?;
-        let script = place_of(&self.scripts, script, number)?;
-        let option = choice_of(&self.scripts, option, number)?;
-        Ok(Event::Begin {
-            client,
-            script,
-            option,
-        })
-    }
-
-    /// `hoard C P`
-    fn hoard_line(
-        &self,
-        alloc: Global,
-        client: Name,
-        path: &[u8],
-        number: u64,
-    ) -> Result<Event, EventFault>
-        ensures { AnswersEvent (hoard_line (scope_of self.now) number client path.now) result self.now }
-    {
-        let path = path_of(alloc, path, number)?;
-        let client = place_of(&self.clients, client, number)?;
-        Ok(Event::Hoard { client, path })
-    }
-
-    /// `refresh C`
-    fn refresh_line(&self, client: Name, number: u64) -> Result<Event, EventFault>
-        ensures { AnswersEvent (refresh_line (scope_of self.now) number client) result self.now }
-    {
-        let client = place_of(&self.clients, client, number)?;
-        Ok(Event::Refresh { client })
-    }
-
-    /// `step C` or `step C k`
-    fn step_line(&self, client: Name, count: u64, number: u64) -> Result<Event, EventFault>
-        ensures { AnswersEvent (step_line (scope_of self.now) number client count) result self.now }
-    {
-        let client = place_of(&self.clients, client, number)?;
-        Ok(Event::Step { client, count })
-    }
-
-    /// `end C`
-    fn end_line(&self, client: Name, number: u64) -> Result<Event, EventFault>
-        ensures { AnswersEvent (end_line (scope_of self.now) number client) result self.now }
-    {
-        let client = place_of(&self.clients, client, number)?;
-        Ok(Event::End { client })
-    }
-
-    /// `connect C`
-    fn connect_line(&self, client: Name, number: u64) -> Result<Event, EventFault>
-        ensures { AnswersEvent (connect_line (scope_of self.now) number client) result self.now }
-    {
-        let client = place_of(&self.clients, client, number)?;
-        Ok(Event::Connect { client })
-    }
-
-    /// `disconnect C`
-    fn disconnect_line(&self, client: Name, number: u64) -> Result<Event, EventFault>
-        ensures { AnswersEvent (disconnect_line (scope_of self.now) number client) result self.now }
-    {
-        let client = place_of(&self.clients, client, number)?;
-        Ok(Event::Disconnect { client })
-    }
-
-    /// `lose C request` or `lose C reply`
-    fn lose_line(&self, client: Name, loss: Loss, number: u64) -> Result<Event, EventFault>
-        ensures { AnswersEvent (lose_line (scope_of self.now) number client loss) result self.now }
-    {
-        let client = place_of(&self.clients, client, number)?;
-        Ok(Event::Lose { client, loss })
-    }
-
-    /// `sync C`
-    fn sync_line(&self, client: Name, number: u64) -> Result<Event, EventFault>
-        ensures { AnswersEvent (sync_line (scope_of self.now) number client) result self.now }
-    {
-        let client = place_of(&self.clients, client, number)?;
-        Ok(Event::Sync { client })
-    }
-
-    /// `drain C`
-    fn drain_line(&self, client: Name, number: u64) -> Result<Event, EventFault>
-        ensures { AnswersEvent (drain_line (scope_of self.now) number client) result self.now }
-    {
-        let client = place_of(&self.clients, client, number)?;
-        Ok(Event::Drain { client })
-    }
-
-    /// `repair C S`
-    fn repair_line(&self, client: Name, script: Name, number: u64) -> Result<Event, EventFault>
-        ensures { AnswersEvent (repair_line (scope_of self.now) number client script) result self.now }
-    {
-        let client = place_of(&self.clients, client, number)?;
-        let script = place_of(&self.scripts, script, number)?;
-        Ok(Event::Repair { client, script })
-    }
-
-    /// `discard C`
-    fn discard_line(&self, client: Name, number: u64) -> Result<Event, EventFault>
-        ensures { AnswersEvent (discard_line (scope_of self.now) number client) result self.now }
-    {
-        let client = place_of(&self.clients, client, number)?;
-        Ok(Event::Discard { client })
-    }
-
-    /// `stop C k PICK`
-    fn stop_line(
-        &self,
-        client: Name,
-        calls: u64,
-        pick: Pick,
-        number: u64,
-    ) -> Result<Event, EventFault>
-        ensures { AnswersEvent (stop_line (scope_of self.now) number client calls pick) result self.now }
-    {
-        let client = place_of(&self.clients, client, number)?;
-        Ok(Event::StopClient {
-            client,
-            calls,
-            pick,
-        })
-    }
-
-    /// `crash C`
-    fn crash_line(&self, client: Name, number: u64) -> Result<Event, EventFault>
-        ensures { AnswersEvent (crash_line (scope_of self.now) number client) result self.now }
-    {
-        let client = place_of(&self.clients, client, number)?;
-        Ok(Event::CrashClient { client })
-    }
-
-    /// `restart C`
-    fn restart_line(&self, client: Name, number: u64) -> Result<Event, EventFault>
-        ensures { AnswersEvent (restart_line (scope_of self.now) number client) result self.now }
-    {
-        let client = place_of(&self.clients, client, number)?;
-        Ok(Event::RestartClient { client })
-    }
-
-    /// `show C`
-    fn show_line(&self, client: Name, number: u64) -> Result<Event, EventFault>
-        ensures { AnswersEvent (show_line (scope_of self.now) number client) result self.now }
-    {
-        let client = place_of(&self.clients, client, number)?;
-        Ok(Event::ShowClient { client })
-    }
-
-    /// `queue C`
-    fn queue_line(&self, client: Name, number: u64) -> Result<Event, EventFault>
-        ensures { AnswersEvent (queue_line (scope_of self.now) number client) result self.now }
-    {
-        let client = place_of(&self.clients, client, number)?;
-        Ok(Event::Queue { client })
-    }
-
-    /// `reads C i`
-    fn reads_line(&self, client: Name, item: u64, number: u64) -> Result<Event, EventFault>
-        ensures { AnswersEvent (reads_line (scope_of self.now) number client item) result self.now }
-    {
-        let client = place_of(&self.clients, client, number)?;
-        Ok(Event::Reads { client, item })
+        let what = event_of(&self.scripts, what, number)?;
+        Ok(Event::At { client, what })
     }
 
     /// A script, from the line after its first on.
@@ -380,13 +230,13 @@ impl Declared {
     fn by_form<'a>(
         &mut self,
         alloc: Global,
-        form: Form<'_>,
+        form: Form,
         later: &'a [u8],
         number: u64,
     ) -> Result<Step<'a>, EventFault>
         requires { number + length later.now < 2 ^ 63 }
         ensures line { Answers
-            (IsStepOf (meaning_of_form (Some form.entry) (scope_of self.old) number (lines later.now))
+            (IsStepOf (meaning_of_form (Some form) (scope_of self.old) number (lines later.now))
             (scope_of self.old) number (lines later.now))
             result self.new }
         ensures shorter { IfOk result (λ step. length step.later.now ≤ length later.now) }
@@ -395,73 +245,10 @@ impl Declared {
         match form {
             Form::Client(name) => after_line(self.client_line(name, number), later, number),
             Form::Script(name) => self.script(alloc, name, later, number),
-            Form::Run {
-                client,
-                script,
-                option,
-            } => after_line(self.run_line(client, script, option, number), later, number),
-            Form::Hoard { client, path } => after_line(
-                self.hoard_line(alloc, client, path.as_bytes(), number),
-                later,
-                number,
-            ),
-            Form::Refresh { client } => {
-                after_line(self.refresh_line(client, number), later, number)
+            Form::At { client, what } => {
+                after_line(self.at_line(client, what, number), later, number)
             }
-            Form::Begin {
-                client,
-                script,
-                option,
-            } => after_line(
-                self.begin_line(client, script, option, number),
-                later,
-                number,
-            ),
-            Form::Step { client, count } => {
-                after_line(self.step_line(client, count, number), later, number)
-            }
-            Form::End { client } => after_line(self.end_line(client, number), later, number),
-            Form::Connect { client } => {
-                after_line(self.connect_line(client, number), later, number)
-            }
-            Form::Disconnect { client } => {
-                after_line(self.disconnect_line(client, number), later, number)
-            }
-            Form::Lose { client, loss } => {
-                after_line(self.lose_line(client, loss, number), later, number)
-            }
-            Form::Sync { client } => after_line(self.sync_line(client, number), later, number),
-            Form::Drain { client } => after_line(self.drain_line(client, number), later, number),
-            Form::Repair { client, script } => {
-                after_line(self.repair_line(client, script, number), later, number)
-            }
-            Form::Discard { client } => {
-                after_line(self.discard_line(client, number), later, number)
-            }
-            Form::ShowServer => after_line(Ok(Event::ShowServer), later, number),
-            Form::ShowClient { client } => {
-                after_line(self.show_line(client, number), later, number)
-            }
-            Form::StopServer { calls, pick } => {
-                after_line(Ok(Event::StopServer { calls, pick }), later, number)
-            }
-            Form::StopClient {
-                client,
-                calls,
-                pick,
-            } => after_line(self.stop_line(client, calls, pick, number), later, number),
-            Form::CrashServer => after_line(Ok(Event::CrashServer), later, number),
-            Form::CrashClient { client } => {
-                after_line(self.crash_line(client, number), later, number)
-            }
-            Form::RestartServer => after_line(Ok(Event::RestartServer), later, number),
-            Form::RestartClient { client } => {
-                after_line(self.restart_line(client, number), later, number)
-            }
-            Form::Queue { client } => after_line(self.queue_line(client, number), later, number),
-            Form::Reads { client, item } => {
-                after_line(self.reads_line(client, item, number), later, number)
-            }
+            Form::Server(what) => after_line(Ok(Event::Server(what)), later, number),
             Form::Log => after_line(Ok(Event::Log), later, number),
         }
     }
@@ -489,7 +276,7 @@ impl Declared {
                 number: number + 1,
             });
         }
-        match form_of_line(line) {
+        match form_of_line(alloc, line)? {
             None => Err(EventFault::BadLine { line: number }),
             Some(form) => self.by_form(alloc, form, later, number),
         }

@@ -7,14 +7,15 @@ use std::alloc::Global;
 use std::marker::Model;
 use std::rc::Rc;
 
-/// What is done with a transaction that is in conflict. A resolver is named by its place among the scripts that were declared, from 0.
-#[derive(Clone, Copy, Debug, PartialEq, Eq)]
-pub enum Choice {
+/// What is done with a transaction that is in conflict. A resolver is a script: a line has its name, and an event its place among those
+/// that were declared, from 0.
+#[derive(Clone, Copy)]
+pub enum Choice<S> {
     /// `reexec`: its script is run again.
     Reexec,
 
     /// `resolver S`: this script is run in its place.
-    Resolver(u64),
+    Resolver(S),
 
     /// `abort`: it is given up.
     Abort,
@@ -23,7 +24,90 @@ pub enum Choice {
     Manual,
 }
 
-/// One event. It names clients and scripts by their place among those that were declared, from 0.
+/// What befalls a node, be it the server or a client.
+#[derive(Clone, Copy)]
+pub enum NodeEvent {
+    /// `show NODE`: the tree that it sees is printed.
+    Show,
+
+    /// `stop NODE k PICK`: the k-th device call of its disk from now on fails; `calls` is k, from 1. The pick says which of its images the
+    /// disk has after the next restart.
+    Stop { calls: u64, pick: Pick },
+
+    /// `crash NODE`: it stops.
+    Crash,
+
+    /// `restart NODE`: it comes back.
+    Restart,
+}
+
+/// What befalls a client's link with the server.
+#[derive(Clone, Copy)]
+pub enum LinkEvent {
+    /// `connect C`: it comes up.
+    Connect,
+
+    /// `disconnect C`: it goes down.
+    Disconnect,
+
+    /// `lose C request` or `lose C reply`: it loses this message of the next exchange.
+    Lose(Loss),
+}
+
+/// What a client does, if it is alive. A line has the names of scripts, and an event their places among those that were declared, from 0.
+#[derive(Drop)]
+pub enum Task<S> {
+    /// `run C S OPTION`: it runs the script. The option says what is done if that is in conflict.
+    Run { script: S, option: Choice<S> },
+
+    /// `hoard C P`: it fetches what lies on the way to the path, at it and below it.
+    Hoard { path: Path },
+
+    /// `refresh C`: it fetches anew what it knows.
+    Refresh,
+
+    /// `begin C S OPTION`: it begins a transaction of the script. The option says what is done if that is in conflict.
+    Begin { script: S, option: Choice<S> },
+
+    /// `step C` or `step C k`: it makes at most so many steps of its transaction.
+    Step { count: u64 },
+
+    /// `end C`: it ends its transaction.
+    End,
+
+    /// `sync C`: it sends the first transaction that it has queued.
+    Sync,
+
+    /// `drain C`: it sends the transactions that it has queued, one after the other.
+    Drain,
+
+    /// `repair C S`: the first transaction that it has queued, which waits for a decision by hand, gets this script as its resolver.
+    Repair { script: S },
+
+    /// `discard C`: the first transaction that it has queued, which waits for a decision by hand, is given up.
+    Discard,
+
+    /// `queue C`: its transactions that wait, and the one that runs, are printed.
+    Queue,
+
+    /// `reads C i`: what the i-th transaction that waits has read in its first run is printed; `item` is i, from 1.
+    Reads { item: u64 },
+}
+
+/// An event of a client.
+#[derive(Drop)]
+pub enum ClientEvent<S> {
+    /// Its node.
+    Node(NodeEvent),
+
+    /// Its link.
+    Link(LinkEvent),
+
+    /// What it does itself.
+    Task(Task<S>),
+}
+
+/// One event. It has the places of clients and scripts among those that were declared, from 0.
 #[derive(Drop)]
 pub enum Event {
     /// `client N`: the client of this name is a node from now on.
@@ -32,129 +116,11 @@ pub enum Event {
     /// `script N {` up to its `}`: the script of this name can be run from now on.
     Script(Name, SharedScript),
 
-    /// `run C S OPTION`: the client runs the script. The option says what is done if it is in conflict.
-    Run {
-        client: u64,
-        script: u64,
-        option: Choice,
-    },
+    /// An event of the client at this place.
+    At { client: u64, what: ClientEvent<u64> },
 
-    /// `hoard C P`: the client fetches what lies on the way to the path, at it and below it.
-    Hoard {
-        client: u64,
-        path: Path,
-    },
-
-    /// `refresh C`: the client fetches anew what it knows.
-    Refresh {
-        client: u64,
-    },
-
-    /// `begin C S OPTION`: the client begins a transaction of the script. The option says what is done if it is in conflict.
-    Begin {
-        client: u64,
-        script: u64,
-        option: Choice,
-    },
-
-    /// `step C` or `step C k`: the client makes at most so many steps of its transaction.
-    Step {
-        client: u64,
-        count: u64,
-    },
-
-    /// `end C`: the client ends its transaction.
-    End {
-        client: u64,
-    },
-
-    /// `connect C`: the client's link with the server comes up.
-    Connect {
-        client: u64,
-    },
-
-    /// `disconnect C`: the client's link with the server goes down.
-    Disconnect {
-        client: u64,
-    },
-
-    /// `lose C request` or `lose C reply`: the client's link loses this message of the next exchange.
-    Lose {
-        client: u64,
-        loss: Loss,
-    },
-
-    /// `sync C`: the client sends the first transaction that it has queued.
-    Sync {
-        client: u64,
-    },
-
-    /// `drain C`: the client sends the transactions that it has queued, one after the other.
-    Drain {
-        client: u64,
-    },
-
-    /// `repair C S`: the first transaction that the client has queued, which waits for a decision by hand, gets this script as its
-    /// resolver.
-    Repair {
-        client: u64,
-        script: u64,
-    },
-
-    /// `discard C`: the first transaction that the client has queued, which waits for a decision by hand, is given up.
-    Discard {
-        client: u64,
-    },
-
-    /// `show server`: the server's tree is printed.
-    ShowServer,
-
-    /// `show C`: the client's view is printed.
-    ShowClient {
-        client: u64,
-    },
-
-    /// `stop server k PICK`: the k-th device call of the server's disk from now on fails; `calls` is k, from 1. The pick says which of its
-    /// images the disk has after the next restart.
-    StopServer {
-        calls: u64,
-        pick: Pick,
-    },
-
-    /// `stop C k PICK`: the k-th device call of the client's disk from now on fails; `calls` is k, from 1. The pick says which of its
-    /// images the disk has after the next restart.
-    StopClient {
-        client: u64,
-        calls: u64,
-        pick: Pick,
-    },
-
-    /// `crash server`: the server stops.
-    CrashServer,
-
-    /// `crash C`: the client stops.
-    CrashClient {
-        client: u64,
-    },
-
-    /// `restart server`: the server comes back.
-    RestartServer,
-
-    /// `restart C`: the client comes back.
-    RestartClient {
-        client: u64,
-    },
-
-    /// `queue C`: the transactions of the client that wait, and the one that runs, are printed.
-    Queue {
-        client: u64,
-    },
-
-    /// `reads C i`: what the i-th transaction that waits has read in its first run is printed; `item` is i, from 1.
-    Reads {
-        client: u64,
-        item: u64,
-    },
+    /// An event of the server.
+    Server(NodeEvent),
 
     /// `log`: what was committed is printed.
     Log,

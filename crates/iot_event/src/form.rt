@@ -1,16 +1,19 @@
 //! The forms of event lines.
-ghost use Rattle.std.specs.Prelude.{◌≡◌, map, if◌then◌else◌, Some, None};
+ghost use Rattle.std.specs.Prelude.{◌≡◌, map, if◌then◌else◌, Some, None, IfOk};
 ghost use Rattle.iot_lines.specs.Words.{words};
 ghost use Rattle.iot_text.specs.Names.{is_name};
-ghost use Rattle.iot_event.specs.Forms.{form_of, one_word, server_form, client_form, two_words, loss_of, three_words};
-ghost use Rattle.iot_event.specs.Forms.{plain_choice, resolver_choice, script_form, pick_of, stop_form, stop_words, four_words, five_words};
+ghost use Rattle.iot_text.specs.Paths.{path_of};
+ghost use Rattle.iot_event.specs.Forms.{one_word, node_event, link_event, lone_task, lone_event, server_form, client_form, two_words};
+ghost use Rattle.iot_event.specs.Forms.{loss_of, event_with, event_of_words, three_words, plain_choice, resolver_choice};
+ghost use Rattle.iot_event.specs.Forms.{script_task, script_form, pick_of, node_form, stop_words, four_words, five_words, form_of};
 
+use crate::event::{Choice, ClientEvent, LinkEvent, NodeEvent, Task};
 use crate::number::{byte_of, number_of};
 use iot_disk::Pick;
 use iot_lines::split_words;
 use iot_link::Loss;
-use iot_text::Name;
-use std::marker::Model;
+use iot_text::{Name, NoMemory, Path, TextFault};
+use std::alloc::Global;
 
 /// How many steps one line asks for at most.
 pub const STEP_LIMIT: u64 = 100_000;
@@ -24,181 +27,23 @@ pub const STOP_LIMIT: u64 = 1_000_000;
 /// How many words the longest form has.
 const WORD_LIMIT: usize = 5;
 
-/// A word that belongs where a path does, and that may be none. Contracts see it as its bytes.
-#[derive(Drop)]
-pub(crate) struct PathWord<'a> {
-    bytes: &'a [u8],
-}
-
-impl<'a> Model for PathWord<'a> {
-    ghost use Rattle.std.specs.Prelude.{ℕ, List};
-
-    ghost Value = { List ℕ };
-
-    ghost view = { λ word. word.bytes.now };
-}
-
-impl<'a> PathWord<'a> {
-    /// A word as one that belongs where a path does.
-    fn new(bytes: &'a [u8]) -> PathWord<'a>
-        ensures { result ≡ bytes.now }
-    {
-        PathWord { bytes }
-    }
-
-    /// The bytes of the word.
-    pub(crate) fn as_bytes(&self) -> &'a [u8]
-        ensures { result.now ≡ self.now }
-    {
-        self.bytes
-    }
-}
-
-/// What is done with a transaction that is in conflict, before it is known whether the resolver is declared.
-#[derive(Clone, Copy)]
-pub(crate) enum NamedChoice {
-    /// `reexec`
-    Reexec,
-
-    /// `resolver S`
-    Resolver(Name),
-
-    /// `abort`
-    Abort,
-
-    /// `manual`
-    Manual,
-}
-
 /// What a line says by its words alone, before it is known which names are declared.
 #[derive(Drop)]
-pub(crate) enum Form<'a> {
+pub(crate) enum Form {
     /// `client N`
     Client(Name),
 
     /// `script N {`
     Script(Name),
 
-    /// `run C S OPTION`
-    Run {
+    /// An event of the client of this name.
+    At {
         client: Name,
-        script: Name,
-        option: NamedChoice,
+        what: ClientEvent<Name>,
     },
 
-    /// `hoard C P`
-    Hoard {
-        client: Name,
-        path: PathWord<'a>,
-    },
-
-    /// `refresh C`
-    Refresh {
-        client: Name,
-    },
-
-    /// `begin C S OPTION`
-    Begin {
-        client: Name,
-        script: Name,
-        option: NamedChoice,
-    },
-
-    /// `step C` or `step C k`
-    Step {
-        client: Name,
-        count: u64,
-    },
-
-    /// `end C`
-    End {
-        client: Name,
-    },
-
-    /// `connect C`
-    Connect {
-        client: Name,
-    },
-
-    /// `disconnect C`
-    Disconnect {
-        client: Name,
-    },
-
-    /// `lose C request` or `lose C reply`
-    Lose {
-        client: Name,
-        loss: Loss,
-    },
-
-    /// `sync C`
-    Sync {
-        client: Name,
-    },
-
-    /// `drain C`
-    Drain {
-        client: Name,
-    },
-
-    /// `repair C S`
-    Repair {
-        client: Name,
-        script: Name,
-    },
-
-    /// `discard C`
-    Discard {
-        client: Name,
-    },
-
-    /// `show server`
-    ShowServer,
-
-    /// `show C`
-    ShowClient {
-        client: Name,
-    },
-
-    /// `stop server k PICK`
-    StopServer {
-        calls: u64,
-        pick: Pick,
-    },
-
-    /// `stop C k PICK`
-    StopClient {
-        client: Name,
-        calls: u64,
-        pick: Pick,
-    },
-
-    /// `crash server`
-    CrashServer,
-
-    /// `crash C`
-    CrashClient {
-        client: Name,
-    },
-
-    /// `restart server`
-    RestartServer,
-
-    /// `restart C`
-    RestartClient {
-        client: Name,
-    },
-
-    /// `queue C`
-    Queue {
-        client: Name,
-    },
-
-    /// `reads C i`
-    Reads {
-        client: Name,
-        item: u64,
-    },
+    /// An event of the server.
+    Server(NodeEvent),
 
     /// `log`
     Log,
@@ -211,8 +56,19 @@ fn name_of(word: &[u8]) -> Option<Name>
     Name::parse(word).ok()
 }
 
+/// A word as the text of a path, if it is one.
+fn path_of(alloc: Global, word: &[u8]) -> Result<Option<Path>, NoMemory>
+    ensures { IfOk result (λ path. path ≡ path_of word.now) }
+{
+    match Path::parse(alloc, word) {
+        Ok(path) => Ok(Some(path)),
+        Err(TextFault::NoMemory) => Err(NoMemory),
+        Err(_) => Ok(None),
+    }
+}
+
 /// The form of a line of one word.
-fn one_word(word: &[u8]) -> Option<Form<'static>>
+fn one_word(word: &[u8]) -> Option<Form>
     ensures { result ≡ one_word word.now }
 {
     if word == b"log".as_slice() {
@@ -221,73 +77,101 @@ fn one_word(word: &[u8]) -> Option<Form<'static>>
     None
 }
 
+/// What befalls a node, if this word alone says it.
+fn node_event(word: &[u8]) -> Option<NodeEvent>
+    ensures { result ≡ node_event word.now }
+{
+    if word == b"show".as_slice() {
+        return Some(NodeEvent::Show);
+    }
+    if word == b"crash".as_slice() {
+        return Some(NodeEvent::Crash);
+    }
+    if word == b"restart".as_slice() {
+        return Some(NodeEvent::Restart);
+    }
+    None
+}
+
+/// What befalls a link, if this word alone says it.
+fn link_event(word: &[u8]) -> Option<LinkEvent>
+    ensures { result ≡ link_event word.now }
+{
+    if word == b"connect".as_slice() {
+        return Some(LinkEvent::Connect);
+    }
+    if word == b"disconnect".as_slice() {
+        return Some(LinkEvent::Disconnect);
+    }
+    None
+}
+
+/// What a client does, if this word alone says it.
+fn lone_task(word: &[u8]) -> Option<Task<Name>>
+    ensures { result ≡ lone_task word.now }
+{
+    if word == b"refresh".as_slice() {
+        return Some(Task::Refresh);
+    }
+    if word == b"step".as_slice() {
+        return Some(Task::Step { count: 1 });
+    }
+    if word == b"end".as_slice() {
+        return Some(Task::End);
+    }
+    if word == b"sync".as_slice() {
+        return Some(Task::Sync);
+    }
+    if word == b"drain".as_slice() {
+        return Some(Task::Drain);
+    }
+    if word == b"discard".as_slice() {
+        return Some(Task::Discard);
+    }
+    if word == b"queue".as_slice() {
+        return Some(Task::Queue);
+    }
+    None
+}
+
+/// The event of a client that this word alone says.
+fn lone_event(word: &[u8]) -> Option<ClientEvent<Name>>
+    ensures { result ≡ lone_event word.now }
+{
+    if let Some(what) = node_event(word) {
+        return Some(ClientEvent::Node(what));
+    }
+    if let Some(what) = link_event(word) {
+        return Some(ClientEvent::Link(what));
+    }
+    Some(ClientEvent::Task(lone_task(word)?))
+}
+
 /// The form of `show server` and its like, if the second word is `server`.
-fn server_form(first: &[u8], second: &[u8]) -> Option<Form<'static>>
+fn server_form(first: &[u8], second: &[u8]) -> Option<Form>
     ensures { result ≡ server_form first.now second.now }
 {
     if second != b"server".as_slice() {
         return None;
     }
-    if first == b"show".as_slice() {
-        return Some(Form::ShowServer);
-    }
-    if first == b"crash".as_slice() {
-        return Some(Form::CrashServer);
-    }
-    if first == b"restart".as_slice() {
-        return Some(Form::RestartServer);
-    }
-    None
+    Some(Form::Server(node_event(first)?))
 }
 
 /// The form of a line that says no more than what is done with this client.
-fn client_form(first: &[u8], client: Name) -> Option<Form<'static>>
+fn client_form(first: &[u8], client: Name) -> Option<Form>
     ensures { result ≡ client_form first.now client }
 {
     if first == b"client".as_slice() {
         return Some(Form::Client(client));
     }
-    if first == b"refresh".as_slice() {
-        return Some(Form::Refresh { client });
-    }
-    if first == b"step".as_slice() {
-        return Some(Form::Step { client, count: 1 });
-    }
-    if first == b"end".as_slice() {
-        return Some(Form::End { client });
-    }
-    if first == b"connect".as_slice() {
-        return Some(Form::Connect { client });
-    }
-    if first == b"disconnect".as_slice() {
-        return Some(Form::Disconnect { client });
-    }
-    if first == b"sync".as_slice() {
-        return Some(Form::Sync { client });
-    }
-    if first == b"drain".as_slice() {
-        return Some(Form::Drain { client });
-    }
-    if first == b"discard".as_slice() {
-        return Some(Form::Discard { client });
-    }
-    if first == b"show".as_slice() {
-        return Some(Form::ShowClient { client });
-    }
-    if first == b"crash".as_slice() {
-        return Some(Form::CrashClient { client });
-    }
-    if first == b"restart".as_slice() {
-        return Some(Form::RestartClient { client });
-    }
-    if first == b"queue".as_slice() {
-        return Some(Form::Queue { client });
-    }
-    None
+    Some(Form::At {
+        client,
+        what: lone_event(first)?,
+    })
 }
 
 /// The form of a line of two words.
-fn two_words(first: &[u8], second: &[u8]) -> Option<Form<'static>>
+fn two_words(first: &[u8], second: &[u8]) -> Option<Form>
     ensures { result ≡ two_words first.now second.now }
 {
     match server_form(first, second) {
@@ -309,97 +193,116 @@ fn loss_of(word: &[u8]) -> Option<Loss>
     None
 }
 
-/// The form of a line of three words.
-fn three_words<'a>(first: &[u8], second: &[u8], third: &'a [u8]) -> Option<Form<'a>>
-    ensures { result ≡ three_words first.now second.now third.now }
+/// What the first word says of a client with this one, if that is no hoard.
+fn event_with(first: &[u8], word: &[u8]) -> Option<ClientEvent<Name>>
+    ensures { result ≡ event_with first.now word.now }
 {
-    let name = name_of(second)?;
-    if first == b"script".as_slice() && third == b"{".as_slice() {
-        return Some(Form::Script(name));
-    }
-    if first == b"hoard".as_slice() {
-        return Some(Form::Hoard {
-            client: name,
-            path: PathWord::new(third),
-        });
-    }
     if first == b"step".as_slice() {
-        return Some(Form::Step {
-            client: name,
-            count: number_of(third, STEP_LIMIT)?,
-        });
+        return Some(ClientEvent::Task(Task::Step {
+            count: number_of(word, STEP_LIMIT)?,
+        }));
     }
     if first == b"reads".as_slice() {
-        return Some(Form::Reads {
-            client: name,
-            item: number_of(third, READS_LIMIT)?,
-        });
+        return Some(ClientEvent::Task(Task::Reads {
+            item: number_of(word, READS_LIMIT)?,
+        }));
     }
     if first == b"lose".as_slice() {
-        return Some(Form::Lose {
-            client: name,
-            loss: loss_of(third)?,
-        });
+        return Some(ClientEvent::Link(LinkEvent::Lose(loss_of(word)?)));
     }
     if first == b"repair".as_slice() {
-        return Some(Form::Repair {
-            client: name,
-            script: name_of(third)?,
-        });
+        return Some(ClientEvent::Task(Task::Repair {
+            script: name_of(word)?,
+        }));
     }
     None
 }
 
+/// The event of a client that these two words say.
+fn event_of_words(
+    alloc: Global,
+    first: &[u8],
+    word: &[u8],
+) -> Result<Option<ClientEvent<Name>>, NoMemory>
+    ensures { IfOk result (λ event. event ≡ event_of_words first.now word.now) }
+{
+    if first != b"hoard".as_slice() {
+        return Ok(event_with(first, word));
+    }
+    match path_of(alloc, word)? {
+        Some(path) => Ok(Some(ClientEvent::Task(Task::Hoard { path }))),
+        None => Ok(None),
+    }
+}
+
+/// The form of a line of three words.
+fn three_words(
+    alloc: Global,
+    first: &[u8],
+    second: &[u8],
+    third: &[u8],
+) -> Result<Option<Form>, NoMemory>
+    ensures { IfOk result (λ form. form ≡ three_words first.now second.now third.now) }
+{
+    let Some(name) = name_of(second) else {
+        return Ok(None);
+    };
+    if first == b"script".as_slice() && third == b"{".as_slice() {
+        return Ok(Some(Form::Script(name)));
+    }
+    match event_of_words(alloc, first, third)? {
+        Some(what) => Ok(Some(Form::At { client: name, what })),
+        None => Ok(None),
+    }
+}
+
 /// The option of one word, if it is one.
-fn plain_choice(word: &[u8]) -> Option<NamedChoice>
+fn plain_choice(word: &[u8]) -> Option<Choice<Name>>
     ensures { result ≡ plain_choice word.now }
 {
     if word == b"reexec".as_slice() {
-        return Some(NamedChoice::Reexec);
+        return Some(Choice::Reexec);
     }
     if word == b"abort".as_slice() {
-        return Some(NamedChoice::Abort);
+        return Some(Choice::Abort);
     }
     if word == b"manual".as_slice() {
-        return Some(NamedChoice::Manual);
+        return Some(Choice::Manual);
     }
     None
 }
 
 /// The option of two words, if they are one.
-fn resolver_choice(word: &[u8], script: &[u8]) -> Option<NamedChoice>
+fn resolver_choice(word: &[u8], script: &[u8]) -> Option<Choice<Name>>
     ensures { result ≡ resolver_choice word.now script.now }
 {
     if word != b"resolver".as_slice() {
         return None;
     }
-    Some(NamedChoice::Resolver(name_of(script)?))
+    Some(Choice::Resolver(name_of(script)?))
+}
+
+/// What a client does with this script and this option, if the word says it.
+fn script_task(first: &[u8], script: Name, option: Choice<Name>) -> Option<Task<Name>>
+    ensures { result ≡ script_task first.now script option }
+{
+    if first == b"run".as_slice() {
+        return Some(Task::Run { script, option });
+    }
+    if first == b"begin".as_slice() {
+        return Some(Task::Begin { script, option });
+    }
+    None
 }
 
 /// The form of a line that has this client do this script, with this option.
-fn script_form(
-    first: &[u8],
-    client: Name,
-    script: Name,
-    option: NamedChoice,
-) -> Option<Form<'static>>
+fn script_form(first: &[u8], client: Name, script: Name, option: Choice<Name>) -> Option<Form>
     ensures { result ≡ script_form first.now client script option }
 {
-    if first == b"run".as_slice() {
-        return Some(Form::Run {
-            client,
-            script,
-            option,
-        });
-    }
-    if first == b"begin".as_slice() {
-        return Some(Form::Begin {
-            client,
-            script,
-            option,
-        });
-    }
-    None
+    Some(Form::At {
+        client,
+        what: ClientEvent::Task(script_task(first, script, option)?),
+    })
 }
 
 /// What a restart is to leave of a disk, if a word says it.
@@ -415,29 +318,30 @@ fn pick_of(word: &[u8]) -> Option<Pick>
     Some(Pick::Fill(byte_of(word)?))
 }
 
-/// The form of a line that has the disk of this node fail.
-fn stop_form(node: &[u8], calls: u64, pick: Pick) -> Option<Form<'static>>
-    ensures { result ≡ stop_form node.now calls pick }
+/// The form of a line that has this befall this node.
+fn node_form(node: &[u8], what: NodeEvent) -> Option<Form>
+    ensures { result ≡ node_form node.now what }
 {
     if node == b"server".as_slice() {
-        return Some(Form::StopServer { calls, pick });
+        return Some(Form::Server(what));
     }
-    Some(Form::StopClient {
+    Some(Form::At {
         client: name_of(node)?,
-        calls,
-        pick,
+        what: ClientEvent::Node(what),
     })
 }
 
 /// The form of a line with these words after `stop`.
-fn stop_words(node: &[u8], calls: &[u8], pick: &[u8]) -> Option<Form<'static>>
+fn stop_words(node: &[u8], calls: &[u8], pick: &[u8]) -> Option<Form>
     ensures { result ≡ stop_words node.now calls.now pick.now }
 {
-    stop_form(node, number_of(calls, STOP_LIMIT)?, pick_of(pick)?)
+    let calls = number_of(calls, STOP_LIMIT)?;
+    let pick = pick_of(pick)?;
+    node_form(node, NodeEvent::Stop { calls, pick })
 }
 
 /// The form of a line of four words.
-fn four_words(first: &[u8], second: &[u8], third: &[u8], fourth: &[u8]) -> Option<Form<'static>>
+fn four_words(first: &[u8], second: &[u8], third: &[u8], fourth: &[u8]) -> Option<Form>
     ensures { result ≡ four_words first.now second.now third.now fourth.now }
 {
     if first == b"stop".as_slice() {
@@ -458,7 +362,7 @@ fn five_words(
     third: &[u8],
     fourth: &[u8],
     fifth: &[u8],
-) -> Option<Form<'static>>
+) -> Option<Form>
     ensures { result ≡ five_words first.now second.now third.now fourth.now fifth.now }
 {
     script_form(
@@ -471,31 +375,37 @@ fn five_words(
 
 /// The form of a line with these words, if it has one.
 #[tactic(auto, using(crate::proofs::FormsLaws::too_few, crate::proofs::FormsLaws::too_many))]
-fn form_of<'a>(found: &[&'a [u8]]) -> Option<Form<'a>>
-    ensures { result ≡ form_of (map (λ word. word.now) found.now) }
+fn form_of(alloc: Global, found: &[&[u8]]) -> Result<Option<Form>, NoMemory>
+    ensures { IfOk result (λ form. form ≡ form_of (map (λ word. word.now) found.now)) }
 {
     match found {
-        [word] => one_word(word),
-        [first, second] => two_words(first, second),
-        [first, second, third] => three_words(first, second, third),
-        [first, second, third, fourth] => four_words(first, second, third, fourth),
-        [first, second, third, fourth, fifth] => five_words(first, second, third, fourth, fifth),
-        _ => None,
+        [word] => Ok(one_word(word)),
+        [first, second] => Ok(two_words(first, second)),
+        [first, second, third] => three_words(alloc, first, second, third),
+        [first, second, third, fourth] => Ok(four_words(first, second, third, fourth)),
+        [first, second, third, fourth, fifth] => {
+            Ok(five_words(first, second, third, fourth, fifth))
+        }
+        _ => Ok(None),
     }
 }
 
 /// The form of a line, if it has one.
-pub(crate) fn form_of_line(line: &[u8]) -> Option<Form<'_>>
-    ensures { result ≡ form_of (words line.now) }
+///
+/// # Errors
+///
+/// Only if memory runs out.
+pub(crate) fn form_of_line(alloc: Global, line: &[u8]) -> Result<Option<Form>, NoMemory>
+    ensures { IfOk result (λ form. form ≡ form_of (words line.now)) }
 {
     let mut found: [&[u8]; WORD_LIMIT] = [b""; WORD_LIMIT];
     let mut count = 0;
     for word in split_words(line) {
         if count == WORD_LIMIT {
-            return None;
+            return Ok(None);
         }
         found[count] = word;
         count += 1;
     }
-    form_of(&found[..count])
+    form_of(alloc, &found[..count])
 }
