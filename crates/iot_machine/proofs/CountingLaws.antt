@@ -115,7 +115,7 @@ pub since_same : (b m n : Machine) → n.clients ≡ m.clients → n.spare ≡ m
 since_same b m n clients spare server since = since_server b m n clients spare (rw server since.server) since
 
 -- what is so of the node at a place, there and in another machine, is so with another client in that place
-put_at : (P : Client → Client → Type 0) (b m : Machine) (c k : ℕ) (client : Client)
+pub put_at : (P : Client → Client → Type 0) (b m : Machine) (c k : ℕ) (client : Client)
     → (P (client_in b c) (client_in m c) → P (client_in b c) client) → P (client_in b k) (client_in m k)
     → P (client_in b k) (client_in (put_client c client m) k)
 put_at P b m c k client goes it = at_set (λ one. P (client_in b k) one) m.clients c k client no_client

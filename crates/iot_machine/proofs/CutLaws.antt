@@ -39,14 +39,14 @@ module _ (it : Running) where
   item = waiting it.acts it
 
   submits : Submits it.script it.acts item
-  submits = record { script_same = refl; attempt = refl; entry = λ c m. refl }
+  submits = record { script_same = refl; attempt = refl; entry = λ place. refl }
 
   -- the plan for one that is run again
   its_plan : (held : Nodes) (plan : Plan) → plan_by held item Reexec ≡ Some plan → Reruns it.script it.acts item plan
   its_plan held plan is = record {
     script_same = cc;
     budget = cc;
-    resubmits = λ server. record { script_same = cc; attempt = cc; entry = λ c m. cc };
+    resubmits = λ server. record { script_same = cc; attempt = cc; entry = λ place. cc };
   }
 
   is_prefix : IsPrefixOf it item

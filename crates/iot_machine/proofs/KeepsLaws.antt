@@ -1,7 +1,7 @@
 -- What holds after a call, from what held before it: over any state and any call.
 use Rattle.std.proofs.Common.{◌≡◌, ℕ, zero, suc, Bool, true, false, List, Option, Some, None, refl}
-use Rattle.iot_machine.specs.Calls.{Call, Part, Gets, Asks, Answers, Does, Says, Then, either, goes_on, or_ends, Rounds, OrSays}
-use Rattle.iot_machine.specs.Calls.{Lens, At}
+use Rattle.iot_machine.specs.Calls.{Call, Part, Try, Gets, Asks, Answers, Does, Says, Tells, Then, either, goes_on, unless_over, Goes}
+use Rattle.iot_machine.specs.Calls.{Repeats, Whole, Nothing, OrSays, Lens, At}
 
 -- from each state of which one thing holds it leads to one of which another does, which may speak of the answer
 pub record Keeps {S A : Type 0} (P : S → Type 0) (call : Call S A) (Q : A → S → Type 0) : Type 0 where
@@ -11,10 +11,10 @@ pub record Keeps {S A : Type 0} (P : S → Type 0) (call : Call S A) (Q : A → 
 abbrev pub Stays : {S A : Type 0} → (S → Type 0) → Call S A → Type 0
 Stays P call = Keeps P call (λ _. P)
 
--- one thing holds after a round that goes on, and another after one that ends with this answer
-abbrev pub AfterRound : {S A : Type 0} → (S → Type 0) → (A → S → Type 0) → Option A → S → Type 0
-AfterRound P Q None = P
-AfterRound P Q (Some a) = Q a
+-- one thing holds if the event is over, and another if it goes on, which may speak of the answer
+abbrev pub IfGoes : {S A : Type 0} → (S → Type 0) → (A → S → Type 0) → Option A → S → Type 0
+IfGoes over goes None = over
+IfGoes over goes (Some a) = goes a
 
 module _ {S : Type 0} {P : S → Type 0} where
   -- ---- one step
@@ -29,6 +29,9 @@ module _ {S : Type 0} {P : S → Type 0} where
   pub keeps_does : {text : S → List ℕ} {change : S → S} {Q : Unit {0} → S → Type 0} → ((m : S) → P m → Q tt (change m))
       → Keeps P (Does text change) Q
   keeps_does f = record { at = λ m n text a here step. rw step.1 (f m here) }
+
+  pub keeps_tells : {A : Type 0} {text : S → List ℕ} {a : A} {Q : A → S → Type 0} → ((m : S) → P m → Q a m) → Keeps P (Tells text a) Q
+  keeps_tells f = record { at = λ m n text a here step. rw (step.1, step.2) (f m here) }
 
   pub stays_asks : {A : Type 0} {ask : S → A} → Stays P (Asks ask)
   stays_asks = keeps_gets (λ m here. here)
@@ -76,21 +79,34 @@ module _ {S : Type 0} {P : S → Type 0} where
   pub stays_goes_on : {part : Part S} → Stays P part → (on : Bool) → Stays P (goes_on part on)
   stays_goes_on part on = keeps_either part stays_says on
 
-  keeps_or_ends : {A : Type 0} {more : Call S A} {Q : A → S → Type 0} → Keeps P more Q → (answer : Option A)
-      → Keeps (AfterRound P Q answer) (or_ends more answer) Q
-  keeps_or_ends more None = more
-  keeps_or_ends more (Some a) = record { at = λ m n text answer here step. rw (step.1, step.2) here }
+  pub keeps_goes : {A B : Type 0} {over : S → Type 0} {one : Try S A} {next : A → Try S B} {Q : A → S → Type 0} {R : B → S → Type 0}
+      → Keeps P one (IfGoes over Q) → ((a : A) → Keeps (Q a) (next a) (IfGoes over R)) → Keeps P (Goes one next) (IfGoes over R)
+  keeps_goes {over = over} {next = next} {Q = Q} {R = R} one each = keeps_then one by_answer
+    where
+      by_answer : (answer : Option _) → Keeps (IfGoes over Q answer) (unless_over next answer) (IfGoes over R)
+      by_answer None = record { at = λ m n text b here step. rw (step.1, step.2) here }
+      by_answer (Some a) = each a
 
-  -- what holds as long as the rounds go on, and at their end
-  pub keeps_rounds : {A : Type 0} {round : Call S (Option A)} {Q : A → S → Type 0} (last : A) → ((m : S) → P m → Q last m)
-      → Keeps P round (AfterRound P Q) → (n : ℕ) → Keeps P (Rounds n last round) Q
-  keeps_rounds last done round zero = keeps_gets done
-  keeps_rounds last done round (suc n) = keeps_then round (keeps_or_ends (keeps_rounds last done round n))
+  -- what holds as long as the rounds go on
+  pub keeps_repeats : {over : S → Type 0} {round : Try S Bool} → Keeps P round (IfGoes over (λ _. P)) → (n : ℕ)
+      → Keeps P (Repeats n round) (IfGoes over (λ _. P))
+  keeps_repeats round zero = keeps_gets (λ m here. here)
+  keeps_repeats round (suc n) =
+      keeps_goes round (λ more. keeps_either (keeps_repeats round n) (keeps_gets (λ m here. here)) more)
 
   -- ---- calls around a call
 
-  pub keeps_or_says : {other : List ℕ} {part : Part S} {Q : Unit {0} → S → Type 0} → Keeps P part Q → Keeps P (OrSays other part) Q
-  keeps_or_says part = record { at = λ m n text a here step. part.at m n step.said a here step.done }
+  pub keeps_or_says : {A : Type 0} {other : List ℕ} {call : Call S A} {Q : A → S → Type 0} → Keeps P call Q
+      → Keeps P (OrSays other call) Q
+  keeps_or_says call = record { at = λ m n text a here step. call.at m n step.said a here step.done }
+
+  pub keeps_whole : {A : Type 0} {over : S → Type 0} {call : Try S A} {Q : A → S → Type 0} → ((a : A) (m : S) → Q a m → over m)
+      → Keeps P call (IfGoes over Q) → Keeps P (Whole call) (λ _. over)
+  keeps_whole {over = over} {Q = Q} less call = keeps_then call by_answer
+    where
+      by_answer : (answer : Option _) → Keeps (IfGoes over Q answer) Nothing (λ _. over)
+      by_answer None = record { at = λ m n text b here step. rw step.1 here }
+      by_answer (Some a) = record { at = λ m n text b here step. rw step.1 (less a m here) }
 
   pub keeps_at : {N A : Type 0} {lens : Lens S N} {call : Call N A} {Q : A → S → Type 0}
       → ((m : S) → P m → Keeps (λ k. k ≡ lens.get m) call (λ a k. Q a (lens.set k m))) → Keeps P (At lens call) Q

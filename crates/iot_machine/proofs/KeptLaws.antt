@@ -1,8 +1,8 @@
 -- What is said of a commit that was in doubt and was kept: what it would have said at first.
 use Rattle.std.proofs.Common.{◌≡◌, ℕ, zero, suc, List, [], ◌∷◌, map, slice_index_or, refl, ap}
 use Rattle.std.proofs.Math.Seq.{drop-append_seam}
-use Rattle.iot_machine.specs.Events.{names_in, name_of}
-use Rattle.iot_machine.specs.Machine.{Machine, Client, Commit, no_client, add_commit}
+use Rattle.iot_machine.specs.Events.{names_in}
+use Rattle.iot_machine.specs.Machine.{Machine, Client, Commit, no_client, client_in, add_commit}
 use Rattle.iot_machine.specs.Serving.{commit_text, added_text, kept_text}
 use Rattle.iot_machine.specs.Texts.{transaction_name}
 
@@ -18,5 +18,5 @@ names_at [] c = refl
 names_at (client ∷ clients) zero = refl
 names_at (client ∷ clients) (suc c) = names_at clients c
 
-pub name_at : (m : Machine) (c : ℕ) → slice_index_or (names_in m) c [] ≡ name_of c m
+pub name_at : (m : Machine) (c : ℕ) → slice_index_or (names_in m) c [] ≡ (client_in m c).name
 name_at m c = names_at m.clients c

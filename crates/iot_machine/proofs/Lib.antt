@@ -3,7 +3,7 @@ pub mod FollowsLaws
 pub mod PossiblyLaws
 pub mod CountingLaws
 pub mod MachinesLaws
-pub mod AwakeLaws
+pub mod PairLaws
 pub mod CallsLaws
 pub mod SoundLaws
 pub mod KeptLaws

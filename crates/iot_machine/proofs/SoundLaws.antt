@@ -1,38 +1,255 @@
 -- Each event keeps a machine sound; in it each node stops at most once, and disks are armed by `stop` alone.
-use Rattle.std.proofs.Common.{◌≡◌, ℕ, Bool, true, false, List, Option, Some, None, refl, sym, ap, subst, ◌∙◌, codes}
-use Rattle.iot_tree.specs.declared.want.Want.TheVariants as wanted
+use Rattle.std.proofs.Common.{◌≡◌, ℕ, ◌<◌, ◌==◌, Bool, true, false, List, [], ◌∷◌, length, Option, Some, None, inl, inr, refl, sym, ap}
+use Rattle.std.proofs.Common.{subst}
+use Rattle.std.proofs.Common.{◌∙◌, zero, suc, slice_index_or, slice_set, arith, le_refl, codes}
+use Rattle.std.proofs.lemmas.List.{length-set}
+use Rattle.std.proofs.lemmas.Bool.{cases_Bool}
+use Rattle.std.proofs.lemmas.Bool.Decides.{nat_tests}
 use Rattle.iot_disk.specs.declared.disk.Pick.{Pick}
+use Rattle.iot_event.specs.declared.event.ClientEvent.TheVariants as client_events
 use Rattle.iot_event.specs.declared.event.Event.{Event}
 use Rattle.iot_event.specs.declared.event.Event.TheVariants as events
-use Rattle.iot_machine.specs.Calls.{Call, Part, At, either, goes_on}
+use Rattle.iot_event.specs.declared.event.LinkEvent.{LinkEvent}
+use Rattle.iot_event.specs.declared.event.LinkEvent.TheVariants as links
+use Rattle.iot_event.specs.declared.event.NodeEvent.{NodeEvent}
+use Rattle.iot_event.specs.declared.event.NodeEvent.TheVariants as nodes
+use Rattle.iot_link.specs.Links.{LinkState}
+use Rattle.iot_machine.specs.Calls.{Call, Try, At, Says, either, goes_on, Whole}
 use Rattle.iot_machine.specs.Clients.{Running, ClientState, view, cut}
 use Rattle.iot_machine.specs.Counting.{IsSteady, StopsOnce, Since, base_of, EventCounts, EventKeepsSound, OpeningCounts, OpeningIsSound}
-use Rattle.iot_machine.specs.Events.{add_client, Declares, declare_script, IfUp, cuts_off, CutsOff, no_text, comes_back, RestartsClient}
-use Rattle.iot_machine.specs.Events.{syncs_on, counts_anew, RestartsServer, chosen, event_part}
-use Rattle.iot_machine.specs.Machine.{Machine, Client, Commit, client_in, put_client, server, node_at, tree_after, handed}
+use Rattle.iot_machine.specs.Events.{add_client, Declares, declare_script, IfUp, OfClient}
+use Rattle.iot_machine.specs.Events.{cuts_off, CutsOff, no_text, comes_back, RestartsClient, ArmsClient, counts_anew, RestartsServer}
+use Rattle.iot_machine.specs.Events.{link_part, event_part}
+use Rattle.iot_machine.specs.Machine.{Machine, Client, Commit, no_client, client_in, put_client, server, client_at, node, Pair, pair_at}
+use Rattle.iot_machine.specs.Machine.{tree_after, handed}
 use Rattle.iot_machine.specs.Nodes.{Node, Counts, armed}
 use Rattle.iot_machine.specs.Serving.{server_name, kept_text}
-use Rattle.iot_machine.specs.Sound.{IsSound}
+use Rattle.iot_machine.specs.Sound.{Possibly, Knows, IsSureOf, IsNumbered, HasPlans, IsListed, IsSound}
 use Rattle.iot_machine.specs.Stops.{OpensNode, ComesBack, ArmsDisk}
-use Rattle.iot_machine.specs.Texts.{tree_text}
-use Rattle.iot_machine.specs.Transactions.{Notes, says_word}
+use Rattle.iot_machine.specs.Texts.{line, tree_text}
+use Rattle.iot_machine.specs.Transactions.{Writes}
 use Rattle.iot_machine.specs.Transcript.{Opening}
 use Rattle.iot_machine.proofs.KeepsLaws.{Keeps, keeps_gets, keeps_asks, keeps_does, stays_says, keeps_from, keeps_then, asks_then}
-use Rattle.iot_machine.proofs.KeepsLaws.{keeps_either, stays_goes_on}
-use Rattle.iot_machine.proofs.FollowsLaws.{cut_follows}
-use Rattle.iot_machine.proofs.PossiblyLaws.{Within, same_within, opens_states, opens_sure, comes_within, within_continues}
-use Rattle.iot_machine.proofs.PossiblyLaws.{crashes_within, restarts_within, arms_within, shows_within}
-use Rattle.iot_machine.proofs.CountingLaws.{steady, opens_once, comes_once, comes_steady, crashes_once, restarts_once, shows_once}
-use Rattle.iot_machine.proofs.CountingLaws.{since_itself, since_server, since_put, steady_put}
+use Rattle.iot_machine.proofs.KeepsLaws.{keeps_either, stays_goes_on, keeps_whole, keeps_at}
+use Rattle.iot_machine.proofs.FollowsLaws.{all_at, all_set, at_set, all_as, cut_follows}
+use Rattle.iot_machine.proofs.PossiblyLaws.{possibly_as, Within, within_itself, same_within, opens_states, opens_sure, comes_within}
+use Rattle.iot_machine.proofs.PossiblyLaws.{Continues, within_continues, appends_continues, crashes_within, restarts_within, arms_within}
+use Rattle.iot_machine.proofs.PossiblyLaws.{shows_within}
+use Rattle.iot_machine.proofs.CountingLaws.{steady, appends_once, opens_once, comes_once, comes_steady, crashes_once, restarts_once}
+use Rattle.iot_machine.proofs.CountingLaws.{shows_once, since_itself, since_server, since_put, put_at}
 use Rattle.iot_machine.proofs.MachinesLaws.{sound_from, put_sound, added_sound, added_at}
-use Rattle.iot_machine.proofs.AwakeLaws.{IsGood, good_same, good_if, cut_good, link_good, with_node, notes_good, followed}
-use Rattle.iot_machine.proofs.CallsLaws.{Rests, says_rests, goes_on_rests, takes_tries, begins_tries, syncs_wakes, ends_rests}
-use Rattle.iot_machine.proofs.CallsLaws.{refreshes_rests, steps_aloud_rests, runs_rests, drains_rests, repairs_rests, discards_rests}
-use Rattle.iot_machine.proofs.CallsLaws.{reads_of_rests}
+use Rattle.iot_machine.proofs.PairLaws.{Core, core, IsListedAt, IsPairSound, IsGood as IsPairGood, IsAwake}
+use Rattle.iot_machine.proofs.CallsLaws.{Wakes, task_wakes}
 
 -- with another server
 sound_with : (m : Machine) (node : Node (List Commit)) → Within m.server node → IsSound m → IsSound (record m { server = node })
 sound_with m node within sound = sound_from m (record m { server = node }) refl within sound
+
+-- sound, and since the other machine each node has stopped at most once
+pub record IsGood (b m : Machine) : Type 0 where
+  pub sound : IsSound m
+  pub since : Since b m
+
+-- the same nodes
+good_same : (b m n : Machine) → n.clients ≡ m.clients → n.spare ≡ m.spare → n.server ≡ m.server → IsGood b m → IsGood b n
+good_same b m n clients spare server it = record {
+  sound = sound_from m n clients (within_itself m.server n.server server) it.sound;
+  since = since_server b m n clients spare (rw server it.since.server) it.since;
+}
+
+-- ---- a client with the server, and all others: what the two keep, the machine keeps
+
+module _ (m : Machine) (c : ℕ) where
+  -- of the other clients' commits it is known that they are listed
+  into_pair : IsSound m → IsPairSound (IsListed m) (core ((pair_at c).get m))
+  into_pair sound = record {
+    sure = sound.sure;
+    sure_of = all_at IsSureOf m.clients c no_client (λ up. refl) sound.sure_of;
+    numbered = all_at IsNumbered m.clients c no_client
+        (record { is = record { rise = tt; newest = le_refl 0 }; may_be = tt }) sound.numbered;
+    planned = all_at HasPlans m.clients c no_client (record { is = tt; may_be = tt }) sound.planned;
+    listed = possibly_as m.server (λ list. all_as (IsListed m) (IsListedAt (IsListed m) c (client_in m c).node) list stays) sound.listed;
+    once = sound.once;
+  }
+    where
+      stays : (commit : Commit) → IsListed m commit → IsListedAt (IsListed m) c (client_in m c).node commit
+      stays commit it = record {
+        own = λ same. subst (λ (k : ℕ). Possibly (Knows commit) (client_in m k).node) same it.known;
+        other = λ _. it;
+      }
+
+  module _ (there : c < length m.clients) (pair : Pair) where
+    -- at its place, and at another one
+    here_put : (P : Client → Type 0) (xs : List Client) (k : ℕ) → k < length xs → P pair.client
+        → P (slice_index_or (slice_set xs k pair.client) k no_client)
+    here_put P [] k there it = absurd (omega (arith, there))
+    here_put P (x ∷ xs) zero there it = it
+    here_put P (x ∷ xs) (suc k) there it = here_put P xs k (omega (arith, there)) it
+
+    out_of_pair : IsSound m → pair.place ≡ c → IsPairSound (IsListed m) (core pair) → IsSound ((pair_at c).set pair m)
+    out_of_pair sound place it = record {
+      sure = it.sure;
+      sure_of = all_set IsSureOf m.clients c pair.client no_client (λ _. it.sure_of) sound.sure_of;
+      numbered = all_set IsNumbered m.clients c pair.client no_client (λ _. it.numbered) sound.numbered;
+      planned = all_set HasPlans m.clients c pair.client no_client (λ _. it.planned) sound.planned;
+      listed = possibly_as pair.server
+          (λ list. all_as (IsListedAt (IsListed m) pair.place pair.client.node) (IsListed ((pair_at c).set pair m)) list stays) it.listed;
+      once = it.once;
+    }
+      where
+        now : List Client
+        now = slice_set m.clients c pair.client
+
+        within : (k : ℕ) → k < length m.clients → k < length now
+        within k = subst (λ (n : ℕ). k < n) (sym (length-set m.clients c pair.client))
+
+        is_own : (commit : Commit) → commit.entry.client ≡ c → IsListedAt (IsListed m) pair.place pair.client.node commit
+            → IsListed ((pair_at c).set pair m) commit
+        is_own commit same it = record {
+          client = within commit.entry.client (subst (λ (k : ℕ). k < length m.clients) (sym same) there);
+          known = subst (λ (k : ℕ). Possibly (Knows commit) (slice_index_or now k no_client).node) (sym same)
+              (here_put (λ one. Possibly (Knows commit) one.node) m.clients c there (it.own (same ∙ sym place)));
+        }
+
+        is_other : (commit : Commit) → (commit.entry.client ≡ c → ⊥) → IsListed m commit → IsListed ((pair_at c).set pair m) commit
+        is_other commit other it = record {
+          client = within commit.entry.client it.client;
+          known = at_set (λ one. Possibly (Knows commit) one.node) m.clients c commit.entry.client pair.client no_client
+              (λ same. absurd (other same)) it.known;
+        }
+
+        stays : (commit : Commit) → IsListedAt (IsListed m) pair.place pair.client.node commit → IsListed ((pair_at c).set pair m) commit
+        stays commit it = elim (cases_Bool (commit.entry.client == c)) [
+          | inl yes_ ↦ is_own commit (grind (arith, nat_tests, yes_)) it
+          | inr no_ ↦ let other : commit.entry.client ≡ c → ⊥ = grind (arith, nat_tests, no_) in
+              is_other commit other (it.other (λ same. other (same ∙ place)))
+        ]
+
+    pair_good : IsSound m → IsPairGood (IsListed m) (core ((pair_at c).get m)) pair → IsGood m ((pair_at c).set pair m)
+    pair_good sound it = record {
+      sound = out_of_pair sound it.place it.sound;
+      since = record {
+        server = it.server;
+        clients = λ k. put_at (λ one other. StopsOnce one.node other.node) m m c k pair.client (λ _. it.client)
+            (inl (steady (client_in m k).node));
+        count = length-set m.clients c pair.client;
+        spare = refl;
+      };
+    }
+
+-- a client that is alive is there
+is_there : (clients : List Client) (c : ℕ) → (slice_index_or clients c no_client).node.alive ≡ true → c < length clients
+is_there [] c up = absurd cc
+is_there (client ∷ clients) zero up = omega arith
+is_there (client ∷ clients) (suc c) up =
+    let there : c < length clients = is_there clients c up in
+    omega (arith, there)
+
+-- as it was
+set_same : (clients : List Client) (c : ℕ) → slice_set clients c (slice_index_or clients c no_client) ≡ clients
+set_same [] c = refl
+set_same (client ∷ clients) zero = refl
+set_same (client ∷ clients) (suc c) = ap (λ (rest : List Client). client ∷ rest) (set_same clients c)
+
+-- ---- a client alone
+
+-- each of its states was a state of the other, or may follow one; and it has stopped at most once
+record IsFineFrom (k client : Client) : Type 0 where
+  continues : Continues k.node client.node
+  once : StopsOnce k.node client.node
+
+client_good : (m : Machine) (c : ℕ) (client : Client) → IsSound m → IsFineFrom (client_in m c) client → IsGood m (put_client c client m)
+client_good m c client sound fine = record {
+  sound = put_sound c client m fine.continues sound;
+  since = since_put m m c client (λ _. fine.once) (since_itself m);
+}
+
+fine_same : (k client : Client) → client.node ≡ k.node → IsFineFrom k client
+fine_same k client same = record {
+  continues = within_continues k.node client.node (within_itself k.node client.node same);
+  once = rw same (inl (steady k.node));
+}
+
+fine_link : (k client : Client) (link : LinkState) → client ≡ k → IsFineFrom k (record client { link = link })
+fine_link k client link is = fine_same k (record client { link = link }) (ap (λ (one : Client). one.node) is)
+
+fine_node : {A : Type 0} {call : Call (Node ClientState) A}
+    → ((node n : Node ClientState) (text : List ℕ) (a : A) → call node text a n → Within node n)
+    → ((node n : Node ClientState) (text : List ℕ) (a : A) → call node text a n → StopsOnce node n) → (k : Client)
+    → Keeps (λ client. client ≡ k) (At node call) (λ _. IsFineFrom k)
+fine_node {call = call} within once k = record {
+  at = λ client n text a is step.
+      let now : call k.node text a step.inner = subst (λ (one : Client). call one.node text a step.inner) is step.step in
+      rw step.is (record {
+        continues = within_continues k.node step.inner (within k.node step.inner text a now);
+        once = once k.node step.inner text a now;
+      });
+}
+
+-- its disk is armed
+abbrev armed_client : ℕ → Pick → Client → Client
+armed_client calls pick client = record client { node = armed calls pick client.node }
+
+arms_is : (calls : ℕ) (pick : Pick) (k n : Client) (text : List ℕ) (a : Unit {0}) → ArmsClient calls pick k text a n
+    → n ≡ armed_client calls pick k
+arms_is calls pick k n text a step =
+    step.second.is ∙ ap (λ (node : Node ClientState). record step.mid { node = node }) step.second.step.1
+    ∙ ap (λ (client : Client). armed_client calls pick client) step.first.2
+
+-- it came back, and has not stopped; or it has stopped again
+abbrev CameBack : Client → Bool → Client → Type 0
+CameBack k true client = Continues k.node client.node × IsSteady k.node client.node
+CameBack k false client = IsFineFrom k client
+
+restart_fine : (k : Client) → Keeps (λ client. client ≡ k) RestartsClient (λ _. IsFineFrom k)
+restart_fine k = keeps_then {Q = λ up client. (client ≡ k) × (up ≡ k.node.alive)}
+    (keeps_asks (λ client is. (is, ap (λ (one : Client). one.node.alive) is))) by_alive
+  where
+    comes : (name : List ℕ) (client n : Client) (text : List ℕ) (on : Bool) → (client ≡ k) × (false ≡ k.node.alive)
+        → At node (ComesBack name no_text) client text on n → CameBack k on n
+    comes name client n text true here step =
+        let now : ComesBack name no_text k.node text true step.inner =
+        subst (λ (one : Client). ComesBack name no_text one.node text true step.inner) here.0 step.step in
+        rw step.is (
+          within_continues k.node step.inner (comes_within name no_text k.node step.inner text true now),
+          comes_steady name no_text k.node step.inner text now,
+        )
+    comes name client n text false here step =
+        let now : ComesBack name no_text k.node text false step.inner =
+        subst (λ (one : Client). ComesBack name no_text one.node text false step.inner) here.0 step.step in
+        rw step.is (record {
+          continues = within_continues k.node step.inner (comes_within name no_text k.node step.inner text false now);
+          once = comes_once name no_text k.node step.inner text false (sym here.1) now;
+        })
+
+    after : {one two three : Node ClientState} → Continues one two → Continues two three → Continues one three
+    after first second = record {
+      sure = λ it. second.sure (first.sure it);
+      numbered = λ it. second.numbered (first.numbered it);
+      planned = λ it. second.planned (first.planned it);
+      known = λ commit it. second.known commit (first.known commit it);
+    }
+
+    writes : Keeps (CameBack k true) (Writes cut) (λ _. IsFineFrom k)
+    writes = record {
+      at = λ client n text on here step. rw step.is (record {
+        continues = after here.0
+            (appends_continues client.name cut client.node step.inner text on (cut_follows client.node.durable) step.step);
+        once = appends_once client.name cut k.node client.node step.inner text on here.1 step.step;
+      });
+    }
+
+    by_running : (running : Option Running) → Keeps (CameBack k true) (cuts_off running) (λ _. IsFineFrom k)
+    by_running None = keeps_does (λ client here. record { continues = here.0; once = inl here.1 })
+    by_running (Some it) = keeps_then {Q = λ _. IsFineFrom k} writes (stays_goes_on stays_says)
+
+    cuts : (on : Bool) → Keeps (CameBack k on) (goes_on CutsOff on) (λ _. IsFineFrom k)
+    cuts true = asks_then by_running
+    cuts false = keeps_does (λ client here. here)
+
+    by_alive : (up : Bool) → Keeps (λ client. (client ≡ k) × (up ≡ k.node.alive)) (comes_back up) (λ _. IsFineFrom k)
+    by_alive true = keeps_does (λ client here. fine_same k client (ap (λ (one : Client). one.node) here.0))
+    by_alive false = asks_then (λ name. keeps_then {Q = CameBack k} (record { at = comes name }) cuts)
 
 module _ (b : Machine) where
   -- a machine at the start of an event
@@ -46,15 +263,56 @@ module _ (b : Machine) where
   good_first : (m : Machine) → AtFirst m → IsGood b m
   good_first m here = record { sound = here.0; since = subst (Since b) (sym here.1) (since_itself b) }
 
-  -- ---- calls of one node
+  -- ---- an event of a client with the server
 
-  put_good : (c : ℕ) (m : Machine) (n : Node ClientState) → AtFirst m → Within (client_in m c).node n → StopsOnce (client_in m c).node n
-      → IsGood b (put_client c (with_node b c n m) m)
-  put_good c m n here within once = record {
-    sound = put_sound c (with_node b c n m) m (within_continues (client_in m c).node n within) here.0;
-    since = since_put b m c (with_node b c n m)
-        (λ _. subst (λ (one : Machine). StopsOnce (client_in one c).node n) here.1 once) (good_first m here).since;
+  of_client : (c : ℕ) {A : Type 0} {call : Try Pair A} → ((Others : Commit → Type 0) (p : Core) → Wakes Others p call)
+      → KeepsGood (OfClient c call)
+  of_client c {call = call} wakes = keeps_at (λ m here.
+      subst (λ (one : Machine). Keeps (λ pair. pair ≡ (pair_at c).get m) (IfUp call) (λ _ pair. IsGood one ((pair_at c).set pair m)))
+      here.1 (if_up m here.0))
+    where
+      whole : (m : Machine) → (client_in m c).node.alive ≡ true → IsSound m
+          → Keeps (λ pair. pair ≡ (pair_at c).get m) (Whole call) (λ _. IsPairGood (IsListed m) (core ((pair_at c).get m)))
+      whole m up sound = keeps_from
+          (λ pair is. subst (IsAwake (IsListed m) (core ((pair_at c).get m))) (sym is) (record {
+            good = record {
+              sound = into_pair m c sound;
+              place = refl;
+              server = inl (steady m.server);
+              client = inl (steady (client_in m c).node);
+            };
+            alive = up;
+          }))
+          (keeps_whole {over = IsPairGood (IsListed m) (core ((pair_at c).get m))} (λ a pair it. it.good)
+          (wakes (IsListed m) (core ((pair_at c).get m))))
+
+      if_up : (m : Machine) → IsSound m
+          → Keeps (λ pair. pair ≡ (pair_at c).get m) (IfUp call) (λ _ pair. IsGood m ((pair_at c).set pair m))
+      if_up m sound = keeps_then {Q = λ up pair. (pair ≡ (pair_at c).get m) × (up ≡ (client_in m c).node.alive)}
+          (keeps_asks (λ pair is. (is, ap (λ (one : Pair). one.client.node.alive) is))) by_up
+        where
+          by_up : (up : Bool) → Keeps (λ pair. (pair ≡ (pair_at c).get m) × (up ≡ (client_in m c).node.alive))
+              (either (Whole call) (Says (λ _. line (codes "down"))) up) (λ _ pair. IsGood m ((pair_at c).set pair m))
+          by_up true = record {
+            at = λ p n text a here step.
+                pair_good m c (is_there m.clients c (sym here.1)) n sound ((whole m (sym here.1) sound).at p n text a here.0 step);
+          }
+          by_up false = keeps_does (λ pair here. subst (λ (one : Pair). IsGood m ((pair_at c).set one m)) (sym here.0)
+              (good_same m m ((pair_at c).set ((pair_at c).get m) m) (set_same m.clients c) refl refl
+              (record { sound = sound; since = since_itself m })))
+
+  -- ---- an event of a client alone
+
+  client_event : {A : Type 0} (c : ℕ) {part : Call Client A} → ((k : Client) → Keeps (λ client. client ≡ k) part (λ _. IsFineFrom k))
+      → KeepsGood (At (client_at c) part)
+  client_event c each = record {
+    at = λ m n text a here step.
+        let k : Client = client_in m c in
+        rw step.is (subst (λ (one : Machine). IsGood one (put_client c step.inner m)) here.1
+        (client_good m c step.inner here.0 ((each k).at k step.inner text a refl step.step)));
   }
+
+  -- ---- an event of the server alone
 
   server_good : (m : Machine) (n : Node (List Commit)) → AtFirst m → Within m.server n → StopsOnce m.server n
       → IsGood b (record m { server = n })
@@ -62,15 +320,6 @@ module _ (b : Machine) where
     sound = sound_with m n within here.0;
     since = since_server b m (record m { server = n }) refl refl
         (subst (λ (one : Machine). StopsOnce one.server n) here.1 once) (good_first m here).since;
-  }
-
-  node_event : {A : Type 0} (c : ℕ) {call : Call (Node ClientState) A}
-      → ((node n : Node ClientState) (text : List ℕ) (a : A) → call node text a n → Within node n)
-      → ((node n : Node ClientState) (text : List ℕ) (a : A) → call node text a n → StopsOnce node n) → KeepsGood (At (node_at c) call)
-  node_event c within once = record {
-    at = λ m n text a here step.
-        let node : Node ClientState = (client_in m c).node in
-        rw step.is (put_good c m step.inner here (within node step.inner text a step.step) (once node step.inner text a step.step));
   }
 
   server_event : {A : Type 0} {call : Call (Node (List Commit)) A}
@@ -81,68 +330,6 @@ module _ (b : Machine) where
         let node : Node (List Commit) = m.server in
         rw step.is (server_good m step.inner here (within node step.inner text a step.step) (once node step.inner text a step.step));
   }
-
-  -- ---- a client that is alive, or down
-
-  if_up_good : (c : ℕ) {part : Part Machine} → Rests b c part → KeepsGood (IfUp c part)
-  if_up_good c {part} rests =
-      keeps_then {Q = λ up m. AtFirst m × (up ≡ (client_in m c).node.alive)} (keeps_asks (λ m here. (here, refl))) by_up
-    where
-      by_up : (up : Bool) → Keeps (λ m. AtFirst m × (up ≡ (client_in m c).node.alive)) (either part (says_word (codes "down")) up)
-          (λ _. IsGood b)
-      by_up true = keeps_from (λ m here. record { good = good_first m here.0; alive = sym here.1 }) rests
-      by_up false = keeps_does (λ m here. good_first m here.0)
-
-  -- it came back, and has not stopped; or it has stopped again
-  abbrev CameBack : ℕ → Bool → Machine → Type 0
-  CameBack c true m = IsGood b m × IsSteady (client_in b c).node (client_in m c).node
-  CameBack c false m = IsGood b m
-
-  restart_client_good : (c : ℕ) → KeepsGood (RestartsClient c)
-  restart_client_good c =
-      keeps_then {Q = λ up m. AtFirst m × (up ≡ (client_in m c).node.alive)} (keeps_asks (λ m here. (here, refl))) by_alive
-    where
-      comes : (name : List ℕ) (m n : Machine) (text : List ℕ) (on : Bool) → AtFirst m × (false ≡ (client_in m c).node.alive)
-          → At (node_at c) (ComesBack name no_text) m text on n → CameBack c on n
-      comes name m n text true here step =
-          let node : Node ClientState = (client_in m c).node in
-          let good : IsGood b (put_client c (with_node b c step.inner m) m) =
-          put_good c m step.inner here.0 (comes_within name no_text node step.inner text true step.step)
-          (comes_once name no_text node step.inner text true (sym here.1) step.step) in
-          let still : IsSteady (client_in b c).node step.inner =
-          subst (λ (one : Machine). IsSteady (client_in one c).node step.inner) here.0.1
-          (comes_steady name no_text node step.inner text step.step) in
-          rw step.is (
-            good,
-            steady_put b m c (with_node b c step.inner m) (λ _. still)
-                (subst (λ (one : Machine). IsSteady (client_in b c).node (client_in one c).node) (sym here.0.1)
-                (steady (client_in b c).node)),
-          )
-      comes name m n text false here step =
-          let node : Node ClientState = (client_in m c).node in
-          rw step.is (put_good c m step.inner here.0 (comes_within name no_text node step.inner text false step.step)
-          (comes_once name no_text node step.inner text false (sym here.1) step.step))
-
-      notes : Keeps (CameBack c true) (Notes c cut) (λ _. IsGood b)
-      notes = record {
-        at = λ m n text on here step.
-            rw step.is (notes_good b c cut m step.inner text on here.0.since here.1 step.step
-            (followed b c cut cut_follows m step.inner text on here.0.sound step.step));
-      }
-
-      by_running : (running : Option Running) → Keeps (CameBack c true) (cuts_off c running) (λ _. IsGood b)
-      by_running None = keeps_does (λ m here. here.0)
-      by_running (Some it) = keeps_then {Q = λ _. IsGood b} notes (stays_goes_on stays_says)
-
-      cuts : (on : Bool) → Keeps (CameBack c on) (goes_on (CutsOff c) on) (λ _. IsGood b)
-      cuts true = asks_then by_running
-      cuts false = keeps_does (λ m here. here)
-
-      by_alive : (up : Bool) → Keeps (λ m. AtFirst m × (up ≡ (client_in m c).node.alive)) (comes_back c up) (λ _. IsGood b)
-      by_alive true = keeps_does (λ m here. good_first m here.0)
-      by_alive false = asks_then (λ name. keeps_then {Q = CameBack c} (record { at = comes name }) cuts)
-
-  -- ---- the server comes back
 
   restart_good : KeepsGood RestartsServer
   restart_good = asks_then (λ alive. asks_then (λ names.
@@ -171,14 +358,18 @@ module _ (b : Machine) where
       }))
       (λ c. keeps_then {Q = λ _. IsGood b} (opens_keep c) (stays_goes_on stays_says))
     where
-      opens_keep : (c : ℕ) → Keeps (IsNew c) (At (node_at c) (OpensNode name)) (λ _. IsGood b)
+      opens_keep : (c : ℕ) → Keeps (IsNew c) (At (client_at c) (At node (OpensNode name))) (λ _. IsGood b)
       opens_keep c = record {
         at = λ m n text on here step.
-            let node : Node ClientState = (client_in m c).node in
-            rw step.is (put_good c m step.inner here.first
-            (same_within node step.inner (opens_states name node step.inner text on step.step)
-            (λ _. opens_sure name node step.inner text on here.sure step.step))
-            (opens_once name node step.inner text on here.down step.step));
+            let was : Node ClientState = (client_in m c).node in
+            let inner : Node ClientState = step.step.inner in
+            let client : Client = record (client_in m c) { node = inner } in
+            rw (step.is, step.step.is) (subst (λ (one : Machine). IsGood one (put_client c client m)) here.first.1
+            (client_good m c client here.first.0 (record {
+              continues = within_continues was inner (same_within was inner (opens_states name was inner text on step.step.step)
+                  (λ _. opens_sure name was inner text on here.sure step.step.step));
+              once = opens_once name was inner text on here.down step.step.step;
+            })));
       }
 
   opens_good : Keeps (λ m. AtFirst m × ((m.server.doubt ≡ None) × (m.server.alive ≡ false))) Opening (λ _. IsGood b)
@@ -207,85 +398,76 @@ module _ (b : Machine) where
         });
   }
 
-  arms_client : (c : ℕ) (name : List ℕ) (calls : ℕ) (pick : Pick)
-      → Keeps (λ m. IsSound m × (put_client c (record (client_in m c) { node = armed calls pick (client_in m c).node }) m ≡ b))
-      (At (node_at c) (ArmsDisk name calls pick)) (λ _. IsGood b)
-  arms_client c name calls pick = record {
+  arms_client : (c : ℕ) (calls : ℕ) (pick : Pick)
+      → Keeps (λ m. IsSound m × (put_client c (armed_client calls pick (client_in m c)) m ≡ b))
+      (At (client_at c) (ArmsClient calls pick)) (λ _. IsGood b)
+  arms_client c calls pick = record {
     at = λ m n text a here step.
-        let node : Node ClientState = (client_in m c).node in
-        let inner : step.inner ≡ armed calls pick node = step.step.1 in
-        rw step.is (record {
-          sound = put_sound c (with_node b c step.inner m) m
-              (within_continues node step.inner (arms_within name calls pick node step.inner text a step.step)) here.0;
-          since = subst (Since b)
-              (sym (ap (λ (n : Node ClientState). put_client c (record (client_in m c) { node = n }) m) inner ∙ here.1)) (since_itself b);
-        });
+        rw step.is (good m step.inner (arms_is calls pick (client_in m c) step.inner text a step.step) here.0 here.1);
   }
+    where
+      good : (m : Machine) (client : Client) → client ≡ armed_client calls pick (client_in m c) → IsSound m
+          → put_client c (armed_client calls pick (client_in m c)) m ≡ b → IsGood b (put_client c client m)
+      good m client same sound base = subst (λ (client : Client). IsGood b (put_client c client m)) (sym same) (record {
+        sound = put_sound c (armed_client calls pick (client_in m c)) m
+            (within_continues (client_in m c).node (armed calls pick (client_in m c).node)
+            (same_within (client_in m c).node (armed calls pick (client_in m c).node) (record { durable = refl; doubt = refl })
+            (λ sure. sure)))
+            sound;
+        since = subst (Since b) (sym base) (since_itself b);
+      })
 
 -- ---- the events
 
--- those that are done from the machine as it is
 module _ (m : Machine) where
+  -- those that are done from the machine as it is
   same_event : (event : Event) → base_of event m ≡ m → KeepsGood m (event_part event) → (n : Machine) (text : List ℕ) → IsSound m
       → event_part event m text tt n → IsGood (base_of event m) n
   same_event event is keeps n text sound step =
       subst (λ (b : Machine). IsGood b n) (sym is) (keeps.at m n text tt (sound, refl) step)
 
+  link_good : (c : ℕ) (what : LinkEvent) → KeepsGood m (At (client_at c) (link_part what))
+  link_good c links.Connect = client_event m c (λ k. keeps_does (λ client is. fine_link k client _ is))
+  link_good c links.Disconnect = client_event m c (λ k. keeps_does (λ client is. fine_same k _ (ap (λ (one : Client). one.node) is)))
+  link_good c (links.Lose loss) = client_event m c (λ k. keeps_does (λ client is. fine_link k client _ is))
+
+node_good : (c : ℕ) (what : NodeEvent) (m n : Machine) (text : List ℕ) → IsSound m
+    → event_part (events.At c (client_events.Node what)) m text tt n → IsGood (base_of (events.At c (client_events.Node what)) m) n
+node_good c nodes.Show m n text sound step = same_event m (events.At c (client_events.Node nodes.Show)) refl
+    (asks_then (λ scripts. client_event m c
+    (fine_node (shows_within (λ state. tree_text (view state))) (shows_once (λ state. tree_text (view state)))))) n text sound step
+node_good c (nodes.Stop calls pick) m n text sound step =
+    (asks_then (λ scripts. arms_client (base_of (events.At c (client_events.Node (nodes.Stop calls pick))) m) c calls pick)).at m n text
+    tt (sound, refl) step
+node_good c nodes.Crash m n text sound step = same_event m (events.At c (client_events.Node nodes.Crash)) refl
+    (asks_then (λ scripts. client_event m c (λ k. asks_then (λ name. fine_node (crashes_within name) (crashes_once name) k)))) n text sound
+    step
+node_good c nodes.Restart m n text sound step =
+    same_event m (events.At c (client_events.Node nodes.Restart)) refl (asks_then (λ scripts. client_event m c restart_fine)) n text sound
+    step
+
+server_events_good : (what : NodeEvent) (m n : Machine) (text : List ℕ) → IsSound m → event_part (events.Server what) m text tt n
+    → IsGood (base_of (events.Server what) m) n
+server_events_good nodes.Show m n text sound step = same_event m (events.Server nodes.Show) refl
+    (server_event m (shows_within (λ commits. tree_text (tree_after commits))) (shows_once (λ commits. tree_text (tree_after commits))))
+    n text sound step
+server_events_good (nodes.Stop calls pick) m n text sound step =
+    (arms_server (base_of (events.Server (nodes.Stop calls pick)) m) calls pick).at m n text tt (sound, refl) step
+server_events_good nodes.Crash m n text sound step = same_event m (events.Server nodes.Crash) refl
+    (server_event m (crashes_within server_name) (crashes_once server_name)) n text sound step
+server_events_good nodes.Restart m n text sound step = same_event m (events.Server nodes.Restart) refl (restart_good m) n text sound step
+
 event_good : (event : Event) (m n : Machine) (text : List ℕ) → IsSound m → event_part event m text tt n → IsGood (base_of event m) n
 event_good (events.Client name) m n text sound step = (declares_good (add_client name m) name).at m n text tt (sound, refl) step
-event_good (events.StopServer calls pick) m n text sound step =
-    (arms_server (base_of (events.StopServer calls pick) m) calls pick).at m n text tt (sound, refl) step
-event_good (events.StopClient client calls pick) m n text sound step =
-    (asks_then (λ name. arms_client (base_of (events.StopClient client calls pick) m) client name calls pick)).at m n text tt
-    (sound, refl) step
 event_good (events.Script name code) m n text sound step = same_event m (events.Script name code) refl
     (keeps_does (λ k here. good_same m k (declare_script (record { name = name; code = code }) k) refl refl refl (good_first m k here)))
     n text sound step
-event_good (events.Run client script option) m n text sound step =
-    same_event m (events.Run client script option) refl (if_up_good m client (runs_rests m client script (chosen option))) n text sound step
-event_good (events.Hoard client path) m n text sound step = same_event m (events.Hoard client path) refl
-    (if_up_good m client (keeps_then (takes_tries m client (wanted.Below path)) (goes_on_rests m client (says_rests m client))))
-    n text sound step
-event_good (events.Refresh client) m n text sound step =
-    same_event m (events.Refresh client) refl (if_up_good m client (refreshes_rests m client)) n text sound step
-event_good (events.Begin client script option) m n text sound step = same_event m (events.Begin client script option) refl
-    (if_up_good m client (keeps_then (begins_tries m client script (chosen option)) (goes_on_rests m client (says_rests m client))))
-    n text sound step
-event_good (events.Step client count) m n text sound step =
-    same_event m (events.Step client count) refl (if_up_good m client (steps_aloud_rests m client count)) n text sound step
-event_good (events.End client) m n text sound step =
-    same_event m (events.End client) refl (if_up_good m client (ends_rests m client)) n text sound step
-event_good (events.Connect client) m n text sound step = same_event m (events.Connect client) refl
-    (keeps_does (λ k here. link_good m client _ k (good_first m k here))) n text sound step
-event_good (events.Disconnect client) m n text sound step = same_event m (events.Disconnect client) refl
-    (keeps_does (λ k here. cut_good m client k (good_first m k here))) n text sound step
-event_good (events.Lose client loss) m n text sound step = same_event m (events.Lose client loss) refl
-    (keeps_does (λ k here. link_good m client _ k (good_first m k here))) n text sound step
-event_good (events.Sync client) m n text sound step = same_event m (events.Sync client) refl
-    (if_up_good m client (keeps_then (syncs_wakes m client) (λ synced. keeps_does (good_if m client (syncs_on synced)))))
-    n text sound step
-event_good (events.Drain client) m n text sound step =
-    same_event m (events.Drain client) refl (if_up_good m client (drains_rests m client)) n text sound step
-event_good (events.Repair client script) m n text sound step =
-    same_event m (events.Repair client script) refl (if_up_good m client (repairs_rests m client script)) n text sound step
-event_good (events.Discard client) m n text sound step =
-    same_event m (events.Discard client) refl (if_up_good m client (discards_rests m client)) n text sound step
-event_good events.ShowServer m n text sound step = same_event m events.ShowServer refl
-    (server_event m (shows_within (λ commits. tree_text (tree_after commits))) (shows_once (λ commits. tree_text (tree_after commits))))
-    n text sound step
-event_good (events.ShowClient client) m n text sound step = same_event m (events.ShowClient client) refl
-    (node_event m client (shows_within (λ state. tree_text (view state))) (shows_once (λ state. tree_text (view state)))) n text sound step
-event_good events.CrashServer m n text sound step = same_event m events.CrashServer refl
-    (server_event m (crashes_within server_name) (crashes_once server_name)) n text sound step
-event_good (events.CrashClient client) m n text sound step = same_event m (events.CrashClient client) refl
-    (asks_then (λ name. node_event m client (crashes_within name) (crashes_once name))) n text sound step
-event_good events.RestartServer m n text sound step = same_event m events.RestartServer refl (restart_good m) n text sound step
-event_good (events.RestartClient client) m n text sound step =
-    same_event m (events.RestartClient client) refl (restart_client_good m client) n text sound step
-event_good (events.Queue client) m n text sound step =
-    same_event m (events.Queue client) refl (if_up_good m client (says_rests m client)) n text sound step
-event_good (events.Reads client item) m n text sound step =
-    same_event m (events.Reads client item) refl (if_up_good m client (reads_of_rests m client item)) n text sound step
+event_good (events.At c (client_events.Node what)) m n text sound step = node_good c what m n text sound step
+event_good (events.At c (client_events.Link what)) m n text sound step =
+    same_event m (events.At c (client_events.Link what)) refl (asks_then (λ scripts. link_good m c what)) n text sound step
+event_good (events.At c (client_events.Task what)) m n text sound step = same_event m (events.At c (client_events.Task what)) refl
+    (asks_then (λ scripts. of_client m c (λ Others p. task_wakes Others p scripts what))) n text sound step
+event_good (events.Server what) m n text sound step = server_events_good what m n text sound step
 event_good events.Log m n text sound step = same_event m events.Log refl
     (asks_then (keeps_either (keeps_does (good_first m)) (keeps_does (good_first m)))) n text sound step
 

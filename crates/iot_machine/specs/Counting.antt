@@ -1,8 +1,10 @@
 -- What events do to what the machine's disks count: how often they have failed, and how they were armed. And that a machine stays sound.
 use Rattle.std.specs.Prelude.{◌≡◌, ◌⊎◌, ℕ, ◌+◌, false, List, length}
 use Rattle.iot_count.specs.Counts.{Rose}
+use Rattle.iot_event.specs.declared.event.ClientEvent.TheVariants as client_events
 use Rattle.iot_event.specs.declared.event.Event.{Event}
 use Rattle.iot_event.specs.declared.event.Event.TheVariants as events
+use Rattle.iot_event.specs.declared.event.NodeEvent.TheVariants as nodes
 use Rattle.iot_machine.specs.Events.{add_client, event_part}
 use Rattle.iot_machine.specs.Machine.{Machine, handed, client_in, put_client}
 use Rattle.iot_machine.specs.Nodes.{Node, Counts, armed}
@@ -34,8 +36,9 @@ pub record Since (m n : Machine) : Type 0 where
 -- the machine with what the event itself arms or declares: it arms the disk of its node alone, with its call and its pick
 abbrev pub base_of : Event → Machine → Machine
 base_of (events.Client name) m = add_client name m
-base_of (events.StopServer calls pick) m = record m { server = armed calls pick m.server }
-base_of (events.StopClient c calls pick) m = put_client c (record (client_in m c) { node = armed calls pick (client_in m c).node }) m
+base_of (events.Server (nodes.Stop calls pick)) m = record m { server = armed calls pick m.server }
+base_of (events.At c (client_events.Node (nodes.Stop calls pick))) m =
+    put_client c (record (client_in m c) { node = armed calls pick (client_in m c).node }) m
 base_of other m = m
 
 -- in each event each node stops at most once, its disk's count of faults rises exactly if it does, and disks are armed by `stop` alone

@@ -4,9 +4,8 @@ use Rattle.iot_tree.specs.Tree.{Nodes}
 use Rattle.iot_machine.specs.Clients as stages
 use Rattle.iot_machine.specs.Clients.{Declared, Item, Running, ClientState, Plan}
 use Rattle.iot_machine.specs.Clients.{plain_run, local_run, so_far, cut, attempt_of, plan_of, resolution_of, at_stage}
-use Rattle.iot_machine.specs.Machine.{Machine}
 use Rattle.iot_machine.specs.Options.{Reexec}
-use Rattle.iot_machine.specs.Transactions.{submission_of}
+use Rattle.iot_machine.specs.Transactions.{commit_of}
 
 -- with a greater budget a script does these acts first
 abbrev pub AreFirst : Declared → Nodes → (acts : ℕ) → Type 0
@@ -16,7 +15,7 @@ AreFirst script t acts = (more : ℕ) → acts ≤ more → (plain_run script t 
 pub record Submits (script : Declared) (acts : ℕ) (item : Item) : Type 0 where
   pub script_same : (attempt_of item).script ≡ script
   pub attempt : (attempt_of item).budget ≡ acts
-  pub entry : (c : ℕ) (m : Machine) → (submission_of c m item).commit.entry.budget ≡ acts
+  pub entry : (place : ℕ) → (commit_of place item).entry.budget ≡ acts
 
 -- its script is run again with so many acts, and submitted so
 pub record Reruns (script : Declared) (acts : ℕ) (item : Item) (plan : Plan) : Type 0 where

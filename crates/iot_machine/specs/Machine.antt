@@ -10,8 +10,6 @@ use Rattle.iot_exec.specs.Serial.{Entry, serial_tree}
 use Rattle.iot_machine.specs.Calls.{Lens}
 use Rattle.iot_machine.specs.Clients.{Declared, ClientState, new_client}
 use Rattle.iot_machine.specs.Nodes.{Node, Counts, unopened, no_counts}
-use Rattle.iot_machine.specs.Options as options
-use Rattle.iot_machine.specs.Options.{OnConflict}
 
 -- a committed transaction, and the name of its script
 pub record Commit : Type 0 where
@@ -79,45 +77,58 @@ client_in m c = slice_index_or m.clients c no_client
 abbrev pub put_client : ℕ → Client → Machine → Machine
 put_client c client m = record m { clients = slice_set m.clients c client }
 
--- a client's node
-abbrev pub node_at : ℕ → Lens Machine (Node ClientState)
-node_at c = record {
-  get = λ m. (client_in m c).node;
-  set = λ node m. put_client c (record (client_in m c) { node = node }) m;
-}
+-- ---- one client
 
--- what a client keeps
-abbrev pub kept_by : ℕ → Machine → ClientState
-kept_by c m = (client_in m c).node.durable
+abbrev pub client_at : ℕ → Lens Machine Client
+client_at c = record { get = λ m. client_in m c; set = λ client m. put_client c client m }
 
--- its running transaction is first class from now on, or second class
-abbrev pub set_class : ℕ → (first : Bool) → Machine → Machine
-set_class c first m = put_client c (record (client_in m c) { first = first }) m
-
--- a client's link, and whether the server is alive at its other end
-abbrev pub link_of : ℕ → Machine → LinkState
-link_of c m = (client_in m c).link
-
-abbrev pub set_link : ℕ → LinkState → Machine → Machine
-set_link c link m = put_client c (record (client_in m c) { link = link }) m
+abbrev pub node : Lens Client (Node ClientState)
+node = record { get = λ client. client.node; set = λ node client. record client { node = node } }
 
 -- it is not up from now on, and what runs is second class
-abbrev pub cut_off : ℕ → Machine → Machine
-cut_off c m = put_client c (record (client_in m c) { link = connected false (link_of c m); first = false }) m
+abbrev pub cut_off : Client → Client
+cut_off client = record client { link = connected false client.link; first = false }
 
 -- it has lost a message, or the server has stopped: it is not up, nothing is armed, and what runs is second class
-abbrev pub break : ℕ → Machine → Machine
-break c m = put_client c (record (client_in m c) { link = link.broken; first = false }) m
+abbrev pub break : Client → Client
+break client = record client { link = link.broken; first = false }
 
-abbrev pub count_request : Machine → Machine
-count_request m = record m { requests = m.requests + 1 }
+-- ---- one client with the server
 
-abbrev pub script_at : ℕ → Machine → Declared
-script_at s m = slice_index_or m.scripts s no_script
+-- what an event of a client sees: the client, its place among all of them, which no call changes, and the server
+pub record Pair : Type 0 where
+  pub place : ℕ
+  pub client : Client
+  pub server : Node (List Commit)
+  pub requests : ℕ
 
--- what becomes of a transaction that conflicts, as it is kept
-abbrev pub option_at : OnConflict ℕ → Machine → OnConflict Declared
-option_at options.Reexec m = options.Reexec
-option_at (options.Resolver s) m = options.Resolver (script_at s m)
-option_at options.Abort m = options.Abort
-option_at options.Manual m = options.Manual
+abbrev pub pair_at : ℕ → Lens Machine Pair
+pair_at c = record {
+  get = λ m. record { place = c; client = client_in m c; server = m.server; requests = m.requests };
+  set = λ pair m. record m { server = pair.server; requests = pair.requests; clients = slice_set m.clients c pair.client };
+}
+
+abbrev pub its_client : Lens Pair Client
+its_client = record { get = λ pair. pair.client; set = λ client pair. record pair { client = client } }
+
+abbrev pub its_server : Lens Pair (Node (List Commit))
+its_server = record { get = λ pair. pair.server; set = λ node pair. record pair { server = node } }
+
+-- what the client keeps
+abbrev pub kept : Pair → ClientState
+kept pair = pair.client.node.durable
+
+-- its running transaction is first class from now on, or second class
+abbrev pub set_class : (first : Bool) → Pair → Pair
+set_class first pair = record pair { client = record pair.client { first = first } }
+
+abbrev pub break_link : Pair → Pair
+break_link pair = record pair { client = break pair.client }
+
+abbrev pub count_request : Pair → Pair
+count_request pair = record pair { requests = pair.requests + 1 }
+
+-- ---- scripts
+
+abbrev pub script_at : List Declared → ℕ → Declared
+script_at scripts place = slice_index_or scripts place no_script

@@ -1,10 +1,11 @@
--- What a client does: it brings objects, and begins, steps and ends transactions.
-use Rattle.std.specs.Prelude.{ℕ, ◌*◌, length, Bool, true, false, List, [], ◌∷◌, ◌++◌, Option, None, Some, is_some, codes}
+-- What a client does with the server: it brings objects, and begins, steps and ends transactions. A call that answers nothing has ended
+-- its event: the client has stopped, or it has refused.
+use Rattle.std.specs.Prelude.{ℕ, ◌*◌, length, not, Bool, true, false, List, [], ◌∷◌, ◌++◌, Option, None, Some, is_some, codes}
 use Rattle.iot_tree.specs.Tree.{Nodes, Path}
 use Rattle.iot_tree.specs.declared.want.Want.{Want}
 use Rattle.iot_tree.specs.declared.want.Want.TheVariants as wanted
 use Rattle.iot_acts.specs.Turns.{reads_of}
-use Rattle.iot_machine.specs.Calls.{Call, Part, Gets, Asks, Answers, Says, Nothing, Then, At, either, goes_on, Rounds}
+use Rattle.iot_machine.specs.Calls.{Call, Try, Gets, Asks, Answers, Says, Tells, Then, Goes, At, either, Repeats}
 use Rattle.iot_machine.specs.Clients as stages
 use Rattle.iot_machine.specs.Clients.{Declared, Stage, Item, Running, ClientState, new_client, base, so_far, next_step, Next, AtEnd}
 use Rattle.iot_machine.specs.Clients.{AtLimit, Acts, Fetches, attempt_of, attempted, Plan, plan_of, resolution_of}
@@ -12,8 +13,7 @@ use Rattle.iot_machine.specs.Clients.{hold, begin, fetch, act_once, end, leave, 
 use Rattle.iot_link.specs.Links.{passage}
 use Rattle.iot_link.specs.declared.passages.Passage.{Passage}
 use Rattle.iot_link.specs.declared.passages.Passage.TheVariants as passages
-use Rattle.iot_machine.specs.Machine.{link_of, break, count_request}
-use Rattle.iot_machine.specs.Machine.{Machine, Commit, server, client_in, node_at, kept_by, set_class, script_at, option_at}
+use Rattle.iot_machine.specs.Machine.{Client, Commit, node, Pair, its_client, its_server, kept, set_class, break_link, count_request}
 use Rattle.iot_machine.specs.Nodes.{Node}
 use Rattle.iot_machine.specs.Options as options
 use Rattle.iot_machine.specs.Options.{OnConflict}
@@ -25,293 +25,245 @@ use Rattle.iot_machine.specs.Texts.{manual_line, resolve_line, pending_line}
 -- ---- its record, and an exchange with the server
 
 -- a change of what it keeps, and whether it goes on
-abbrev pub Notes : ℕ → (ClientState → ClientState) → Call Machine Bool
-Notes c change m text on n = At (node_at c) (Appends (client_in m c).name change) m text on n
+abbrev pub Writes : (ClientState → ClientState) → Call Client Bool
+Writes change client text on n = At node (Appends client.name change) client text on n
+
+abbrev pub unless_stopped : Bool → Option (Unit {0})
+unless_stopped true = Some tt
+unless_stopped false = None
+
+-- the same; if it stops in that, its event is over
+abbrev pub Notes : (ClientState → ClientState) → Try Pair (Unit {0})
+Notes change = Then (At its_client (Writes change)) (λ on. Answers (unless_stopped on))
 
 -- a live server answers a request, and counts it; one that stops gives no reply, and counts none
-abbrev pub counted : {A : Type 0} → Option A → Call Machine (Option A)
+abbrev pub counted : {A : Type 0} → Option A → Call Pair (Option A)
 counted None = Answers None
 counted (Some a) = Gets (λ _. Some a) count_request
 
-abbrev pub Handles : {A : Type 0} → Call (Node (List Commit)) (Option A) → Call Machine (Option A)
-Handles request = Then (At server request) counted
+abbrev pub Handles : {A : Type 0} → Call (Node (List Commit)) (Option A) → Call Pair (Option A)
+Handles request = Then (At its_server request) counted
 
 -- a reply that came, or none: then the link is broken
-abbrev pub received : {A : Type 0} → ℕ → Option A → Call Machine (Option A)
-received c None = Gets (λ _. None) (break c)
-received c (Some a) = Answers (Some a)
+abbrev pub received : {A : Type 0} → Option A → Call Pair (Option A)
+received None = Gets (λ _. None) break_link
+received (Some a) = Answers (Some a)
 
 -- a request to the server, and what it answers, by how far the two get over the link
-abbrev pub exchange_by : {A : Type 0} → ℕ → Call (Node (List Commit)) (Option A) → Passage → Call Machine (Option A)
-exchange_by c request passages.Away = Gets (λ _. None) (set_class c false)
-exchange_by c request passages.RequestLost = Gets (λ _. None) (break c)
-exchange_by c request passages.ReplyLost = Then (Handles request) (λ _. Gets (λ _. None) (break c))
-exchange_by c request passages.Both = Then (Handles request) (received c)
+abbrev pub exchange_by : {A : Type 0} → Call (Node (List Commit)) (Option A) → Passage → Call Pair (Option A)
+exchange_by request passages.Away = Gets (λ _. None) (set_class false)
+exchange_by request passages.RequestLost = Gets (λ _. None) break_link
+exchange_by request passages.ReplyLost = Then (Handles request) (λ _. Gets (λ _. None) break_link)
+exchange_by request passages.Both = Then (Handles request) received
 
-abbrev pub Exchange : {A : Type 0} → ℕ → Call (Node (List Commit)) (Option A) → Call Machine (Option A)
-Exchange c request = Then (Asks (λ m. passage (link_of c m) m.server.alive)) (exchange_by c request)
+abbrev pub Exchange : {A : Type 0} → Call (Node (List Commit)) (Option A) → Call Pair (Option A)
+Exchange request = Then (Asks (λ pair. passage pair.client.link pair.server.alive)) (exchange_by request)
 
 -- it asks for objects
-abbrev pub Brings : ℕ → Want → Call Machine (Option Nodes)
-Brings c want = Then (Asks (λ m. (kept_by c m).held)) (λ held. Exchange c (Lends held want))
+abbrev pub Brings : Want → Call Pair (Option Nodes)
+Brings want = Then (Asks (λ pair. (kept pair).held)) (λ held. Exchange (Lends held want))
 
 -- ---- refusals
 
-abbrev pub says_word : List ℕ → Part Machine
-says_word word = Says (λ _. line word)
-
 -- a word is said, and nothing is done
-abbrev pub Refuses : List ℕ → Call Machine Bool
-Refuses word = Then (says_word word) (λ _. Answers false)
+abbrev pub Refuses : {A : Type 0} → List ℕ → Try Pair A
+Refuses word = Tells (λ _. line word) None
 
 -- whether a transaction runs
-abbrev pub runs : ℕ → Machine → Bool
-runs c m = is_some (kept_by c m).running
+abbrev pub runs : Pair → Bool
+runs pair = is_some (kept pair).running
 
 abbrev pub is_queued : List Item → Bool
 is_queued [] = false
 is_queued (item ∷ items) = true
 
 -- whether transactions wait
-abbrev pub pends : ℕ → Machine → Bool
-pends c m = is_queued (kept_by c m).items
+abbrev pub pends : Pair → Bool
+pends pair = is_queued (kept pair).items
 
 -- unless a transaction runs
-abbrev pub IfIdle : ℕ → Call Machine Bool → Call Machine Bool
-IfIdle c call = Then (Asks (runs c)) (either (Refuses (codes "busy")) call)
+abbrev pub IfIdle : {A : Type 0} → Try Pair A → Try Pair A
+IfIdle call = Then (Asks runs) (either (Refuses (codes "busy")) call)
 
 -- unless transactions wait
-abbrev pub IfNonePends : ℕ → Call Machine Bool → Call Machine Bool
-IfNonePends c call = Then (Asks (pends c)) (either (Refuses (codes "pending")) call)
+abbrev pub IfNonePends : {A : Type 0} → Try Pair A → Try Pair A
+IfNonePends call = Then (Asks pends) (either (Refuses (codes "pending")) call)
 
-abbrev pub if_runs : (Running → Part Machine) → Option Running → Part Machine
-if_runs part None = says_word (codes "idle")
-if_runs part (Some it) = part it
+abbrev pub if_runs : {A : Type 0} → (Running → Try Pair A) → Option Running → Try Pair A
+if_runs call None = Refuses (codes "idle")
+if_runs call (Some it) = call it
 
 -- for the transaction that runs
-abbrev pub IfRuns : ℕ → (Running → Part Machine) → Part Machine
-IfRuns c part = Then (Asks (λ m. (kept_by c m).running)) (if_runs part)
+abbrev pub IfRuns : {A : Type 0} → (Running → Try Pair A) → Try Pair A
+IfRuns call = Then (Asks (λ pair. (kept pair).running)) (if_runs call)
 
 -- ---- objects
 
--- how it went to bring objects: they are held, or nothing came, or the client stopped
-pub data Brought : Type 0 where
-  Held : Brought
-  Missed : Brought
-  Stopped : Brought
+-- what came is held, by this change; and whether something came
+abbrev pub holds : (Nodes → ClientState → ClientState) → Option Nodes → Try Pair Bool
+holds change None = Answers (Some false)
+holds change (Some t) = Goes (Notes (change t)) (λ _. Answers (Some true))
 
-abbrev pub brought : Bool → Brought
-brought true = Held
-brought false = Stopped
+-- what is wanted is brought and held, by this change; and whether it came
+abbrev pub Holds : (Nodes → ClientState → ClientState) → Want → Try Pair Bool
+Holds change want = Then (Brings want) (holds change)
 
--- what came is held, by this change
-abbrev pub holds : ℕ → (Nodes → ClientState → ClientState) → Option Nodes → Call Machine Brought
-holds c change None = Answers Missed
-holds c change (Some t) = Then (Notes c (change t)) (λ on. Answers (brought on))
+abbrev pub took : Bool → Try Pair (Unit {0})
+took true = Answers (Some tt)
+took false = Refuses (codes "away")
 
--- what is wanted is brought and held, by this change
-abbrev pub Holds : ℕ → (Nodes → ClientState → ClientState) → Want → Call Machine Brought
-Holds c change want = Then (Brings c want) (holds c change)
-
-abbrev pub took : Brought → Call Machine Bool
-took Held = Answers true
-took Missed = Refuses (codes "away")
-took Stopped = Answers false
-
--- if nothing runs or waits, what is wanted is brought and held; and whether it was
-abbrev pub Takes : ℕ → Want → Call Machine Bool
-Takes c want = IfIdle c (IfNonePends c (Then (Holds c hold want) took))
+-- if nothing runs or waits, what is wanted is brought and held
+abbrev pub Takes : Want → Try Pair (Unit {0})
+Takes want = IfIdle (IfNonePends (Goes (Holds hold want) took))
 
 -- ---- begin
 
 -- its next transaction begins, first class or not
-abbrev pub Starts : ℕ → Declared → OnConflict Declared → Bool → Call Machine Bool
-Starts c script option first = Then (Notes c (begin script option)) (λ on. Gets (λ _. on) (set_class c first))
+abbrev pub Starts : Declared → OnConflict Declared → (first : Bool) → Try Pair (Unit {0})
+Starts script option first = Goes (Notes (begin script option)) (λ _. Gets (λ _. Some tt) (set_class first))
 
--- it is first class if the refresh came
-abbrev pub starts_on : ℕ → Declared → OnConflict Declared → Brought → Call Machine Bool
-starts_on c script option Held = Starts c script option true
-starts_on c script option Missed = Starts c script option false
-starts_on c script option Stopped = Answers false
+-- it is first class if a refresh came; as long as transactions wait, nothing is asked
+abbrev pub starts_if : Declared → OnConflict Declared → (pends : Bool) → Try Pair (Unit {0})
+starts_if script option true = Starts script option false
+starts_if script option false = Goes (Holds hold wanted.Nothing) (Starts script option)
 
--- as long as transactions wait, nothing is asked
-abbrev pub starts_if : ℕ → Declared → OnConflict Declared → Bool → Call Machine Bool
-starts_if c script option true = Starts c script option false
-starts_if c script option false = Then (Holds c hold wanted.Nothing) (starts_on c script option)
-
--- if nothing runs, a transaction of this script begins; and whether it did
-abbrev pub Begins : (client script : ℕ) → OnConflict ℕ → Call Machine Bool
-Begins c s on_conflict =
-    IfIdle c
-    (Then (Asks (script_at s)) (λ script.
-    Then (Asks (option_at on_conflict)) (λ option. Then (Asks (pends c)) (starts_if c script option))))
+-- if nothing runs, a transaction of this script begins
+abbrev pub Begins : Declared → OnConflict Declared → Try Pair (Unit {0})
+Begins script option = IfIdle (Then (Asks pends) (starts_if script option))
 
 -- ---- steps
 
--- how a single step went
-pub data Stepped : Type 0 where
-  Went : Stepped
-  -- the script has ended, or is at its limit
-  Over : Stepped
-  Away : Stepped
-  Stops : Stepped
+-- a line, unless nothing is to be said, and this answer
+abbrev pub tells_if : (loud : Bool) → List ℕ → Bool → Try Pair Bool
+tells_if loud text more = either (Tells (λ _. text) (Some more)) (Answers (Some more)) loud
 
-abbrev pub went : Bool → Stepped
-went true = Went
-went false = Stops
+-- if nothing came it does no act: steps that are asked for end there, and a run goes on, second class
+abbrev pub more_after : (loud came : Bool) → Bool
+more_after loud true = true
+more_after loud false = not loud
 
--- a line, unless nothing is to be said
-abbrev pub SaysIf : Bool → List ℕ → Part Machine
-SaysIf loud text = either (Says (λ _. text)) Nothing loud
+-- it begins anew, on what was brought
+abbrev pub fetched : (loud : Bool) → Path → (came : Bool) → Try Pair Bool
+fetched loud path came = tells_if loud (fetch_line path (not came)) (more_after loud came)
 
--- it begins anew, on what was brought; if nothing came, it does no act
-abbrev pub fetched : ℕ → (loud : Bool) → Path → Brought → Call Machine Stepped
-fetched c loud path Held = Then (SaysIf loud (fetch_line path false)) (λ _. Answers Went)
-fetched c loud path Missed = Then (SaysIf loud (fetch_line path true)) (λ _. Answers Away)
-fetched c loud path Stopped = Answers Stops
-
-abbrev pub step_by : ℕ → (loud : Bool) → Next → Call Machine Stepped
-step_by c loud AtEnd = Answers Over
-step_by c loud AtLimit = Answers Over
-step_by c loud Acts = Then (Notes c act_once) (λ on. Answers (went on))
-step_by c loud (Fetches path) = Then (Holds c fetch (wanted.Path path)) (fetched c loud path)
+abbrev pub step_by : (loud : Bool) → Next → Try Pair Bool
+step_by loud AtEnd = Answers (Some false)
+step_by loud AtLimit = Answers (Some false)
+step_by loud Acts = Goes (Notes act_once) (λ _. Answers (Some true))
+step_by loud (Fetches path) = Goes (Holds fetch (wanted.Path path)) (fetched loud path)
 
 -- the next step of the transaction that runs
-abbrev pub next_of : ℕ → Running → Machine → Next
-next_of c it m = next_step (client_in m c).first (base (kept_by c m)) it
+abbrev pub next_of : Running → Pair → Next
+next_of it pair = next_step pair.client.first (base (kept pair)) it
 
-abbrev pub step_of : ℕ → (loud : Bool) → Option Running → Call Machine Stepped
-step_of c loud None = Answers Over
-step_of c loud (Some it) = Then (Asks (next_of c it)) (step_by c loud)
+abbrev pub step_of : (loud : Bool) → Option Running → Try Pair Bool
+step_of loud None = Answers (Some false)
+step_of loud (Some it) = Then (Asks (next_of it)) (step_by loud)
 
-abbrev pub Steps : ℕ → (loud : Bool) → Call Machine Stepped
-Steps c loud = Then (Asks (λ m. (kept_by c m).running)) (step_of c loud)
-
--- each goes on where the last one went; steps that are asked for end at a fetch that failed, and a run goes on, second class
-abbrev pub unless_went : (loud : Bool) → Stepped → Option Stepped
-unless_went loud Went = None
-unless_went loud Over = Some Over
-unless_went true Away = Some Away
-unless_went false Away = None
-unless_went loud Stops = Some Stops
-
--- at most so many
-abbrev pub StepsAll : ℕ → (loud : Bool) → (most : ℕ) → Call Machine Stepped
-StepsAll c loud most = Rounds most Went (Then (Steps c loud) (λ stepped. Answers (unless_went loud stepped)))
+-- one step, and whether more may follow
+abbrev pub Steps : (loud : Bool) → Try Pair Bool
+Steps loud = Then (Asks (λ pair. (kept pair).running)) (step_of loud)
 
 -- ---- the first transaction that waits
 
-abbrev pub item_name : ℕ → Item → Machine → List ℕ
-item_name c item m = transaction_name (client_in m c).name item.number
+abbrev pub item_name : Item → Pair → List ℕ
+item_name item pair = transaction_name pair.client.name item.number
 
--- the transaction as it is submitted
-abbrev pub submission_of : ℕ → Machine → Item → Submission
-submission_of c m item = record {
-  name = item_name c item m;
-  commit = record {
-    script = (attempt_of item).script.name;
-    entry = record {
-      client = c;
-      number = item.number;
-      script = (attempt_of item).script.code;
-      budget = (attempt_of item).budget;
-      way = (attempt_of item).way;
-      kept = (attempt_of item).kept;
-    };
+-- the commit that it would be, of the client at this place
+abbrev pub commit_of : (place : ℕ) → Item → Commit
+commit_of place item = record {
+  script = (attempt_of item).script.name;
+  entry = record {
+    client = place;
+    number = item.number;
+    script = (attempt_of item).script.code;
+    budget = (attempt_of item).budget;
+    way = (attempt_of item).way;
+    kept = (attempt_of item).kept;
   };
-  reads = reads_of (attempted (kept_by c m).held item).acts;
 }
 
--- how a sync went: none waits; the first left; it stays, and goes on; it waits for a decision by hand; nothing came from the server;
--- or the client stopped
+-- the transaction as it is submitted
+abbrev pub submission_of : Item → Pair → Submission
+submission_of item pair = record {
+  name = item_name item pair;
+  commit = commit_of pair.place item;
+  reads = reads_of (attempted (kept pair).held item).acts;
+}
+
+-- how a sync went: the first left or is further, and the next may follow; none waits, or it waits for a decision by hand; or nothing came
+-- from the server
 pub data Synced : Type 0 where
-  Empty : Synced
-  Left : Synced
   Moved : Synced
-  ByHand : Synced
+  Stays : Synced
   Unanswered : Synced
-  Halted : Synced
-
--- a part, and then this answer
-abbrev pub and_answers : Part Machine → Synced → Call Machine Synced
-and_answers part answer = Then part (λ _. Answers answer)
-
-abbrev pub unless_halted : Synced → Bool → Synced
-unless_halted synced true = synced
-unless_halted synced false = Halted
 
 -- what the client keeps changes, and then that is told
-abbrev pub Tells : ℕ → (ClientState → ClientState) → List ℕ → Synced → Call Machine Synced
-Tells c change text synced =
-    Then (Notes c change) (λ on. and_answers (goes_on (Says (λ _. text)) on) (unless_halted synced on))
+abbrev pub NotesAloud : (ClientState → ClientState) → List ℕ → Synced → Try Pair Synced
+NotesAloud change text synced = Goes (Notes change) (λ _. Tells (λ _. text) (Some synced))
+
+-- nothing came from the server
+abbrev pub Misses : Try Pair Synced
+Misses = Tells (λ _. line (codes "away")) (Some Unanswered)
 
 -- one that conflicts is given up, or waits for a decision by hand, or is to be resolved
-abbrev pub conflicted : ℕ → List ℕ → (said : List ℕ) → OnConflict Declared → Call Machine Synced
-conflicted c name said options.Abort = Tells c leave (said ++ abort_line name) Left
-conflicted c name said options.Manual = Tells c (reach stages.Manual) (said ++ manual_line name) ByHand
-conflicted c name said options.Reexec = Tells c (reach stages.Conflict) said Moved
-conflicted c name said (options.Resolver script) = Tells c (reach stages.Conflict) said Moved
+abbrev pub conflicted : List ℕ → (said : List ℕ) → OnConflict Declared → Try Pair Synced
+conflicted name said options.Abort = NotesAloud leave (said ++ abort_line name) Moved
+conflicted name said options.Manual = NotesAloud (reach stages.Manual) (said ++ manual_line name) Stays
+conflicted name said options.Reexec = NotesAloud (reach stages.Conflict) said Moved
+conflicted name said (options.Resolver script) = NotesAloud (reach stages.Conflict) said Moved
 
 -- one that is in the list leaves
-abbrev pub told : ℕ → List ℕ → OnConflict Declared → Option Verdict → Call Machine Synced
-told c name option None = and_answers (says_word (codes "away")) Unanswered
-told c name option (Some (Settled number)) = Tells c leave (settled_line name number) Left
-told c name option (Some (Conflict read question)) = conflicted c name (conflict_line name read question) option
+abbrev pub told : List ℕ → OnConflict Declared → Option Verdict → Try Pair Synced
+told name option None = Misses
+told name option (Some (Settled number)) = NotesAloud leave (settled_line name number) Moved
+told name option (Some (Conflict read question)) = conflicted name (conflict_line name read question) option
 
-abbrev pub submits : ℕ → OnConflict Declared → Submission → Call Machine Synced
-submits c option it = Then (Exchange c (Judges it)) (told c it.name option)
+abbrev pub submits : OnConflict Declared → Submission → Try Pair Synced
+submits option it = Then (Exchange (Judges it)) (told it.name option)
 
--- nothing is known and all is wanted, so the server's whole tree comes
-abbrev pub BringsAll : ℕ → Call Machine (Option Nodes)
-BringsAll c = Exchange c (Lends new_client.held (wanted.Below []))
+abbrev pub Submits : Item → Try Pair Synced
+Submits item = Then (Asks (submission_of item)) (submits item.option)
 
 -- the plan is carried out on the tree that came
-abbrev pub resolved_on : ℕ → List ℕ → Plan → Option Nodes → Call Machine Synced
-resolved_on c name plan None = and_answers (says_word (codes "away")) Unanswered
-resolved_on c name plan (Some t) = Tells c (reach (stages.Resolved (resolution_of plan t))) (resolve_line name plan.said) Moved
+abbrev pub resolved_on : List ℕ → Plan → Option Nodes → Try Pair Synced
+resolved_on name plan None = Misses
+resolved_on name plan (Some t) = NotesAloud (reach (stages.Resolved (resolution_of plan t))) (resolve_line name plan.said) Moved
 
--- the plan of one that is to be resolved; no other comes here
-abbrev pub resolves : ℕ → List ℕ → Option Plan → Call Machine Synced
-resolves c name None = Answers Unanswered
-resolves c name (Some plan) = Then (BringsAll c) (resolved_on c name plan)
+-- nothing is known and all is wanted, so the server's whole tree comes; no other than one that is to be resolved comes here
+abbrev pub resolves : List ℕ → Option Plan → Try Pair Synced
+resolves name None = Answers (Some Unanswered)
+resolves name (Some plan) = Then (Exchange (Lends new_client.held (wanted.Below []))) (resolved_on name plan)
 
-abbrev pub Submits : ℕ → Item → Call Machine Synced
-Submits c item = Then (Asks (λ m. submission_of c m item)) (submits c item.option)
+abbrev pub Resolves : Item → Try Pair Synced
+Resolves item = Then (Asks (item_name item)) (λ name. Then (Asks (λ pair. plan_of (kept pair).held item)) (resolves name))
 
-abbrev pub Resolves : ℕ → Item → Call Machine Synced
-Resolves c item =
-    Then (Asks (item_name c item)) (λ name. Then (Asks (λ m. plan_of (kept_by c m).held item)) (resolves c name))
+abbrev pub sync_at : Item → Stage → Try Pair Synced
+sync_at item stages.Waiting = Submits item
+sync_at item (stages.Resolved it) = Submits item
+sync_at item stages.Conflict = Resolves item
+sync_at item stages.Manual = Tells (λ pair. manual_line (item_name item pair)) (Some Stays)
 
-abbrev pub sync_at : ℕ → Item → Stage → Call Machine Synced
-sync_at c item stages.Waiting = Submits c item
-sync_at c item (stages.Resolved it) = Submits c item
-sync_at c item stages.Conflict = Resolves c item
-sync_at c item stages.Manual = and_answers (Says (λ m. manual_line (item_name c item m))) ByHand
-
-abbrev pub sync_head : ℕ → List Item → Call Machine Synced
-sync_head c [] = and_answers (says_word (codes "nothing")) Empty
-sync_head c (item ∷ items) = sync_at c item item.stage
+abbrev pub sync_head : List Item → Try Pair Synced
+sync_head [] = Tells (λ _. line (codes "nothing")) (Some Stays)
+sync_head (item ∷ items) = sync_at item item.stage
 
 -- the first transaction that waits is submitted or resolved, by its stage
-abbrev pub Syncs : ℕ → Call Machine Synced
-Syncs c = Then (Asks (λ m. (kept_by c m).items)) (sync_head c)
+abbrev pub Syncs : Try Pair Synced
+Syncs = Then (Asks (λ pair. (kept pair).items)) sync_head
 
 -- again and again, as long as one waits and it goes on, and at most three times for each that waits at first
-abbrev pub unless_ends : Synced → Option Synced
-unless_ends Left = None
-unless_ends Moved = None
-unless_ends Empty = Some Empty
-unless_ends ByHand = Some ByHand
-unless_ends Unanswered = Some Unanswered
-unless_ends Halted = Some Halted
+abbrev pub moves : Synced → Bool
+moves Moved = true
+moves Stays = false
+moves Unanswered = false
 
-abbrev pub sync_if : ℕ → Bool → Call Machine (Option Synced)
-sync_if c true = Then (Syncs c) (λ synced. Answers (unless_ends synced))
-sync_if c false = Answers (Some Empty)
+abbrev pub sync_if : (pends : Bool) → Try Pair Bool
+sync_if true = Goes Syncs (λ synced. Answers (Some (moves synced)))
+sync_if false = Answers (Some false)
 
-abbrev pub SyncsAll : ℕ → Call Machine Synced
-SyncsAll c =
-    Then (Asks (λ m. length (kept_by c m).items)) (λ n. Rounds (3 * n) Left (Then (Asks (pends c)) (sync_if c)))
+abbrev pub SyncsAll : Try Pair (Unit {0})
+SyncsAll = Then (Asks (λ pair. length (kept pair).items)) (λ n. Repeats (3 * n) (Then (Asks pends) sync_if))
 
 -- ---- a decision by hand
 
@@ -321,13 +273,13 @@ is_manual stages.Conflict = false
 is_manual stages.Manual = true
 is_manual (stages.Resolved it) = false
 
-abbrev pub if_manual : (Item → Part Machine) → List Item → Part Machine
-if_manual part [] = says_word (codes "nothing")
-if_manual part (item ∷ items) = either (part item) (says_word (codes "not manual")) (is_manual item.stage)
+abbrev pub if_manual : {A : Type 0} → (Item → Try Pair A) → List Item → Try Pair A
+if_manual call [] = Refuses (codes "nothing")
+if_manual call (item ∷ items) = either (call item) (Refuses (codes "not manual")) (is_manual item.stage)
 
 -- for the first transaction, if it waits for a decision by hand
-abbrev pub IfManual : ℕ → (Item → Part Machine) → Part Machine
-IfManual c part = Then (Asks (λ m. (kept_by c m).items)) (if_manual part)
+abbrev pub IfManual : {A : Type 0} → (Item → Try Pair A) → Try Pair A
+IfManual call = Then (Asks (λ pair. (kept pair).items)) (if_manual call)
 
 -- ---- end
 
@@ -337,39 +289,36 @@ pub record Ended : Type 0 where
   pub printed : List ℕ
   pub first : Bool
 
-abbrev pub ended_of : ℕ → Running → Machine → Ended
-ended_of c it m = record {
-  name = transaction_name (client_in m c).name it.number;
-  printed = acts_output (so_far (base (kept_by c m)) it).acts;
-  first = (client_in m c).first;
+abbrev pub ended_of : Running → Pair → Ended
+ended_of it pair = record {
+  name = transaction_name pair.client.name it.number;
+  printed = acts_output (so_far (base (kept pair)) it).acts;
+  first = pair.client.first;
 }
 
 -- that it waits, and what it printed
-abbrev pub waits : Ended → Part Machine
-waits gone = Says (λ _. pending_line gone.name ++ gone.printed)
+abbrev pub waits : Ended → Try Pair (Unit {0})
+waits gone = Tells (λ _. pending_line gone.name ++ gone.printed) (Some tt)
 
-abbrev pub waits_unless : Ended → Synced → Part Machine
+abbrev pub waits_unless : Ended → Synced → Try Pair (Unit {0})
 waits_unless gone Unanswered = waits gone
-waits_unless gone Left = Nothing
-waits_unless gone Moved = Nothing
-waits_unless gone ByHand = Nothing
-waits_unless gone Empty = Nothing
-waits_unless gone Halted = Nothing
+waits_unless gone Moved = Answers (Some tt)
+waits_unless gone Stays = Answers (Some tt)
 
 -- a first-class transaction is synced at once, and waits if no verdict comes; another waits
-abbrev pub syncs_or_waits : ℕ → Ended → (first : Bool) → Part Machine
-syncs_or_waits c gone true = Then (Syncs c) (waits_unless gone)
-syncs_or_waits c gone false = waits gone
+abbrev pub syncs_or_waits : Ended → (first : Bool) → Try Pair (Unit {0})
+syncs_or_waits gone true = Goes Syncs (waits_unless gone)
+syncs_or_waits gone false = waits gone
 
 -- it waits from now on
-abbrev pub joins : ℕ → Ended → Part Machine
-joins c gone = Then (Notes c end) (goes_on (Then (Says (λ _. end_line gone.name)) (λ _. syncs_or_waits c gone gone.first)))
+abbrev pub joins : Ended → Try Pair (Unit {0})
+joins gone = Goes (Notes end) (λ _. Then (Says (λ _. end_line gone.name)) (λ _. syncs_or_waits gone gone.first))
 
-abbrev pub end_by : ℕ → Running → Next → Part Machine
-end_by c it AtEnd = Then (Asks (ended_of c it)) (joins c)
-end_by c it AtLimit = Then (Asks (ended_of c it)) (joins c)
-end_by c it Acts = says_word (codes "not at end")
-end_by c it (Fetches path) = says_word (codes "not at end")
+abbrev pub end_by : Running → Next → Try Pair (Unit {0})
+end_by it AtEnd = Then (Asks (ended_of it)) joins
+end_by it AtLimit = Then (Asks (ended_of it)) joins
+end_by it Acts = Refuses (codes "not at end")
+end_by it (Fetches path) = Refuses (codes "not at end")
 
-abbrev pub Ends : ℕ → Part Machine
-Ends c = IfRuns c (λ it. Then (Asks (next_of c it)) (end_by c it))
+abbrev pub Ends : Try Pair (Unit {0})
+Ends = IfRuns (λ it. Then (Asks (next_of it)) (end_by it))
