@@ -8,7 +8,7 @@ use Rattle.std.proofs.lemmas.List.{length-append, append-nil}
 use Rattle.std.specs.List.{position_from}
 use Rattle.std.specs.Prelude.{IfSome}
 use Rattle.iot_machine.specs.Calls.{At}
-use Rattle.iot_machine.specs.Machine.{Machine, Commit, add_commit, server}
+use Rattle.iot_machine.specs.Machine.{Machine, Commit, Pair, pair_at, its_server, add_commit}
 use Rattle.iot_machine.specs.Nodes as nodes
 use Rattle.iot_machine.specs.Nodes.{Node}
 use Rattle.iot_machine.specs.Serving.{Submission, Verdict, Settled, Conflict, Judges, judged, Certifies, holds, conflicts, committed}
@@ -16,14 +16,13 @@ use Rattle.iot_machine.specs.Serving.{is_of, number_of, commit_text, kept_text, 
 use Rattle.iot_machine.specs.Stops.{Appends, Settles}
 use Rattle.iot_machine.specs.Texts.{line, stopped_line, kept_line, lost_line, transaction_name}
 use Rattle.iot_machine.specs.Transactions.{Exchange, submits}
-use Rattle.iot_machine.proofs.KeepsLaws.{Keeps, keeps_gets, keeps_asks, keeps_then}
+use Rattle.iot_machine.proofs.KeepsLaws.{Keeps, IfGoes, keeps_gets, keeps_asks, keeps_then}
 use Rattle.iot_machine.proofs.PossiblyLaws.{possibly_as}
-use Rattle.iot_machine.proofs.AwakeLaws as awake
-use Rattle.iot_machine.proofs.AwakeLaws.{Reached, exchange_keeps}
+use Rattle.iot_machine.proofs.PairLaws.{Passes, Reached, exchange_keeps}
 use Rattle.iot_lasting.specs.Lasting.{IsFront, AddsOne, StandsAt, Lasts}
 use Rattle.iot_lasting.specs.Acknowledged.{IsSaid, IsListedAs, ACommitIsSaid, IsSaidKept, AKeptCommitIsSaid, ASettledCommitLasts}
 use Rattle.iot_lasting.proofs.FrontLaws.{stands_on, possibly_front, lasts_itself}
-use Rattle.iot_lasting.proofs.KeepingLaws.{judges, by_verdict}
+use Rattle.iot_lasting.proofs.KeepingLaws.{Kept, judges, by_verdict}
 use Rattle.iot_lasting.proofs.LastingLaws.{list_keeping}
 
 -- ---- the last of a list
@@ -113,7 +112,7 @@ the_same : (a b : ℕ) → Some a ≡ Some b → a ≡ b
 the_same a b is = ap (λ (o : Option ℕ). unwrap_or o a) is
 
 -- the first that passes stands at its place
-record Passes (p : Commit → Bool) (list : List Commit) (from place : ℕ) : Type 0 where
+record FirstPasses (p : Commit → Bool) (list : List Commit) (from place : ℕ) : Type 0 where
   at : ℕ
   listed : Commit
   is : place ≡ from + at
@@ -121,12 +120,12 @@ record Passes (p : Commit → Bool) (list : List Commit) (from place : ℕ) : Ty
   same : p listed ≡ true
 
 first_passes : (p : Commit → Bool) (list : List Commit) (from place : ℕ) → position_from p from list ≡ Some place
-    → Passes p list from place
+    → FirstPasses p list from place
 first_passes p [] from place is = absurd cc
 first_passes p (first ∷ list) from place is = elim (cases_Bool (p first)) [
   | inl yes_ ↦ by_first yes_ (sym (cond-true (p first) (Some from) (position_from p (from + 1) list) yes_) ∙ is)
   | inr no_ ↦
-      let rest : Passes p list (from + 1) place =
+      let rest : FirstPasses p list (from + 1) place =
       first_passes p list (from + 1) place (sym (cond-false (p first) (Some from) (position_from p (from + 1) list) no_) ∙ is) in
       record { at = suc rest.at; listed = rest.listed; is = next rest.at rest.is; stands = rest.stands; same = rest.same }
 ]
@@ -134,7 +133,7 @@ first_passes p (first ∷ list) from place is = elim (cases_Bool (p first)) [
     none : from ≡ place → place ≡ from + 0
     none same = omega (arith, same)
 
-    by_first : p first ≡ true → Some from ≡ Some place → Passes p (first ∷ list) from place
+    by_first : p first ≡ true → Some from ≡ Some place → FirstPasses p (first ∷ list) from place
     by_first passes here =
         record { at = 0; listed = first; is = none (the_same from place here); stands = refl; same = passes }
 
@@ -151,7 +150,7 @@ is_listed commit list number is = by_place (position (is_of commit) list) (sym (
         → IsListedAs number commit list
     by_place None at is = absurd cc
     by_place (Some place) at is =
-        let it : Passes (is_of commit) list 0 place = first_passes (is_of commit) list 0 place at in
+        let it : FirstPasses (is_of commit) list 0 place = first_passes (is_of commit) list 0 place at in
         record {
           place = it.at;
           is = numbered place it.at (the_same (place + 1) number is) it.is;
@@ -207,35 +206,36 @@ module _ (it : Submission) where
       by_number (Some number) = keeps_gets (λ node is. is_listed it.commit node.durable number (sym is))
       by_number None = record { at = certifies }
 
-  exchange_told : (b : Machine) (c : ℕ)
-      → Keeps (λ _. Unit {0}) (Exchange c (Judges it)) (λ verdict m. IsTold verdict m.server.durable)
-  exchange_told b c = exchange_keeps b c passes served
+  exchange_told : Keeps (λ _. Unit {0}) (Exchange (Judges it)) (λ verdict pair. IsTold verdict pair.server.durable)
+  exchange_told = exchange_keeps {P = λ _. Unit {0}} {Q = λ verdict p. IsTold verdict p.server.durable} passes served
     where
-      served : Keeps (Reached b (λ _. Unit {0})) (At server (Judges it)) (λ verdict m. IsTold verdict m.server.durable)
+      served : Keeps (Reached (λ _. Unit {0})) (At its_server (Judges it)) (λ verdict pair. IsTold verdict pair.server.durable)
       served = record {
         at = λ m n text verdict here step. rw step.is (judges_told.at m.server step.inner text verdict tt step.step);
       }
 
-      passes : awake.Passes b c Verdict (λ _. Unit {0}) (λ verdict m. IsTold verdict m.server.durable)
-      passes = record {
-        nothing = λ m here. tt;
-        lost = λ a m here. tt;
-        counts = λ a m here. here;
-        puts = λ client m same here. tt;
-      }
+      passes : Passes Verdict (λ _. Unit {0}) (λ verdict p. IsTold verdict p.server.durable)
+      passes = record { nothing = λ p here. tt; lost = λ a p here. tt }
 
 pub a_settled_commit_lasts : ASettledCommitLasts
 a_settled_commit_lasts c option it later m n text number growing submitted is =
-    let step : submits c option it m submitted.front submitted.answer submitted.mid = submitted.first in
-    let heard : Machine = step.mid in
-    let told : IsListedAs number it.commit heard.server.durable =
-    subst (λ (verdict : Option Verdict). IsTold it verdict heard.server.durable) is
-    ((exchange_told it m c).at m heard step.front step.answer tt step.first) in
-    let first : Lasts m.server heard.server =
-    (judges m c it).at m heard step.front step.answer (lasts_itself m.server growing) step.first in
-    let second : Lasts heard.server submitted.mid.server =
-    (by_verdict heard c it.name option step.answer).at heard submitted.mid step.rest submitted.answer
-    (lasts_itself heard.server first.growing) step.second in
-    let last : Lasts heard.server n.server = (list_keeping heard later).at submitted.mid n submitted.rest tt second submitted.second in
-    possibly_as n.server (λ list front. listed_on number it.commit heard.server.durable list told front)
-    (possibly_front heard.server n.server last)
+    let step : submits option it ((pair_at c).get m) submitted.front submitted.answer submitted.first.inner = submitted.first.step in
+    let heard : Node (List Commit) = step.mid.server in
+    let told : IsListedAs number it.commit heard.durable =
+    subst (λ (verdict : Option Verdict). IsTold it verdict heard.durable) is
+    ((exchange_told it).at ((pair_at c).get m) step.mid step.front step.answer tt step.first) in
+    let first : Lasts m.server heard =
+    (judges m.server it).at ((pair_at c).get m) step.mid step.front step.answer (lasts_itself m.server growing) step.first in
+    let second : Lasts heard submitted.first.inner.server =
+    if_goes submitted.answer heard submitted.first.inner
+    ((by_verdict heard it.name option step.answer).at step.mid submitted.first.inner step.rest submitted.answer
+    (lasts_itself heard first.growing) step.second) in
+    let mid : Lasts heard submitted.mid.server = subst (λ (k : Machine). Lasts heard k.server) (sym submitted.first.is) second in
+    let last : Lasts heard n.server = (list_keeping heard later).at submitted.mid n submitted.rest tt mid submitted.second in
+    possibly_as n.server (λ list front. listed_on number it.commit heard.durable list told front)
+    (possibly_front heard n.server last)
+  where
+    if_goes : {A : Type 0} (answer : Option A) (b : Node (List Commit)) (pair : Pair) → IfGoes (Kept b) (λ _. Kept b) answer pair
+        → Lasts b pair.server
+    if_goes None b pair here = here
+    if_goes (Some a) b pair here = here

@@ -1,61 +1,47 @@
 -- Commits last: each event keeps what the server's list begins with.
-use Rattle.std.proofs.Common.{◌≡◌, ℕ, true, List, [], ◌∷◌, ◌++◌, None, refl, sym, ap, ◌∙◌}
+use Rattle.std.proofs.Common.{◌≡◌, ℕ, List, [], ◌∷◌, ◌++◌, None, refl, sym, ap, ◌∙◌}
 use Rattle.std.proofs.lemmas.List.{append_assoc}
-use Rattle.iot_tree.specs.declared.want.Want.TheVariants as wanted
+use Rattle.iot_event.specs.declared.event.ClientEvent.{ClientEvent}
+use Rattle.iot_event.specs.declared.event.ClientEvent.TheVariants as client_events
 use Rattle.iot_event.specs.declared.event.Event.{Event}
 use Rattle.iot_event.specs.declared.event.Event.TheVariants as events
+use Rattle.iot_event.specs.declared.event.NodeEvent.{NodeEvent}
+use Rattle.iot_event.specs.declared.event.NodeEvent.TheVariants as nodes
 use Rattle.iot_machine.specs.Calls.{Part, Then}
-use Rattle.iot_machine.specs.Machine.{Machine, handed}
+use Rattle.iot_machine.specs.Clients.{Declared}
+use Rattle.iot_machine.specs.Machine.{Machine, Commit, handed}
+use Rattle.iot_machine.specs.Nodes.{Node}
 use Rattle.iot_machine.specs.Serving.{server_name}
-use Rattle.iot_machine.specs.Events.{steps_on, chosen, event_part}
+use Rattle.iot_machine.specs.Events.{client_part, server_part, event_part}
 use Rattle.iot_machine.specs.Transcript.{Opening, InTurn}
-use Rattle.iot_machine.proofs.KeepsLaws.{Keeps, keeps_does, stays_says, keeps_then, stays_then, asks_then, keeps_either, stays_goes_on}
-use Rattle.iot_machine.proofs.KeepsLaws.{keeps_or_says}
+use Rattle.iot_machine.proofs.KeepsLaws.{Keeps, keeps_does, stays_says, keeps_then, stays_then, asks_then, keeps_either}
 use Rattle.iot_machine.proofs.PossiblyLaws.{possibly_as}
 use Rattle.iot_lasting.specs.Lasting.{IsGrowing, EventKeepsCommits, TranscriptsSplit, TranscriptsGrow, CommitsLast, CommitsKeepTheirNumbers}
 use Rattle.iot_lasting.proofs.FrontLaws.{stands_on, possibly_front, lasts_itself, lasts_same, crashes_last, opens_last}
-use Rattle.iot_lasting.proofs.KeepingLaws.{Kept, Keeping, at_server, at_client, notes, if_running, if_up, by_hand, takes, refreshes}
-use Rattle.iot_lasting.proofs.KeepingLaws.{begins, steps_all, syncs, syncs_all, ends, runs_it, restarts_client, reads_of}
-use Rattle.iot_lasting.proofs.KeepingLaws.{restarts_server, declares}
+use Rattle.iot_lasting.proofs.KeepingLaws.{KeptIn, KeepingIn, does_task, of_client, alone, at_server, restarts_server, declares}
 
 -- ---- the events
 
-module _ (b : Machine) where
-  event_keeping : (event : Event) → Keeping b (event_part event)
+module _ (b : Node (List Commit)) where
+  client_keeping : (scripts : List Declared) (c : ℕ) (what : ClientEvent ℕ) → KeepingIn b (client_part scripts c what)
+  client_keeping scripts c (client_events.Node what) = alone b
+  client_keeping scripts c (client_events.Link what) = alone b
+  client_keeping scripts c (client_events.Task what) = of_client b (does_task b scripts what)
+
+  server_keeping : (what : NodeEvent) → KeepingIn b (server_part what)
+  server_keeping nodes.Show = at_server b (asks_then (keeps_either stays_says stays_says))
+  server_keeping (nodes.Stop calls pick) = at_server b (keeps_does (λ node here. lasts_same b node _ refl refl (λ up. up) here))
+  server_keeping nodes.Crash = at_server b (crashes_last b server_name)
+  server_keeping nodes.Restart = restarts_server b
+
+  event_keeping : (event : Event) → KeepingIn b (event_part event)
   event_keeping (events.Client name) = declares b name
   event_keeping (events.Script name code) = keeps_does (λ m here. here)
-  event_keeping (events.Run client script option) = if_up b client (runs_it b client script (chosen option))
-  event_keeping (events.Hoard client path) = if_up b client (stays_then (takes b client (wanted.Below path)) (stays_goes_on stays_says))
-  event_keeping (events.Refresh client) = if_up b client (refreshes b client)
-  event_keeping (events.Begin client script option) =
-      if_up b client (stays_then (begins b client script (chosen option)) (stays_goes_on stays_says))
-  event_keeping (events.Step client count) = if_up b client
-      (if_running b client (λ _. stays_then (steps_all b client true count) (λ stepped. stays_goes_on stays_says (steps_on stepped))))
-  event_keeping (events.End client) = if_up b client (ends b client)
-  event_keeping (events.Connect client) = keeps_does (λ m here. here)
-  event_keeping (events.Disconnect client) = keeps_does (λ m here. here)
-  event_keeping (events.Lose client loss) = keeps_does (λ m here. here)
-  event_keeping (events.Sync client) = if_up b client (stays_then (syncs b client) (λ _. stays_says))
-  event_keeping (events.Drain client) = if_up b client
-      (keeps_or_says (stays_then (syncs_all b client) (λ _. asks_then (keeps_either (refreshes b client) stays_says))))
-  event_keeping (events.Repair client script) = if_up b client
-      (by_hand b client (λ item. asks_then (λ script. stays_then (notes b client _) (stays_goes_on stays_says))))
-  event_keeping (events.Discard client) =
-      if_up b client (by_hand b client (λ item. stays_then (notes b client _) (stays_goes_on stays_says)))
-  event_keeping events.ShowServer = at_server b (asks_then (keeps_either stays_says stays_says))
-  event_keeping (events.ShowClient client) = at_client b client
-  event_keeping (events.StopServer calls pick) =
-      at_server b (keeps_does (λ node here. lasts_same b.server node _ refl refl (λ up. up) here))
-  event_keeping (events.StopClient client calls pick) = asks_then (λ name. at_client b client)
-  event_keeping events.CrashServer = at_server b (crashes_last b.server server_name)
-  event_keeping (events.CrashClient client) = asks_then (λ name. at_client b client)
-  event_keeping events.RestartServer = restarts_server b
-  event_keeping (events.RestartClient client) = restarts_client b client
-  event_keeping (events.Queue client) = if_up b client stays_says
-  event_keeping (events.Reads client item) = if_up b client (reads_of b client item)
+  event_keeping (events.At c what) = asks_then (λ scripts. client_keeping scripts c what)
+  event_keeping (events.Server what) = server_keeping what
   event_keeping events.Log = asks_then (keeps_either stays_says stays_says)
 
-  pub list_keeping : (events : List Event) → Keeping b (InTurn events)
+  pub list_keeping : (events : List Event) → KeepingIn b (InTurn events)
   list_keeping [] = stays_says
   list_keeping (event ∷ events) = stays_then (event_keeping event) (λ _. list_keeping events)
 
@@ -63,7 +49,7 @@ module _ (b : Machine) where
 
 pub an_event_keeps_commits : EventKeepsCommits
 an_event_keeps_commits event m n text growing step =
-    (event_keeping m event).at m n text tt (lasts_itself m.server growing) step
+    (event_keeping m.server event).at m n text tt (lasts_itself m.server growing) step
 
 -- the first two of three
 regroup : {one two three : Part Machine} (m mid n : Machine) (front rest text : List ℕ) → one m front tt mid
@@ -94,22 +80,22 @@ transcripts_split counts events later text n step =
 pub transcripts_grow : TranscriptsGrow
 transcripts_grow counts events text m step = (keeps.at (handed counts) m text tt (lasts_itself _ fresh, refl) step).growing
   where
-    b : Machine
-    b = handed counts
+    b : Node (List Commit)
+    b = (handed counts).server
 
-    fresh : IsGrowing b.server
+    fresh : IsGrowing b
     fresh = record { sure = λ up. refl; adds = tt }
 
-    opening : Keeps (λ m. Kept b m × (m.server.doubt ≡ None)) Opening (λ _. Kept b)
-    opening = keeps_then (at_server b (opens_last b.server)) (λ _. stays_says)
+    opening : Keeps (λ m. KeptIn b m × (m.server.doubt ≡ None)) Opening (λ _. KeptIn b)
+    opening = keeps_then (at_server b (opens_last b)) (λ _. stays_says)
 
-    keeps : Keeps (λ m. Kept b m × (m.server.doubt ≡ None)) (Then Opening (λ _. InTurn events)) (λ _. Kept b)
+    keeps : Keeps (λ m. KeptIn b m × (m.server.doubt ≡ None)) (Then Opening (λ _. InTurn events)) (λ _. KeptIn b)
     keeps = keeps_then opening (λ _. list_keeping b events)
 
 pub commits_last : CommitsLast
 commits_last counts events later m n text rest before step =
     possibly_front m.server n.server
-    ((list_keeping m later).at m n rest tt (lasts_itself m.server (transcripts_grow counts events text m before)) step)
+    ((list_keeping m.server later).at m n rest tt (lasts_itself m.server (transcripts_grow counts events text m before)) step)
 
 pub commits_keep_their_numbers : CommitsKeepTheirNumbers
 commits_keep_their_numbers counts events later m n text rest before step place commit stands =

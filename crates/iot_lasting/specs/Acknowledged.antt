@@ -2,9 +2,9 @@
 -- and a client that hears that its transaction is settled hears this number.
 use Rattle.std.specs.Prelude.{◌≡◌, ◌⊎◌, ℕ, ◌+◌, true, List, ◌++◌, length, Option, Some, None, codes}
 use Rattle.iot_event.specs.declared.event.Event.{Event}
-use Rattle.iot_machine.specs.Calls.{Then}
+use Rattle.iot_machine.specs.Calls.{Then, At}
 use Rattle.iot_machine.specs.Clients.{Declared}
-use Rattle.iot_machine.specs.Machine.{Machine, Commit, add_commit}
+use Rattle.iot_machine.specs.Machine.{Machine, Commit, pair_at, add_commit}
 use Rattle.iot_machine.specs.Nodes.{Node}
 use Rattle.iot_machine.specs.Options.{OnConflict}
 use Rattle.iot_machine.specs.Serving.{Submission, Verdict, Settled, Commits, commit_text, kept_text, is_of, server_name}
@@ -56,5 +56,5 @@ AKeptCommitIsSaid = (names : List (List ℕ)) (node n : Node (List Commit)) (tex
 -- if the verdict that comes is that a transaction is settled, it stands under the number that the client says, then and ever after
 abbrev pub ASettledCommitLasts : Type 0
 ASettledCommitLasts = (c : ℕ) (option : OnConflict Declared) (it : Submission) (later : List Event) (m n : Machine) (text : List ℕ)
-    (number : ℕ) → IsGrowing m.server → (submitted : Then (submits c option it) (λ _. InTurn later) m text tt n)
-    → submitted.first.answer ≡ Some (Settled number) → Possibly (IsListedAs number it.commit) n.server
+    (number : ℕ) → IsGrowing m.server → (submitted : Then (At (pair_at c) (submits option it)) (λ _. InTurn later) m text tt n)
+    → submitted.first.step.answer ≡ Some (Settled number) → Possibly (IsListedAs number it.commit) n.server

@@ -1,2 +1,5 @@
 pub mod Lasting
 pub mod Acknowledged
+pub mod Ledger
+pub mod Sayings
+pub mod Telling

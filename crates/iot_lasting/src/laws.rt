@@ -1,6 +1,7 @@
-//! A commit in the server's list is never lost.
+//! A commit in the server's list is never lost, and a transcript tells of each commit and each stop.
 ghost use Rattle.iot_lasting.specs.Acknowledged.{ACommitIsSaid, AKeptCommitIsSaid, ASettledCommitLasts};
 ghost use Rattle.iot_lasting.specs.Lasting.{CommitsKeepTheirNumbers, CommitsLast, EventKeepsCommits, TranscriptsGrow, TranscriptsSplit};
+ghost use Rattle.iot_lasting.specs.Telling.{EventTells, TranscriptTells};
 
 /// No event takes a commit out of the server's list or moves it.
 pub fn an_event_keeps_commits()
@@ -40,4 +41,15 @@ pub fn a_kept_commit_is_said()
 /// A transaction of which a client hears that it is settled stands under that number, then and ever after.
 pub fn a_settled_commit_lasts()
     ensures { ASettledCommitLasts }
+{}
+
+/// Each event tells what it changes: each node has as many stop lines as it has stopped, and the commits that are said are those that are
+/// added.
+pub fn an_event_tells()
+    ensures { EventTells }
+{}
+
+/// So does each transcript. What it says of commits is what the commits of the list say, in their order, each once, by numbers from 1.
+pub fn a_transcript_tells()
+    ensures { TranscriptTells }
 {}
