@@ -7,16 +7,13 @@ use Rattle.std.proofs.lemmas.List.{append-nil}
 use Rattle.iot_count.specs.Counts.{Rose}
 use Rattle.iot_changes.specs.Spelling.{change_spelling}
 use Rattle.iot_changes.specs.declared.changes.Change.{Change}
-use Rattle.iot_kept.specs.States.{State, opening}
+use Rattle.iot_kept.specs.States.{opening}
 use Rattle.iot_kept.specs.Changes.{after}
 use Rattle.iot_kept.specs.Standing.{Leads, IsRecord}
 use Rattle.iot_kept.proofs.StandingLaws.{leads_push}
-use Rattle.iot_kept.proofs.SyncedLaws.{synced_spelled}
 use Rattle.iot_client.specs.Calls.{CutsOff}
 use Rattle.iot_client.specs.Faults.{CountsFault}
-use Rattle.iot_client.specs.Ties as client
-use Rattle.iot_client.specs.Ties.{IsTied, Live, state_of, live_of, place_of, disk_of, bodies_on, records_of, IsOwnRunIfAny}
-use Rattle.iot_client.proofs.StepsLaws.{own}
+use Rattle.iot_client.specs.Ties.{IsTied, state_of, live_of, place_of, disk_of, bodies_on, records_of}
 use Rattle.iot_client.specs.declared.client.Client.{Client}
 use Rattle.iot_client.specs.declared.fault.ClientFault.{ClientFault}
 use Rattle.iot_client.specs.declared.fault.ClientFault.TheVariants as faults
@@ -26,7 +23,7 @@ use Rattle.iot_disk.specs.declared.faults.JournalFault.{JournalFault}
 use Rattle.iot_disk.specs.declared.faults.JournalFault.TheVariants as append
 use Rattle.iot_machine.specs.Clients.{Declared, ClientState, begin}
 use Rattle.iot_machine.specs.Machine as machine
-use Rattle.iot_machine.specs.Nodes.{Node, Counts, changed, doubting}
+use Rattle.iot_machine.specs.Nodes.{Node, changed, doubting}
 use Rattle.iot_machine.specs.Options.{OnConflict}
 use Rattle.iot_machine.specs.Stops.{Appends, IsStopped}
 use Rattle.iot_machine.specs.Texts.{stopped_line}
@@ -38,8 +35,9 @@ use Rattle.iot_node.specs.declared.halt.Halt.{Halt}
 use Rattle.iot_node.specs.declared.halt.Halt.TheVariants.{NoMemory, Over}
 use Rattle.iot_node.specs.declared.post.Post.{Post}
 use Rattle.iot_node.specs.declared.post.Post.TheVariants.{Up, Down, Between}
-use Rattle.iot_laptop.specs.Alone.{NotesAlone, StartsAlone, no_text}
-use Rattle.iot_laptop.specs.Calls.{appended, done, EndsAlone}
+use Rattle.iot_laptop.specs.Alone.{NotesAlone, StartsAlone}
+use Rattle.iot_machine.specs.Events.{no_text}
+use Rattle.iot_laptop.specs.Calls.{appended, done, EndsAlone, GoesOn}
 use Rattle.iot_laptop.specs.Kept.{StateKept}
 use Rattle.iot_laptop.specs.Laptops.{LaptopStands, ClientStands, StateStands}
 use Rattle.iot_laptop.specs.Laptops.{fallen, state_in, live_in, records_in, records_by, disk_by}
@@ -47,17 +45,15 @@ use Rattle.iot_laptop.specs.Scripts.{AreNamed}
 use Rattle.iot_laptop.specs.Seats.{IsClientImage, seating}
 use Rattle.iot_laptop.specs.declared.laptop.Laptop.{Laptop}
 use Rattle.iot_laptop.specs.declared.seated.Seated.{Seated}
-use Rattle.iot_laptop.proofs.KeptStatesLaws.{kept_state}
-use Rattle.iot_laptop.proofs.NodesLaws.{not_both, up_stands, begun_by, few_running}
+use Rattle.iot_laptop.proofs.KeptStatesLaws.{KeptLive, stands_with}
+use Rattle.iot_laptop.proofs.NodesLaws.{not_both, up_stands}
+use Rattle.iot_laptop.proofs.SeatsLaws.{same_counts}
 
 pub on_ok : {T E P : Type 0} (answer : Result T E) (t : T) → answer ≡ Ok t → OnOk answer P → P
 on_ok {P = P} answer t is on = subst (λ r. OnOk r P) is on
 
 pub if_ok : {T E : Type 0} (answer : Result T E) (t : T) (P : T → Type 0) → answer ≡ Ok t → IfOk answer P → P t
 if_ok answer t P is on = subst (λ r. IfOk r P) is on
-
-same_counts : (one other : Counts) → one.faults ≡ other.faults → one.arms ≡ other.arms → one ≡ other
-same_counts one other faults arms = λ i. record { faults = faults i; arms = arms i }
 
 -- an answer that was done
 pub was_ok : {T : Type 0} (answer : Result T ClientFault) (t : T) → appended answer ≡ Ok t → answer ≡ Ok t
@@ -88,13 +84,62 @@ pub as_is : (r : Result (Unit {0}) Halt) → done r ≡ r
 as_is (Ok it) = refl
 as_is (Err halt) = refl
 
--- ---- what a call says of the disk
+-- ---- a call
 
--- a call of a client, whatever it is to append
-pub record IsCall {D T : Type 0} (medium : Medium D) (was now : Client D) (answer : Result T ClientFault) : Type 0 where
+-- a call of a laptop's client that was to append a record, and what became of the laptop then
+pub record Called {D T : Type 0} (medium : Medium D) (laptop : Laptop D) (was now : Client D) (answer : Result T ClientFault)
+    (new : Laptop D) (x y : List ℕ) (result : Result T Halt) : Type 0 where
+  pub count : ℕ
+  pub is : laptop.post ≡ Up (record { client = was })
+  pub counted : count ≡ records_in laptop
   pub tied : OnOk answer (IsTied medium now)
-  pub counts : CountsFault answer (counts_on medium (disk_of was)).faults (counts_on medium (disk_of now)).faults
-  pub arms : (counts_on medium (disk_of now)).arms ≡ (counts_on medium (disk_of was)).arms
+  pub counts : CountsFault answer (medium.faults (disk_of was)) (medium.faults (disk_of now))
+  pub arms : medium.arms (disk_of now) ≡ medium.arms (disk_of was)
+  pub goes : GoesOn medium (record laptop { post = Up (record { client = now }) }) new count answer x y result
+
+pub called : {D T : Type 0} {medium : Medium D} {answer : Result T ClientFault} {new : Laptop D} {count : ℕ} {x y : List ℕ}
+    {result : Result T Halt} (laptop : Laptop D) (was now : Client D)
+    → GoesOn medium (record laptop { post = Up (record { client = now }) }) new count answer x y result
+    → laptop.post ≡ Up (record { client = was }) → count ≡ records_in laptop → OnOk answer (IsTied medium now)
+    → CountsFault answer (medium.faults (disk_of was)) (medium.faults (disk_of now))
+    → medium.arms (disk_of now) ≡ medium.arms (disk_of was) → Called medium laptop was now answer new x y result
+called {count = count} laptop was now goes is counted tied counts arms =
+    record { count = count; is = is; counted = counted; tied = tied; counts = counts; arms = arms; goes = goes }
+
+-- what is known of a laptop before it, and of a client of the machine
+pub record Before {D : Type 0} (medium : Medium D) (laptop : Laptop D) (was : Client D) (scripts : List Declared) (m : machine.Client)
+    : Type 0 where
+  pub name : laptop.name ≡ m.name
+  pub link : laptop.link ≡ m.link
+  pub alive : m.node.alive ≡ true
+  pub up : UpStands (seating medium laptop.place) medium no_text (record { client = was }) m.node
+  pub named : AreNamed scripts m.node.durable
+
+-- what is known of a change by it: if it was done, and if it was stopped
+pub record Fits {D T : Type 0} (medium : Medium D) (was now : Client D) (answer : Result T ClientFault) (scripts : List Declared)
+    (next : ClientState) (first : Bool) : Type 0 where
+  pub place : OnOk answer (place_of now ≡ place_of was)
+  pub records : OnOk answer (records_of now ≡ records_of was + 1)
+  pub ok : OnOk answer (KeptLive (state_of now) (live_of now) first next)
+  pub cut : IsErrOf answer Stopped → (change : Change)
+      × CutsOff change (state_of was) (bodies_on medium was) (medium.may_leave (disk_of now))
+      × StateKept (after (state_of was) change) next
+  pub named : AreNamed scripts next
+
+-- it went on, and stands for this client then
+pub record WentOn {D : Type 0} (medium : Medium D) (scripts : List Declared) (new : Laptop D) (x y : List ℕ) (m : machine.Client)
+    : Type 0 where
+  pub silent : y ≡ x ++ []
+  pub stands : LaptopStands medium scripts new m
+
+-- or it stopped in this change
+pub record Halted {D : Type 0} (medium : Medium D) (scripts : List Declared) (new : Laptop D) (x y : List ℕ) (m : machine.Client)
+    (change : ClientState → ClientState) : Type 0 where
+  pub node : Node ClientState
+  pub text : List ℕ
+  pub wrote : y ≡ x ++ text
+  pub step : Appends m.name change m.node text false node
+  pub stands : ClientStands medium scripts new (record m { node = node })
 
 -- each image is what the client keeps, without the record or with it
 either_image : {D : Type 0} (medium : Medium D) (was now : Client D) → IsTied medium was → (change : Change) (m next : ClientState)
@@ -126,292 +171,227 @@ either_image medium was now tied change m next cuts kept later n counted image l
       })
     ]
 
--- what there is to know of the state after a record, alive or on the disk
-pub record IsAfter (scripts : List Declared) (state : State) (live : Option Live) (first : Bool) (next : ClientState) : Type 0 where
-  pub stands : StateStands state live first next
-  pub named : AreNamed scripts next
-
-pub record IsLater (scripts : List Declared) (state : State) (next : ClientState) : Type 0 where
-  pub kept : StateKept state next
-  pub named : AreNamed scripts next
-
--- a client that was tied keeps what it stands for
-pub kept_by : {D : Type 0} (medium : Medium D) (it : Client D) (first : Bool) (m : ClientState) → IsTied medium it
-    → StateStands (state_of it) (live_of it) first m → StateKept (state_of it) m
-kept_by medium it first m tied here =
-    kept_state (state_of it) (live_of it) first m here
-    (own (state_of it) (client.class_in it) it.interpreter tied.runs
-    (begun_by (state_of it).running (live_of it) first m.running here.running))
-    (few_running (state_of it).running (synced_spelled medium it.kept tied.synced).running)
-
-module _ {D T : Type 0} (medium : Medium D) (laptop : Laptop D) (was now : Client D) (count : ℕ)
-    (answer : Result T ClientFault) (new : Laptop D) (x y : List ℕ) (result : Result T Halt) where
-  abbrev pub mid : Laptop D
-  mid = record laptop { post = Up (record { client = now }) }
-
+module _ {D T : Type 0} {medium : Medium D} {laptop : Laptop D} {was now : Client D} {answer : Result T ClientFault} {new : Laptop D}
+    {x y : List ℕ} {result : Result T Halt} (call : Called medium laptop was now answer new x y result) where
   abbrev stand_posts : Post (Seated D) D → Node ClientState → Type 0
   stand_posts = PostStands (seating medium laptop.place) medium no_text
 
-  -- what became of the laptop after the call of its client
-  pub record GoesOn : Type 0 where
-    pub step : (old next : Seated D) (change : ClientState → ClientState) (node : Node ClientState) → mid.post ≡ Up next
-        → UpStands (seating medium laptop.place) medium no_text old node
-        → Appended (seating medium laptop.place) medium change node.durable old next (appended answer)
-        → count ≡ records_of old.client
-        → Answered (StepsFrom stand_posts (Appends laptop.name change) node new.post x y) (appended answer) result
-    pub answers : IfOk result (λ t. appended answer ≡ Ok t)
-    pub same : OnOk result (new ≡ mid)
-    pub silent : OnOk result (y ≡ x)
-    pub stopped : IsErrOf result Over → appended answer ≡ Err append.Stopped
-    pub rest : new ≡ record mid { post = new.post }
+  pub before : (scripts : List Declared) (m : machine.Client) → LaptopStands medium scripts laptop m → Before medium laptop was scripts m
+  before scripts m here = record {
+    name = here.name;
+    link = here.link;
+    alive = here.alive;
+    up = up_stands medium scripts laptop m was call.is here;
+    named = here.named;
+  }
 
-  -- what is known of a change of this client: if the call was done, and if it was stopped
-  pub record Fits (scripts : List Declared) (m : machine.Client) (change : ClientState → ClientState) (first : Bool) : Type 0 where
-    pub place : OnOk answer (place_of now ≡ place_of was)
-    pub records : OnOk answer (records_of now ≡ records_of was + 1)
-    pub ok : OnOk answer (IsAfter scripts (state_of now) (live_of now) first (change m.node.durable))
-    pub cut : IsErrOf answer Stopped → (record_ : Change)
-        × CutsOff record_ (state_of was) (bodies_on medium was) (medium.may_leave (disk_of now))
-        × IsLater scripts (after (state_of was) record_) (change m.node.durable)
+  -- if it went on, the call was done
+  pub answer_is : (t : T) → result ≡ Ok t → answer ≡ Ok t
+  answer_is t same = was_ok answer t (if_ok result t (λ u. appended answer ≡ Ok u) same call.goes.answers)
 
-  module _ (is : laptop.post ≡ Up (record { client = was })) (counted : count ≡ records_in laptop) (call : IsCall medium was now answer)
-      (goes : GoesOn) where
-    pub here_was : (scripts : List Declared) (m : machine.Client) → LaptopStands medium scripts laptop m
-        → UpStands (seating medium laptop.place) medium no_text (record { client = was }) m.node
-    here_was scripts m here = up_stands medium scripts laptop m was is here
+  -- if its event is over, the call was stopped
+  pub answer_stopped : result ≡ Err Over → IsErrOf answer Stopped
+  answer_stopped same = was_stopped answer (call.goes.stopped (subst (λ (r : Result T Halt). IsErrOf r Over) (sym same) refl))
 
-    module _ (scripts : List Declared) (m : machine.Client) (change : ClientState → ClientState) (first : Bool)
-        (up : UpStands (seating medium laptop.place) medium no_text (record { client = was }) m.node) where
-      appended_by : (a : Result T ClientFault) → answer ≡ a → Fits scripts m change first
-          → Appended (seating medium laptop.place) medium change m.node.durable (record { client = was }) (record { client = now })
-          (appended a)
-      appended_by (Ok t) same fits =
-          let tied : IsTied medium now = on_ok answer t same call.tied in (
-            (λ n seat. record {
-              place_is = on_ok answer t same fits.place ∙ seat.place_is;
-              tied = tied;
-              counted = on_ok answer t same fits.records ∙ ap (λ (k : ℕ). k + 1) seat.counted;
-              kept = kept_by medium now first (change m.node.durable) tied (on_ok answer t same fits.ok).stands;
-            }),
-            same_counts (counts_on medium (disk_of now)) (counts_on medium (disk_of was))
-                (subst (λ (r : Result T ClientFault). CountsFault r (counts_on medium (disk_of was)).faults (counts_on medium
-                (disk_of now)).faults)
-                same call.counts)
-                call.arms,
-          )
-      appended_by (Err faults.Stopped) same fits =
-          let cut = fits.cut (subst (λ (r : Result T ClientFault). IsErrOf r Stopped) (sym same) refl) in (
-            (λ n seat. record {
-              each = either_image medium was now seat.tied cut.0 m.node.durable (change m.node.durable) cut.1 seat.kept cut.2.kept n
-                  seat.counted;
-            }),
-            record {
-              faults =
-                  subst (λ (r : Result T ClientFault). CountsFault r (counts_on medium (disk_of was)).faults (counts_on medium
-                  (disk_of now)).faults)
-                  same call.counts;
-              arms = call.arms;
-            },
-          )
-      appended_by (Err faults.NoMemory) same fits = tt
-      appended_by (Err faults.Busy) same fits = tt
-      appended_by (Err faults.Pending) same fits = tt
-      appended_by (Err faults.Idle) same fits = tt
-      appended_by (Err faults.NotAtEnd) same fits = tt
-      appended_by (Err faults.Nothing) same fits = tt
-      appended_by (Err faults.NotManual) same fits = tt
-      appended_by (Err (faults.BadReply at)) same fits = tt
+  counts_as : (a : Result T ClientFault) → answer ≡ a → CountsFault a (medium.faults (disk_of was)) (medium.faults (disk_of now))
+  counts_as a same =
+      subst (λ (r : Result T ClientFault). CountsFault r (medium.faults (disk_of was)) (medium.faults (disk_of now))) same call.counts
 
-      pub answered : Fits scripts m change first
-          → Answered (StepsFrom stand_posts (Appends laptop.name change) m.node new.post x y) (appended answer) result
-      answered fits =
-          goes.step (record { client = was }) (record { client = now }) change m.node refl up (appended_by answer refl fits)
-          (counted ∙ ap records_by is)
+  -- it is over its node where it was
+  node_of : (node : Node ClientState) → stand_posts new.post node → PostStands (seating medium new.place) medium no_text new.post node
+  node_of node stands =
+      subst (λ (place : ℕ). PostStands (seating medium place) medium no_text new.post node)
+      (sym (ap (λ (l : Laptop D). l.place) call.goes.rest)) stands
 
-    -- it is over its node where it was
-    node_of : (node : Node ClientState) → stand_posts new.post node → PostStands (seating medium new.place) medium no_text new.post node
-    node_of node stands =
-        subst (λ (place : ℕ). PostStands (seating medium place) medium no_text new.post node)
-        (sym (ap (λ (l : Laptop D). l.place) goes.rest)) stands
+  module _ (scripts : List Declared) (m : machine.Client) (change : ClientState → ClientState) (first : Bool)
+      (known : Before medium laptop was scripts m) (fits : Fits medium was now answer scripts (change m.node.durable) first) where
+    appended_by : (a : Result T ClientFault) → answer ≡ a
+        → Appended (seating medium laptop.place) medium change m.node.durable (record { client = was }) (record { client = now })
+        (appended a)
+    appended_by (Ok t) same = (
+      (λ n seat. record {
+        place_is = on_ok answer t same fits.place ∙ seat.place_is;
+        tied = on_ok answer t same call.tied;
+        counted = on_ok answer t same fits.records ∙ ap (λ (k : ℕ). k + 1) seat.counted;
+        kept = (on_ok answer t same fits.ok).kept;
+      }),
+      same_counts (counts_on medium (disk_of now)) (counts_on medium (disk_of was)) (counts_as (Ok t) same) call.arms,
+    )
+    appended_by (Err faults.Stopped) same =
+        let cut = fits.cut (subst (λ (r : Result T ClientFault). IsErrOf r Stopped) (sym same) refl) in (
+          (λ n seat. record {
+            each = either_image medium was now seat.tied cut.0 m.node.durable (change m.node.durable) cut.1 seat.kept cut.2 n seat.counted;
+          }),
+          record { faults = counts_as (Err faults.Stopped) same; arms = call.arms },
+        )
+    appended_by (Err faults.NoMemory) same = tt
+    appended_by (Err faults.Busy) same = tt
+    appended_by (Err faults.Pending) same = tt
+    appended_by (Err faults.Idle) same = tt
+    appended_by (Err faults.NotAtEnd) same = tt
+    appended_by (Err faults.Nothing) same = tt
+    appended_by (Err faults.NotManual) same = tt
+    appended_by (Err (faults.BadReply at)) same = tt
 
-    -- it went on
-    pub record WentOn (scripts : List Declared) (m : machine.Client) (change : ClientState → ClientState) (first : Bool) : Type 0 where
-      pub silent : y ≡ x ++ []
-      pub stands : LaptopStands medium scripts new (record m { node = changed change m.node; first = first })
+    answered : (r : Result T Halt) → result ≡ r
+        → Answered (StepsFrom stand_posts (Appends laptop.name change) m.node new.post x y) (appended answer) r
+    answered r same =
+        subst
+        (λ (r : Result T Halt). Answered (StepsFrom stand_posts (Appends laptop.name change) m.node new.post x y) (appended answer) r) same
+        (call.goes.step (record { client = was }) (record { client = now }) change m.node refl known.up (appended_by answer refl)
+        (call.counted ∙ ap records_by call.is))
 
-    -- or it stopped
-    pub record Halted (scripts : List Declared) (m : machine.Client) (change : ClientState → ClientState) : Type 0 where
-      pub node : Node ClientState
-      pub text : List ℕ
-      pub wrote : y ≡ x ++ text
-      pub step : Appends m.name change m.node text false node
-      pub stands : ClientStands medium scripts new (record m { node = node })
-
-    pub went_on : (t : T) → appended answer ≡ Ok t → new ≡ mid → (scripts : List Declared) (m : machine.Client)
-        (change : ClientState → ClientState) (first : Bool) → laptop.name ≡ m.name → laptop.link ≡ m.link → m.node.alive ≡ true
-        → Fits scripts m change first
-        → StepsFrom stand_posts (Appends laptop.name change) m.node new.post x y true → WentOn scripts m change first
-    went_on t ok same scripts m change first name link alive fits steps =
-        by steps.3 (on_ok answer t (was_ok answer t ok) fits.ok)
+    went_on : (t : T) → result ≡ Ok t → StepsFrom stand_posts (Appends laptop.name change) m.node new.post x y true
+        → WentOn medium scripts new x y (record m { node = changed change m.node; first = first })
+    went_on t same steps = by steps.3 (on_ok answer t (answer_is t same) fits.ok)
       where
         by : ((steps.0 ≡ []) × (true ≡ true) × (steps.1 ≡ changed change m.node))
             ⊎ ((steps.0 ≡ stopped_line laptop.name) × (true ≡ false) × IsStopped (doubting change m.node) steps.1)
-            → IsAfter scripts (state_of now) (live_of now) first (change m.node.durable) → WentOn scripts m change first
+            → KeptLive (state_of now) (live_of now) first (change m.node.durable)
+            → WentOn medium scripts new x y (record m { node = changed change m.node; first = first })
         by (inr stop) next = absurd (not_both stop.1)
         by (inl it) next = record {
           silent = steps.2 ∙ ap (λ (text : List ℕ). x ++ text) it.0;
           stands = record {
-            name = ap (λ (l : Laptop D). l.name) goes.rest ∙ name;
-            link = ap (λ (l : Laptop D). l.link) goes.rest ∙ link;
-            alive = alive;
+            name = ap (λ (l : Laptop D). l.name) call.goes.rest ∙ known.name;
+            link = ap (λ (l : Laptop D). l.link) call.goes.rest ∙ known.link;
+            alive = known.alive;
             node = node_of (changed change m.node) (subst (stand_posts new.post) it.2 steps.4);
             state =
-                subst (λ (l : Laptop D). StateStands (state_in l) (live_in l) first (change m.node.durable)) (sym same) next.stands;
-            named = next.named;
+                subst (λ (l : Laptop D). StateStands (state_in l) (live_in l) first (change m.node.durable))
+                (sym (on_ok result t same call.goes.same))
+                (stands_with (state_of now) (live_of now) first (change m.node.durable) next);
+            named = fits.named;
           };
         }
 
-    pub halted : (scripts : List Declared) (m : machine.Client) (change : ClientState → ClientState) (first : Bool)
-        → laptop.name ≡ m.name → laptop.link ≡ m.link → AreNamed scripts m.node.durable → IsErrOf answer Stopped
-        → Fits scripts m change first
-        → StepsFrom stand_posts (Appends laptop.name change) m.node new.post x y false → Halted scripts m change
-    halted scripts m change first name link named stopped fits steps = by steps.3
+    halted : IsErrOf answer Stopped → StepsFrom stand_posts (Appends laptop.name change) m.node new.post x y false
+        → Halted medium scripts new x y m change
+    halted stopped steps = by steps.3
       where
         by : ((steps.0 ≡ []) × (false ≡ true) × (steps.1 ≡ changed change m.node))
             ⊎ ((steps.0 ≡ stopped_line laptop.name) × (false ≡ false) × IsStopped (doubting change m.node) steps.1)
-            → Halted scripts m change
+            → Halted medium scripts new x y m change
         by (inl it) = absurd (not_both (sym it.1))
         by (inr stop) = record {
           node = steps.1;
           text = steps.0;
           wrote = steps.2;
-          step = subst (λ (name : List ℕ). Appends name change m.node steps.0 false steps.1) name steps.3;
+          step = subst (λ (name : List ℕ). Appends name change m.node steps.0 false steps.1) known.name steps.3;
           stands = fallen (record {
-            name = ap (λ (l : Laptop D). l.name) goes.rest ∙ name;
-            link = ap (λ (l : Laptop D). l.link) goes.rest ∙ link;
+            name = ap (λ (l : Laptop D). l.name) call.goes.rest ∙ known.name;
+            link = ap (λ (l : Laptop D). l.link) call.goes.rest ∙ known.link;
             alive = ap (λ (n : Node ClientState). n.alive) stop.2.is;
             node = node_of steps.1 steps.4;
             named = record {
-              is = subst (AreNamed scripts) (sym (ap (λ (n : Node ClientState). n.durable) stop.2.is)) named;
-              may_be = subst (λ (n : Node ClientState). IfSome n.doubt (AreNamed scripts)) (sym stop.2.is) (fits.cut stopped).2.named;
+              is = subst (AreNamed scripts) (sym (ap (λ (n : Node ClientState). n.durable) stop.2.is)) known.named;
+              may_be = subst (λ (n : Node ClientState). IfSome n.doubt (AreNamed scripts)) (sym stop.2.is) fits.named;
             };
           });
         }
 
-    -- ---- of each client for which it stood
+    pub goes_at : (t : T) → result ≡ Ok t → WentOn medium scripts new x y (record m { node = changed change m.node; first = first })
+    goes_at t same = let it = answered (Ok t) same in went_on t same it.1
 
-    module _ (scripts : List Declared) (change : ClientState → ClientState) (first : Bool → Bool)
-        (each : (m : machine.Client) → LaptopStands medium scripts laptop m → Fits scripts m change (first m.first)) where
-      answered_at : (m : machine.Client) → LaptopStands medium scripts laptop m → (r : Result T Halt) → result ≡ r
-          → Answered (StepsFrom stand_posts (Appends laptop.name change) m.node new.post x y) (appended answer) r
-      answered_at m here r same =
-          subst (λ (r : Result T Halt). Answered (StepsFrom stand_posts (Appends laptop.name change) m.node new.post x y) (appended
-          answer) r)
-          same (answered scripts m change (first m.first) (here_was scripts m here) (each m here))
+    pub halts_at : result ≡ Err Over → Halted medium scripts new x y m change
+    halts_at same = halted (answer_stopped same) (answered (Err Over) same)
 
-      pub goes_at : (t : T) → result ≡ Ok t → (m : machine.Client) → LaptopStands medium scripts laptop m
-          → WentOn scripts m change (first m.first)
-      goes_at t same m here =
-          let it = answered_at m here (Ok t) same in
-          went_on t it.0 (on_ok result t same goes.same) scripts m change (first m.first) here.name here.link here.alive (each m
-          here) it.1
+-- ---- a change, and a stop in one, of the machine's client
 
-      pub halts_at : result ≡ Err Over → (m : machine.Client) → LaptopStands medium scripts laptop m → Halted scripts m change
-      halts_at same m here =
-          halted scripts m change (first m.first) here.name here.link here.named
-          (was_stopped answer (goes.stopped (subst (λ (r : Result T Halt). IsErrOf r Over) (sym same) refl)))
-          (each m here) (answered_at m here (Err Over) same)
+notes_done : (m : machine.Client) (change : ClientState → ClientState)
+    → NotesAlone change m [] (Some tt) (record m { node = changed change m.node })
+notes_done m change = record {
+  mid = record m { node = changed change m.node };
+  front = [];
+  rest = [];
+  answer = true;
+  first = record { inner = changed change m.node; step = inl (refl, refl, refl); is = refl };
+  second = (refl, refl, refl);
+  whole = refl;
+}
 
-    -- a change, and a stop in one, of the machine's client
-    pub notes_done : (m : machine.Client) (change : ClientState → ClientState)
-        → NotesAlone change m [] (Some tt) (record m { node = changed change m.node })
-    notes_done m change = record {
-      mid = record m { node = changed change m.node };
-      front = [];
-      rest = [];
-      answer = true;
-      first = record { inner = changed change m.node; step = inl (refl, refl, refl); is = refl };
-      second = (refl, refl, refl);
-      whole = refl;
-    }
+notes_stopped : {D : Type 0} {medium : Medium D} {scripts : List Declared} {new : Laptop D} {x y : List ℕ} (m : machine.Client)
+    (change : ClientState → ClientState) (h : Halted medium scripts new x y m change)
+    → NotesAlone change m h.text None (record m { node = h.node })
+notes_stopped m change h = record {
+  mid = record m { node = h.node };
+  front = h.text;
+  rest = [];
+  answer = false;
+  first = record { inner = h.node; step = h.step; is = refl };
+  second = (refl, refl, refl);
+  whole = sym (append-nil h.text);
+}
 
-    pub notes_stopped : (scripts : List Declared) (m : machine.Client) (change : ClientState → ClientState)
-        → (h : Halted scripts m change) → NotesAlone change m h.text None (record m { node = h.node })
-    notes_stopped scripts m change h = record {
-      mid = record m { node = h.node };
-      front = h.text;
-      rest = [];
-      answer = false;
-      first = record { inner = h.node; step = h.step; is = refl };
-      second = (refl, refl, refl);
-      whole = sym (append-nil h.text);
-    }
+module _ {D T : Type 0} {medium : Medium D} {laptop : Laptop D} {was now : Client D} {answer : Result T ClientFault} {new : Laptop D}
+    {x y : List ℕ} {result : Result T Halt} (call : Called medium laptop was now answer new x y result) (scripts : List Declared) where
+  -- it notes this change, or stops in that
+  pub notes_alone : (change : ClientState → ClientState)
+      → ((m : machine.Client) → LaptopStands medium scripts laptop m
+      → Fits medium was now answer scripts (change m.node.durable) m.first)
+      → EndsAlone medium scripts (NotesAlone change) laptop new x y (done result)
+  notes_alone change each = record { is = by result refl }
+    where
+      by : (r : Result T Halt) → result ≡ r
+          → EndsBy (LaptopStands medium scripts) (ClientStands medium scripts) (NotesAlone change) laptop new x y (done r)
+      by (Ok t) same = record {
+        step = λ m here.
+            let it = goes_at call scripts m change m.first (before call scripts m here) (each m here) t same in
+            ([], record m { node = changed change m.node }, it.silent, notes_done m change, it.stands);
+      }
+      by (Err NoMemory) same = tt
+      by (Err Over) same = record {
+        step = λ m here.
+            let it = halts_at call scripts m change m.first (before call scripts m here) (each m here) same in
+            (it.text, record m { node = it.node }, it.wrote, notes_stopped m change it, it.stands);
+      }
 
-    -- it notes this change, or stops in that
-    pub notes_alone : (scripts : List Declared) (change : ClientState → ClientState)
-        → ((m : machine.Client) → LaptopStands medium scripts laptop m → Fits scripts m change m.first)
-        → EndsAlone medium scripts (NotesAlone change) laptop new x y (done result)
-    notes_alone scripts change each = record { is = by result refl }
-      where
-        by : (r : Result T Halt) → result ≡ r
-            → EndsBy (LaptopStands medium scripts) (ClientStands medium scripts) (NotesAlone change) laptop new x y (done r)
-        by (Ok t) same = record {
-          step = λ m here.
-              let it = goes_at scripts change (λ b. b) each t same m here in
-              ([], record m { node = changed change m.node }, it.silent, notes_done m change, it.stands);
-        }
-        by (Err NoMemory) same = tt
-        by (Err Over) same = record {
-          step = λ m here.
-              let it = halts_at scripts change (λ b. b) each same m here in
-              (it.text, record m { node = it.node }, it.wrote, notes_stopped scripts m change it, it.stands);
-        }
-
-    -- it begins, in this class, or stops in that
-    pub starts_alone : (scripts : List Declared) (script : Declared) (option : OnConflict Declared) (first : Bool)
-        → ((m : machine.Client) → LaptopStands medium scripts laptop m → Fits scripts m (begin script option) first)
-        → EndsAlone medium scripts (StartsAlone script option first) laptop new x y (done result)
-    starts_alone scripts script option first each = record { is = by result refl }
-      where
-        by : (r : Result T Halt) → result ≡ r
-            → EndsBy (LaptopStands medium scripts) (ClientStands medium scripts) (StartsAlone script option first) laptop new x y (done r)
-        by (Ok t) same = record {
-          step = λ m here.
-              let it = goes_at scripts (begin script option) (λ _. first) each t same m here in (
-                [],
-                record m { node = changed (begin script option) m.node; first = first },
-                it.silent,
-                record {
-                  mid = record m { node = changed (begin script option) m.node };
-                  front = [];
-                  rest = [];
-                  answer = Some tt;
-                  first = notes_done m (begin script option);
-                  second = (refl, refl, refl);
-                  whole = refl;
-                },
-                it.stands,
-              );
-        }
-        by (Err NoMemory) same = tt
-        by (Err Over) same = record {
-          step = λ m here.
-              let it = halts_at scripts (begin script option) (λ _. first) each same m here in (
-                it.text,
-                record m { node = it.node },
-                it.wrote,
-                record {
-                  mid = record m { node = it.node };
-                  front = it.text;
-                  rest = [];
-                  answer = None;
-                  first = notes_stopped scripts m (begin script option) it;
-                  second = (refl, refl, refl);
-                  whole = sym (append-nil it.text);
-                },
-                it.stands,
-              );
-        }
+  -- it begins, in this class, or stops in that
+  pub starts_alone : (script : Declared) (option : OnConflict Declared) (first : Bool)
+      → ((m : machine.Client) → LaptopStands medium scripts laptop m
+      → Fits medium was now answer scripts (begin script option m.node.durable) first)
+      → EndsAlone medium scripts (StartsAlone script option first) laptop new x y (done result)
+  starts_alone script option first each = record { is = by result refl }
+    where
+      by : (r : Result T Halt) → result ≡ r
+          → EndsBy (LaptopStands medium scripts) (ClientStands medium scripts) (StartsAlone script option first) laptop new x y (done r)
+      by (Ok t) same = record {
+        step = λ m here.
+            let it = goes_at call scripts m (begin script option) first (before call scripts m here) (each m here) t same in (
+              [],
+              record m { node = changed (begin script option) m.node; first = first },
+              it.silent,
+              record {
+                mid = record m { node = changed (begin script option) m.node };
+                front = [];
+                rest = [];
+                answer = Some tt;
+                first = notes_done m (begin script option);
+                second = (refl, refl, refl);
+                whole = refl;
+              },
+              it.stands,
+            );
+      }
+      by (Err NoMemory) same = tt
+      by (Err Over) same = record {
+        step = λ m here.
+            let it = halts_at call scripts m (begin script option) first (before call scripts m here) (each m here) same in (
+              it.text,
+              record m { node = it.node },
+              it.wrote,
+              record {
+                mid = record m { node = it.node };
+                front = it.text;
+                rest = [];
+                answer = None;
+                first = notes_stopped m (begin script option) it;
+                second = (refl, refl, refl);
+                whole = sym (append-nil it.text);
+              },
+              it.stands,
+            );
+      }
 
 -- ---- its disk
 

@@ -8,7 +8,7 @@ use Rattle.iot_disk.specs.Disk.{Medium}
 use Rattle.iot_disk.specs.declared.disk.Pick.{Pick}
 use Rattle.iot_journal.specs.Decoding.{decoded}
 use Rattle.iot_kept.specs.Standing.{StandFor}
-use Rattle.iot_kept.specs.States.{Transaction, State, opening}
+use Rattle.iot_kept.specs.States.{Transaction, opening}
 use Rattle.iot_client.specs.Ties.{Live}
 use Rattle.iot_tree.specs.Tree.{Nodes, IsTree, root_alone}
 use Rattle.iot_tree.specs.declared.nodes.Node.TheVariants.{FarDir}
@@ -30,16 +30,18 @@ use Rattle.iot_node.specs.Posts as posts
 use Rattle.iot_node.specs.Posts.{is_on, PostStands, Ready, IsStanding}
 use Rattle.iot_node.specs.declared.post.Post.{Post}
 use Rattle.iot_node.specs.declared.post.Post.TheVariants.{Up, Down, Between}
-use Rattle.iot_laptop.specs.Alone.{no_text, OpensClient, CrashesClient, ArmsClient}
+use Rattle.iot_machine.specs.Events.{no_text, CrashesClient, ArmsClient}
+use Rattle.iot_laptop.specs.Alone.{OpensClient}
 use Rattle.iot_laptop.specs.Kept.{StateKept, RunningKeptIfAny}
 use Rattle.iot_laptop.specs.Laptops.{LaptopStands, FallenStands, ClientStands, awake}
-use Rattle.iot_laptop.specs.Laptops.{fallen, RunningStandsIfAny}
+use Rattle.iot_laptop.specs.Laptops.{fallen}
 use Rattle.iot_laptop.specs.Laptops.{StateStands, state_by, live_by, IsUnopened, unopened_laptop}
 use Rattle.iot_laptop.specs.Scripts.{AreNamed}
 use Rattle.iot_laptop.specs.Seats.{IsClientImage, seating, besides}
 use Rattle.iot_laptop.specs.declared.laptop.Laptop.{Laptop}
 use Rattle.iot_laptop.specs.declared.seated.Seated.{Seated}
-use Rattle.iot_laptop.proofs.NodesLaws.{not_both, on_is, node_stands, same_name, may_be_named, fallen_stands}
+use Rattle.iot_laptop.proofs.KeptStatesLaws.{stands_with, kept_live, idle_live}
+use Rattle.iot_laptop.proofs.NodesLaws.{not_both, on_is, node_stands, same_name, same_link, may_be_named, fallen_stands}
 
 pub on_two : {T E P Q R : Type 0} (r : Result T E) → OnOk r P → OnOk r Q → (P → Q → R) → OnOk r R
 on_two (Ok t) p q both = both p q
@@ -94,75 +96,21 @@ module _ {D : Type 0} (medium : Medium D) (laptop : Laptop D) (post : Post (Seat
           },
           fallen (record {
             name = name;
-            link = same_link_by scripts m here;
+            link = same_link medium scripts laptop m here;
             alive = on_is (seating medium laptop.place) medium no_text post s.1 s.4 ∙ off;
             node = s.4;
             named = crash_keeps (AreNamed scripts) called m.node s.1 s.0 s.3 (may_be_named medium scripts laptop m here);
           }),
         );
   }
-    where
-      same_link_by : (scripts : List Declared) (m : machine.Client) → ClientStands medium scripts laptop m → laptop.link ≡ m.link
-      same_link_by scripts m (awake here) = here.link
-      same_link_by scripts m (fallen here) = here.link
 
--- ---- what is known of a state by what is on the disk, and by what is known besides
+-- ---- what is known of a state by what is on the disk
 
 -- nothing runs
 pub none_runs : (t : Nodes) (r : Option Transaction) (o : Option clients.Running) → o ≡ None → RunningKeptIfAny t r o → r ≡ None
 none_runs t None o none kept = refl
 none_runs t (Some running) None none kept = absurd kept
 none_runs t (Some running) (Some it) none kept = absurd cc
-
-runs_by : (t : Nodes) (old r : Option Transaction) (live : Option Live) (first : Bool) (o : Option clients.Running)
-    → RunningStandsIfAny old live first o → RunningKeptIfAny t r o → RunningStandsIfAny r live first o
-runs_by t None None live first None stands kept = stands
-runs_by t None None live first (Some it) stands kept = absurd stands
-runs_by t None (Some running) live first None stands kept = absurd kept
-runs_by t None (Some running) live first (Some it) stands kept = absurd stands
-runs_by t (Some old) None live first None stands kept = absurd stands
-runs_by t (Some old) None live first (Some it) stands kept = absurd kept
-runs_by t (Some old) (Some running) live first None stands kept = absurd stands
-runs_by t (Some old) (Some running) None first (Some it) stands kept = absurd stands
-runs_by t (Some old) (Some running) (Some own) first (Some it) stands kept = record {
-  number = kept.number;
-  name = kept.name;
-  code = stands.code;
-  script = kept.script;
-  acts = kept.count;
-  option = kept.option;
-  class = stands.class;
-}
-
--- a state on the disk, with what was known before of what runs
-pub state_again : (old s : State) (live : Option Live) (first : Bool) (m : ClientState) → StateStands old live first m → StateKept s m
-    → StateStands s live first m
-state_again old s live first m stands kept = record {
-  held = kept.held;
-  items = kept.items;
-  running = runs_by (base m) old.running s.running live first m.running stands.running kept.running;
-  last = kept.last;
-  tree = kept.tree;
-  spelled = kept.spelled;
-}
-
--- if nothing runs, what is on the disk is all
-pub state_idle : (s : State) (live : Option Live) (first : Bool) (m : ClientState) → live ≡ None → s.running ≡ None → StateKept s m
-    → StateStands s live first m
-state_idle s live first m lives none kept = record {
-  held = kept.held;
-  items = kept.items;
-  running = idle s.running m.running none kept.running;
-  last = kept.last;
-  tree = kept.tree;
-  spelled = kept.spelled;
-}
-  where
-    idle : (r : Option Transaction) (o : Option clients.Running) → r ≡ None → RunningKeptIfAny (base m) r o → RunningStandsIfAny r
-        live first o
-    idle None None none kept = lives
-    idle None (Some it) none kept = absurd kept
-    idle (Some running) o none kept = absurd cc
 
 -- what is kept of one that is alive
 pub kept_up : {D : Type 0} (medium : Medium D) (place : ℕ) (post : Post (Seated D) D) (node : Node ClientState)
@@ -187,8 +135,9 @@ module _ {D : Type 0} (medium : Medium D) (laptop : Laptop D) (post : Post (Seat
     node = stands;
     state =
         subst (λ (l : Option Live). StateStands (state_by post) l m.first m.node.durable) (sym live)
-        (state_again (state_by laptop.post) (state_by post) (live_by laptop.post) m.first m.node.durable here.state
-        (kept_up medium laptop.place post (armed calls pick m.node) stands here.alive));
+        (stands_with (state_by post) (live_by laptop.post) m.first m.node.durable
+        (kept_live (state_by laptop.post) (state_by post) (live_by laptop.post) m.first m.node.durable here.state
+        (kept_up medium laptop.place post (armed calls pick m.node) stands here.alive)));
     named = here.named;
   })
 
@@ -308,8 +257,10 @@ module _ {D : Type 0} (medium : Medium D) (laptop : Laptop D) (new : IsUnopened 
       link = here.link;
       alive = on_is (seating medium laptop.place) medium no_text post n stands ∙ up;
       node = stands;
-      state = state_idle (state_by post) (live_by post) m.first n.durable live (started_idle up)
-          (kept_up medium laptop.place post n stands (on_is (seating medium laptop.place) medium no_text post n stands ∙ up));
+      state =
+          stands_with (state_by post) (live_by post) m.first n.durable
+          (idle_live (state_by post) (live_by post) m.first n.durable live (started_idle up)
+          (kept_up medium laptop.place post n stands (on_is (seating medium laptop.place) medium no_text post n stands ∙ up)));
       named = named.is;
     })
     opens_at scripts m n here stands false off durable named = fallen (record {

@@ -1,18 +1,14 @@
 -- Each record of a laptop's client is a change of the client of the machine for which it stands.
 use Rattle.std.proofs.Common.{◌≡◌, ◌+◌, ◌<◌, ◌≤◌, ℕ, zero, suc, Bool, true, false, List, [], ◌∷◌, ◌++◌, drop, Option, Some, None}
-use Rattle.std.proofs.Common.{option_map, option_and_then, slice_get, length-append, refl, sym, ap, subst, ◌∙◌, arith}
+use Rattle.std.proofs.Common.{option_map, option_and_then, slice_get, refl, sym, ap, subst, ◌∙◌, arith}
 use Rattle.std.proofs.lemmas.Option.{same_Some}
 use Rattle.std.specs.Prelude.{IsSome}
-use Rattle.std.specs.FinMap.{empty}
 use Rattle.std.specs.List.{AllByRecursion}
-use Rattle.iot_tree.specs.Tree.{Nodes, Path, IsTree}
+use Rattle.iot_tree.specs.Tree.{Nodes, Path}
 use Rattle.iot_tree.specs.declared.acts.Act.{Act}
 use Rattle.iot_tree.specs.declared.labels.OnConflict.{OnConflict as OnConflictNamed}
 use Rattle.iot_tree.specs.declared.labels.OnConflict.TheVariants as on
 use Rattle.iot_tree.specs.declared.limits.TheConstants.{ACT_LIMIT}
-use Rattle.iot_lang.specs.Code.{Code}
-use Rattle.iot_lang.specs.Scripts.{IsScript}
-use Rattle.iot_limits.specs.Spelled.{IsSpelledTree}
 use Rattle.iot_acts.specs.Traces.{after_acts}
 use Rattle.iot_exec.specs.Misses.{first_away}
 use Rattle.iot_exec.specs.Runs.{run}
@@ -20,16 +16,11 @@ use Rattle.iot_exec.specs.declared.ran.Ran.{Ran}
 use Rattle.iot_queue.specs.Queues.{with_head, staged}
 use Rattle.iot_queue.specs.declared.items.Item.{Item}
 use Rattle.iot_queue.specs.declared.items.Stage.{Stage}
-use Rattle.iot_queue.specs.declared.items.Stage.TheVariants as stages
-use Rattle.iot_queue.specs.declared.items.Stage.TheVariants.{Waiting}
-use Rattle.iot_kept.specs.States.{Transaction, State, acts_of, after_each, after_items}
-use Rattle.iot_kept.specs.Changes.{CanFollow, HeadIs, MayLeave, with_acts, ended, left, stage_by, stays_in, conflicted, repaired, after}
+use Rattle.iot_kept.specs.States.{Transaction, State, after_each}
+use Rattle.iot_kept.specs.Changes.{ended}
 use Rattle.iot_client.specs.Ties.{Live, state_of, live_of, count}
-use Rattle.iot_client.specs.Calls.{CanAct, has_ended, next_acts, missed, StepIs, Ends, EndsIfAny}
+use Rattle.iot_client.specs.Calls.{CanAct, has_ended, next_acts, missed, StepIs}
 use Rattle.iot_client.specs.declared.client.Client.{Client}
-use Rattle.iot_changes.specs.declared.changes.Change.TheVariants.{Held, Begun, Fetched, Acted, Ended, Left, Repaired}
-use Rattle.iot_changes.specs.declared.changes.Change.TheVariants.{Conflicted}
-use Rattle.iot_client.specs.declared.ended.Ended as client
 use Rattle.iot_client.specs.declared.steps.Step.{Step}
 use Rattle.iot_client.specs.declared.steps.Step.TheVariants as steps
 use Rattle.iot_machine.specs.Clients as clients
@@ -39,62 +30,17 @@ use Rattle.iot_machine.specs.Clients.{Declared, with_first, change_first, at_sta
 use Rattle.iot_machine.specs.Options as options
 use Rattle.iot_machine.specs.Options.{OnConflict}
 use Rattle.iot_machine.specs.Sound.{CanResolve, IsPlanned}
-use Rattle.iot_judging.proofs.JudgingLaws.{run_tree}
-use Rattle.iot_judging.proofs.SpelledTreesLaws.{run_spelled}
 use Rattle.iot_judging.proofs.NextLaws.{is_at_end, is_at_limit, is_next}
-use Rattle.iot_laptop.specs.Laptops.{ItemStands, ItemsStand, RunningStands, RunningStandsIfAny, StateStands, waits_of}
+use Rattle.iot_laptop.specs.Laptops.{ItemStands, ItemsStand, StateStands, waits_of}
 use Rattle.iot_laptop.specs.Calls.{next_as}
 use Rattle.iot_laptop.specs.Laptops.{StageStands}
-use Rattle.iot_laptop.specs.Calls.{head_option}
 use Rattle.iot_laptop.specs.Scripts.{ItemIsNamed, RunIsNamedIfAny, AreNamed, IsNamed, HasNamed, option_named}
-use Rattle.iot_laptop.proofs.LaptopsLaws.{HeadStands, Running, head_stands, running_is, run_is, counted, ended_is}
-
--- ---- the running transaction
-
-more_by : (act : Act) (r : Option Transaction) (live : Option Live) (first : Bool) (o : Option clients.Running)
-    → RunningStandsIfAny r live first o → RunningStandsIfAny (with_acts (λ acts. acts ++ act ∷ []) r) live first (option_map one_more o)
-more_by act None live first None stands = stands
-more_by act None live first (Some it) stands = absurd stands
-more_by act (Some running) live first None stands = absurd stands
-more_by act (Some running) None first (Some it) stands = absurd stands
-more_by act (Some running) (Some own) first (Some it) stands = record {
-  number = stands.number;
-  name = stands.name;
-  code = stands.code;
-  script = stands.script;
-  acts = length-append running.acts (act ∷ []) ∙ ap (λ (n : ℕ). n + 1) stands.acts;
-  option = stands.option;
-  class = stands.class;
-}
-
--- none runs, whatever else was known
-idle_by : (r : Option Transaction) (live : Option Live) (first : Bool) (o : Option clients.Running) → r ≡ None
-    → RunningStandsIfAny r live first o → RunningStandsIfAny r None first o
-idle_by None live first None idle stands = refl
-idle_by None live first (Some it) idle stands = absurd stands
-idle_by (Some running) live first o idle stands = absurd cc
-
--- it begins anew
-anew_by : (r : Option Transaction) (live : Option Live) (first : Bool) (o : Option clients.Running) → RunningStandsIfAny r live first o
-    → RunningStandsIfAny (with_acts (λ acts. []) r) live first (option_map anew o)
-anew_by None live first None stands = stands
-anew_by None live first (Some it) stands = absurd stands
-anew_by (Some running) live first None stands = absurd stands
-anew_by (Some running) None first (Some it) stands = absurd stands
-anew_by (Some running) (Some own) first (Some it) stands = record {
-  number = stands.number;
-  name = stands.name;
-  code = stands.code;
-  script = stands.script;
-  acts = refl;
-  option = stands.option;
-  class = stands.class;
-}
+use Rattle.iot_laptop.proofs.LaptopsLaws.{Running, running_is, run_is, counted, ended_is}
 
 -- ---- the transactions that wait
 
 -- if none waits, that is so on each tree
-none_stand : (items : List Item) (t u : Nodes) (ms : List clients.Item) → items ≡ [] → ItemsStand items t ms → ItemsStand items u ms
+pub none_stand : (items : List Item) (t u : Nodes) (ms : List clients.Item) → items ≡ [] → ItemsStand items t ms → ItemsStand items u ms
 none_stand [] t u [] none stand = tt
 none_stand [] t u (m ∷ ms) none stand = absurd stand
 none_stand (item ∷ items) t u ms none stand = absurd cc
@@ -106,44 +52,6 @@ more_stand [] t (other ∷ ms) item m all it = absurd all
 more_stand (head ∷ items) t [] item m all it = absurd all
 more_stand (head ∷ items) t (other ∷ ms) item m all it = (all.0, more_stand items (after_acts t head.acts) ms item m all.1 it)
 
--- the transaction that ends has the acts of its own run
-ended_item : (s : State) (running : Transaction) (own : Live) (first : Bool) (it : clients.Running) (gone : client.Ended)
-    → Some running ≡ s.running → RunningStands running own first it → Ends s running own gone
-    → ItemStands (after_items s)
-    (record {
-      tid = running.number;
-      script = running.script;
-      budget = ACT_LIMIT;
-      acts = running.acts;
-      option = running.option;
-      stage = Waiting;
-    })
-    (item_of it)
-ended_item s running own first it gone is stands ends = record {
-  number = stands.number;
-  name = stands.name;
-  budget = refl;
-  few = omega arith;
-  script = stands.script;
-  acts = sym ends.whole_acts ∙ ap (λ (code : Code). (run code empty (after_items s) ACT_LIMIT).acts) stands.code;
-  tree =
-      ap (λ (r : Option Transaction). after_acts (after_items s) (acts_of r)) is ∙ sym ends.whole_tree
-      ∙ ap (λ (code : Code). (run code empty (after_items s) ACT_LIMIT).tree) stands.code;
-  option = stands.option;
-  stage = tt;
-  planned = tt;
-}
-
-ended_items : (s : State) (ms : List clients.Item) (r : Option Transaction) (live : Option Live) (first : Bool) (o : Option
-    clients.Running)
-    (gone : client.Ended) → r ≡ s.running → ItemsStand s.items s.held ms → RunningStandsIfAny r live first o
-    → EndsIfAny s r live gone → ItemsStand (s.items ++ ended r) s.held (joined ms o)
-ended_items s ms None live first o gone is all stands ends = absurd ends
-ended_items s ms (Some running) None first o gone is all stands ends = absurd ends
-ended_items s ms (Some running) (Some own) first None gone is all stands ends = absurd stands
-ended_items s ms (Some running) (Some own) first (Some it) gone is all stands ends =
-    more_stand s.items s.held ms _ _ all (ended_item s running own first it gone is stands ends)
-
 -- then one waits
 pub joined_waits : (items : List Item) (r : Option Transaction) → IsSome r → waits_of (items ++ ended r) ≡ true
 joined_waits [] None some = absurd cc
@@ -153,7 +61,7 @@ joined_waits (item ∷ items) r some = refl
 -- ---- the first that waits, in another stage
 
 -- the first is another one now, with the same acts of its own
-head_stays : (change : Item → Item) (other : clients.Item → clients.Item) (items : List Item) (t : Nodes) (ms : List clients.Item)
+pub head_stays : (change : Item → Item) (other : clients.Item → clients.Item) (items : List Item) (t : Nodes) (ms : List clients.Item)
     → ((item : Item) → (change item).acts ≡ item.acts)
     → ((item : Item) (later : List Item) (m : clients.Item) (after : List clients.Item) → items ≡ item ∷ later → ms ≡ m ∷ after
     → ItemStands t item m → ItemStands t (change item) (other m))
@@ -202,7 +110,7 @@ StaysIn (on.Resolver name) other = other ≡ clients.Conflict
 StaysIn on.Abort other = ⊥
 StaysIn on.Manual other = other ≡ clients.Manual
 
-stays_planned : (option : OnConflictNamed) (other : clients.Stage) (o : OnConflict Declared) → option ≡ option_named o
+pub stays_planned : (option : OnConflictNamed) (other : clients.Stage) (o : OnConflict Declared) → option ≡ option_named o
     → StaysIn option other → IsPlanned o other
 stays_planned on.Reexec other o same is = subst (IsPlanned o) (sym is) (can_again o same)
 stays_planned (on.Resolver name) other o same is = subst (IsPlanned o) (sym is) (can_by name o same)
@@ -278,167 +186,6 @@ module _ (scripts : List Declared) where
     items = first_named (resolved_by script) s.items (λ item is. record { script = is.script; resolver = by }) named.items;
     running = named.running;
   }
-
--- ---- a record each
-
-module _ (s : State) (live : Option Live) (first : Bool) (m : ClientState) (here : StateStands s live first m) where
-  pub held_stands : (t : Nodes) → CanFollow s (Held t) → IsTree t → IsSpelledTree t → StateStands (after s (Held t)) None first (hold t m)
-  held_stands t can tree spelled = record {
-    held = refl;
-    items = none_stand s.items s.held t m.items can.1 here.items;
-    running = idle_by s.running live first m.running can.0 here.running;
-    last = here.last;
-    tree = tree;
-    spelled = spelled;
-  }
-
-  pub begun_stands : (number : ℕ) (script : Declared) (option : OnConflictNamed) (class : Bool) (on_conflict : OnConflict Declared)
-      → CanFollow s (Begun number script.name option) → IsScript script.code → option ≡ option_named on_conflict
-      → StateStands (after s (Begun number script.name option)) (Some (record { first = class; code = script.code })) class
-      (begin script on_conflict m)
-  begun_stands number script option class on_conflict can is option_is = record {
-    held = here.held;
-    items = here.items;
-    running = record {
-      number = can.1 ∙ ap (λ (n : ℕ). n + 1) here.last;
-      name = refl;
-      code = refl;
-      script = is;
-      acts = refl;
-      option = option_is;
-      class = refl;
-    };
-    last = can.1 ∙ ap (λ (n : ℕ). n + 1) here.last;
-    tree = here.tree;
-    spelled = here.spelled;
-  }
-
-  pub fetched_stands : (t : Nodes) → CanFollow s (Fetched t) → IsTree t → IsSpelledTree t
-      → StateStands (after s (Fetched t)) live first (fetch t m)
-  fetched_stands t can tree spelled = record {
-    held = refl;
-    items = none_stand s.items s.held t m.items can.1 here.items;
-    running = anew_by s.running live first m.running here.running;
-    last = here.last;
-    tree = tree;
-    spelled = spelled;
-  }
-
-  pub acted_stands : (act : Act) → StateStands (after s (Acted act)) live first (act_once m)
-  acted_stands act = record {
-    held = here.held;
-    items = here.items;
-    running = more_by act s.running live first m.running here.running;
-    last = here.last;
-    tree = here.tree;
-    spelled = here.spelled;
-  }
-
-  pub ended_stands : (gone : client.Ended) → EndsIfAny s s.running live gone → StateStands (after s Ended) None first (end m)
-  ended_stands gone ends = record {
-    held = here.held;
-    items = ended_items s m.items s.running live first m.running gone refl here.items here.running ends;
-    running = refl;
-    last = here.last;
-    tree = here.tree;
-    spelled = here.spelled;
-  }
-
-  -- the first is another one now
-  pub changed_stands : (change : Item → Item) (other : clients.Item → clients.Item) → ((item : Item) → (change item).acts ≡ item.acts)
-      → ((item : Item) (later : List Item) (first : clients.Item) (after : List clients.Item) → s.items ≡ item ∷ later
-      → m.items ≡ first ∷ after → ItemStands s.held item first → ItemStands s.held (change item) (other first))
-      → StateStands (record s { items = with_head change s.items }) live first (change_first other m)
-  changed_stands change other same each = record {
-    held = here.held;
-    items = head_stays change other s.items s.held m.items same each here.items;
-    running = here.running;
-    last = here.last;
-    tree = here.tree;
-    spelled = here.spelled;
-  }
-
-  -- the first is at this stage
-  reached : (stage : Stage) (other : clients.Stage) (option : OnConflictNamed) → head_option s.items ≡ Some option
-      → StageStands stage other → StaysIn option other
-      → StateStands (record s { items = with_head (staged stage) s.items }) live first (reach other m)
-  reached stage other option is same stays =
-      changed_stands (staged stage) (at_stage other) (λ item. refl)
-      (λ item later first after some others stands.
-      staged_item s.held stage other item first same
-      (stays_planned option other first.option (sym (same_Some item.option option (sym (ap head_option some) ∙ is)) ∙
-      stands.option) stays)
-      stands)
-
-  -- what becomes of the first, by its option
-  conflicted_as : (queue : List Item) (option : OnConflictNamed) → head_option queue ≡ Some option
-      → conflicted s queue ≡ stays_in (stage_by option) s
-  conflicted_as [] option is = absurd cc
-  conflicted_as (item ∷ items) option is = ap (λ (o : OnConflictNamed). stays_in (stage_by o) s) (same_Some item.option option is)
-
-  reached_by : (option : OnConflictNamed) (other : clients.Stage) → head_option s.items ≡ Some option → StaysIn option other
-      → StateStands (stays_in (stage_by option) s) live first (reach other m)
-  reached_by on.Reexec other is stays =
-      reached stages.Conflict other on.Reexec is (subst (StageStands stages.Conflict) (sym stays) tt) stays
-  reached_by (on.Resolver name) other is stays =
-      reached stages.Conflict other (on.Resolver name) is (subst (StageStands stages.Conflict) (sym stays) tt) stays
-  reached_by on.Abort other is stays = absurd stays
-  reached_by on.Manual other is stays = reached stages.Manual other on.Manual is (subst (StageStands stages.Manual) (sym stays) tt) stays
-
-  pub conflicted_stands : (option : OnConflictNamed) (other : clients.Stage) → head_option s.items ≡ Some option → StaysIn option other
-      → StateStands (after s Conflicted) live first (reach other m)
-  conflicted_stands option other is stays =
-      subst (λ (next : State). StateStands next live first (reach other m)) (sym (conflicted_as s.items option is))
-      (reached_by option other is stays)
-
-  -- the first is to be resolved by this script
-  pub repaired_stands : (name : List ℕ) (script : Declared) → script.name ≡ name
-      → StateStands (after s (Repaired name)) live first (repair script m)
-  repaired_stands name script is =
-      changed_stands (repaired name) (resolved_by script) (λ item. refl)
-      (λ item later first after some others stands. record {
-        number = stands.number;
-        name = stands.name;
-        budget = stands.budget;
-        few = stands.few;
-        script = stands.script;
-        acts = stands.acts;
-        tree = stands.tree;
-        option = ap (λ (n : List ℕ). on.Resolver n) (sym is);
-        stage = tt;
-        planned = tt;
-      })
-
-  left_head : (item : Item) (items : List Item) → HeadStands s.held item items m.items
-      → StateStands (record s { held = after_acts s.held item.acts; items = items }) live first (leave m)
-  left_head item items head =
-      subst
-      (λ (ms : List clients.Item). StateStands (record s { held = after_acts s.held item.acts; items = items }) live first
-      (leave_by ms m))
-      (sym head.split)
-      (record {
-        held = head.stands.tree ∙ ap (λ (t : Nodes). (local_run t head.first).tree) here.held;
-        items = head.rest;
-        running = here.running;
-        last = here.last;
-        tree = subst IsTree (sym head.stands.tree)
-            (run_tree head.first.script.code empty s.held head.first.budget here.tree);
-        spelled = subst IsSpelledTree (sym head.stands.tree)
-            (run_spelled head.first.script.code s.held head.first.budget head.stands.script here.spelled);
-      })
-
-  left_by : (queue : List Item) → queue ≡ s.items → (queue ≡ [] → ⊥) → StateStands (left s queue) live first (leave m)
-  left_by [] is some = absurd (some refl)
-  left_by (item ∷ items) is some = left_head item items (head_stands s live first m here item items (sym is))
-
-  pub left_stands : CanFollow s Left → StateStands (after s Left) live first (leave m)
-  left_stands can = left_by s.items refl (λ none. subst (λ (items : List Item). HeadIs MayLeave items) none can)
-
-  -- one that is given up leaves too
-  pub given_up_stands : head_option s.items ≡ Some on.Abort → StateStands (after s Conflicted) live first (leave m)
-  given_up_stands is =
-      subst (λ (next : State). StateStands next live first (leave m)) (sym (conflicted_as s.items on.Abort is))
-      (left_by s.items refl (λ none. let e : None ≡ Some on.Abort = sym (ap head_option none) ∙ is in cc))
 
 -- ---- the next step
 

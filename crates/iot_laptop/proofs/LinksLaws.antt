@@ -1,6 +1,6 @@
 -- What becomes of a laptop over another link, and if what runs is second class from then on.
-use Rattle.std.proofs.Common.{◌≡◌, ◌⊎◌, ℕ, Bool, true, false, List, ◌++◌, Option, Some, None, inl, inr, refl, sym, ap, subst, ◌∙◌}
-use Rattle.iot_kept.specs.States.{Transaction, State}
+use Rattle.std.proofs.Common.{◌≡◌, ◌⊎◌, ℕ, true, false, List, ◌++◌, Option, Some, inl, inr, refl, sym, ap, subst, ◌∙◌}
+use Rattle.iot_kept.specs.States.{State}
 use Rattle.iot_client.specs.Calls.{second_class}
 use Rattle.iot_client.specs.Ties.{Live, IsTied, state_of, live_of, place_of, disk_of, records_of}
 use Rattle.iot_client.specs.declared.client.Client.{Client}
@@ -10,8 +10,7 @@ use Rattle.iot_link.specs.Links.{LinkState, after_exchange, connected, arming}
 use Rattle.iot_link.specs.declared.passages.Loss.{Loss}
 use Rattle.iot_link.specs.declared.passages.Passage.{Passage}
 use Rattle.iot_link.specs.declared.passages.Passage.TheVariants.{Away, RequestLost, ReplyLost, Both}
-use Rattle.iot_machine.specs.Clients as clients
-use Rattle.iot_machine.specs.Clients.{Declared, ClientState}
+use Rattle.iot_machine.specs.Clients.{Declared}
 use Rattle.iot_machine.specs.Machine as machine
 use Rattle.iot_machine.specs.Refining.{Refines}
 use Rattle.iot_machine.specs.Texts.{connect_line, disconnect_line, lose_line}
@@ -20,37 +19,21 @@ use Rattle.iot_node.specs.Posts.{UpStands, is_on}
 use Rattle.iot_node.specs.declared.post.Post.{Post}
 use Rattle.iot_node.specs.declared.post.Post.TheVariants.{Up}
 use Rattle.iot_node.proofs.StepsLaws.{does}
-use Rattle.iot_laptop.specs.Alone.{no_text, break, Connects, Disconnects, Loses}
+use Rattle.iot_machine.specs.Events.{no_text, Connects, Disconnects, Loses}
+use Rattle.iot_machine.specs.Machine.{break}
 use Rattle.iot_laptop.specs.Kept.{StateKept}
 use Rattle.iot_laptop.specs.Laptops.{LaptopStands, FallenStands, ClientStands, awake, fallen, Stands, Relinked, IsSecondNow}
-use Rattle.iot_laptop.specs.Laptops.{IsCutLink, RunningStandsIfAny, StateStands, after_passage, state_by, disk_by, is_alive}
+use Rattle.iot_laptop.specs.Laptops.{IsCutLink, after_passage, state_by, disk_by, is_alive}
 use Rattle.iot_laptop.specs.Seats.{seating}
 use Rattle.iot_laptop.specs.declared.laptop.Laptop.{Laptop}
 use Rattle.iot_laptop.specs.declared.seated.Seated.{Seated}
-use Rattle.iot_laptop.proofs.NodesLaws.{same_name, awake_stands, fallen_stands}
+use Rattle.iot_laptop.proofs.KeptStatesLaws.{LiveStands, stands_with, live_then, second_live}
+use Rattle.iot_laptop.proofs.NodesLaws.{same_name, same_link, awake_stands, fallen_stands}
 
 pub not_through : (p : Passage) → (p ≡ Away) ⊎ ((p ≡ RequestLost) ⊎ (p ≡ ReplyLost)) → p ≡ Both → ⊥
 not_through p (inl is) both = cc
 not_through p (inr (inl is)) both = cc
 not_through p (inr (inr is)) both = cc
-
--- ---- what runs is second class
-
-second_running : (r : Option Transaction) (live : Option Live) (first : Bool) (o : Option clients.Running)
-    → RunningStandsIfAny r live first o → RunningStandsIfAny r (second_class live) false o
-second_running None live first None stands = ap second_class stands
-second_running None live first (Some it) stands = absurd stands
-second_running (Some running) live first None stands = absurd stands
-second_running (Some running) None first (Some it) stands = absurd stands
-second_running (Some running) (Some own) first (Some it) stands = record {
-  number = stands.number;
-  name = stands.name;
-  code = stands.code;
-  script = stands.script;
-  acts = stands.acts;
-  option = stands.option;
-  class = refl;
-}
 
 module _ {D : Type 0} (medium : Medium D) (laptop : Laptop D) where
   -- ---- another link
@@ -69,10 +52,6 @@ module _ {D : Type 0} (medium : Medium D) (laptop : Laptop D) where
   down_link : (link : LinkState) (scripts : List Declared) (m : machine.Client) → FallenStands medium scripts laptop m
       → FallenStands medium scripts (record laptop { link = link }) (record m { link = link })
   down_link link scripts m here = record { name = here.name; link = refl; alive = here.alive; node = here.node; named = here.named }
-
-  same_link : (scripts : List Declared) (m : machine.Client) → ClientStands medium scripts laptop m → laptop.link ≡ m.link
-  same_link scripts m (awake here) = here.link
-  same_link scripts m (fallen here) = here.link
 
   linked : (link : LinkState) (scripts : List Declared) (m : machine.Client) → ClientStands medium scripts laptop m
       → ClientStands medium scripts (record laptop { link = link }) (record m { link = link })
@@ -93,7 +72,7 @@ module _ {D : Type 0} (medium : Medium D) (laptop : Laptop D) where
       does laptop (record laptop { link = link }) x y (λ m here. (
         wrote ∙ ap (λ (n : List ℕ). x ++ connect_line n) (same_name medium scripts laptop m here),
         subst (λ (l : LinkState). ClientStands medium scripts (record laptop { link = link }) (record m { link = l }))
-            (is ∙ ap (connected true) (same_link scripts m here)) (linked link scripts m here),
+            (is ∙ ap (connected true) (same_link medium scripts laptop m here)) (linked link scripts m here),
       ))
 
   pub loses : (loss : Loss) (link : LinkState) (x y : List ℕ) → link ≡ arming loss laptop.link → y ≡ x ++ lose_line laptop.name loss
@@ -102,7 +81,7 @@ module _ {D : Type 0} (medium : Medium D) (laptop : Laptop D) where
       does laptop (record laptop { link = link }) x y (λ m here. (
         wrote ∙ ap (λ (n : List ℕ). x ++ lose_line n loss) (same_name medium scripts laptop m here),
         subst (λ (l : LinkState). ClientStands medium scripts (record laptop { link = link }) (record m { link = l }))
-            (is ∙ ap (arming loss) (same_link scripts m here)) (linked link scripts m here),
+            (is ∙ ap (arming loss) (same_link medium scripts laptop m here)) (linked link scripts m here),
       ))
 
   -- ---- second class
@@ -130,23 +109,19 @@ module _ {D : Type 0} (medium : Medium D) (laptop : Laptop D) where
         → LaptopStands medium scripts (record laptop { post = Up (record { client = was }); link = link }) m
         → LaptopStands medium scripts (record laptop { post = Up (record { client = now }); link = link }) (record m { first = false })
     second_stands link scripts m here =
-        let s : StateStands (state_of was) (live_of was) m.first m.node.durable = here.state in
+        let node = second_node laptop.place m here.node in
         record {
           name = here.name;
           link = here.link;
           alive = here.alive;
-          node = second_node laptop.place m here.node;
-          state =
-              subst (λ (t : State). StateStands t (live_of now) false m.node.durable) (sym state)
-              (subst (λ (l : Option Live). StateStands (state_of was) l false m.node.durable) (sym live)
-              (record {
-                held = s.held;
-                items = s.items;
-                running = second_running (state_of was).running (live_of was) m.first m.node.durable.running s.running;
-                last = s.last;
-                tree = s.tree;
-                spelled = s.spelled;
-              }));
+          node = node;
+          state = stands_with (state_of now) (live_of now) false m.node.durable (record {
+            kept = node.stands.kept;
+            runs =
+                subst (λ (l : Option Live). LiveStands l false m.node.durable.running) (sym live)
+                (second_live (live_of was) m.first m.node.durable.running
+                (live_then (state_of was).running (live_of was) m.first m.node.durable.running here.state.running));
+          });
           named = here.named;
         }
 

@@ -1,10 +1,8 @@
 -- What is known of a client by its node.
-use Rattle.std.proofs.Common.{◌≡◌, ◌≤◌, ℕ, Bool, true, false, List, length}
-use Rattle.std.proofs.Common.{Option, Some, None, sym, ap, subst, ◌∙◌, arith}
+use Rattle.std.proofs.Common.{◌≡◌, ℕ, Bool, true, false, List}
+use Rattle.std.proofs.Common.{Option, Some, None, sym, ap, subst, ◌∙◌}
 use Rattle.std.specs.Prelude.{IfSome}
-use Rattle.iot_tree.specs.declared.limits.TheConstants.{ACT_LIMIT}
-use Rattle.iot_kept.specs.States.{Transaction, acts_of}
-use Rattle.iot_kept.specs.Spelled.{IsSpelledIfAny}
+use Rattle.iot_kept.specs.States.{Transaction}
 use Rattle.iot_client.specs.Ties as client
 use Rattle.iot_client.specs.Ties.{Live, IsBegunIfAny, IsOwnRunIfAny, IsTied, state_of, live_of}
 use Rattle.iot_client.proofs.StepsLaws.{own}
@@ -19,7 +17,7 @@ use Rattle.iot_node.specs.Keeping.{Keeping}
 use Rattle.iot_node.specs.Posts.{PostStands, UpStands, is_on}
 use Rattle.iot_node.specs.declared.post.Post.{Post}
 use Rattle.iot_node.specs.declared.post.Post.TheVariants.{Up, Down, Between}
-use Rattle.iot_laptop.specs.Alone.{no_text}
+use Rattle.iot_machine.specs.Events.{no_text}
 use Rattle.iot_laptop.specs.Laptops.{LaptopStands, FallenStands, ClientStands, awake}
 use Rattle.iot_laptop.specs.Laptops.{fallen, RunningStandsIfAny, Stands, StandsAnyhow, IsLent}
 use Rattle.iot_laptop.specs.Laptops.{state_by, live_by, is_alive, state_in, live_in, NodeStands}
@@ -51,10 +49,6 @@ begun_by (Some running) live first None stands = absurd stands
 begun_by (Some running) None first (Some it) stands = absurd stands
 begun_by (Some running) (Some own) first (Some it) stands = tt
 
-pub few_running : (r : Option Transaction) → IsSpelledIfAny r → length (acts_of r) ≤ ACT_LIMIT
-few_running None spelled = omega arith
-few_running (Some running) spelled = spelled.acts.few
-
 module _ {D : Type 0} (medium : Medium D) where
   module _ (scripts : List Declared) (laptop : Laptop D) (m : machine.Client) where
     node_is : NodeStands medium laptop m → m.node.alive ≡ is_alive laptop
@@ -82,6 +76,10 @@ module _ {D : Type 0} (medium : Medium D) where
     pub same_name : ClientStands medium scripts laptop m → laptop.name ≡ m.name
     same_name (awake here) = here.name
     same_name (fallen here) = here.name
+
+    pub same_link : ClientStands medium scripts laptop m → laptop.link ≡ m.link
+    same_link (awake here) = here.link
+    same_link (fallen here) = here.link
 
     -- it is the keeper of its node
     pub up_stands : (it : Client D) → laptop.post ≡ Up (record { client = it }) → LaptopStands medium scripts laptop m

@@ -4,6 +4,7 @@ use Rattle.std.proofs.Common.{Option, Some, None, Result, Ok, Err, inl, inr}
 use Rattle.std.proofs.Common.{refl, sym, ap, subst, ◌∙◌, codes, append_assoc, if◌then◌else◌, arith}
 use Rattle.std.specs.Prelude.{IfSome}
 use Rattle.std.proofs.lemmas.List.{append-nil}
+use Rattle.std.proofs.lemmas.Option.{same_Some}
 use Rattle.iot_count.specs.Counts.{Rose}
 use Rattle.iot_disk.specs.Disk.{Medium}
 use Rattle.iot_machine.specs.Clients.{Declared, ClientState}
@@ -21,9 +22,9 @@ use Rattle.iot_node.specs.declared.halt.Halt.{Halt}
 use Rattle.iot_node.specs.declared.halt.Halt.TheVariants.{NoMemory, Over}
 use Rattle.iot_node.specs.declared.post.Post.{Post}
 use Rattle.iot_node.specs.declared.post.Post.TheVariants.{Up, Down, Between}
-use Rattle.iot_laptop.specs.Alone.{no_text, CutsOff, RestartsClient, comes_back}
+use Rattle.iot_machine.specs.Events.{no_text, CutsOff, RestartsClient, comes_back}
 use Rattle.iot_laptop.specs.Calls.{ReturnedStands, Returned, Came, UnlessNoMemory}
-use Rattle.iot_laptop.specs.Laptops.{FallenStands, ClientStands, fallen, StandsAnyhow, is_alive, live_by, disk_by}
+use Rattle.iot_laptop.specs.Laptops.{FallenStands, ClientStands, fallen, StandsAnyhow, is_alive, disk_by}
 use Rattle.iot_laptop.specs.Scripts.{AreNamed}
 use Rattle.iot_laptop.specs.Seats.{seating, besides}
 use Rattle.iot_laptop.specs.declared.laptop.Laptop.{Laptop}
@@ -108,7 +109,9 @@ module _ {D : Type 0} (medium : Medium D) (old : Laptop D) where
       by (Down it) down up = not_both (sym up)
       by Between down up = not_both (sym up)
 
-  module _ (post : Post (Seated D) D) (called x y : List ℕ) (same : called ≡ old.name) (off : is_alive old ≡ false) where
+  module _ (post : Post (Seated D) D) (called x y : List ℕ) (same : called ≡ old.name) (off : is_alive old ≡ false) (on : Bool)
+      (came_back : Refines (PostStands (seating medium old.place) medium no_text) (ComesBack called no_text) old.post post x y on)
+      (is : is_on post ≡ on) (live : posts.live_of besides post ≡ (if on then Some None else None)) where
     abbrev mid : Laptop D
     mid = record old { post = post }
 
@@ -117,10 +120,11 @@ module _ {D : Type 0} (medium : Medium D) (old : Laptop D) where
 
     -- ---- it has stopped again
 
-    pub stops_again : Back false → is_on post ≡ false → (scripts : List Declared)
+    pub stops_if : on ≡ false → (scripts : List Declared)
         → Refines (ClientStands medium scripts) RestartsClient old mid x y tt
-    stops_again it on scripts = record {
+    stops_if none scripts = record {
       step = λ m here.
+          let it = subst Back none came_back in
           let down : FallenStands medium scripts old m = fallen_stands medium scripts old m off here in
           let s = it.step m.node down.node in (
             s.0,
@@ -158,16 +162,17 @@ module _ {D : Type 0} (medium : Medium D) (old : Laptop D) where
             fallen (record {
               name = down.name;
               link = down.link;
-              alive = on_is (seating medium old.place) medium no_text post s.1 s.4 ∙ on;
+              alive = on_is (seating medium old.place) medium no_text post s.1 s.4 ∙ is ∙ none;
               node = s.4;
               named = stop_is (AreNamed scripts) called m.node s.1 s.0 s.3 down.named;
             }),
           );
     }
 
-    pub came_again : Back false → (scripts : List Declared) (m : machine.Client) → ClientStands medium scripts old m
+    pub came_again_if : on ≡ false → (scripts : List Declared) (m : machine.Client) → ClientStands medium scripts old m
         → Came medium old x y m
-    came_again it scripts m here =
+    came_again_if none scripts m here =
+        let it = subst Back none came_back in
         let down : FallenStands medium scripts old m = fallen_stands medium scripts old m off here in
         let s = it.step m.node down.node in
         record {
@@ -182,33 +187,36 @@ module _ {D : Type 0} (medium : Medium D) (old : Laptop D) where
 
     -- ---- it is back
 
-    module _ (it : Back true) (on : is_on post ≡ true) (live : live_by post ≡ None) where
+    module _ (back_on : on ≡ true) where
+      started : Back true
+      started = subst Back back_on came_back
+
       returned : (scripts : List Declared) (m : machine.Client) (down : FallenStands medium scripts old m)
-          → ReturnedStands medium scripts mid (record m { node = (it.step m.node down.node).1 })
+          → ReturnedStands medium scripts mid (record m { node = (started.step m.node down.node).1 })
       returned scripts m down =
-          let s = it.step m.node down.node in
+          let s = started.step m.node down.node in
           record {
             name = down.name;
             link = down.link;
-            alive = on_is (seating medium old.place) medium no_text post s.1 s.4 ∙ on;
+            alive = on_is (seating medium old.place) medium no_text post s.1 s.4 ∙ is ∙ back_on;
             node = s.4;
-            live = live;
+            live = live_fresh post on live;
             named = back_is (AreNamed scripts) called m.node s.1 s.0 s.3 down.named;
           }
 
-      pub returned_some : StandsAnyhow medium old → Returned medium mid
-      returned_some stands =
+      pub returned_if : StandsAnyhow medium old → Returned medium mid
+      returned_if stands =
           let down = fallen_stands medium stands.scripts old stands.machine off stands.stands in
           record { scripts = stands.scripts; machine = _; stands = returned stands.scripts stands.machine down }
 
       module _ (new : Laptop D) (z : List ℕ)
           (cut : (scripts : List Declared)
           → StepsTo (ReturnedStands medium scripts) (ClientStands medium scripts) CutsOff mid new y z tt) where
-        pub comes_with : (scripts : List Declared) → Refines (ClientStands medium scripts) RestartsClient old new x z tt
-        comes_with scripts = record {
+        pub comes_if : (scripts : List Declared) → Refines (ClientStands medium scripts) RestartsClient old new x z tt
+        comes_if scripts = record {
           step = λ m here.
               let down : FallenStands medium scripts old m = fallen_stands medium scripts old m off here in
-              let s = it.step m.node down.node in
+              let s = started.step m.node down.node in
               let t = (cut scripts).step (record m { node = s.1 }) (returned scripts m down) in (
                 s.0 ++ t.0,
                 t.1,
@@ -246,55 +254,23 @@ module _ {D : Type 0} (medium : Medium D) (old : Laptop D) where
               );
         }
 
-        pub came_with : ((node : Node ClientState) → PostStands (seating medium old.place) medium no_text old.post node
-            → CameIf (seating medium old.place) medium true old.post called x y node)
+        pub came_if : ((node : Node ClientState) → PostStands (seating medium old.place) medium no_text old.post node
+            → CameIf (seating medium old.place) medium on old.post called x y node)
             → (scripts : List Declared) (m : machine.Client) → ClientStands medium scripts old m → Came medium old x z m
-        came_with came scripts m here =
+        came_if came scripts m here =
             let down : FallenStands medium scripts old m = fallen_stands medium scripts old m off here in
             let t = (cut scripts).step _ (returned scripts m down) in
             record {
               on = true;
               mid = y;
               rest = t.0;
-              came = subst (λ (n : List ℕ). CameIf (seating medium old.place) medium true old.post n x y m.node) same (came m.node
-                  down.node);
+              came =
+                  subst (λ (n : List ℕ). CameIf (seating medium old.place) medium true old.post n x y m.node) same
+                  (subst (λ (b : Bool). CameIf (seating medium old.place) medium b old.post called x y m.node) back_on
+                  (came m.node down.node));
               whole = t.2;
               stopped = λ never. absurd (not_both never);
             }
-
--- ---- by whether it is back
-
-module _ {D : Type 0} (medium : Medium D) (old : Laptop D) (post : Post (Seated D) D) (called x y : List ℕ) (same : called ≡ old.name)
-    (off : is_alive old ≡ false) (on : Bool)
-    (it : Refines (PostStands (seating medium old.place) medium no_text) (ComesBack called no_text) old.post post x y on)
-    (is : is_on post ≡ on) (live : posts.live_of besides post ≡ (if on then Some None else None)) where
-  abbrev BackIf : Bool → Type 0
-  BackIf b = Refines (PostStands (seating medium old.place) medium no_text) (ComesBack called no_text) old.post post x y b
-
-  pub stops_if : on ≡ false → (scripts : List Declared)
-      → Refines (ClientStands medium scripts) RestartsClient old (record old { post = post }) x y tt
-  stops_if none = stops_again medium old post called x y same off (subst BackIf none it) (is ∙ none)
-
-  pub came_again_if : on ≡ false → (scripts : List Declared) (m : machine.Client) → ClientStands medium scripts old m
-      → Came medium old x y m
-  came_again_if none = came_again medium old post called x y same off (subst BackIf none it)
-
-  pub returned_if : on ≡ true → StandsAnyhow medium old → Returned medium (record old { post = post })
-  returned_if yes_ = returned_some medium old post called x y same off (subst BackIf yes_ it) (is ∙ yes_) (live_fresh post on live)
-
-  module _ (back_on : on ≡ true) (new : Laptop D) (z : List ℕ)
-      (cut : (scripts : List Declared)
-      → StepsTo (ReturnedStands medium scripts) (ClientStands medium scripts) CutsOff (record old { post = post }) new y z tt) where
-    pub comes_if : (scripts : List Declared) → Refines (ClientStands medium scripts) RestartsClient old new x z tt
-    comes_if =
-        comes_with medium old post called x y same off (subst BackIf back_on it) (is ∙ back_on) (live_fresh post on live) new z cut
-
-    pub came_if : ((node : Node ClientState) → PostStands (seating medium old.place) medium no_text old.post node
-        → CameIf (seating medium old.place) medium on old.post called x y node)
-        → (scripts : List Declared) (m : machine.Client) → ClientStands medium scripts old m → Came medium old x z m
-    came_if came =
-        came_with medium old post called x y same off (subst BackIf back_on it) (is ∙ back_on) (live_fresh post on live) new z cut
-        (λ node here. subst (λ (b : Bool). CameIf (seating medium old.place) medium b old.post called x y node) back_on (came node here))
 
 -- what was cut off, unless memory ran out
 module _ {D : Type 0} (medium : Medium D) (mid new : Laptop D) (y z : List ℕ) (result : Result (Unit {0}) Halt) where
@@ -320,13 +296,10 @@ faults_then before between now (inl one) (inr two) = inr (subst (λ (n : ℕ). R
 faults_then before between now (inr one) (inl two) = inr (subst (λ (n : ℕ). Rose before n) (sym two) one)
 faults_then before between now (inr one) (inr two) = inr (rose_again before between now one two)
 
-one_disk : {D : Type 0} (one other : D) → Some one ≡ Some other → one ≡ other
-one_disk one other e = cc
-
 pub keeps_then : {D : Type 0} (medium : Medium D) (old between new : Option D) → KeepsDisk medium old between → KeepsDisk medium between new
     → KeepsDisk medium old new
 keeps_then medium old between new first second =
-    let same : first.now ≡ second.was = one_disk first.now second.was (sym first.new_has ∙ second.old_has) in
+    let same : first.now ≡ second.was = same_Some first.now second.was (sym first.new_has ∙ second.old_has) in
     record {
       was = first.was;
       now = second.now;
@@ -340,26 +313,22 @@ keeps_then medium old between new first second =
     }
 
 -- nothing was done
+keeps_node : {D : Type 0} (medium : Medium D) (place : ℕ) (post : Post (Seated D) D) (node : Node ClientState)
+    → PostStands (seating medium place) medium no_text post node → KeepsDisk medium (disk_by post) (disk_by post)
+keeps_node medium place (Up seated) node here =
+    record { was = _; now = _; old_has = refl; new_has = refl; arms = refl; faults = inl refl }
+keeps_node medium place (Down down) node here =
+    record { was = _; now = _; old_has = refl; new_has = refl; arms = refl; faults = inl refl }
+keeps_node medium place Between node here = absurd here
+
 pub keeps_any : {D : Type 0} (medium : Medium D) (old : Laptop D) → StandsAnyhow medium old → KeepsDisk medium (disk_by old.post)
     (disk_by old.post)
-keeps_any {D} medium old stands =
-    by old.post (node_stands medium stands.scripts old stands.machine stands.stands)
-  where
-    by : (post : Post (Seated D) D) → PostStands (seating medium old.place) medium no_text post stands.machine.node
-        → KeepsDisk medium (disk_by post) (disk_by post)
-    by (Up seated) here = record { was = _; now = _; old_has = refl; new_has = refl; arms = refl; faults = inl refl }
-    by (Down down) here = record { was = _; now = _; old_has = refl; new_has = refl; arms = refl; faults = inl refl }
-    by Between here = absurd here
+keeps_any medium old stands =
+    keeps_node medium old.place old.post stands.machine.node (node_stands medium stands.scripts old stands.machine stands.stands)
 
 pub keeps_back : {D : Type 0} (medium : Medium D) (laptop : Laptop D) → Returned medium laptop
     → KeepsDisk medium (disk_by laptop.post) (disk_by laptop.post)
-keeps_back {D} medium laptop stands = by laptop.post stands.stands.node
-  where
-    by : (post : Post (Seated D) D) → PostStands (seating medium laptop.place) medium no_text post stands.machine.node
-        → KeepsDisk medium (disk_by post) (disk_by post)
-    by (Up seated) here = record { was = _; now = _; old_has = refl; new_has = refl; arms = refl; faults = inl refl }
-    by (Down down) here = record { was = _; now = _; old_has = refl; new_has = refl; arms = refl; faults = inl refl }
-    by Between here = absurd here
+keeps_back medium laptop stands = keeps_node medium laptop.place laptop.post stands.machine.node stands.stands.node
 
 -- what is so unless memory ran out
 pub unless_by : (A : Type 0) {P : Type 0} (halt : Halt) → (halt ≡ Over → P) → UnlessNoMemory {A = A} (Err halt) P

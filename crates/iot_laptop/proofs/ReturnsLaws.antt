@@ -23,30 +23,27 @@ use Rattle.iot_machine.specs.Clients as clients
 use Rattle.iot_machine.specs.Clients.{Declared, ClientState, base, cut_by, cut}
 use Rattle.iot_machine.specs.Machine as machine
 use Rattle.iot_machine.specs.Nodes.{changed}
-use Rattle.iot_machine.specs.Stops.{Appends}
 use Rattle.iot_machine.specs.Texts.{cut_line, transaction_name}
-use Rattle.iot_node.specs.Posts.{PostStands, UpStands, Answered, StepsFrom}
+use Rattle.iot_node.specs.Posts.{PostStands, UpStands}
 use Rattle.iot_node.specs.Steps.{StepsTo}
 use Rattle.iot_node.specs.declared.halt.Halt.{Halt}
 use Rattle.iot_node.specs.declared.halt.Halt.TheVariants.{Over}
 use Rattle.iot_node.specs.declared.lines.Transaction as names
 use Rattle.iot_node.specs.declared.post.Post.{Post}
-use Rattle.iot_node.specs.declared.post.Post.TheVariants.{Up}
-use Rattle.iot_laptop.specs.Alone.{no_text, CutsOff, cuts_off}
-use Rattle.iot_laptop.specs.Calls.{ReturnedStands, running_name, appended}
+use Rattle.iot_machine.specs.Events.{no_text, CutsOff, cuts_off}
+use Rattle.iot_laptop.specs.Calls.{ReturnedStands, running_name}
 use Rattle.iot_laptop.specs.Kept.{ItemStands, ItemsStand, RunningKept, RunningKeptIfAny, StateKept}
 use Rattle.iot_laptop.specs.Laptops.{ClientStands, awake}
-use Rattle.iot_laptop.specs.Laptops.{StateStands, state_by}
-use Rattle.iot_laptop.specs.Laptops.{state_in, live_in, records_in}
+use Rattle.iot_laptop.specs.Laptops.{state_by}
+use Rattle.iot_laptop.specs.Laptops.{state_in, live_in}
 use Rattle.iot_laptop.specs.Messages.{name_of}
 use Rattle.iot_laptop.specs.Scripts.{AreNamed, ItemIsNamed, RunIsNamedIfAny}
 use Rattle.iot_laptop.specs.Seats.{seating}
 use Rattle.iot_laptop.specs.declared.laptop.Laptop.{Laptop}
 use Rattle.iot_laptop.specs.declared.seated.Seated.{Seated}
-use Rattle.iot_laptop.proofs.CallsLaws.{IsCall, GoesOn, Fits, each_ok}
-use Rattle.iot_laptop.proofs.CallsLaws.{on_ok, if_ok, answered, went_on, halted, was_stopped}
-use Rattle.iot_laptop.proofs.EventsLaws.{kept_up, state_idle}
-use Rattle.iot_laptop.proofs.KeptStatesLaws.{base_kept, kept_idle}
+use Rattle.iot_laptop.proofs.CallsLaws.{Called, Before, Fits, each_ok, if_ok, answer_is, goes_at, halts_at}
+use Rattle.iot_laptop.proofs.EventsLaws.{kept_up}
+use Rattle.iot_laptop.proofs.KeptStatesLaws.{KeptLive, base_kept, stands_with, idle_in, idle_live}
 use Rattle.iot_laptop.proofs.LaptopStepsLaws.{more_stand, all_named}
 use Rattle.iot_laptop.proofs.RecordsLaws.{fits_with}
 
@@ -79,14 +76,17 @@ module _ (s : State) (m : ClientState) (here : StateKept s m) where
       (sym (base_kept s m here))
       (cut_item (base m) running it is))
 
-  cut_stands : (first : Bool) → StateStands (after s Cut) None first (cut m)
-  cut_stands first = record {
-    held = here.held;
-    items = cut_items s.running m.running here.running;
-    running = refl;
-    last = here.last;
-    tree = here.tree;
-    spelled = here.spelled;
+  cut_live : (first : Bool) → KeptLive (after s Cut) None first (cut m)
+  cut_live first = record {
+    kept = record {
+      held = here.held;
+      items = cut_items s.running m.running here.running;
+      running = tt;
+      last = here.last;
+      tree = here.tree;
+      spelled = here.spelled;
+    };
+    runs = refl;
   }
 
 cut_by_named : (scripts : List Declared) (items : List clients.Item) (o : Option clients.Running)
@@ -125,11 +125,6 @@ module _ {D : Type 0} (medium : Medium D) (laptop : Laptop D) where
   none_found None none = refl
   none_found (Some running) none = absurd cc
 
-  none_runs : (t : Nodes) (r : Option Transaction) (o : Option clients.Running) → r ≡ None → RunningKeptIfAny t r o → o ≡ None
-  none_runs t None None none kept = refl
-  none_runs t None (Some it) none kept = absurd kept
-  none_runs t (Some running) o none kept = absurd cc
-
   kept_in : (scripts : List Declared) (m : machine.Client) → ReturnedStands medium scripts laptop m
       → StateKept (state_in laptop) m.node.durable
   kept_in scripts m here = kept_up medium laptop.place laptop.post m.node here.node here.alive
@@ -142,7 +137,7 @@ module _ {D : Type 0} (medium : Medium D) (laptop : Laptop D) where
         let none : (state_in laptop).running ≡ None = none_found (state_in laptop).running found in
         let kept = kept_in scripts m here in
         let idle : m.node.durable.running ≡ None =
-        none_runs (base m.node.durable) (state_in laptop).running m.node.durable.running none kept.running in (
+        idle_in (state_in laptop) m.node.durable none kept in (
           [],
           m,
           sym (append-nil x),
@@ -160,29 +155,30 @@ module _ {D : Type 0} (medium : Medium D) (laptop : Laptop D) where
             link = here.link;
             alive = here.alive;
             node = here.node;
-            state = state_idle (state_in laptop) (live_in laptop) m.first m.node.durable here.live none kept;
+            state =
+                stands_with (state_in laptop) (live_in laptop) m.first m.node.durable
+                (idle_live (state_in laptop) (live_in laptop) m.first m.node.durable here.live none kept);
             named = here.named;
           }),
         );
   }
 
-  module _ (was now : Client D) (count : ℕ) (answer : Result (Option ℕ) ClientFault) (new : Laptop D) (x y : List ℕ)
-      (result : Result (Option ℕ) Halt) (is : laptop.post ≡ Up (record { client = was })) (counted : count ≡ records_in laptop)
-      (call : IsCall medium was now answer) (goes : GoesOn medium laptop was now count answer new x y result)
+  module _ {was now : Client D} {answer : Result (Option ℕ) ClientFault} {new : Laptop D} {x y : List ℕ}
+      {result : Result (Option ℕ) Halt} (call : Called medium laptop was now answer new x y result)
       (transaction : names.Transaction) (found : running_name laptop (state_in laptop).running ≡ Some transaction)
       (cuts : IfOk answer (λ told. CutsIfAny (state_of was).running told was now)) (lives : OnOk answer (live_of now ≡ None))
       (stops : IsErrOf answer Stopped → client.CutsOff Cut (state_of was) (bodies_on medium was) (medium.may_leave (disk_of now))) where
     up_in : (scripts : List Declared) (m : machine.Client) → ReturnedStands medium scripts laptop m
         → UpStands (seating medium laptop.place) medium no_text (record { client = was }) m.node
     up_in scripts m here =
-        subst (λ (p : Post (Seated D) D). PostStands (seating medium laptop.place) medium no_text p m.node) is here.node
+        subst (λ (p : Post (Seated D) D). PostStands (seating medium laptop.place) medium no_text p m.node) call.is here.node
 
     some_runs : (r : Option Transaction) → running_name laptop r ≡ Some transaction → (running : Transaction) × (r ≡ Some running)
     some_runs None name = absurd cc
     some_runs (Some running) name = (running, refl)
 
     found_was : running_name laptop (state_of was).running ≡ Some transaction
-    found_was = subst (λ (p : Post (Seated D) D). running_name laptop (state_by p).running ≡ Some transaction) is found
+    found_was = subst (λ (p : Post (Seated D) D). running_name laptop (state_by p).running ≡ Some transaction) call.is found
 
     ran : Transaction
     ran = (some_runs (state_of was).running found_was).0
@@ -196,15 +192,16 @@ module _ {D : Type 0} (medium : Medium D) (laptop : Laptop D) where
         subst (λ (r : Option Transaction). CutsIfAny r told was now) ran_is
         (if_ok answer told (λ told. CutsIfAny (state_of was).running told was now) ok cuts)
 
+    before_cut : (scripts : List Declared) (m : machine.Client) → ReturnedStands medium scripts laptop m
+        → Before medium laptop was scripts m
+    before_cut scripts m here =
+        record { name = here.name; link = here.link; alive = here.alive; up = up_in scripts m here; named = here.named }
+
     cut_fits : (scripts : List Declared) (m : machine.Client) → ReturnedStands medium scripts laptop m
-        → Fits medium laptop was now count answer new x y result scripts m cut m.first
+        → Fits medium was now answer scripts (cut m.node.durable) m.first
     cut_fits scripts m here =
-        let kept = (up_in scripts m here).stands.kept in
-        fits_with medium laptop was now count answer new x y result is counted call goes scripts m cut m.first Cut None
-        (each_ok answer (λ told ok. (cut_so told ok).1)) lives stops
-        (λ follows. cut_stands (state_of was) m.node.durable kept m.first)
-        (λ follows. kept_idle (after (state_of was) Cut) m.first (cut m.node.durable) (cut_stands (state_of was) m.node.durable
-        kept m.first))
+        fits_with call scripts (cut m.node.durable) m.first Cut None (each_ok answer (λ told ok. (cut_so told ok).1)) lives stops
+        (λ follows. cut_live (state_of was) m.node.durable (up_in scripts m here).stands.kept m.first)
         (cut_named scripts m.node.durable here.named)
 
     found_in : (scripts : List Declared) (m : machine.Client) → ReturnedStands medium scripts laptop m
@@ -214,21 +211,14 @@ module _ {D : Type 0} (medium : Medium D) (laptop : Laptop D) where
         (up_in scripts m here).stands.kept.running
 
     -- what was found waits now, which is said
-    pub cuts_off_now : (acts : ℕ) → result ≡ Ok (Some acts) → answer ≡ Ok (Some acts) → (z : List ℕ)
+    pub cuts_off_now : (acts : ℕ) → result ≡ Ok (Some acts) → (z : List ℕ)
         → z ≡ y ++ cut_line (name_of transaction) acts → (scripts : List Declared)
         → StepsTo (ReturnedStands medium scripts) (ClientStands medium scripts) CutsOff laptop new x z tt
-    cuts_off_now acts same ok z wrote scripts = record {
+    cuts_off_now acts same z wrote scripts = record {
       step = λ m here.
           let it = found_in scripts m here in
-          let steps = answered medium laptop was now count answer new x y result is counted call goes scripts m cut m.first
-          (up_in scripts m here) (cut_fits scripts m here) in
-          let on = subst (λ (r : Result (Option ℕ) Halt). Answered
-          (StepsFrom (PostStands (seating medium laptop.place) medium no_text) (Appends laptop.name cut) m.node new.post x y)
-          (appended answer) r) same steps in
-          let went = went_on medium laptop was now count answer new x y result is counted call goes (Some acts) on.0
-          (on_ok result (Some acts) same goes.same) scripts m cut m.first here.name here.link here.alive (cut_fits scripts m
-          here) on.1 in
-          let many : acts ≡ it.it.acts = same_Some _ _ ((cut_so (Some acts) ok).0) ∙ it.acts in
+          let went = goes_at call scripts m cut m.first (before_cut scripts m here) (cut_fits scripts m here) (Some acts) same in
+          let many : acts ≡ it.it.acts = same_Some _ _ ((cut_so (Some acts) (answer_is call (Some acts) same)).0) ∙ it.acts in
           let text = cut_line (transaction_name m.name it.it.number) it.it.acts in (
             text,
             record m { node = changed cut m.node },
@@ -264,14 +254,7 @@ module _ {D : Type 0} (medium : Medium D) (laptop : Laptop D) where
     cut_halts same scripts = record {
       step = λ m here.
           let it = found_in scripts m here in
-          let steps = answered medium laptop was now count answer new x y result is counted call goes scripts m cut m.first
-          (up_in scripts m here) (cut_fits scripts m here) in
-          let off = subst (λ (r : Result (Option ℕ) Halt). Answered
-          (StepsFrom (PostStands (seating medium laptop.place) medium no_text) (Appends laptop.name cut) m.node new.post x y)
-          (appended answer) r) same steps in
-          let h = halted medium laptop was now count answer new x y result is counted call goes scripts m cut m.first here.name here.link
-          here.named (was_stopped answer (goes.stopped (subst (λ (r : Result (Option ℕ) Halt). IsErrOf r Over) (sym same) refl)))
-          (cut_fits scripts m here) off in (
+          let h = halts_at call scripts m cut m.first (before_cut scripts m here) (cut_fits scripts m here) same in (
             h.text,
             record m { node = h.node },
             h.wrote,

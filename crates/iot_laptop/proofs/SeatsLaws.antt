@@ -33,7 +33,7 @@ same_images images bytes count m decodes is = record {
   };
 }
 
-same_counts : (one other : Counts) → one.faults ≡ other.faults → one.arms ≡ other.arms → one ≡ other
+pub same_counts : (one other : Counts) → one.faults ≡ other.faults → one.arms ≡ other.arms → one ≡ other
 same_counts one other faults arms = λ i. record { faults = faults i; arms = arms i }
 
 module _ {D : Type 0} (medium : Medium D) where

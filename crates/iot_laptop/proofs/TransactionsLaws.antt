@@ -29,40 +29,29 @@ use Rattle.iot_client.specs.declared.noted.Noted.TheVariants as noteds
 use Rattle.iot_disk.specs.Disk.{Medium}
 use Rattle.iot_machine.specs.Clients as clients
 use Rattle.iot_machine.specs.Clients.{Declared, ClientState, Plan, base, act_once, leave, reach, at_stage, resolution_of, next_step}
-use Rattle.iot_machine.specs.Machine as machine
 use Rattle.iot_machine.specs.Serving as serving
 use Rattle.iot_machine.specs.Texts.{transaction_name, acts_output}
 use Rattle.iot_node.specs.declared.halt.Halt.{Halt}
 use Rattle.iot_node.specs.declared.post.Post.{Post}
-use Rattle.iot_node.specs.declared.post.Post.TheVariants.{Up}
 use Rattle.iot_laptop.specs.Alone.{NotesAlone}
 use Rattle.iot_laptop.specs.Calls as calls
 use Rattle.iot_laptop.specs.Calls.{done, EndsAlone, Changes, Plans, Steps, NextIs}
 use Rattle.iot_laptop.specs.Calls.{IsNext, next_as, IsOver, IsDoneIn, IsEndOf, IsGone, waits_after}
 use Rattle.iot_laptop.specs.Calls.{Settles, head_option, head_reads}
-use Rattle.iot_laptop.specs.Kept.{StateKept}
-use Rattle.iot_laptop.specs.Laptops.{LaptopStands, StateStands, state_by, live_by}
-use Rattle.iot_laptop.specs.Laptops.{state_in, live_in, records_in, waits_of}
+use Rattle.iot_laptop.specs.Laptops.{state_by, live_by}
+use Rattle.iot_laptop.specs.Laptops.{state_in, live_in, waits_of}
 use Rattle.iot_laptop.specs.Messages.{name_of, SpellsTree, SpellsVerdict, told_change}
-use Rattle.iot_laptop.specs.Scripts.{AreNamed}
 use Rattle.iot_laptop.specs.declared.laptop.Laptop.{Laptop}
 use Rattle.iot_laptop.specs.declared.needs.Gone.{Gone}
 use Rattle.iot_laptop.specs.declared.seated.Seated.{Seated}
 use Rattle.iot_laptop.proofs.BroughtLaws.{brought_tree}
-use Rattle.iot_laptop.proofs.CallsLaws.{IsCall, GoesOn, Fits, each_ok, on_ok, if_ok, notes_alone}
-use Rattle.iot_laptop.proofs.KeptStatesLaws.{kept_ended, few_kept, kept_left, kept_changed}
-use Rattle.iot_laptop.proofs.LaptopsLaws.{Running, running_is, so_far_is, may_end_is, over_waits}
-use Rattle.iot_laptop.proofs.LaptopStepsLaws.{StaysIn, ended_stands, left_stands}
-use Rattle.iot_laptop.proofs.LaptopStepsLaws.{conflicted_stands, given_up_stands}
-use Rattle.iot_laptop.proofs.LaptopStepsLaws.{end_named, leave_named, reach_named, joined_waits}
+use Rattle.iot_laptop.proofs.CallsLaws.{Called, each_ok, on_ok, if_ok, notes_alone}
+use Rattle.iot_laptop.proofs.KeptStatesLaws.{KeptLive, ended_live, left_live, conflicted_live, given_up_live}
+use Rattle.iot_laptop.proofs.LaptopsLaws.{Running, running_is, so_far_is, may_end_is}
+use Rattle.iot_laptop.proofs.LaptopStepsLaws.{KeepsNamed, end_named, leave_named, reach_named, joined_waits}
 use Rattle.iot_laptop.proofs.NodesLaws.{own_in}
-use Rattle.iot_laptop.proofs.RecordsLaws.{carried, state_was, kept_was, fits_with}
-use Rattle.iot_laptop.proofs.ResolutionLaws.{resolved_stands}
-
-not_stopped : {T : Type 0} (answer : Result T ClientFault) (t : T) → answer ≡ Ok t → IsErrOf answer Stopped → ⊥
-not_stopped answer t is stopped =
-    let bad : IsErrOf (Ok t) Stopped = subst (λ (r : Result _ ClientFault). IsErrOf r Stopped) is stopped in
-    cc
+use Rattle.iot_laptop.proofs.RecordsLaws.{carried, known_was, alone}
+use Rattle.iot_laptop.proofs.ResolutionLaws.{resolved_live}
 
 -- ---- what is said of the first that waits
 
@@ -89,82 +78,41 @@ record_as : (told : serving.Verdict) → verdict_change (noted_as told) ≡ told
 record_as (serving.Settled number) = refl
 record_as (serving.Conflict read question) = refl
 
-module _ {D T : Type 0} (medium : Medium D) (laptop : Laptop D) (was now : Client D) (count : ℕ)
-    (answer : Result T ClientFault) (new : Laptop D) (x y : List ℕ) (result : Result T Halt)
-    (is : laptop.post ≡ Up (record { client = was })) (counted : count ≡ records_in laptop) (call : IsCall medium was now answer)
-    (goes : GoesOn medium laptop was now count answer new x y result) where
+-- what becomes of it then, by its option
+told_named : (scripts : List Declared) (told : serving.Verdict) (option : OnConflictNamed) → KeepsNamed scripts (told_change told option)
+told_named scripts (serving.Settled number) option = leave_named scripts
+told_named scripts (serving.Conflict read question) on.Reexec = reach_named scripts clients.Conflict
+told_named scripts (serving.Conflict read question) (on.Resolver name) = reach_named scripts clients.Conflict
+told_named scripts (serving.Conflict read question) on.Abort = leave_named scripts
+told_named scripts (serving.Conflict read question) on.Manual = reach_named scripts clients.Manual
+
+module _ (s : State) (live : Option Live) (class : Bool) (m : ClientState) (here : KeptLive s live class m) where
+  told_live : (told : serving.Verdict) (option : OnConflictNamed) → head_option s.items ≡ Some option → CanFollow s (told_record told)
+      → KeptLive (after s (told_record told)) live class (told_change told option m)
+  told_live (serving.Settled number) option first can = left_live s live class m here can
+  told_live (serving.Conflict read question) on.Reexec first can = conflicted_live s live class m here on.Reexec clients.Conflict first refl
+  told_live (serving.Conflict read question) (on.Resolver name) first can =
+      conflicted_live s live class m here (on.Resolver name) clients.Conflict first refl
+  told_live (serving.Conflict read question) on.Abort first can = given_up_live s live class m here first
+  told_live (serving.Conflict read question) on.Manual first can = conflicted_live s live class m here on.Manual clients.Manual first refl
+
+module _ {D T : Type 0} {medium : Medium D} {laptop : Laptop D} {was now : Client D} {answer : Result T ClientFault} {new : Laptop D}
+    {x y : List ℕ} {result : Result T Halt} (call : Called medium laptop was now answer new x y result) where
   abbrev s : State
   s = state_of was
-
-  abbrev cuts : Change → Type 0
-  cuts change = CutsOff change s (bodies_on medium was) (medium.may_leave (disk_of now))
-
-  abbrev fits : List Declared → machine.Client → (ClientState → ClientState) → Bool → Type 0
-  fits scripts m change first = Fits medium laptop was now count answer new x y result scripts m change first
-
-  alone : (scripts : List Declared) (change : ClientState → ClientState)
-      → ((m : machine.Client) → LaptopStands medium scripts laptop m → fits scripts m change m.first)
-      → EndsAlone medium scripts (NotesAlone change) laptop new x y (done result)
-  alone = notes_alone medium laptop was now count answer new x y result is counted call goes
-
-  module _ (scripts : List Declared) (m : machine.Client) (here : LaptopStands medium scripts laptop m) where
-    stands_then : StateStands s (live_of was) m.first m.node.durable
-    stands_then = state_was medium laptop was now count answer new x y result is counted call goes scripts m here
-
-    kept_then : StateKept s m.node.durable
-    kept_then = kept_was medium laptop was now count answer new x y result is counted call goes scripts m here
-
-    with_one : (other : ClientState → ClientState) (change : Change) → OnOk answer (Notes change was now)
-        → OnOk answer (live_of now ≡ live_of was) → (IsErrOf answer Stopped → cuts change)
-        → (CanFollow s change → StateStands (after s change) (live_of was) m.first (other m.node.durable))
-        → (CanFollow s change → StateKept (after s change) (other m.node.durable)) → AreNamed scripts (other m.node.durable)
-        → fits scripts m other m.first
-    with_one other change =
-        fits_with medium laptop was now count answer new x y result is counted call goes scripts m other m.first change (live_of was)
-
-    -- ---- verdicts
-
-    reached_fits : (option : OnConflictNamed) (other : clients.Stage) → head_option s.items ≡ Some option → StaysIn option other
-        → OnOk answer (Notes Conflicted was now) → OnOk answer (live_of now ≡ live_of was) → (IsErrOf answer Stopped → cuts Conflicted)
-        → fits scripts m (reach other) m.first
-    reached_fits option other first stays notes lives stops =
-        let stands = conflicted_stands s (live_of was) m.first m.node.durable stands_then option other first stays in
-        with_one (reach other) Conflicted notes lives stops (λ follows. stands)
-        (λ follows.
-        kept_changed s m.node.durable Conflicted tt (live_of was) m.first (at_stage other) (λ t item. refl) stands kept_then)
-        (reach_named scripts other m.node.durable here.named)
-
-    told_fits : (told : serving.Verdict) (option : OnConflictNamed) → head_option s.items ≡ Some option
-        → OnOk answer (Notes (told_record told) was now) → OnOk answer (live_of now ≡ live_of was)
-        → (IsErrOf answer Stopped → cuts (told_record told)) → fits scripts m (told_change told option) m.first
-    told_fits (serving.Settled number) option first notes lives stops =
-        with_one leave Left notes lives stops (left_stands s (live_of was) m.first m.node.durable stands_then)
-        (λ follows.
-        kept_left s m.node.durable Left tt (live_of was) m.first
-        (left_stands s (live_of was) m.first m.node.durable stands_then follows) kept_then)
-        (leave_named scripts m.node.durable here.named)
-    told_fits (serving.Conflict read question) on.Reexec first notes lives stops =
-        reached_fits on.Reexec clients.Conflict first refl notes lives stops
-    told_fits (serving.Conflict read question) (on.Resolver name) first notes lives stops =
-        reached_fits (on.Resolver name) clients.Conflict first refl notes lives stops
-    told_fits (serving.Conflict read question) on.Abort first notes lives stops =
-        let stands = given_up_stands s (live_of was) m.first m.node.durable stands_then first in
-        with_one leave Conflicted notes lives stops (λ follows. stands)
-        (λ follows. kept_left s m.node.durable Conflicted tt (live_of was) m.first stands kept_then)
-        (leave_named scripts m.node.durable here.named)
-    told_fits (serving.Conflict read question) on.Manual first notes lives stops =
-        reached_fits on.Manual clients.Manual first refl notes lives stops
 
   -- what is said of the first that waits, by its option
   pub settles : (noted : T → NotedIn) (reply : List ℕ) → ReadsNoted reply → IfOk answer (λ t. noted_in reply ≡ Ok (noted t))
       → IfOk answer (λ t. Notes (verdict_change (noted t)) was now) → OnOk answer (live_of now ≡ live_of was)
       → (IsErrOf answer Stopped → CutsOffByVerdict reply s (bodies_on medium was) (medium.may_leave (disk_of now)))
-      → Settles medium reply laptop new x y (done result)
-  settles noted reply only reads notes lives stops told option spells first scripts =
+      → (r : Result T Halt) → result ≡ r → Settles medium reply laptop new x y (done r)
+  settles noted reply only reads notes lives stops r same told option spells first scripts =
       let spelled : SpellsVerdict (head_reads s.items) reply told =
-      subst (λ (p : Post (Seated D) D). SpellsVerdict (head_reads (state_by p).items) reply told) is spells in
-      alone scripts (told_change told option) (λ m here.
-      told_fits scripts m here told option (subst (λ (p : Post (Seated D) D). head_option (state_by p).items ≡ Some option) is first)
+      subst (λ (p : Post (Seated D) D). SpellsVerdict (head_reads (state_by p).items) reply told) call.is spells in
+      let is_first : head_option s.items ≡ Some option =
+      subst (λ (p : Post (Seated D) D). head_option (state_by p).items ≡ Some option) call.is first in
+      subst (λ (r : Result T Halt). EndsAlone medium scripts (NotesAlone (told_change told option)) laptop new x y (done r)) same
+      (alone call scripts (told_change told option) (told_record told) (live_of was)
       (each_ok answer (λ t ok.
       subst (λ (change : Change). Notes change was now)
       (ap verdict_change
@@ -174,8 +122,9 @@ module _ {D T : Type 0} (medium : Medium D) (laptop : Laptop D) (was now : Clien
       lives
       (λ stopped.
       let cut = stops stopped in
-      subst (λ (change : Change). cuts change)
-      (ap verdict_change (said_as (head_reads s.items) reply told cut.said spelled only cut.noted) ∙ record_as told) cut.cuts_off))
+      subst (λ (change : Change). CutsOff change s (bodies_on medium was) (medium.may_leave (disk_of now)))
+      (ap verdict_change (said_as (head_reads s.items) reply told cut.said spelled only cut.noted) ∙ record_as told) cut.cuts_off)
+      (λ m here. told_live s (live_of was) m.first m.node.durable here told option is_first) (told_named scripts told option))
 
   -- ---- a resolution
 
@@ -186,7 +135,8 @@ module _ {D T : Type 0} (medium : Medium D) (laptop : Laptop D) (was now : Clien
       → plan.script.code ≡ code → calls.Resolves medium scripts plan t laptop new x y (done result)
   resolves reply code script only ran lives stops t spells scripts plan plans same =
       let stage : clients.Stage = clients.Resolved (resolution_of plan t) in
-      alone scripts (reach stage) (λ m here.
+      notes_alone call scripts (reach stage) (λ m here.
+      let known = known_was call scripts m here in
       record {
         place = each_ok answer (λ u ok. (on_ok answer u ok ran).reruns.notes.place);
         records = each_ok answer (λ u ok. (on_ok answer u ok ran).reruns.notes.records);
@@ -196,15 +146,10 @@ module _ {D T : Type 0} (medium : Medium D) (laptop : Laptop D) (was now : Clien
             subst (λ (tree : Nodes). Reruns code tree was now) (brought_tree reply it.tree t only (only it.tree it.spelled) spells)
             it.reruns
             in
-            record {
-              stands =
-                  carried (after s (Resolved reruns.done)) (state_of now) (live_of was) (live_of now) m.first
-                  (reach stage m.node.durable) reruns.notes.state (on_ok answer u ok lives)
-                  (resolved_stands s (live_of was) m.first m.node.durable (stands_then scripts m here) plan (plans m here) code
-                  same script t
-                  spells.value.tree reruns.done reruns.run);
-              named = reach_named scripts stage m.node.durable here.named;
-            });
+            carried (after s (Resolved reruns.done)) (state_of now) (live_of was) (live_of now) m.first (reach stage m.node.durable)
+            reruns.notes.state (on_ok answer u ok lives)
+            (resolved_live s (live_of was) m.first m.node.durable known plan (plans m here) code same script t spells.value.tree
+            reruns.done reruns.run));
         cut = λ stopped.
             let it = stops stopped in
             let rerun : CutsOffRerun code t s (bodies_on medium was) (medium.may_leave (disk_of now)) =
@@ -212,77 +157,48 @@ module _ {D T : Type 0} (medium : Medium D) (laptop : Laptop D) (was now : Clien
             (brought_tree reply it.tree t only (only it.tree it.spelled) spells) it.reruns in (
               Resolved rerun.done,
               rerun.cuts_off,
-              record {
-                kept =
-                    kept_changed s m.node.durable (Resolved rerun.done) tt (live_of was) m.first (at_stage stage) (λ u item. refl)
-                    (resolved_stands s (live_of was) m.first m.node.durable (stands_then scripts m here) plan (plans m here) code same
-                    script t spells.value.tree rerun.done rerun.run)
-                    (kept_then scripts m here);
-                named = reach_named scripts stage m.node.durable here.named;
-              },
+              (resolved_live s (live_of was) m.first m.node.durable known plan (plans m here) code same script t spells.value.tree
+                  rerun.done rerun.run).kept,
             );
+        named = reach_named scripts stage m.node.durable here.named;
       })
 
   -- ---- the end
 
-  module _ (may : may_end (state_in laptop) (live_in laptop) ≡ true) where
-    may_was : may_end s (live_of was) ≡ true
-    may_was = subst (λ (p : Post (Seated D) D). may_end (state_by p) (live_by p) ≡ true) is may
+  pub ends : may_end (state_in laptop) (live_in laptop) ≡ true → OnOk answer (Notes Ended was now) → OnOk answer (live_of now ≡ None)
+      → (IsErrOf answer Stopped → CutsOff Ended s (bodies_on medium was) (medium.may_leave (disk_of now)))
+      → (r : Result T Halt) → result ≡ r → Changes medium clients.end laptop new x y (done r)
+  ends may notes lives stops r same scripts =
+      let may_was : may_end s (live_of was) ≡ true =
+      subst (λ (p : Post (Seated D) D). may_end (state_by p) (live_by p) ≡ true) call.is may in
+      subst (λ (r : Result T Halt). EndsAlone medium scripts (NotesAlone clients.end) laptop new x y (done r)) same
+      (alone call scripts clients.end Ended None notes lives stops
+      (λ m here follows. ended_live s (live_of was) m.first m.node.durable here may_was) (end_named scripts))
 
-    pub ends : (ended : T → client.Ended) → OnOk answer (Notes Ended was now)
-        → IfOk answer (λ t. EndsIfAny s s.running (live_of was) (ended t)) → OnOk answer (live_of now ≡ None)
-        → (IsErrOf answer Stopped → cuts Ended) → Changes medium clients.end laptop new x y (done result)
-    ends ended notes over lives stops scripts =
-        alone scripts clients.end (λ m here.
-        record {
-          place = each_ok answer (λ t ok. (on_ok answer t ok notes).place);
-          records = each_ok answer (λ t ok. (on_ok answer t ok notes).records);
-          ok = each_ok answer (λ t ok. record {
-            stands =
-                carried (after s Ended) (state_of now) None (live_of now) m.first (clients.end m.node.durable)
-                (on_ok answer t ok notes).state (on_ok answer t ok lives)
-                (ended_stands s (live_of was) m.first m.node.durable (stands_then scripts m here) (ended t)
-                (if_ok answer t (λ u. EndsIfAny s s.running (live_of was) (ended u)) ok over));
-            named = end_named scripts m.node.durable here.named;
-          });
-          cut = λ stopped. (
-            Ended,
-            stops stopped,
-            record {
-              kept =
-                  kept_ended s m.node.durable (kept_then scripts m here)
-                  (λ running runs.
-                  over_waits s (live_of was) m.first m.node.durable (stands_then scripts m here) running runs may_was
-                  (few_kept s m.node.durable (kept_then scripts m here) running runs));
-              named = end_named scripts m.node.durable here.named;
-            },
-          );
-        })
-
-    -- what is told of it
-    pub is_gone : (ended : client.Ended) (gone : Gone) → gone.printed.transaction ≡ record { client = laptop.name; number = ended.tid }
-        → gone.first ≡ ended.first → gone.printed.output ≡ acts_output (acts_of (state_in laptop).running)
-        → EndsIfAny s s.running (live_of was) ended → IsGone medium laptop gone
-    is_gone ended gone named class printed over scripts m it here runs =
-        let stands = here.state in
-        let known : Running (state_in laptop).running (live_in laptop) m.first it =
-        running_is (state_in laptop) (live_in laptop) m.first m.node.durable stands it runs in
-        let those : EndsIfAny (state_in laptop) (state_in laptop).running (live_in laptop) ended =
-        subst (λ (p : Post (Seated D) D). EndsIfAny (state_by p) (state_by p).running (live_by p) ended) (sym is) over in
-        let its : Ends (state_in laptop) known.own known.besides ended =
-        subst (λ (l : Option Live). EndsIfAny (state_in laptop) (Some known.own) l ended) known.lives
-        (subst (λ r. EndsIfAny (state_in laptop) r (live_in laptop) ended) known.is those) in
-        record {
-          name =
-              ap name_of named ∙ ap (λ (name : List ℕ). transaction_name name ended.tid) here.name
-              ∙ ap (transaction_name m.name) (its.number ∙ known.stands.number);
-          class = class ∙ its.class ∙ known.stands.class;
-          did =
-              printed
-              ∙ ap acts_output
-              (sym (subst (IsOwnRunIfAny (state_in laptop)) known.lives (own_in medium scripts laptop m here)).acts
-              ∙ ap (λ (ran : Ran). ran.acts) (so_far_is (state_in laptop) (live_in laptop) m.first m.node.durable stands it runs));
-        }
+  -- what is told of it
+  pub is_gone : (ended : client.Ended) (gone : Gone) → gone.printed.transaction ≡ record { client = laptop.name; number = ended.tid }
+      → gone.first ≡ ended.first → gone.printed.output ≡ acts_output (acts_of (state_in laptop).running)
+      → EndsIfAny s s.running (live_of was) ended → IsGone medium laptop gone
+  is_gone ended gone named class printed over scripts m it here runs =
+      let stands = here.state in
+      let known : Running (state_in laptop).running (live_in laptop) m.first it =
+      running_is (state_in laptop) (live_in laptop) m.first m.node.durable stands it runs in
+      let those : EndsIfAny (state_in laptop) (state_in laptop).running (live_in laptop) ended =
+      subst (λ (p : Post (Seated D) D). EndsIfAny (state_by p) (state_by p).running (live_by p) ended) (sym call.is) over in
+      let its : Ends (state_in laptop) known.own known.besides ended =
+      subst (λ (l : Option Live). EndsIfAny (state_in laptop) (Some known.own) l ended) known.lives
+      (subst (λ r. EndsIfAny (state_in laptop) r (live_in laptop) ended) known.is those) in
+      record {
+        name =
+            ap name_of named ∙ ap (λ (name : List ℕ). transaction_name name ended.tid) here.name
+            ∙ ap (transaction_name m.name) (its.number ∙ known.stands.number);
+        class = class ∙ its.class ∙ known.stands.class;
+        did =
+            printed
+            ∙ ap acts_output
+            (sym (subst (IsOwnRunIfAny (state_in laptop)) known.lives (own_in medium scripts laptop m here)).acts
+            ∙ ap (λ (ran : Ran). ran.acts) (so_far_is (state_in laptop) (live_in laptop) m.first m.node.durable stands it runs));
+      }
 
 -- it has done all that its transaction may do
 pub is_done : {D : Type 0} (medium : Medium D) (laptop : Laptop D) → may_end (state_in laptop) (live_in laptop) ≡ true

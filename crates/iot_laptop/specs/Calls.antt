@@ -1,5 +1,6 @@
 -- What the calls of a laptop answer, and what they make of the client of the machine.
 use Rattle.std.specs.Prelude.{◌≡◌, ℕ, Bool, true, false, List, [], ◌∷◌, ◌++◌, Option, Some, None, Result, Ok, Err, codes}
+use Rattle.std.specs.Prelude.{IfOk, OnOk, IsErrOf}
 use Rattle.iot_acts.specs.Turns.{reads_of}
 use Rattle.iot_tree.specs.Tree.{Nodes}
 use Rattle.iot_tree.specs.declared.acts.Act.{Act}
@@ -19,6 +20,7 @@ use Rattle.iot_resolve.specs.declared.plan.Plan as plans
 use Rattle.iot_kept.specs.Changes.{IsSubmitted}
 use Rattle.iot_kept.specs.States.{Transaction}
 use Rattle.iot_client.specs.Messages.{IsRefresh, IsWholeRequest, label_of, resolved_label}
+use Rattle.iot_client.specs.Ties.{records_of}
 use Rattle.iot_client.specs.declared.fault.ClientFault.{ClientFault}
 use Rattle.iot_client.specs.declared.fault.ClientFault.TheVariants as faults
 use Rattle.iot_client.specs.declared.steps.Step.{Step}
@@ -33,12 +35,18 @@ use Rattle.iot_machine.specs.Machine as machine
 use Rattle.iot_machine.specs.Options as options
 use Rattle.iot_machine.specs.Serving as serving
 use Rattle.iot_machine.specs.Texts.{transaction_name, acts_output, stopped_line}
-use Rattle.iot_node.specs.Posts.{CameIf}
+use Rattle.iot_machine.specs.Events.{no_text}
+use Rattle.iot_machine.specs.Nodes.{Node}
+use Rattle.iot_machine.specs.Stops.{Appends}
+use Rattle.iot_node.specs.Keeping.{Appended}
+use Rattle.iot_node.specs.Posts.{CameIf, Answered, StepsFrom, PostStands, UpStands}
+use Rattle.iot_node.specs.declared.post.Post.TheVariants.{Up}
 use Rattle.iot_node.specs.Steps.{Ends}
 use Rattle.iot_node.specs.declared.halt.Halt.{Halt}
 use Rattle.iot_node.specs.declared.halt.Halt.TheVariants.{NoMemory, Over}
 use Rattle.iot_node.specs.declared.lines.Transaction as names
-use Rattle.iot_laptop.specs.Alone.{Try, NotesAlone, StartsAlone}
+use Rattle.iot_machine.specs.Calls.{Try}
+use Rattle.iot_laptop.specs.Alone.{NotesAlone, StartsAlone}
 use Rattle.iot_laptop.specs.Laptops.{LaptopStands, ClientStands, NodeStands, state_in, live_in, waits_of, IsFirst}
 use Rattle.iot_laptop.specs.Messages.{name_of, SpellsVerdict, verdict_of, told_change}
 use Rattle.iot_laptop.specs.Scripts.{IsNamed, HasNamed, AreNamed, option_named}
@@ -50,6 +58,7 @@ use Rattle.iot_laptop.specs.declared.needs.Need.TheVariants as needs
 use Rattle.iot_laptop.specs.declared.needs.Submitted.{Submitted}
 use Rattle.iot_laptop.specs.declared.needs.Undecided.{Undecided}
 use Rattle.iot_laptop.specs.declared.needs.Undecided.TheVariants.{Nothing, NotManual}
+use Rattle.iot_laptop.specs.declared.seated.Seated.{Seated}
 use Rattle.iot_laptop.specs.declared.verdict.Told.{Told}
 
 -- ---- a record
@@ -62,6 +71,21 @@ of_client other = append.NoMemory
 abbrev pub appended : {T : Type 0} → Result T ClientFault → Result T JournalFault
 appended (Ok t) = Ok t
 appended (Err fault) = Err (of_client fault)
+
+-- What became of a laptop after a call of its client that was to append a record behind so many others. It goes on as that call left it;
+-- or its disk failed in the call, and it has stopped.
+pub record GoesOn {D T : Type 0} (medium : Medium D) (old new : Laptop D) (count : ℕ) (answer : Result T ClientFault) (x y : List ℕ)
+    (result : Result T Halt) : Type 0 where
+  pub step : (was now : Seated D) (change : ClientState → ClientState) (node : Node ClientState) → old.post ≡ Up now
+      → UpStands (seating medium old.place) medium no_text was node
+      → Appended (seating medium old.place) medium change node.durable was now (appended answer) → count ≡ records_of was.client
+      → Answered (StepsFrom (PostStands (seating medium old.place) medium no_text) (Appends old.name change) node new.post x y)
+      (appended answer) result
+  pub answers : IfOk result (λ t. appended answer ≡ Ok t)
+  pub same : OnOk result (new ≡ old)
+  pub silent : OnOk result (y ≡ x)
+  pub stopped : IsErrOf result Over → appended answer ≡ Err append.Stopped
+  pub rest : new ≡ record old { post = new.post }
 
 -- that it was done, or why not
 abbrev pub done : {T : Type 0} → Result T Halt → Result (Unit {0}) Halt

@@ -22,7 +22,8 @@ use Rattle.iot_node.specs.Disks.{IsEmpty}
 use Rattle.iot_node.specs.Posts.{is_on, disk_of, PostStands}
 use Rattle.iot_node.specs.declared.post.Post.{Post}
 use Rattle.iot_node.specs.declared.post.Post.TheVariants.{Up, Down, Between}
-use Rattle.iot_laptop.specs.Alone.{no_text, break, cut_off}
+use Rattle.iot_machine.specs.Events.{no_text}
+use Rattle.iot_machine.specs.Machine.{break, cut_off}
 use Rattle.iot_laptop.specs.Kept.{ItemsStand}
 pub use Rattle.iot_laptop.specs.Kept.{ResolutionStands, StageStands, ItemStands, ItemsStand, RunningKept, RunningKeptIfAny, StateKept}
 use Rattle.iot_laptop.specs.Scripts.{AreNamed, option_named}

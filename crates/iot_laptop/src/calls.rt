@@ -1,46 +1,35 @@
 //! The calls of a client that append a record. It is alive before each; if its disk fails in one, it has stopped.
-ghost use Rattle.std.specs.Prelude.{◌≡◌, ◌≤◌, List, true, [], None, Some, Ok, Err, IfOk, IfErr, OnOk, IsErrOf, is_some};
+ghost use Rattle.std.specs.Prelude.{◌≡◌, ◌≤◌, List, true, [], None, Some, IfOk, IfErr, is_some};
 ghost use Rattle.iot_client.specs.Calls.{may_end};
 ghost use Rattle.iot_client.specs.Faults.{MayFail};
-ghost use Rattle.iot_client.specs.Ties.{records_of};
 ghost use Rattle.iot_kept.specs.Changes.{HeadIs, IsSubmitted, IsByHand};
 ghost use Rattle.iot_kept.specs.States.{acts_of};
 ghost use Rattle.iot_lang.specs.Scripts.{IsScript};
-ghost use Rattle.iot_machine.specs.Clients.{Declared, ClientState, Plan, hold, fetch, end, leave};
-ghost use Rattle.iot_machine.specs.Nodes.{Node};
-ghost use Rattle.iot_machine.specs.Stops.{Appends};
+ghost use Rattle.iot_machine.specs.Clients.{Declared, Plan, hold, fetch, end, leave};
 ghost use Rattle.iot_machine.specs.Texts.{acts_output};
 ghost use Rattle.iot_node.specs.Disks.{KeepsDisk};
-ghost use Rattle.iot_node.specs.Keeping.{Appended};
-ghost use Rattle.iot_node.specs.Posts.{Answered, StepsFrom, PostStands, UpStands};
-ghost use Rattle.iot_disk.specs.declared.faults.JournalFault.TheVariants as append;
-ghost use Rattle.iot_node.specs.declared.halt.Halt.TheVariants.{Over};
-ghost use Rattle.iot_node.specs.declared.post.Post.TheVariants.{Up};
 ghost use Rattle.iot_queue.specs.declared.items.Stage.TheVariants.{Conflict as in_conflict};
 ghost use Rattle.iot_tree.specs.Tree.{Nodes, IsWhole};
-ghost use Rattle.iot_laptop.specs.Alone.{no_text};
 ghost use Rattle.iot_laptop.specs.Calls.{of_client, appended, done};
 ghost use Rattle.iot_laptop.specs.Messages.{BringsTree, SpellsTree, IsVerdict};
-ghost use Rattle.iot_laptop.specs.Seats.{seating};
-ghost use Rattle.iot_laptop.specs.declared.seated.Seated.{Seated};
 
 use crate::laptop::Laptop;
-use crate::needs::{Gone, Printed};
+use crate::needs::Gone;
 use crate::texts::output_of;
 use crate::verdict::Told;
 use iot_client::{ClientFault, Step};
 use iot_disk::{Disk, JournalFault};
 use iot_lang::Script;
-use iot_node::{Doubt, Halt, Post};
+use iot_node::{Doubt, Halt, Post, Printed};
 use iot_text::{Name, NoMemory, Text};
 use iot_tree::OnConflict;
 use std::alloc::Global;
 use std::rc::Rc;
 
-impl<D: Disk + Drop> Laptop<D> {
+impl<D: Disk> Laptop<D> {
     ghost use Rattle.iot_laptop.specs.Laptops.{Stands, SamePlace, IsFirst, is_alive, state_in, live_in, disk_in};
     ghost use Rattle.iot_laptop.specs.Calls.{Changes, Begins, Repairs, Plans, Resolves, NextIs, Steps, IsDoneIn, IsGone, waits_after};
-    ghost use Rattle.iot_laptop.specs.Calls.{IsTold, Settles, head_reads};
+    ghost use Rattle.iot_laptop.specs.Calls.{IsTold, Settles, GoesOn, head_reads};
 
     /// Holds what the reply brings.
     pub fn take(&mut self, alloc: Global, reply: &[u8], out: &mut Text) -> Result<(), Halt>
@@ -252,19 +241,8 @@ impl<D: Disk + Drop> Laptop<D> {
     ) -> Result<T, Halt>
         requires alive { is_alive self.old ≡ true }
         requires fault { IfErr answer MayFail }
-        ensures step { (was now : Seated D) (change : ClientState → ClientState) (node : Node ClientState) → self.old.post ≡ Up now
-            → UpStands (seating D.medium self.old.place) D.medium no_text was node
-            → Appended (seating D.medium self.old.place) D.medium change node.durable was now (appended answer)
-            → count ≡ records_of was.client
-            → Answered
-            (StepsFrom (PostStands (seating D.medium self.old.place) D.medium no_text) (Appends self.old.name change) node self.new.post
-            out.old out.new)
-            (appended answer) result }
-        ensures answers { IfOk result (λ done. appended answer ≡ Ok done) }
-        ensures same { OnOk result (self.new ≡ self.old) }
-        ensures silent { OnOk result (out.new ≡ out.old) }
-        ensures stopped { IsErrOf result Over → appended answer ≡ Err append.Stopped }
-        ensures rest { self.new ≡ record self.old { post = self.new.post } }
+        ensures goes { GoesOn D.medium self.old self.new count answer out.old out.new result }
+        ensures place { SamePlace self.old self.new }
         ensures disk { disk_in self.new ≡ disk_in self.old }
     {
         let doubt = Doubt {

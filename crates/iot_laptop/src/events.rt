@@ -16,8 +16,9 @@ use iot_node::{Halt, Post, Transaction, say};
 use iot_text::{NoMemory, Text};
 use std::alloc::Global;
 
-impl<D: Disk + Drop> Laptop<D> {
-    ghost use Rattle.iot_laptop.specs.Alone.{Connects, Disconnects, Loses, OpensClient, CrashesClient, RestartsClient, ArmsClient, CutsOff};
+impl<D: Disk> Laptop<D> {
+    ghost use Rattle.iot_machine.specs.Events.{Connects, Disconnects, Loses, CrashesClient, RestartsClient, ArmsClient, CutsOff};
+    ghost use Rattle.iot_laptop.specs.Alone.{OpensClient};
     ghost use Rattle.iot_laptop.specs.Laptops.{ClientStands, LaptopStands, StandsAnyhow, IsUnopened, SamePlace, is_alive, state_in};
     ghost use Rattle.iot_laptop.specs.Laptops.{disk_in};
     ghost use Rattle.iot_laptop.specs.Calls.{UnlessNoMemory, ReturnedStands, Returned, running_name, Came};

@@ -8,12 +8,12 @@ ghost use Rattle.iot_laptop.specs.Calls.{acts_in, label_in};
 ghost use Rattle.iot_laptop.specs.Messages.{IsVerdict};
 
 use crate::laptop::{Laptop, memory};
-use crate::needs::{Need, Printed, Submitted, Undecided};
+use crate::needs::{Need, Submitted, Undecided};
 use crate::texts::output_of;
 use crate::verdict::{Told, verdict_in};
 use iot_client::Ask;
 use iot_disk::Disk;
-use iot_node::Transaction;
+use iot_node::{Printed, Transaction};
 use iot_queue::{Item, Stage};
 use iot_resolve::{Plan, plan_of};
 use iot_text::NoMemory;

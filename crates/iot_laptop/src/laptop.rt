@@ -82,7 +82,7 @@ impl<D: Disk> Laptop<D> {
     }
 
     /// The client, which is alive.
-    pub(crate) fn client(&self) -> &Client<D>
+    pub fn client(&self) -> &Client<D>
         requires { Stands D.medium self.now }
         ensures { IsLent D.medium self.now result.now }
     {

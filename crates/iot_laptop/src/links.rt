@@ -9,7 +9,7 @@ use iot_link::Passage;
 use iot_node::Post;
 
 impl<D: Disk> Laptop<D> {
-    ghost use Rattle.iot_laptop.specs.Alone.{break};
+    ghost use Rattle.iot_machine.specs.Machine.{break};
     ghost use Rattle.iot_laptop.specs.Laptops.{Stands, StandsAnyhow, IsCutLink, Relinked, IsSecondNow, after_passage, disk_in};
 
     /// Whether its link is up.

@@ -1,14 +1,6 @@
 //! What a client needs of the server for a transaction, and what is said of one.
-use iot_node::Transaction;
-use iot_text::Text;
+use iot_node::Printed;
 use iot_tree::Way;
-
-/// A transaction, and what it printed.
-#[derive(Drop)]
-pub struct Printed {
-    pub transaction: Transaction,
-    pub output: Text,
-}
 
 /// A transaction that has ended, and whether it is first class.
 #[derive(Drop)]

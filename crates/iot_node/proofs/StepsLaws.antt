@@ -1,7 +1,7 @@
 -- How steps go together, over any world and any machine.
 use Rattle.std.proofs.Common.{◌≡◌, ℕ, List, [], ◌++◌, refl, sym, ap, ◌∙◌, append_assoc}
 use Rattle.std.proofs.lemmas.List.{append-nil}
-use Rattle.iot_machine.specs.Calls.{Call, Part, Asks, Answers, Does, Says, Nothing, Then}
+use Rattle.iot_machine.specs.Calls.{Call, Asks, Answers, Does, Says, Nothing, Then}
 use Rattle.iot_machine.specs.Refining.{Refines}
 
 module _ {W M : Type 0} {stands : W → M → Type 0} where

@@ -1,7 +1,7 @@
 -- What a node's disk has counted, and what a call leaves of it.
-use Rattle.std.specs.Prelude.{◌≡◌, ◌⊎◌, ℕ, List, [], Option, Some, option_map}
+use Rattle.std.specs.Prelude.{◌≡◌, ◌⊎◌, [], Option, Some, option_map}
 use Rattle.iot_count.specs.Counts.{Rose}
-use Rattle.iot_disk.specs.Disk.{Medium, Arms, Only}
+use Rattle.iot_disk.specs.Disk.{Medium, Only}
 use Rattle.iot_machine.specs.Nodes.{Counts}
 
 -- what a disk has counted

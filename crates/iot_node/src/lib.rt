@@ -9,5 +9,5 @@ mod post;
 
 pub use halt::Halt;
 pub use keeper::Keeper;
-pub use lines::{Transaction, say};
+pub use lines::{Printed, Transaction, say};
 pub use post::{Doubt, Fallen, Post};

@@ -12,6 +12,13 @@ pub fn say(text: &[u8], out: &mut Text) -> Result<(), NoMemory>
     out.push(b'\n')
 }
 
+/// A transaction, and what its script printed.
+#[derive(Drop)]
+pub struct Printed {
+    pub transaction: Transaction,
+    pub output: Text,
+}
+
 /// The name of a transaction: its client's name and its number there.
 #[derive(Clone, Copy)]
 pub struct Transaction {

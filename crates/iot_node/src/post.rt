@@ -53,7 +53,7 @@ pub enum Post<K, D> {
     Between,
 }
 
-impl<K: Keeper<D> + Drop, D: Disk + Drop> Post<K, D> {
+impl<K: Keeper<D>, D: Disk> Post<K, D> {
     ghost use Rattle.iot_node.specs.declared.post.Post.TheVariants.{Up, Down, Between};
 
     /// Whether it is alive.
@@ -85,11 +85,11 @@ impl<K: Keeper<D> + Drop, D: Disk + Drop> Post<K, D> {
         match mem::replace(self, Post::Between) {
             Post::Down(Fallen { disk, doubt }) => match K::start(alloc, disk, place) {
                 Ok(keeper) => {
-                    *self = Post::Up(keeper);
+                    self.settle(Post::Up(keeper));
                     Ok(true)
                 }
                 Err((disk, fault)) => {
-                    *self = Post::Down(Fallen { disk, doubt });
+                    self.settle(Post::Down(Fallen { disk, doubt }));
                     say_refused(fault, name, out)?;
                     Ok(false)
                 }
@@ -147,12 +147,23 @@ impl<K: Keeper<D> + Drop, D: Disk + Drop> Post<K, D> {
     {
         match mem::replace(self, Post::Between) {
             Post::Up(keeper) => {
-                *self = Post::Down(Fallen {
+                self.settle(Post::Down(Fallen {
                     disk: keeper.into_disk(),
                     doubt,
-                });
+                }));
             }
             _down => unreachable!(),
+        }
+    }
+
+    /// Is this when a call that starts or stops it ends. Until then it owns nothing, so no disk is lost.
+    fn settle(&mut self, post: Post<K, D>)
+        requires { self.old ≡ Between }
+        ensures { self.new ≡ post }
+    {
+        match mem::replace(self, post) {
+            Post::Between => (),
+            _other => unreachable!(),
         }
     }
 
@@ -202,12 +213,12 @@ impl<K: Keeper<D> + Drop, D: Disk + Drop> Post<K, D> {
                 match K::start(alloc, disk, place) {
                     Ok(keeper) => {
                         let number = keeper.records();
-                        *self = Post::Up(keeper);
+                        self.settle(Post::Up(keeper));
                         say_back(doubt, number, name, out)?;
                         Ok(true)
                     }
                     Err((disk, fault)) => {
-                        *self = Post::Down(Fallen { disk, doubt });
+                        self.settle(Post::Down(Fallen { disk, doubt }));
                         say_refused(fault, name, out)?;
                         Ok(false)
                     }

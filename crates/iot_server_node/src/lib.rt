@@ -7,5 +7,5 @@ mod server;
 mod texts;
 
 pub use keeper::ServerKeeper;
-pub use message::{Handed, Message, Printed};
+pub use message::{Handed, Message};
 pub use server::{Served, ServerNode};

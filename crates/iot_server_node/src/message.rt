@@ -3,7 +3,7 @@ ghost use Rattle.std.specs.Prelude.{◌≡◌, ◌++◌, None, OnOk};
 ghost use Rattle.iot_server_node.specs.Messages.{printed_under};
 
 use crate::texts::say_commit;
-use iot_node::Transaction;
+use iot_node::Printed;
 use iot_text::{NoMemory, Text};
 use iot_tree::Way;
 
@@ -25,16 +25,6 @@ pub struct Handed {
 
     /// How it is committed.
     pub way: Way,
-}
-
-/// A transaction, and what it printed.
-#[derive(Drop)]
-pub struct Printed {
-    /// The transaction.
-    pub transaction: Transaction,
-
-    /// The lines that its script printed.
-    pub output: Text,
 }
 
 impl Message {

@@ -44,7 +44,7 @@ pub struct Served {
     pub committed: Option<u64>,
 }
 
-impl<D: Disk + Drop> ServerNode<D> {
+impl<D: Disk> ServerNode<D> {
     ghost use Rattle.iot_server_node.specs.Messages.{IsSomeRequest, IsRefresh, SpellsCut, SpellsVerdict, printed_under};
     ghost use Rattle.iot_server_node.specs.Servers.{is_up, disk_of, post_of, count_of, tree_of, lent_of, ServerStands, HavingAnswered};
     ghost use Rattle.iot_server_node.specs.Servers.{ServerIsSound, IsUnopened, HasDisk, IsLive, Handled, Refused, GivesUp, ServesBy};

@@ -1,4 +1,4 @@
-use Rattle.iot_laptop.specs.Alone.{no_text}
+use Rattle.iot_machine.specs.Events.{no_text}
 use Rattle.iot_laptop.proofs.EventsLaws.{on_two, crashes}
 use Rattle.iot_laptop.proofs.laptop.Laptop.crash.Goals as goal
 

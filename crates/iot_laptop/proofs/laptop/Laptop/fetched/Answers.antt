@@ -1,28 +1,12 @@
-use Rattle.std.proofs.Common.{ap, sym}
-use Rattle.iot_laptop.specs.Laptops.{disk_by}
-use Rattle.iot_laptop.proofs.CallsLaws.{keeps_disk, as_is}
+use Rattle.std.proofs.Common.{sym}
+use Rattle.iot_laptop.proofs.CallsLaws.{called, as_is}
 use Rattle.iot_laptop.proofs.RecordsLaws.{fetches}
 use Rattle.iot_laptop.proofs.laptop.Laptop.fetched.Goals as goal
 
 pub returns-clause-does : goal.returns-clause-does
 returns-clause-does g c =
+    let call = called c.args.self.now c.in-Up.seated.client c.fetched-answer.new.self c.goes_on.ensures.goes
+    c.in-Up.is c.records-count.ensures c.fetched-answer.ensures.tied c.fetched-answer.ensures.counts c.fetched-answer.ensures.arms in
     rw (sym (as_is c.goes_on.result))
-    (fetches g.D.Disk.medium c.args.self.now c.in-Up.seated.client c.fetched-answer.new.self c.records-count.result
-    c.fetched-answer.result c.goes_on.new.self
-    c.args.out.now c.goes_on.new.out c.goes_on.result c.in-Up.is c.records-count.ensures
-    (record { tied = c.fetched-answer.ensures.tied; counts = c.fetched-answer.ensures.counts; arms = c.fetched-answer.ensures.arms })
-    (record {
-      step = c.goes_on.ensures.step;
-      answers = c.goes_on.ensures.answers;
-      same = c.goes_on.ensures.same;
-      silent = c.goes_on.ensures.silent;
-      stopped = c.goes_on.ensures.stopped;
-      rest = c.goes_on.ensures.rest;
-    })
-    c.args.reply.now c.fetched-answer.ensures.only c.fetched-answer.ensures.brings c.fetched-answer.ensures.live
+    (fetches call c.args.reply.now c.fetched-answer.ensures.only c.fetched-answer.ensures.brings c.fetched-answer.ensures.live
     c.fetched-answer.ensures.stopped)
-
-pub returns-clause-disk : goal.returns-clause-disk
-returns-clause-disk g c =
-    keeps_disk g.D.Disk.medium c.in-Up.seated.client c.fetched-answer.new.self c.fetched-answer.result _ _ c.fetched-answer.ensures.counts
-    c.fetched-answer.ensures.arms (ap disk_by c.in-Up.is) c.goes_on.ensures.disk

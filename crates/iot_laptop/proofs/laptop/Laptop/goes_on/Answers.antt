@@ -1,12 +1,21 @@
-use Rattle.std.proofs.Common.{sym, ◌∙◌}
-use Rattle.iot_laptop.specs.Alone.{no_text}
+use Rattle.std.proofs.Common.{refl, sym, ◌∙◌}
+use Rattle.std.proofs.lemmas.Result.{IfOk-weaker}
+use Rattle.iot_machine.specs.Events.{no_text}
+use Rattle.iot_laptop.proofs.NodesLaws.{at_post}
 use Rattle.iot_laptop.proofs.laptop.Laptop.goes_on.Goals as goal
 
-pub returns-clause-step : goal.returns-clause-step
-returns-clause-step g c was now change node is up appends counted =
-    rw (sym c.journaled.ensures, sym c.as_bytes.ensures.value)
-    (c.take.ensures.step c.args.self.now.place was now no_text change node is up (rw c.journaled.ensures appends)
-    (record { count = λ n s here. counted ∙ here.counted; lines = λ n s here. c.new.ensures }))
+pub returns-clause-goes : goal.returns-clause-goes
+returns-clause-goes g c = record {
+  step = λ was now change node is up appends counted.
+      rw (sym c.journaled.ensures, sym c.as_bytes.ensures.value)
+      (c.take.ensures.step c.args.self.now.place was now no_text change node is up (rw c.journaled.ensures appends)
+      (record { count = λ n s here. counted ∙ here.counted; lines = λ n s here. c.new.ensures }));
+  answers = rw (sym c.journaled.ensures) c.take.ensures.answers;
+  same = IfOk-weaker c.take.result _ _ (λ _ is. at_post c.args.self.now c.take.new.self (sym is)) c.take.ensures.same;
+  silent = c.take.ensures.silent;
+  stopped = λ over. sym c.journaled.ensures ∙ c.take.ensures.stopped over;
+  rest = refl;
+}
 
 pub returns-clause-disk : goal.returns-clause-disk
 returns-clause-disk g c = c.take.ensures.disk c.args.self.now.place

@@ -1,4 +1,4 @@
-use Rattle.iot_laptop.specs.Alone.{no_text}
+use Rattle.iot_machine.specs.Events.{no_text}
 use Rattle.iot_laptop.proofs.EventsLaws.{if_two, opens, opens_ready, opens_standing, live_fresh}
 use Rattle.iot_laptop.proofs.laptop.Laptop.open.Goals as goal
 

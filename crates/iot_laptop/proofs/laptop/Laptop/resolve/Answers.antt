@@ -1,12 +1,12 @@
-use Rattle.std.proofs.Common.{◌≡◌, ap, sym, subst}
+use Rattle.std.proofs.Common.{◌≡◌, sym, subst}
 use Rattle.iot_kept.specs.Changes.{HeadIs}
 use Rattle.iot_queue.specs.declared.items.Item.{Item}
 use Rattle.iot_queue.specs.declared.items.Stage.TheVariants.{Conflict}
 use Rattle.iot_client.specs.Ties.{state_of}
 use Rattle.iot_node.specs.declared.post.Post.{Post}
-use Rattle.iot_laptop.specs.Laptops.{disk_by, state_by}
+use Rattle.iot_laptop.specs.Laptops.{state_by}
 use Rattle.iot_laptop.proofs.BroughtLaws.{none_bad}
-use Rattle.iot_laptop.proofs.CallsLaws.{keeps_disk, as_is}
+use Rattle.iot_laptop.proofs.CallsLaws.{called, as_is}
 use Rattle.iot_laptop.proofs.TransactionsLaws.{resolves}
 use Rattle.iot_laptop.proofs.laptop.Laptop.resolve.Goals as goal
 
@@ -18,23 +18,9 @@ goes_on-requires-clause-fault g c =
     c.resolve-answer.ensures.only c.requires.brings c.requires.whole c.resolve-answer.ensures.refuses
 
 pub returns-clause-does : goal.returns-clause-does
-returns-clause-does g c = rw (sym (as_is c.goes_on.result))
-    (resolves g.D.Disk.medium c.args.self.now c.in-Up.seated.client c.resolve-answer.new.self c.records-count.result
-    c.resolve-answer.result c.goes_on.new.self
-    c.args.out.now c.goes_on.new.out c.goes_on.result c.in-Up.is c.records-count.ensures
-    (record { tied = c.resolve-answer.ensures.tied; counts = c.resolve-answer.ensures.counts; arms = c.resolve-answer.ensures.arms })
-    (record {
-      step = c.goes_on.ensures.step;
-      answers = c.goes_on.ensures.answers;
-      same = c.goes_on.ensures.same;
-      silent = c.goes_on.ensures.silent;
-      stopped = c.goes_on.ensures.stopped;
-      rest = c.goes_on.ensures.rest;
-    })
-    c.args.reply.now c.args.script.value c.requires.script c.resolve-answer.ensures.only c.resolve-answer.ensures.resolves
+returns-clause-does g c =
+    let call = called c.args.self.now c.in-Up.seated.client c.resolve-answer.new.self c.goes_on.ensures.goes
+    c.in-Up.is c.records-count.ensures c.resolve-answer.ensures.tied c.resolve-answer.ensures.counts c.resolve-answer.ensures.arms in
+    rw (sym (as_is c.goes_on.result))
+    (resolves call c.args.reply.now c.args.script.value c.requires.script c.resolve-answer.ensures.only c.resolve-answer.ensures.resolves
     c.resolve-answer.ensures.live c.resolve-answer.ensures.stopped)
-
-pub returns-clause-disk : goal.returns-clause-disk
-returns-clause-disk g c =
-    keeps_disk g.D.Disk.medium c.in-Up.seated.client c.resolve-answer.new.self c.resolve-answer.result _ _ c.resolve-answer.ensures.counts
-    c.resolve-answer.ensures.arms (ap disk_by c.in-Up.is) c.goes_on.ensures.disk

@@ -1,5 +1,5 @@
 use Rattle.std.proofs.Common.{Err, ap, sym, ◌∙◌}
-use Rattle.iot_laptop.specs.Alone.{no_text}
+use Rattle.iot_machine.specs.Events.{no_text}
 use Rattle.iot_laptop.proofs.RestartLaws.{says_up, is_standing, stops_if, came_again_if, returned_if, comes_if, came_if, cut_ok, cut_over}
 use Rattle.iot_laptop.proofs.RestartLaws.{keeps_then}
 use Rattle.iot_laptop.proofs.laptop.Laptop.restart.Goals as goal
