@@ -1,0 +1,4 @@
+pub mod Scripts
+pub mod Pairs
+pub mod Queues
+pub mod Saying

@@ -1,0 +1,64 @@
+//! Decisions by hand, of which the server knows nothing.
+ghost use Rattle.std.specs.Prelude.{◌≡◌, List};
+ghost use Rattle.iot_machine.specs.Clients.{Declared};
+ghost use Rattle.iot_machine.specs.Events.{Repairs, Discards};
+ghost use Rattle.iot_laptop.specs.Laptops.{Stands};
+ghost use Rattle.iot_laptop.specs.Scripts.{IsNamed};
+ghost use Rattle.iot_server_node.specs.Servers.{HasDisk};
+ghost use Rattle.iot_server_node.specs.declared.server.ServerNode.{ServerNode};
+ghost use Rattle.iot_exchange.specs.Pairs.{two, Does};
+
+use crate::texts::{say_discard, say_repair};
+use iot_disk::Disk;
+use iot_laptop::Laptop;
+use iot_node::{Halt, say};
+use iot_text::{Name, Text};
+use std::alloc::Global;
+
+/// Has the first transaction that waits, if that is for a decision by hand, resolved by the script of this name.
+pub(crate) fn repair<D: Disk>(
+    laptop: &mut Laptop<D>,
+    alloc: Global,
+    script: &Name,
+    out: &mut Text,
+) -> Result<(), Halt>
+    requires { Stands D.medium laptop.old }
+    ensures { (server : ServerNode D) → HasDisk server → (scripts : List Declared) (declared : Declared) → IsNamed scripts declared
+        → declared.name ≡ script.now
+        → Does D.medium scripts (Repairs declared) (two laptop.old server) (two laptop.new server) out.old out.new result }
+{
+    match laptop.decision() {
+        Ok(transaction) => {
+            laptop.repair(alloc, script, out)?;
+            say_repair(&transaction, script, out)?;
+            Ok(())
+        }
+        Err(undecided) => {
+            say(undecided.word(), out)?;
+            Err(Halt::Over)
+        }
+    }
+}
+
+/// Gives the first transaction that waits up, if that is for a decision by hand.
+pub(crate) fn discard<D: Disk>(
+    laptop: &mut Laptop<D>,
+    alloc: Global,
+    out: &mut Text,
+) -> Result<(), Halt>
+    requires { Stands D.medium laptop.old }
+    ensures { (server : ServerNode D) → HasDisk server → (scripts : List Declared) → Does D.medium scripts Discards
+        (two laptop.old server) (two laptop.new server) out.old out.new result }
+{
+    match laptop.decision() {
+        Ok(transaction) => {
+            laptop.discard(alloc, out)?;
+            say_discard(&transaction, out)?;
+            Ok(())
+        }
+        Err(undecided) => {
+            say(undecided.word(), out)?;
+            Err(Halt::Over)
+        }
+    }
+}

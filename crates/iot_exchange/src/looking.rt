@@ -1,0 +1,78 @@
+//! Looking in at a client's transactions.
+ghost use Rattle.std.specs.Prelude.{◌≡◌, ◌≤◌, ◌++◌, ◌-◌, List, OnOk, length, slice_get};
+ghost use Rattle.std.specs.Option.{option_copied};
+ghost use Rattle.iot_laptop.specs.Laptops.{Stands, LaptopStands, state_in};
+ghost use Rattle.iot_machine.specs.Clients.{Declared};
+ghost use Rattle.iot_machine.specs.Events.{ReadsOf, running_of};
+ghost use Rattle.iot_machine.specs.Machine.{Client};
+ghost use Rattle.iot_machine.specs.Recorded.{queue_kept};
+ghost use Rattle.iot_machine.specs.Texts.{queue_text};
+ghost use Rattle.iot_server_node.specs.Servers.{HasDisk};
+ghost use Rattle.iot_server_node.specs.declared.server.ServerNode.{ServerNode};
+ghost use Rattle.iot_exchange.specs.Pairs.{two, Does};
+
+use iot_client::Running;
+use iot_disk::Disk;
+use iot_inspect::{RunLine, queue, reads};
+use iot_laptop::Laptop;
+use iot_node::{Halt, say};
+use iot_queue::Item;
+use iot_text::{NoMemory, Text};
+
+/// Says the client's transactions: those that wait, and then the one that runs.
+pub(crate) fn say_queue<D: Disk>(laptop: &Laptop<D>, out: &mut Text) -> Result<(), NoMemory>
+    requires { Stands D.medium laptop.now }
+    ensures { OnOk result ((scripts : List Declared) (m : Client) → LaptopStands D.medium scripts laptop.now m
+        → out.new ≡ out.old ++ queue_text m.name (queue_kept m.node.durable) (running_of m.first m.node.durable.running)) }
+{
+    let waiting = laptop.client().queue();
+    match laptop.running() {
+        Some(running) => queue(laptop.name(), waiting, &[line_of(running)], out),
+        None => queue(laptop.name(), waiting, &[], out),
+    }
+}
+
+/// Says what the client's transaction at this place of those that wait, from 1, has read in its own run, if so many wait.
+pub(crate) fn say_reads<D: Disk>(laptop: &Laptop<D>, place: u64, out: &mut Text) -> Result<(), Halt>
+    requires stands { Stands D.medium laptop.now }
+    requires counts { 1 ≤ place }
+    ensures { (server : ServerNode D) → HasDisk server → (scripts : List Declared) → Does D.medium scripts (ReadsOf place)
+        (two laptop.now server) (two laptop.now server) out.old out.new result }
+{
+    match waiting(laptop, place) {
+        Some(item) => {
+            reads(item, out)?;
+            Ok(())
+        }
+        None => {
+            say(b"nothing", out)?;
+            Err(Halt::Over)
+        }
+    }
+}
+
+/// The client's transaction at this place of those that wait, from 1.
+fn waiting<D: Disk>(laptop: &Laptop<D>, place: u64) -> Option<&Item>
+    requires stands { Stands D.medium laptop.now }
+    requires counts { 1 ≤ place }
+    ensures { option_copied result ≡ slice_get (state_in laptop.now).items (place - 1) }
+{
+    laptop.client().queue().items().get(place as usize - 1)
+}
+
+/// A transaction that runs, as a line says it.
+fn line_of(running: &Running) -> RunLine
+    ensures { result ≡ record {
+      tid = running.now.tid;
+      script = running.now.script;
+      first = running.now.first;
+      acts = length running.now.acts;
+    } }
+{
+    RunLine {
+        tid: running.tid,
+        script: running.script,
+        first: running.first,
+        acts: running.acts.len() as u64,
+    }
+}

@@ -1,0 +1,134 @@
+//! What a client asks of the server: objects, over its link.
+ghost use Rattle.std.specs.Prelude.{◌≡◌, List, None, [], IfOk};
+ghost use Rattle.iot_client.specs.Messages.{IsRefresh};
+ghost use Rattle.iot_laptop.specs.Laptops.{IsFirst, state_in};
+ghost use Rattle.iot_machine.specs.Clients.{Declared, hold, fetch};
+ghost use Rattle.iot_machine.specs.Events.{Hoards, Refreshes};
+ghost use Rattle.iot_machine.specs.Transactions.{Holds, Takes};
+ghost use Rattle.iot_tree.specs.declared.want.Want.{Want as Wanted};
+ghost use Rattle.iot_exchange.specs.Pairs.{two, IsReady, IsAsked, Does};
+
+use crate::exchange::{exchange, is_away};
+use crate::texts::{say_hoard, say_refresh};
+use iot_disk::Disk;
+use iot_laptop::Laptop;
+use iot_node::{Halt, say};
+use iot_server_node::{Message, ServerNode};
+use iot_text::{Path, Text};
+use iot_tree::{Duplicate, Want};
+use std::alloc::Global;
+
+/// Fetches what lies on the way to the path, at it and below it.
+pub(crate) fn hoard<D: Disk>(
+    laptop: &mut Laptop<D>,
+    server: &mut ServerNode<D>,
+    alloc: Global,
+    path: &Path,
+    out: &mut Text,
+) -> Result<(), Halt>
+    requires { IsReady D.medium (two laptop.old server.old) }
+    ensures { (scripts : List Declared) → Does D.medium scripts (Hoards path.now)
+        (two laptop.old server.old) (two laptop.new server.new) out.old out.new result }
+{
+    let want = Want::Below(path.copy(alloc)?);
+    take(laptop, server, alloc, &want, out)?;
+    say_hoard(laptop.name(), path, out)?;
+    Ok(())
+}
+
+/// Fetches anew what the client knows.
+pub(crate) fn refresh<D: Disk>(
+    laptop: &mut Laptop<D>,
+    server: &mut ServerNode<D>,
+    alloc: Global,
+    out: &mut Text,
+) -> Result<(), Halt>
+    requires { IsReady D.medium (two laptop.old server.old) }
+    ensures { (scripts : List Declared) → Does D.medium scripts Refreshes
+        (two laptop.old server.old) (two laptop.new server.new) out.old out.new result }
+{
+    take(laptop, server, alloc, &Want::Nothing, out)?;
+    say_refresh(laptop.name(), out)?;
+    Ok(())
+}
+
+/// Brings what is wanted, unless a transaction runs or waits.
+fn take<D: Disk>(
+    laptop: &mut Laptop<D>,
+    server: &mut ServerNode<D>,
+    alloc: Global,
+    want: &Want,
+    out: &mut Text,
+) -> Result<(), Halt>
+    requires { IsReady D.medium (two laptop.old server.old) }
+    ensures { (scripts : List Declared) → Does D.medium scripts (Takes want.now)
+        (two laptop.old server.old) (two laptop.new server.new) out.old out.new result }
+{
+    if laptop.runs() {
+        say(b"busy", out)?;
+        return Err(Halt::Over);
+    }
+    if laptop.waits() {
+        say(b"pending", out)?;
+        return Err(Halt::Over);
+    }
+    if !bring(laptop, server, alloc, want, out)? {
+        say(b"away", out)?;
+        return Err(Halt::Over);
+    }
+    Ok(())
+}
+
+/// Holds what is wanted of the server's tree, and tells whether it came.
+pub(crate) fn bring<D: Disk>(
+    laptop: &mut Laptop<D>,
+    server: &mut ServerNode<D>,
+    alloc: Global,
+    want: &Want,
+    out: &mut Text,
+) -> Result<bool, Halt>
+    requires ready { IsReady D.medium (two laptop.old server.old) }
+    requires idle { (state_in laptop.old).running ≡ None }
+    requires none { (state_in laptop.old).items ≡ [] }
+    ensures does { (scripts : List Declared) → Does D.medium scripts (Holds hold want.now)
+        (two laptop.old server.old) (two laptop.new server.new) out.old out.new result }
+    ensures idle { IfOk result (λ _. (state_in laptop.new).running ≡ None) }
+    ensures none { IfOk result (λ _. (state_in laptop.new).items ≡ []) }
+{
+    if is_away(laptop, server) {
+        return Ok(false);
+    }
+    let message = Message::asking(laptop.ask(alloc, want)?);
+    match exchange(laptop, server, alloc, &message, out)? {
+        Some(reply) => {
+            laptop.take(alloc, &reply, out)?;
+            Ok(true)
+        }
+        None => Ok(false),
+    }
+}
+
+/// Holds what the running transaction misses, and tells whether it came. Then the transaction begins anew.
+pub(crate) fn fetch<D: Disk>(
+    laptop: &mut Laptop<D>,
+    server: &mut ServerNode<D>,
+    alloc: Global,
+    request: Text,
+    out: &mut Text,
+) -> Result<bool, Halt>
+    requires ready { IsReady D.medium (two laptop.old server.old) }
+    requires first { IsFirst laptop.old }
+    requires asked { IsAsked laptop.old request }
+    ensures { (want : Wanted) → IsRefresh laptop.old.place (state_in laptop.old).held want request
+        → (scripts : List Declared) → Does D.medium scripts (Holds fetch want)
+        (two laptop.old server.old) (two laptop.new server.new) out.old out.new result }
+{
+    let message = Message::asking(request.into_bytes());
+    match exchange(laptop, server, alloc, &message, out)? {
+        Some(reply) => {
+            laptop.fetched(alloc, &reply, out)?;
+            Ok(true)
+        }
+        None => Ok(false),
+    }
+}

@@ -1,0 +1,233 @@
+//! The transactions of a client that wait for the server.
+ghost use Rattle.std.specs.Prelude.{◌≡◌, List, Some, IfOk, IsSome};
+ghost use Rattle.iot_machine.specs.Clients.{Declared};
+ghost use Rattle.iot_kept.specs.Changes.{HeadIs};
+ghost use Rattle.iot_lang.specs.Scripts.{IsScript};
+ghost use Rattle.iot_laptop.specs.Calls.{head_name, HandsIn, AsksAll};
+ghost use Rattle.iot_laptop.specs.Laptops.{state_in};
+ghost use Rattle.iot_laptop.specs.Scripts.{script_named};
+ghost use Rattle.iot_machine.specs.Events.{SyncsOnce, Drains};
+ghost use Rattle.iot_machine.specs.Transactions.{Syncs, SyncsAll};
+ghost use Rattle.iot_exchange.specs.Scripts.{scripts_of};
+ghost use Rattle.iot_exchange.specs.Pairs.{two, IsReady, IsReadyWith, Does};
+ghost use Rattle.iot_exchange.specs.Queues.{SyncsNext, DrainsQuietly, IsCodeOf};
+ghost use Rattle.iot_exchange.specs.Saying.{synced_by};
+
+use crate::declared::DeclaredScript;
+use crate::exchange::exchange;
+use crate::objects::refresh;
+use crate::synced::Synced;
+use crate::texts::{say_manual, say_resolve, say_told};
+use iot_disk::Disk;
+use iot_lang::Script;
+use iot_laptop::{Laptop, Need, Submitted};
+use iot_node::{Halt, Transaction, say};
+use iot_server_node::{Handed, Message, ServerNode};
+use iot_text::{Name, NoMemory, Text};
+use std::alloc::Global;
+use std::rc::Rc;
+
+// ---- the first that waits
+
+/// Submits or resolves the first transaction that waits, by its stage.
+pub(crate) fn sync_once<D: Disk>(
+    laptop: &mut Laptop<D>,
+    server: &mut ServerNode<D>,
+    alloc: Global,
+    scripts: &[DeclaredScript],
+    out: &mut Text,
+) -> Result<(), Halt>
+    requires { IsReadyWith D.medium (scripts_of scripts.now) (two laptop.old server.old) }
+    ensures { Does D.medium (scripts_of scripts.now) SyncsOnce
+        (two laptop.old server.old) (two laptop.new server.new) out.old out.new result }
+{
+    let _synced = sync(laptop, server, alloc, scripts, out)?;
+    Ok(())
+}
+
+/// Submits or resolves the first transaction that waits, by its stage, and tells how that went.
+pub(crate) fn sync<D: Disk>(
+    laptop: &mut Laptop<D>,
+    server: &mut ServerNode<D>,
+    alloc: Global,
+    scripts: &[DeclaredScript],
+    out: &mut Text,
+) -> Result<Synced, Halt>
+    requires { IsReadyWith D.medium (scripts_of scripts.now) (two laptop.old server.old) }
+    ensures { Does D.medium (scripts_of scripts.now) Syncs
+        (two laptop.old server.old) (two laptop.new server.new) out.old out.new (synced_by result) }
+{
+    let Some(transaction) = laptop.head() else {
+        say(b"nothing", out)?;
+        return Ok(Synced::Stays);
+    };
+    match laptop.need(alloc)? {
+        Need::Verdict(submitted) => submit(laptop, server, alloc, &transaction, submitted, out),
+        Need::Tree(request) => resolve(laptop, server, alloc, scripts, &transaction, request, out),
+        Need::Decision => {
+            say_manual(&transaction, out)?;
+            Ok(Synced::Stays)
+        }
+    }
+}
+
+/// Submits the first transaction that waits, and takes the verdict, if one comes.
+fn submit<D: Disk>(
+    laptop: &mut Laptop<D>,
+    server: &mut ServerNode<D>,
+    alloc: Global,
+    transaction: &Transaction,
+    submitted: Submitted,
+    out: &mut Text,
+) -> Result<Synced, Halt>
+    requires ready { IsReady D.medium (two laptop.old server.old) }
+    requires head { head_name laptop.old (state_in laptop.old).items ≡ Some transaction.now }
+    requires hands { HeadIs (λ item. HandsIn laptop.old item submitted) (state_in laptop.old).items }
+    ensures { (scripts : List Declared) → Does D.medium scripts Syncs
+        (two laptop.old server.old) (two laptop.new server.new) out.old out.new (synced_by result) }
+{
+    let message = Message {
+        request: submitted.request,
+        handed: Some(Handed {
+            printed: submitted.printed,
+            way: submitted.way,
+        }),
+    };
+    match exchange(laptop, server, alloc, &message, out)? {
+        Some(reply) => {
+            let told = laptop.settle(alloc, &reply, out)?;
+            say_told(transaction, &told, out)?;
+            Ok(Synced::by(&told))
+        }
+        None => {
+            say(b"away", out)?;
+            Ok(Synced::Unanswered)
+        }
+    }
+}
+
+/// Brings the server's whole tree by this request, and resolves the first transaction that waits on it, if it comes.
+fn resolve<D: Disk>(
+    laptop: &mut Laptop<D>,
+    server: &mut ServerNode<D>,
+    alloc: Global,
+    scripts: &[DeclaredScript],
+    transaction: &Transaction,
+    request: Vec<u8>,
+    out: &mut Text,
+) -> Result<Synced, Halt>
+    requires ready { IsReadyWith D.medium (scripts_of scripts.now) (two laptop.old server.old) }
+    requires head { head_name laptop.old (state_in laptop.old).items ≡ Some transaction.now }
+    requires asks { HeadIs (λ item. AsksAll laptop.old item request.items) (state_in laptop.old).items }
+    ensures { Does D.medium (scripts_of scripts.now) Syncs
+        (two laptop.old server.old) (two laptop.new server.new) out.old out.new (synced_by result) }
+{
+    let message = Message::asking(request);
+    match exchange(laptop, server, alloc, &message, out)? {
+        Some(reply) => {
+            let plan = laptop.plan();
+            let code = script_named(scripts, &plan.script)?;
+            laptop.resolve(alloc, &reply, code, out)?;
+            say_resolve(transaction, &plan, out)?;
+            Ok(Synced::Moved)
+        }
+        None => {
+            say(b"away", out)?;
+            Ok(Synced::Unanswered)
+        }
+    }
+}
+
+/// The script of this name, which is declared.
+fn script_named(scripts: &[DeclaredScript], name: &Name) -> Result<Rc<Script>, NoMemory>
+    requires declared { IsSome (script_named name.now (scripts_of scripts.now)) }
+    ensures code { IfOk result (λ script. IsCodeOf name.now (scripts_of scripts.now) script.value) }
+    ensures script { IfOk result (λ script. IsScript script.value) }
+{
+    match scripts.iter().find(|declared| declared.name == *name) {
+        Some(declared) => declared.script.shared(),
+        None => unreachable!(),
+    }
+}
+
+// ---- all that wait
+
+/// Syncs the first transaction that waits again and again, as long as one waits and it goes on.
+pub(crate) fn sync_all<D: Disk>(
+    laptop: &mut Laptop<D>,
+    server: &mut ServerNode<D>,
+    alloc: Global,
+    scripts: &[DeclaredScript],
+    out: &mut Text,
+) -> Result<(), Halt>
+    requires { IsReadyWith D.medium (scripts_of scripts.now) (two laptop.old server.old) }
+    ensures { Does D.medium (scripts_of scripts.now) SyncsAll
+        (two laptop.old server.old) (two laptop.new server.new) out.old out.new result }
+{
+    let most = laptop.most_syncs()?;
+    'syncs: for _ in 0..most {
+        if !sync_next(laptop, server, alloc, scripts, out)? {
+            return Ok(());
+        }
+    }
+    Ok(())
+}
+
+/// Syncs the first transaction that waits, if one does, and tells whether the next may follow.
+fn sync_next<D: Disk>(
+    laptop: &mut Laptop<D>,
+    server: &mut ServerNode<D>,
+    alloc: Global,
+    scripts: &[DeclaredScript],
+    out: &mut Text,
+) -> Result<bool, Halt>
+    requires { IsReadyWith D.medium (scripts_of scripts.now) (two laptop.old server.old) }
+    ensures { Does D.medium (scripts_of scripts.now) SyncsNext
+        (two laptop.old server.old) (two laptop.new server.new) out.old out.new result }
+{
+    if !laptop.waits() {
+        return Ok(false);
+    }
+    let synced = sync(laptop, server, alloc, scripts, out)?;
+    Ok(synced.moves())
+}
+
+/// Syncs all that wait, and then fetches anew what the client knows. If that says nothing, this is said.
+pub(crate) fn drain<D: Disk>(
+    laptop: &mut Laptop<D>,
+    server: &mut ServerNode<D>,
+    alloc: Global,
+    scripts: &[DeclaredScript],
+    out: &mut Text,
+) -> Result<(), Halt>
+    requires { IsReadyWith D.medium (scripts_of scripts.now) (two laptop.old server.old) }
+    ensures { Does D.medium (scripts_of scripts.now) Drains
+        (two laptop.old server.old) (two laptop.new server.new) out.old out.new result }
+{
+    let before = out.len();
+    let drained = drain_quietly(laptop, server, alloc, scripts, out);
+    if out.len() != before {
+        return drained;
+    }
+    say(b"nothing", out)?;
+    drained
+}
+
+/// Syncs all that wait, and then fetches anew what the client knows, if its link is up and nothing waits or runs.
+fn drain_quietly<D: Disk>(
+    laptop: &mut Laptop<D>,
+    server: &mut ServerNode<D>,
+    alloc: Global,
+    scripts: &[DeclaredScript],
+    out: &mut Text,
+) -> Result<(), Halt>
+    requires { IsReadyWith D.medium (scripts_of scripts.now) (two laptop.old server.old) }
+    ensures { Does D.medium (scripts_of scripts.now) DrainsQuietly
+        (two laptop.old server.old) (two laptop.new server.new) out.old out.new result }
+{
+    sync_all(laptop, server, alloc, scripts, out)?;
+    if !laptop.is_drained() {
+        return Ok(());
+    }
+    refresh(laptop, server, alloc, out)
+}

@@ -1,0 +1,128 @@
+//! What a client is asked to do.
+ghost use Rattle.std.specs.Prelude.{◌≡◌, ℕ, List, OnOk, length};
+ghost use Rattle.iot_event.specs.Declarations.{ResolverIsDeclared};
+ghost use Rattle.iot_laptop.specs.Scripts.{option_named};
+ghost use Rattle.iot_machine.specs.Events.{chosen, task_part, IfUp};
+ghost use Rattle.iot_node.specs.Steps.{StepsTo};
+ghost use Rattle.iot_exchange.specs.Scripts.{scripts_of, AreApart, MayDo};
+ghost use Rattle.iot_exchange.specs.Pairs.{two, AnyStands, IsStandingWith, IsReadyWith, KeepsDisks, Does};
+
+use crate::decisions::{discard, repair};
+use crate::declared::DeclaredScript;
+use crate::looking::{say_queue, say_reads};
+use crate::objects::{hoard, refresh};
+use crate::queues::{drain, sync_once};
+use crate::runs::run;
+use crate::transactions::{begin_aloud, end, step_aloud};
+use iot_disk::Disk;
+use iot_event::{Choice, Task};
+use iot_laptop::Laptop;
+use iot_node::{Halt, say};
+use iot_server_node::ServerNode;
+use iot_text::{NoMemory, Text};
+use iot_tree::OnConflict;
+use std::alloc::Global;
+
+/// Does what the client is asked to do, with the server and the scripts that were declared, and says it; or `down`, if it is not alive.
+///
+/// # Errors
+///
+/// Only if memory runs out.
+pub fn perform<D: Disk>(
+    laptop: &mut Laptop<D>,
+    server: &mut ServerNode<D>,
+    alloc: Global,
+    scripts: &[DeclaredScript],
+    task: &Task<u64>,
+    out: &mut Text,
+) -> Result<(), NoMemory>
+    requires stands { IsStandingWith D.medium (scripts_of scripts.now) (two laptop.old server.old) }
+    requires apart { AreApart (scripts_of scripts.now) }
+    requires may { MayDo task.now (length scripts.now) }
+    ensures step { OnOk result ((names : List (List ℕ)) (c : ℕ)
+        → StepsTo (AnyStands D.medium (scripts_of scripts.now) names c) (AnyStands D.medium (scripts_of scripts.now) names c)
+        (IfUp (task_part (scripts_of scripts.now) task.now))
+        (two laptop.old server.old) (two laptop.new server.new) out.old out.new tt) }
+
+    // Also if memory runs out.
+    ensures disks { KeepsDisks D.medium (two laptop.old server.old) (two laptop.new server.new) }
+{
+    if !laptop.is_alive() {
+        return say(b"down", out);
+    }
+    match carry_out(laptop, server, alloc, scripts, task, out) {
+        Ok(()) => Ok(()),
+        Err(halt) => match halt {
+            Halt::Over => Ok(()),
+            Halt::NoMemory => Err(NoMemory),
+        },
+    }
+}
+
+/// Does what a client that is alive is asked to do.
+fn carry_out<D: Disk>(
+    laptop: &mut Laptop<D>,
+    server: &mut ServerNode<D>,
+    alloc: Global,
+    scripts: &[DeclaredScript],
+    task: &Task<u64>,
+    out: &mut Text,
+) -> Result<(), Halt>
+    requires ready { IsReadyWith D.medium (scripts_of scripts.now) (two laptop.old server.old) }
+    requires apart { AreApart (scripts_of scripts.now) }
+    requires may { MayDo task.now (length scripts.now) }
+    ensures { Does D.medium (scripts_of scripts.now) (task_part (scripts_of scripts.now) task.now)
+        (two laptop.old server.old) (two laptop.new server.new) out.old out.new result }
+{
+    match task {
+        Task::Run { script, option } => {
+            let script = &scripts[*script as usize];
+            run(
+                laptop,
+                server,
+                alloc,
+                scripts,
+                script,
+                by_name(scripts, *option),
+                out,
+            )
+        }
+        Task::Hoard { path } => hoard(laptop, server, alloc, path, out),
+        Task::Refresh => refresh(laptop, server, alloc, out),
+        Task::Begin { script, option } => {
+            let script = &scripts[*script as usize];
+            begin_aloud(
+                laptop,
+                server,
+                alloc,
+                script,
+                by_name(scripts, *option),
+                out,
+            )
+        }
+        Task::Step { count } => step_aloud(laptop, server, alloc, *count, out),
+        Task::End => end(laptop, server, alloc, scripts, out),
+        Task::Sync => sync_once(laptop, server, alloc, scripts, out),
+        Task::Drain => drain(laptop, server, alloc, scripts, out),
+        Task::Repair { script } => repair(laptop, alloc, &scripts[*script as usize].name, out),
+        Task::Discard => discard(laptop, alloc, out),
+        Task::Queue => {
+            say_queue(laptop, out)?;
+            Ok(())
+        }
+        Task::Reads { item } => say_reads(laptop, *item, out),
+    }
+}
+
+/// What is done with a transaction that is in conflict, by the name of its resolver.
+fn by_name(scripts: &[DeclaredScript], option: Choice<u64>) -> OnConflict
+    requires { ResolverIsDeclared option (length scripts.now) }
+    ensures { result ≡ option_named (chosen (scripts_of scripts.now) option) }
+{
+    match option {
+        Choice::Reexec => OnConflict::Reexec,
+        Choice::Resolver(script) => OnConflict::Resolver(scripts[script as usize].name),
+        Choice::Abort => OnConflict::Abort,
+        Choice::Manual => OnConflict::Manual,
+    }
+}
