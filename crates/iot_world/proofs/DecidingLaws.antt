@@ -1,249 +1,222 @@
--- What is decided by hand of a transaction that waits is what the machine does.
-use Rattle.std.proofs.Common.{◌≡◌, ℕ, ◌<◌, Bool, true, false, List, [], ◌∷◌, ◌++◌, length, Result, Ok, Err}
-use Rattle.std.proofs.Common.{get_or, slice_get, Some, refl, sym, ap, subst, ◌∙◌, codes}
-use Rattle.iot_queue.specs.declared.items.Item.{Item}
-use Rattle.iot_queue.specs.declared.items.Stage.{Stage}
-use Rattle.iot_queue.specs.declared.items.Stage.TheVariants as kept
-use Rattle.iot_kept.specs.Changes.{HeadIs, IsByHand}
+-- What is said of a record in doubt is decided by its images, also if it is said in a text of its own first.
+use Rattle.std.proofs.Common.{◌≡◌, ◌⊎◌, ℕ, ◌+◌, if◌then◌else◌, Bool, true, false, List, [], ◌++◌, length, Option, Some, None}
+use Rattle.std.proofs.Common.{slice_get, inl, inr, refl, sym, ap, subst, ◌∙◌, arith, append_assoc}
+use Rattle.std.proofs.lemmas.Bool.{le-leb, lt-leb}
+use Rattle.std.proofs.lemmas.List.{append-nil}
 use Rattle.iot_disk.specs.Disk.{Medium}
-use Rattle.iot_machine.specs.Calls.{Part, either}
-use Rattle.iot_machine.specs.Clients as clients
-use Rattle.iot_machine.specs.Nodes.{changed}
-use Rattle.iot_machine.specs.Clients.{leave, repair}
-use Rattle.iot_machine.specs.Events.{Repairs, Discards}
-use Rattle.iot_machine.specs.Machine as machine
-use Rattle.iot_machine.specs.Machine.{Machine, client_in, kept_by, script_at}
-use Rattle.iot_machine.specs.Texts.{line, transaction_name, repair_line, discard_line}
-use Rattle.iot_machine.specs.Transactions.{Notes, IfManual, item_name, is_manual, says_word}
-use Rattle.iot_world.specs.Laptops.{LaptopStands, StageStands, ItemStands, NotedIf, RepairedIf, IsRepair, Exactly, decision, decision_on}
-use Rattle.iot_world.specs.Nodes.{state_in}
-use Rattle.iot_world.specs.Messages.{name_of}
-use Rattle.iot_world.specs.Saying.{undecided_word}
-use Rattle.iot_world.specs.Scripts.{IsNamed}
-use Rattle.iot_world.specs.World.{StandsFor, Steps, ScriptStands, IsReady, declared_in, no_script}
-use Rattle.iot_world.specs.declared.answers.Undecided.{Undecided}
-use Rattle.iot_world.specs.declared.answers.Undecided.TheVariants as why
-use Rattle.iot_world.specs.declared.laptop.Laptop.{Laptop}
-use Rattle.iot_world.specs.declared.texts.Transaction.{Transaction}
-use Rattle.iot_world.specs.declared.world.DeclaredScript.{DeclaredScript}
+use Rattle.iot_event.specs.declared.event.ClientEvent.{ClientEvent}
+use Rattle.iot_event.specs.declared.event.ClientEvent.TheVariants as client_events
+use Rattle.iot_event.specs.declared.event.Event.{Event}
+use Rattle.iot_event.specs.declared.event.Event.TheVariants as events
+use Rattle.iot_event.specs.declared.event.NodeEvent.{NodeEvent}
+use Rattle.iot_event.specs.declared.event.NodeEvent.TheVariants as nodes
+use Rattle.iot_journal.specs.Decoding.{Encodes}
+use Rattle.iot_machine.specs.Clients.{Declared, ClientState}
+use Rattle.iot_machine.specs.Machine.{Client}
+use Rattle.iot_machine.specs.Nodes.{Node}
+use Rattle.iot_machine.specs.Serving.{server_name}
+use Rattle.iot_machine.specs.Texts.{stopped_line, kept_line, lost_line}
+use Rattle.iot_node.specs.Keeping.{Keeping}
+use Rattle.iot_node.specs.Posts.{is_fallen, CameIf, back_said}
+use Rattle.iot_node.specs.declared.post.Doubt.{Doubt}
+use Rattle.iot_node.specs.declared.post.Post.{Post}
+use Rattle.iot_node.specs.declared.post.Post.TheVariants.{Up, Down, Between}
+use Rattle.iot_server_node.specs.Deciding as servers
+use Rattle.iot_server_node.specs.Deciding.{HasCount, Begins, DecidesBy, DecidesIfAny, DecidesServer}
+use Rattle.iot_server_node.specs.Keepers.{lists}
+use Rattle.iot_server_node.specs.declared.keeper.ServerKeeper.{ServerKeeper}
+use Rattle.iot_laptop.specs.Calls.{Came}
+use Rattle.iot_laptop.specs.Laptops.{ClientStands}
+use Rattle.iot_laptop.specs.Seats.{IsClientImage, seating}
+use Rattle.iot_laptop.specs.declared.laptop.Laptop.{Laptop}
+use Rattle.iot_laptop.specs.declared.seated.Seated.{Seated}
+use Rattle.iot_world.specs.Deciding.{DecidesPost, DecidesClient, ClientDecides, ServerDecides, DecidesAt, Decides}
+use Rattle.iot_world.specs.World.{ClientIs}
 use Rattle.iot_world.specs.declared.world.World.{World}
-use Rattle.iot_world.proofs.CallsLaws.{bind, asks, says, says_this, nothing}
-use Rattle.iot_world.proofs.ListLaws.{each_at, any_default, each_length, get_here}
-use Rattle.iot_world.proofs.NodesLaws.{is_awake}
-use Rattle.iot_world.proofs.ReadyLaws.{no_machine_items}
-use Rattle.iot_world.proofs.ScriptsLaws.{named_at}
-use Rattle.iot_world.proofs.QueuesLaws.{notes_by, First, asks_first, manual_stage}
-use Rattle.iot_world.proofs.StepsLaws.{IsAt, Puts, laptop_stands, stops}
+use Rattle.iot_world.proofs.LendingLaws.{one_at}
 
--- ---- what is decided
+begins_whole : (text x y : List ℕ) → y ≡ x ++ text → Begins text x y
+begins_whole text x y wrote = record { rest = []; is = wrote ∙ ap (λ (t : List ℕ). x ++ t) (sym (append-nil text)) }
 
--- it waits for a decision by hand
-pub record ByHand {D : Type 0} (laptop : Laptop D) (t : Transaction) : Type 0 where
-  pub first : First laptop t
-  pub stage : first.item.stage ≡ kept.Manual
+begins_more : (text x y z more : List ℕ) → z ≡ y ++ more → Begins text x y → Begins text x z
+begins_more text x y z more wrote begins = record {
+  rest = begins.rest ++ more;
+  is =
+      wrote ∙ ap (λ (t : List ℕ). t ++ more) begins.is ∙ append_assoc x (text ++ begins.rest) more
+      ∙ ap (λ (t : List ℕ). x ++ t) (append_assoc text begins.rest more);
+}
 
-decided_on : {D : Type 0} (laptop : Laptop D) (t : Transaction) (item : Item) (stage : Stage) → decision_on laptop item stage ≡ Ok t
-    → (stage ≡ kept.Manual) × (t ≡ record { client = laptop.name; number = item.tid })
-decided_on laptop t item kept.Waiting is = absurd cc
-decided_on laptop t item kept.Conflict is = absurd cc
-decided_on laptop t item kept.Manual is = (refl, cc)
-decided_on laptop t item (kept.Resolved done) is = absurd cc
+-- ---- a client that comes back
 
-decided_by : {D : Type 0} (laptop : Laptop D) (t : Transaction) (items : List Item) → (state_in laptop).items ≡ items
-    → decision laptop items ≡ Ok t → ByHand laptop t
-decided_by laptop t [] same is = absurd cc
-decided_by laptop t (item ∷ items) same is =
-    let on = decided_on laptop t item item.stage is in
-    record { first = record { item = item; rest = items; items = same; named = on.1 }; stage = on.0 }
+same_bodies : (one other : List (List ℕ)) → Encodes one ≡ Encodes other → one ≡ other
+same_bodies one other e = cc
 
-pub decided : {D : Type 0} (laptop : Laptop D) (t : Transaction) (r : Result Transaction Undecided)
-    → r ≡ decision laptop (state_in laptop).items
-    → r ≡ Ok t → ByHand laptop t
-decided laptop t r made is = decided_by laptop t (state_in laptop).items refl (sym made ∙ is)
+-- an image has as many records as are counted in it
+many_there : (bytes : List ℕ) (n : ℕ) (m : ClientState) (count : ℕ) → IsClientImage bytes n m → HasCount count bytes → n ≡ count
+many_there bytes n m count is has =
+    sym is.counted ∙ ap (λ (bodies : List (List ℕ)). length bodies) (same_bodies _ _ (sym is.stands.read ∙ has.read)) ∙ has.counted
 
--- so is the same client
-pub by_hand_now : {D : Type 0} (was laptop : Laptop D) (t : Transaction) → was ≡ laptop → ByHand was t → ByHand laptop t
-by_hand_now {D = D} was laptop t same by = subst (λ (l : Laptop D). ByHand l t) same by
+module _ (images : List ℕ → Type 0) (doubt : Doubt) (name x mid y rest : List ℕ) (whole : y ≡ mid ++ rest) where
+  -- it came back from this image
+  by_image : (bytes : List ℕ) (n : ℕ) (m : ClientState) → images bytes → IsClientImage bytes n m
+      → mid ≡ x ++ back_said name (Some doubt) n → DecidesBy images doubt.count name x y
+  by_image bytes n m left is wrote = record {
+    kept = λ all.
+        let many : n ≡ doubt.count + 1 = many_there bytes n m (doubt.count + 1) is (all.each bytes left) in
+        inl (begins_more (kept_line name) x mid y rest whole (record {
+          rest = doubt.lines;
+          is = wrote
+              ∙ ap (λ (less : Bool). x ++ (if less then lost_line name else kept_line name ++ doubt.lines))
+              (lt-leb n doubt.count (omega (arith, many)));
+        }));
+    lost = λ all.
+        let many : n ≡ doubt.count = many_there bytes n m doubt.count is (all.each bytes left) in
+        inl (begins_more (lost_line name) x mid y rest whole (begins_whole (lost_line name) x mid
+        (wrote
+        ∙ ap (λ (less : Bool). x ++ (if less then lost_line name else kept_line name ++ doubt.lines))
+        (le-leb n doubt.count (omega (arith, many))))));
+  }
 
-pub by_hand_head : {D : Type 0} (laptop : Laptop D) (t : Transaction) → ByHand laptop t → HeadIs IsByHand (state_in laptop).items
-by_hand_head laptop t by = subst (HeadIs IsByHand) (sym by.first.items) by.stage
+-- or it has stopped again
+stopped_again : (images : List ℕ → Type 0) (count : ℕ) (name x y : List ℕ) → y ≡ x ++ stopped_line name
+    → DecidesBy images count name x y
+stopped_again images count name x y wrote = record {
+  kept = λ all. inr (begins_whole (stopped_line name) x y wrote);
+  lost = λ all. inr (begins_whole (stopped_line name) x y wrote);
+}
 
--- ---- or not
+module _ {D : Type 0} (medium : Medium D) (place : ℕ) (name x mid y rest : List ℕ) (node : Node ClientState) (whole : y ≡ mid ++ rest) where
+  by_doubt : (disk : D) (doubt : Option Doubt) (on : Bool)
+      → CameIf (seating medium place) medium on (Down (record { disk = disk; doubt = doubt })) name x mid node
+      → (on ≡ false → y ≡ x ++ stopped_line name) → DecidesIfAny (medium.may_leave disk) doubt name x y
+  by_doubt disk None on came stopped = tt
+  by_doubt disk (Some doubt) false came stopped = stopped_again (medium.may_leave disk) doubt.count name x y (stopped refl)
+  by_doubt disk (Some doubt) true came stopped = elim came.said [
+    | inl it ↦ by_image (medium.may_leave disk) doubt name x mid y rest whole came.image came.count node.durable came.left it.1 it.0
+    | inr it ↦ by_image (medium.may_leave disk) doubt name x mid y rest whole came.image (came.count + 1) it.0 came.left it.3 it.1
+  ]
 
--- none waits, or the first does not wait for a decision by hand
-refused_on : {D : Type 0} (laptop : Laptop D) (u : Undecided) (item : Item) (stage : Stage) (ms : clients.Stage) → StageStands stage ms
-    → decision_on laptop item stage ≡ Err u → (u ≡ why.NotManual) × (is_manual ms ≡ false)
-refused_on laptop u item kept.Waiting clients.Waiting same is = (cc, refl)
-refused_on laptop u item kept.Waiting clients.Conflict same is = absurd same
-refused_on laptop u item kept.Waiting clients.Manual same is = absurd same
-refused_on laptop u item kept.Waiting (clients.Resolved it) same is = absurd same
-refused_on laptop u item kept.Conflict clients.Waiting same is = absurd same
-refused_on laptop u item kept.Conflict clients.Conflict same is = (cc, refl)
-refused_on laptop u item kept.Conflict clients.Manual same is = absurd same
-refused_on laptop u item kept.Conflict (clients.Resolved it) same is = absurd same
-refused_on laptop u item kept.Manual ms same is = absurd cc
-refused_on laptop u item (kept.Resolved done) clients.Waiting same is = absurd same
-refused_on laptop u item (kept.Resolved done) clients.Conflict same is = absurd same
-refused_on laptop u item (kept.Resolved done) clients.Manual same is = absurd same
-refused_on laptop u item (kept.Resolved done) (clients.Resolved it) same is = (cc, refl)
+  by_post : (post : Post (Seated D) D) (on : Bool) → CameIf (seating medium place) medium on post name x mid node
+      → (on ≡ false → y ≡ x ++ stopped_line name) → is_fallen post ≡ true → DecidesPost medium post name x y
+  by_post (Up seated) on came stopped down = tt
+  by_post (Down fallen) on came stopped down = by_doubt fallen.disk fallen.doubt on came stopped
+  by_post Between on came stopped down = tt
 
-module _ {D : Type 0} (medium : Medium D) (c : ℕ) (old : World D) (was : Laptop D) (x : List ℕ)
-    (at : IsAt old c was) where
-  -- it is said why nothing is decided
-  undecided_by : (part : clients.Item → Part Machine) (items : List Item) (u : Undecided) (y : List ℕ)
-      → (state_in was).items ≡ items → decision was items ≡ Err u → y ≡ x ++ line (undecided_word u)
-      → Steps medium (IfManual c part) old old x y tt
-  undecided_by part [] u y same is wrote =
-      let nothing : u ≡ why.Nothing = cc in
-      bind old old old x x y [] tt
-      (asks old x []
-      (λ m here.
-      sym (no_machine_items (state_in was).items (state_in was).held (kept_by c m).items same
-      (laptop_stands medium old m c was at here).state.items)))
-      (says_this (line (codes "nothing")) old x y (wrote ∙ ap (λ (u : Undecided). x ++ line (undecided_word u)) nothing))
-  undecided_by part (item ∷ items) u y same is wrote =
-      let t : Transaction = record { client = was.name; number = item.tid } in
-      let first : First was t = record { item = item; rest = items; items = same; named = refl } in
-      asks_first medium c old was x at t first (λ mi. mi ≡ mi) old y tt (λ m mi here stands named. refl)
-      (λ mi ms stands so.
-      let refused = refused_on was u item item.stage mi.stage stands.stage is in
-      subst (λ (b : Bool). Steps medium (either (part mi) (says_word (codes "not manual")) b) old old x y tt) (sym refused.1)
-      (says_this (line (codes "not manual")) old x y (wrote ∙ ap (λ (u : Undecided). x ++ line (undecided_word u)) refused.0)))
+decides_up : {D : Type 0} (medium : Medium D) (post : Post (Seated D) D) (name x y : List ℕ) → is_fallen post ≡ false
+    → DecidesPost medium post name x y
+decides_up medium (Up seated) name x y up = tt
+decides_up medium (Down fallen) name x y up = absurd cc
+decides_up medium Between name x y up = tt
 
-  pub undecided : {part : clients.Item → Part Machine} (u : Undecided) (r : Result Transaction Undecided) (y : List ℕ)
-      → r ≡ decision was (state_in was).items → r ≡ Err u → y ≡ x ++ line (undecided_word u)
-      → Steps medium (IfManual c part) old old x y tt
-  undecided {part} u r y made is wrote = undecided_by part (state_in was).items u y refl (sym made ∙ is) wrote
+module _ {D : Type 0} (medium : Medium D) where
+  -- by all images, as by the one from which it came
+  pub decides_client : (laptop : Laptop D) (scripts : List Declared) (m : Client) (x y : List ℕ) → ClientStands medium scripts laptop m
+      → (is_fallen laptop.post ≡ true → (scripts : List Declared) (m : Client) → ClientStands medium scripts laptop m
+      → Came medium laptop x y m) → DecidesClient medium x y laptop
+  decides_client laptop scripts m x y here came = record { by_all = by (is_fallen laptop.post) refl; by_image = came }
+    where
+      by : (down : Bool) → is_fallen laptop.post ≡ down → DecidesPost medium laptop.post laptop.name x y
+      by true down =
+          let it = came down scripts m here in
+          by_post medium laptop.place laptop.name x it.mid y it.rest m.node it.whole laptop.post it.on it.came it.stopped down
+      by false up = decides_up medium laptop.post laptop.name x y up
 
-  module _ (t : Transaction) (by : ByHand was t) where
-    -- it is decided of
-    decides : {part : clients.Item → Part Machine} (new : World D) (y : List ℕ)
-        → ((mi : clients.Item) → ItemStands (state_in was).held by.first.item mi → Steps medium (part mi) old new x y tt)
-        → Steps medium (IfManual c part) old new x y tt
-    decides {part} new y each =
-        asks_first medium c old was x at t by.first (λ mi. mi ≡ mi) new y tt (λ m mi here stands named. refl)
-        (λ mi ms stands so.
-        let manual : is_manual mi.stage ≡ true =
-        ap is_manual (manual_stage by.first.item.stage mi.stage by.stage stands.stage) in
-        subst (λ (b : Bool). Steps medium (either (part mi) (says_word (codes "not manual")) b) old new x y tt) (sym manual)
-        (each mi stands))
+  -- of the client at a place
+  pub decides_here : (world : World D) (c : ℕ) (what : NodeEvent) (laptop : Laptop D) (x y : List ℕ)
+      → slice_get world.clients.items c ≡ Some laptop → ClientDecides medium what x y laptop
+      → ClientIs (ClientDecides medium what x y) c world
+  decides_here world c what laptop x y get decides other at =
+      subst (ClientDecides medium what x y) (one_at world.clients.items c laptop other get at) decides
 
-    -- its name is the same afterwards
-    name_after : (new : World D) (laptop : Laptop D) → IsAt new c laptop → laptop.name ≡ was.name → (m : Machine)
-        → StandsFor medium new m → (mi : clients.Item) → ItemStands (state_in was).held by.first.item mi
-        → item_name c mi m ≡ name_of t
-    name_after new laptop there same m here mi stands =
-        let now : LaptopStands medium m.scripts laptop (client_in m c) = laptop_stands medium new m c laptop there here in
-        ap (λ (n : List ℕ). transaction_name n mi.number) (sym now.name ∙ same)
-        ∙ ap (λ (n : ℕ). transaction_name was.name n) (sym stands.number)
-        ∙ ap name_of (sym by.first.named)
+-- ---- a text that was said apart, and then stands behind another
 
-    module _ (new : World D) (laptop : Laptop D) (y : List ℕ) (puts : Puts c laptop old new) (ready : IsReady medium c old) where
-      there_now : (m : machine.Client) → LaptopStands medium ready.machine.scripts laptop m → IsAt new c laptop
-      there_now m now = record {
-        get =
-            subst (λ (ls : List (Laptop D)). slice_get ls c ≡ Some laptop) (sym puts.clients)
-            (get_here old.clients.items c laptop was at.get);
-        up = is_awake medium ready.machine.scripts laptop m now;
-      }
+begins_behind : (text x y said : List ℕ) → y ≡ x ++ said → Begins text [] said → Begins text x y
+begins_behind text x y said wrote begins = record {
+  rest = begins.rest;
+  is = wrote ∙ ap (λ (t : List ℕ). x ++ t) begins.is;
+}
 
-      same_name : (m : machine.Client) → LaptopStands medium ready.machine.scripts laptop m
-          → m.name ≡ (client_in ready.machine c).name → laptop.name ≡ was.name
-      same_name m now same =
-          now.name ∙ same ∙ sym (laptop_stands medium old ready.machine c was at ready.stands).name
+module _ (x y said : List ℕ) (wrote : y ≡ x ++ said) where
+  either_behind : (one other : List ℕ) → Begins one [] said ⊎ Begins other [] said → Begins one x y ⊎ Begins other x y
+  either_behind one other (inl begins) = inl (begins_behind one x y said wrote begins)
+  either_behind one other (inr begins) = inr (begins_behind other x y said wrote begins)
 
-      -- it leaves, and that is said
-      discards_on : (z : List ℕ) → NotedIf medium true leave was laptop x z → y ≡ z ++ discard_line (name_of t)
-          → Steps medium (Discards c) old new x y tt
-      discards_on z noted wrote =
-          let now = noted.0.stands ready.machine.scripts (client_in ready.machine c)
-          (laptop_stands medium old ready.machine c was at ready.stands) in
-          decides new y
-          (λ mi stands.
-          bind old new new x z y true tt
-          (subst (λ (w : List ℕ). Steps medium (Notes c leave) old new x w true) (sym noted.1)
-          (notes_by medium c old new was laptop leave x at puts noted.0.place
-          (λ m here. noted.0.stands m.scripts (client_in m c) (laptop_stands medium old m c was at here))))
-          (says new z y
-          (λ m here.
-          wrote
-          ∙ ap (λ (n : List ℕ). z ++ discard_line n)
-          (sym (name_after new laptop (there_now _ now) (same_name _ now refl) m here mi stands)))))
+  if_any_behind : (images : List ℕ → Type 0) (doubt : Option Doubt) (name : List ℕ) → DecidesIfAny images doubt name [] said
+      → DecidesIfAny images doubt name x y
+  if_any_behind images None name decides = tt
+  if_any_behind images (Some doubt) name decides = record {
+    kept = λ all. either_behind _ _ (decides.kept all);
+    lost = λ all. either_behind _ _ (decides.lost all);
+  }
 
-      -- it stops in that
-      discards_off : NotedIf medium false leave was laptop x y → Steps medium (Discards c) old new x y tt
-      discards_off stopped =
-          decides new y
-          (λ mi stands.
-          bind old new new x y y false tt
-          (stops medium c old new was laptop (Exactly leave) leave x y at puts stopped (λ m here. refl)) (nothing new y))
+  -- how a node came back
+  came_behind : {K S D : Type 0} (keeping : Keeping K S D) (medium : Medium D) (on : Bool) (post : Post K D) (name : List ℕ)
+      (node : Node S) → CameIf keeping medium on post name [] said node → CameIf keeping medium on post name x y node
+  came_behind keeping medium true (Down fallen) name node came = record {
+    image = came.image;
+    left = came.left;
+    count = came.count;
+    said = elim came.said [
+      | inl it ↦ inl (wrote ∙ ap (λ (t : List ℕ). x ++ t) it.0, it.1)
+      | inr it ↦ inr (it.0, wrote ∙ ap (λ (t : List ℕ). x ++ t) it.1, it.2, it.3)
+    ];
+  }
+  came_behind keeping medium true (Up keeper) name node came = tt
+  came_behind keeping medium true Between name node came = tt
+  came_behind keeping medium false post name node came = tt
 
-      pub discards : (on : Bool) (z : List ℕ) → on ≡ true → NotedIf medium on leave was laptop x z → y ≡ z ++ discard_line (name_of t)
-          → Steps medium (Discards c) old new x y tt
-      discards on z is noted wrote =
-          discards_on z (subst (λ (b : Bool). NotedIf medium b leave was laptop x z) is noted) wrote
+module _ {D : Type 0} (medium : Medium D) (x y said : List ℕ) (wrote : y ≡ x ++ said) where
+  server_behind : (post : Post (ServerKeeper D) D) → servers.DecidesPost medium post [] said → servers.DecidesPost medium post x y
+  server_behind (Up keeper) decides = tt
+  server_behind (Down fallen) decides = if_any_behind x y said wrote (medium.may_leave fallen.disk) fallen.doubt server_name decides
+  server_behind Between decides = tt
 
-      pub discards_stopped : (on : Bool) → on ≡ false → NotedIf medium on leave was laptop x y → Steps medium (Discards c) old new x y tt
-      discards_stopped on is noted = discards_off (subst (λ (b : Bool). NotedIf medium b leave was laptop x y) is noted)
+  post_behind : (post : Post (Seated D) D) (name : List ℕ) → DecidesPost medium post name [] said → DecidesPost medium post name x y
+  post_behind (Up seated) name decides = tt
+  post_behind (Down fallen) name decides = if_any_behind x y said wrote (medium.may_leave fallen.disk) fallen.doubt name decides
+  post_behind Between name decides = tt
 
-      module _ (s : ℕ) (name : List ℕ) (within : s < length old.scripts.items) (is : (declared_in old s).name ≡ name) where
-        script_there : (m : Machine) → StandsFor medium old m → script_at s m ≡ declared_in old s
-        script_there m here = each_at ScriptStands old.scripts.items m.scripts s no_script machine.no_script within here.scripts
+  client_behind : (laptop : Laptop D) → DecidesClient medium [] said laptop → DecidesClient medium x y laptop
+  client_behind laptop decides = record {
+    by_all = post_behind laptop.post laptop.name decides.by_all;
+    by_image = λ down scripts m here.
+        let it = decides.by_image down scripts m here in
+        record {
+          on = it.on;
+          mid = x ++ it.mid;
+          rest = it.rest;
+          came = came_behind x (x ++ it.mid) it.mid refl (seating medium laptop.place) medium it.on laptop.post laptop.name m.node it.came;
+          whole = wrote ∙ ap (λ (t : List ℕ). x ++ t) it.whole ∙ sym (append_assoc x it.mid it.rest);
+          stopped = λ off. wrote ∙ ap (λ (t : List ℕ). x ++ t) (it.stopped off);
+        };
+  }
 
-        named_there : (m : Machine) → StandsFor medium old m → IsNamed m.scripts (declared_in old s)
-        named_there m here =
-            subst (IsNamed m.scripts) (script_there m here)
-            (named_at m.scripts s machine.no_script
-            (subst (λ (n : ℕ). s < n) (each_length ScriptStands old.scripts.items m.scripts here.scripts) within) here.apart)
+  node_behind : (what : NodeEvent) (laptop : Laptop D) → ClientDecides medium what [] said laptop → ClientDecides medium what x y laptop
+  node_behind nodes.Restart laptop decides = client_behind laptop decides
+  node_behind nodes.Show laptop decides = tt
+  node_behind nodes.Crash laptop decides = tt
+  node_behind (nodes.Stop calls pick) laptop decides = tt
 
-        -- it is to be resolved by a script, and that is said
-        repairs_on : (z : List ℕ) → RepairedIf medium true name was laptop x z → y ≡ z ++ repair_line (name_of t) name
-            → Steps medium (Repairs c s) old new x y tt
-        repairs_on z repaired wrote =
-            let change = repair (declared_in old s) in
-            let after : (m : Machine) → StandsFor medium old m
-            → LaptopStands medium m.scripts laptop (record (client_in m c) { node = changed change (client_in m c).node }) =
-            λ m here.
-            repaired.0.stands m.scripts (client_in m c) (declared_in old s) (laptop_stands medium old m c was at here)
-            (named_there m here) is in
-            let now = after ready.machine ready.stands in
-            decides new y
-            (λ mi stands.
-            bind old old new x x y (declared_in old s) tt
-            (asks old x (declared_in old s) (λ m here. sym (script_there m here)))
-            (bind old new new x z y true tt
-            (subst (λ (w : List ℕ). Steps medium (Notes c change) old new x w true) (sym repaired.1)
-            (notes_by medium c old new was laptop change x at puts repaired.0.place after))
-            (says new z y
-            (λ m here.
-            let same : item_name c mi m ≡ name_of t =
-            name_after new laptop (there_now _ now) (same_name _ now refl) m here mi stands in
-            wrote ∙ (λ i. z ++ repair_line (sym same i) (sym is i))))))
+  restart_behind : (what : NodeEvent) (old new : World D) → ServerDecides medium what old new [] said
+      → ServerDecides medium what old new x y
+  restart_behind nodes.Restart old new decides = record {
+    by_all = server_behind old.server.post decides.by_all;
+    by_image = λ names n node here.
+        came_behind x y said wrote (lists medium) medium _ old.server.post server_name node (decides.by_image names n node here);
+  }
+  restart_behind nodes.Show old new decides = tt
+  restart_behind nodes.Crash old new decides = tt
+  restart_behind (nodes.Stop calls pick) old new decides = tt
 
-        -- it stops in that
-        repairs_off : RepairedIf medium false name was laptop x y → Steps medium (Repairs c s) old new x y tt
-        repairs_off stopped =
-            let change = repair (declared_in old s) in
-            decides new y
-            (λ mi stands.
-            bind old old new x x y (declared_in old s) tt
-            (asks old x (declared_in old s) (λ m here. sym (script_there m here)))
-            (bind old new new x y y false tt
-            (stops medium c old new was laptop (IsRepair name) change x y at puts stopped
-            (λ m here. record { script = declared_in old s; named = named_there m here; name_is = is; is = refl }))
-            (nothing new y)))
+  at_behind : (what : ClientEvent ℕ) (c : ℕ) (old : World D) → DecidesAt medium what c old [] said → DecidesAt medium what c old x y
+  at_behind (client_events.Node what) c old decides = λ laptop get. node_behind what laptop (decides laptop get)
+  at_behind (client_events.Link what) c old decides = tt
+  at_behind (client_events.Task what) c old decides = tt
 
-        pub repairs : (on : Bool) (z : List ℕ) → on ≡ true → RepairedIf medium on name was laptop x z
-            → y ≡ z ++ repair_line (name_of t) name → Steps medium (Repairs c s) old new x y tt
-        repairs on z so repaired wrote =
-            repairs_on z (subst (λ (b : Bool). RepairedIf medium b name was laptop x z) so repaired) wrote
-
-        pub repairs_stopped : (on : Bool) → on ≡ false → RepairedIf medium on name was laptop x y
-            → Steps medium (Repairs c s) old new x y tt
-        repairs_stopped on so repaired = repairs_off (subst (λ (b : Bool). RepairedIf medium b name was laptop x y) so repaired)
-
--- a script in hand has the name of the one at its place
-pub name_at : {D : Type 0} (world : World D) (s : ℕ) (script : DeclaredScript) → s < length world.scripts.items
-    → script ≡ get_or world.scripts.items s script → (declared_in world s).name ≡ script.name
-name_at world s script within is =
-    ap (λ (d : DeclaredScript). d.name) (sym (is ∙ any_default world.scripts.items s script no_script within))
+  -- what is decided in the text of its own still is
+  pub decides_behind : (event : Event) (old new : World D) → Decides medium event old new [] said → Decides medium event old new x y
+  decides_behind (events.Server what) old new decides = restart_behind what old new decides
+  decides_behind (events.At c what) old new decides = at_behind what c old decides
+  decides_behind (events.Client name) old new decides = tt
+  decides_behind (events.Script name code) old new decides = tt
+  decides_behind events.Log old new decides = tt

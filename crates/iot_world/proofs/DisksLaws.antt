@@ -1,19 +1,36 @@
 -- The disks of a world, from one call to the next, and what is on them.
-use Rattle.std.proofs.Common.{◌≡◌, ℕ, zero, suc, ◌+◌, ◌<◌, List, [], ◌∷◌, ◌++◌, length, map, Option, Some, None}
-use Rattle.std.proofs.Common.{slice_get, slice_set, refl, sym, ap, subst, ◌∙◌, arith, append_assoc}
+use Rattle.std.proofs.Common.{◌≡◌, ℕ, zero, suc, ◌+◌, ◌≤◌, ◌<◌, Bool, true, false, List, [], ◌∷◌, ◌++◌, length, map, Option, Some, None}
+use Rattle.std.proofs.Common.{slice_get, slice_set, inl, refl, sym, ap, subst, ◌∙◌, arith, append_assoc}
 use Rattle.std.proofs.lemmas.List.{length-set, length-append}
 use Rattle.std.proofs.lemmas.Option.{same_Some}
 use Rattle.std.specs.List.{AllByRecursion}
 use Rattle.std.specs.Prelude.{IsSome, is_some, Result, Ok, Err, IfErr}
 use Rattle.std.specs.Vec.{vec_len, vec_capacity}
-use Rattle.iot_disk.specs.Disk.{Arms}
-use Rattle.iot_world.specs.Disks.{SameDisk}
-use Rattle.iot_world.specs.Nodes.{disk_in}
-use Rattle.iot_world.specs.Servers.{disk_of}
-use Rattle.iot_world.specs.World.{with_first, with_clients, disks_of, LaptopHasDisk, AreLast, SameDisks, KeepsDisks, SameArms}
-use Rattle.iot_world.specs.declared.laptop.Laptop.{Laptop}
-use Rattle.iot_world.specs.declared.server.ServerNode.{ServerNode}
+use Rattle.iot_disk.specs.Disk.{Medium, Arms}
+use Rattle.iot_node.specs.Disks.{KeepsDisk}
+use Rattle.iot_laptop.specs.Laptops.{disk_in}
+use Rattle.iot_laptop.specs.declared.laptop.Laptop.{Laptop}
+use Rattle.iot_server_node.specs.Servers.{disk_of}
+use Rattle.iot_server_node.specs.declared.server.ServerNode.{ServerNode}
+use Rattle.iot_world.specs.World.{with_first, with_clients, disks_of, LaptopHasDisk, AreLast, AreUnarmed, UnlessArmed, KeepsNode}
+use Rattle.iot_world.specs.World.{KeepsDisks, SameArms}
 use Rattle.iot_world.specs.declared.world.World.{World}
+
+-- what is so of any answer is so unless a disk was armed
+pub unless_armed : {T E : Type 0} (arms : Bool) (r : Result T E) (P : Type 0) → P → UnlessArmed arms r P
+unless_armed false r P p = p
+unless_armed true (Ok done) P p = tt
+unless_armed true (Err fault) P p = p
+
+-- no disk is armed by another event, or if it was not done
+pub unarmed : {T E : Type 0} (arms : Bool) (r : Result T E) (P : Type 0) → arms ≡ false → UnlessArmed arms r P → P
+unarmed false r P is it = it
+unarmed true r P is it = absurd cc
+
+pub err_unarmed : {T E : Type 0} (arms : Bool) (r : Result T E) (P : Type 0) → UnlessArmed arms r P → IfErr r (λ _. P)
+err_unarmed arms (Ok done) P it = tt
+err_unarmed false (Err fault) P it = it
+err_unarmed true (Err fault) P it = it
 
 -- what is so of any fault is so if there is one
 pub if_err : {T E : Type 0} (r : Result T E) (P : Type 0) → P → IfErr r (λ _. P)
@@ -40,71 +57,37 @@ pushed_with : {D : Type 0} (laptops : List (Laptop D)) (laptop : Laptop D) (spar
 pushed_with [] laptop spare = refl
 pushed_with (l ∷ ls) laptop spare = ap (with_first (disk_in l)) (pushed_with ls laptop spare)
 
-module _ {D : Type 0} (arms_of : D → Arms) where
-  -- ---- of one disk among others
+-- ---- each node has its disk
 
-  abbrev SameList : (old new : List D) → Type 0
-  SameList old new = map arms_of new ≡ map arms_of old
+has_set : {D : Type 0} (laptops : List (Laptop D)) (c : ℕ) (was laptop : Laptop D) → slice_get laptops c ≡ Some was
+    → (LaptopHasDisk was → LaptopHasDisk laptop) → AllByRecursion LaptopHasDisk laptops
+    → AllByRecursion LaptopHasDisk (slice_set laptops c laptop)
+has_set [] c was laptop get has all = tt
+has_set (l ∷ ls) zero was laptop get has all =
+    (has (subst (λ (one : Laptop _). LaptopHasDisk one) (same_Some l was get) all.0), all.1)
+has_set (l ∷ ls) (suc c) was laptop get has all = (all.0, has_set ls c was laptop get has all.1)
 
-  first_changed : (old new : Option D) (rest : List D) → SameDisk arms_of old new → SameList (with_first old rest) (with_first new rest)
-  first_changed old new rest same =
-      subst (λ (o : Option D). SameList (with_first o rest) (with_first new rest)) (sym same.old_has)
-      (subst (λ (o : Option D). SameList (with_first (Some same.was) rest) (with_first o rest)) (sym same.new_has)
-      (ap (λ (a : Arms). a ∷ map arms_of rest) same.arms))
+has_push : {D : Type 0} (laptops : List (Laptop D)) (laptop : Laptop D) → LaptopHasDisk laptop → AllByRecursion LaptopHasDisk laptops
+    → AllByRecursion LaptopHasDisk (laptops ++ laptop ∷ [])
+has_push [] laptop has all = (has, tt)
+has_push (l ∷ ls) laptop has all = (all.0, has_push ls laptop has all.1)
 
-  rest_changed : (first : Option D) (old new : List D) → SameList old new → SameList (with_first first old) (with_first first new)
-  rest_changed None old new same = same
-  rest_changed (Some disk) old new same = ap (λ (l : List Arms). arms_of disk ∷ l) same
-
-  client_changed : (laptops : List (Laptop D)) (c : ℕ) (was laptop : Laptop D) (spare : List D) → slice_get laptops c ≡ Some was
-      → SameDisk arms_of (disk_in was) (disk_in laptop)
-      → SameList (with_clients laptops spare) (with_clients (slice_set laptops c laptop) spare)
-  client_changed [] c was laptop spare at same = absurd cc
-  client_changed (l ∷ ls) zero was laptop spare at same =
-      first_changed (disk_in l) (disk_in laptop) (with_clients ls spare)
-      (subst (λ (o : Laptop D). SameDisk arms_of (disk_in o) (disk_in laptop)) (sym (same_Some l was at)) same)
-  client_changed (l ∷ ls) (suc c) was laptop spare at same =
-      rest_changed (disk_in l) (with_clients ls spare) (with_clients (slice_set ls c laptop) spare)
-      (client_changed ls c was laptop spare at same)
-
-  -- ---- the disks of a world
-
-  pub keeps_of : (old new : World D) → SameDisks arms_of old new → KeepsDisks old new
-  keeps_of old new same = record { has = same.has; spare = same.spare }
-
-  pub arms_of_same : (old new : World D) → SameDisks arms_of old new → SameArms arms_of old new
-  arms_of_same old new same = record { same = same.arms }
-
-  -- nothing was done to them
-  pub untouched_disks : (old new : World D) → new.server ≡ old.server → new.clients.items ≡ old.clients.items → new.spare ≡ old.spare
-      → SameDisks arms_of old new
-  untouched_disks old new server clients spare =
-      let same : disks_of new ≡ disks_of old =
-      (λ i. with_first (disk_of (server i)) (with_clients (clients i) ((spare i).items))) in
-      record {
-        arms = ap (map arms_of) same;
-        has = λ has. record {
-          server = subst (λ (s : ServerNode D). IsSome (disk_of s)) (sym server) has.server;
-          clients = subst (λ (ls : List (Laptop D)). AllByRecursion LaptopHasDisk ls) (sym clients) has.clients;
-          room =
-              subst (λ ds. length new.clients.items + vec_len ds < vec_capacity ds) (sym spare)
-              (subst (λ (ls : List (Laptop D)). length ls + vec_len old.spare < vec_capacity old.spare) (sym clients) has.room);
-        };
-        spare = last_same new.spare.items old.spare.items (ap (λ ds. ds.items) spare);
-      }
-
-  -- one thing was done to them, and then another
-  pub disks_then : (old mid new : World D) → SameDisks arms_of old mid → SameDisks arms_of mid new → SameDisks arms_of old new
-  disks_then old mid new one other = record {
-    arms = other.arms ∙ one.arms;
-    has = λ has. other.has (one.has has);
-    spare = last_then new.spare.items mid.spare.items old.spare.items one.spare other.spare;
+module _ {D : Type 0} (old new : World D) where
+  pub keeps_same : new.server ≡ old.server → new.clients.items ≡ old.clients.items → new.spare ≡ old.spare → KeepsDisks old new
+  keeps_same server clients spare = record {
+    has = λ has. record {
+      server = subst (λ (s : ServerNode D). IsSome (disk_of s)) (sym server) has.server;
+      clients = subst (λ (ls : List (Laptop D)). AllByRecursion LaptopHasDisk ls) (sym clients) has.clients;
+      room =
+          subst (λ ds. length new.clients.items + vec_len ds < vec_capacity ds) (sym spare)
+          (subst (λ (ls : List (Laptop D)). length ls + vec_len old.spare < vec_capacity old.spare) (sym clients) has.room);
+    };
+    spare = last_same new.spare.items old.spare.items (ap (λ ds. ds.items) spare);
   }
 
   -- only the server has changed, and it has a disk
-  pub server_keeps : (old new : World D) → new.clients.items ≡ old.clients.items → new.spare ≡ old.spare → IsSome (disk_of new.server)
-      → KeepsDisks old new
-  server_keeps old new clients spare some = record {
+  pub server_keeps : new.clients.items ≡ old.clients.items → new.spare ≡ old.spare → IsSome (disk_of new.server) → KeepsDisks old new
+  server_keeps clients spare some = record {
     has = λ has. record {
       server = some;
       clients = subst (λ (ls : List (Laptop D)). AllByRecursion LaptopHasDisk ls) (sym clients) has.clients;
@@ -115,36 +98,16 @@ module _ {D : Type 0} (arms_of : D → Arms) where
     spare = last_same new.spare.items old.spare.items (ap (λ ds. ds.items) spare);
   }
 
-  -- only the server's may have changed
-  pub server_disks : (old new : World D) → new.clients.items ≡ old.clients.items → new.spare ≡ old.spare
-      → SameDisk arms_of (disk_of old.server) (disk_of new.server) → SameDisks arms_of old new
-  server_disks old new clients spare same =
-      let rest : with_clients new.clients.items new.spare.items ≡ with_clients old.clients.items old.spare.items =
-      (λ i. with_clients (clients i) ((spare i).items)) in
-      let keeps : KeepsDisks old new = server_keeps old new clients spare (ap is_some same.new_has) in
-      record {
-        arms =
-            subst (λ (l : List D). SameList (disks_of old) (with_first (disk_of new.server) l)) (sym rest)
-            (first_changed (disk_of old.server) (disk_of new.server) (with_clients old.clients.items old.spare.items) same);
-        has = keeps.has;
-        spare = keeps.spare;
-      }
-
-  has_set : (laptops : List (Laptop D)) (c : ℕ) (laptop : Laptop D) → LaptopHasDisk laptop → AllByRecursion LaptopHasDisk laptops
-      → AllByRecursion LaptopHasDisk (slice_set laptops c laptop)
-  has_set [] c laptop has all = tt
-  has_set (l ∷ ls) zero laptop has all = (has, all.1)
-  has_set (l ∷ ls) (suc c) laptop has all = (all.0, has_set ls c laptop has all.1)
-
-  -- a client with a disk stands at a place now; nothing else has changed
-  pub put_keeps : (old new : World D) (c : ℕ) (laptop : Laptop D) → LaptopHasDisk laptop → new.server ≡ old.server
-      → new.clients.items ≡ slice_set old.clients.items c laptop → new.spare ≡ old.spare → KeepsDisks old new
-  put_keeps old new c laptop has_disk server clients spare = record {
+  -- another client stands at a place, and another server, which have disks if those before had
+  pub put_keeps : (c : ℕ) (was laptop : Laptop D) → slice_get old.clients.items c ≡ Some was
+      → new.clients.items ≡ slice_set old.clients.items c laptop → new.spare ≡ old.spare
+      → (IsSome (disk_of old.server) → IsSome (disk_of new.server)) → (LaptopHasDisk was → LaptopHasDisk laptop) → KeepsDisks old new
+  put_keeps c was laptop get clients spare serves has_disk = record {
     has = λ has. record {
-      server = subst (λ (s : ServerNode D). IsSome (disk_of s)) (sym server) has.server;
+      server = serves has.server;
       clients =
           subst (λ (ls : List (Laptop D)). AllByRecursion LaptopHasDisk ls) (sym clients)
-          (has_set old.clients.items c laptop has_disk has.clients);
+          (has_set old.clients.items c was laptop get has_disk has.clients);
       room =
           subst (λ ds. length new.clients.items + vec_len ds < vec_capacity ds) (sym spare)
           (subst (λ (n : ℕ). n + vec_len old.spare < vec_capacity old.spare)
@@ -153,107 +116,150 @@ module _ {D : Type 0} (arms_of : D → Arms) where
     spare = last_same new.spare.items old.spare.items (ap (λ ds. ds.items) spare);
   }
 
-  -- only that of the client at a place may have changed
-  pub client_disks : (old new : World D) (c : ℕ) (was laptop : Laptop D) → slice_get old.clients.items c ≡ Some was
-      → new.server ≡ old.server → new.clients.items ≡ slice_set old.clients.items c laptop → new.spare ≡ old.spare
-      → SameDisk arms_of (disk_in was) (disk_in laptop) → SameDisks arms_of old new
-  client_disks old new c was laptop at server clients spare same =
-      let are : disks_of new ≡ with_first (disk_of old.server) (with_clients (slice_set old.clients.items c laptop) old.spare.items) =
-      (λ i. with_first (disk_of (server i)) (with_clients (clients i) ((spare i).items))) in
-      let keeps : KeepsDisks old new = put_keeps old new c laptop (ap is_some same.new_has) server clients spare in
-      record {
-        arms =
-            subst (λ (l : List D). SameList (disks_of old) l) (sym are)
-            (rest_changed (disk_of old.server) (with_clients old.clients.items old.spare.items)
-            (with_clients (slice_set old.clients.items c laptop) old.spare.items)
-            (client_changed old.clients.items c was laptop old.spare.items at same));
-        has = keeps.has;
-        spare = keeps.spare;
+-- ---- none was armed
+
+module _ {D : Type 0} (medium : Medium D) where
+  pub unarmed_same : (disks : List D) → AreUnarmed medium disks disks
+  unarmed_same [] = tt
+  unarmed_same (disk ∷ disks) = (record { arms = refl; faults = inl refl }, unarmed_same disks)
+
+  -- so they are armed as they were
+  pub arms_stay : (old new : List D) → AreUnarmed medium old new → map medium.arms new ≡ map medium.arms old
+  arms_stay [] [] all = refl
+  arms_stay [] (disk ∷ new) all = absurd all
+  arms_stay (disk ∷ old) [] all = absurd all
+  arms_stay (disk ∷ old) (other ∷ new) all =
+      ap (λ (a : Arms). a ∷ map medium.arms new) all.0.arms ∙ ap (λ (l : List Arms). medium.arms disk ∷ l) (arms_stay old new all.1)
+
+  -- a node with this disk had that one: what holds of those behind them holds with them
+  abbrev pub Follows : (old new : Option D) → Type 0
+  Follows old new = (xs ys : List D) → AreUnarmed medium xs ys → AreUnarmed medium (with_first old xs) (with_first new ys)
+
+  pub kept_follows : (old new : Option D) → KeepsDisk medium old new → Follows old new
+  kept_follows old new keeps = λ xs ys all.
+      subst (λ (o : Option D). AreUnarmed medium (with_first o xs) (with_first new ys)) (sym keeps.old_has)
+      (subst (λ (o : Option D). AreUnarmed medium (with_first (Some keeps.was) xs) (with_first o ys)) (sym keeps.new_has)
+      (record { arms = keeps.arms; faults = keeps.faults }, all))
+
+  here_follows : (one : Option D) → Follows one one
+  here_follows None = λ xs ys all. all
+  here_follows (Some disk) = λ xs ys all. (record { arms = refl; faults = inl refl }, all)
+
+  pub same_follows : (old new : Option D) → new ≡ old → Follows old new
+  same_follows old new same = subst (λ (o : Option D). Follows old o) (sym same) (here_follows old)
+
+  clients_follow : (laptops : List (Laptop D)) (xs ys : List D) → AreUnarmed medium xs ys
+      → AreUnarmed medium (with_clients laptops xs) (with_clients laptops ys)
+  clients_follow [] xs ys all = all
+  clients_follow (l ∷ ls) xs ys all = here_follows (disk_in l) _ _ (clients_follow ls xs ys all)
+
+  put_follows : (laptops : List (Laptop D)) (c : ℕ) (was laptop : Laptop D) (spare : List D) → slice_get laptops c ≡ Some was
+      → Follows (disk_in was) (disk_in laptop)
+      → AreUnarmed medium (with_clients laptops spare) (with_clients (slice_set laptops c laptop) spare)
+  put_follows [] c was laptop spare get follows = absurd cc
+  put_follows (l ∷ ls) zero was laptop spare get follows =
+      subst (λ (one : Laptop D). Follows (disk_in one) (disk_in laptop)) (sym (same_Some l was get)) follows _ _
+      (unarmed_same (with_clients ls spare))
+  put_follows (l ∷ ls) (suc c) was laptop spare get follows =
+      here_follows (disk_in l) _ _ (put_follows ls c was laptop spare get follows)
+
+  module _ (old new : World D) where
+    as_many : (joins : ℕ) → new.spare ≡ old.spare → length old.spare.items ≤ length new.spare.items + joins
+    as_many joins spare = let same : length new.spare.items ≡ length old.spare.items = ap (λ ds. length ds.items) spare in
+        omega (arith, same)
+
+    pub arms_same : {joins : ℕ} → new.server ≡ old.server → new.clients.items ≡ old.clients.items → new.spare ≡ old.spare
+        → SameArms medium joins old new
+    arms_same {joins = joins} server clients spare = record {
+      each = subst (λ (ds : List D). AreUnarmed medium (disks_of old) ds)
+          (λ i. with_first (disk_of (sym server i)) (with_clients (sym clients i) ((sym spare i).items)))
+          (unarmed_same (disks_of old));
+      spare = as_many joins spare;
+    }
+
+    -- only the server has changed
+    pub server_arms : new.clients.items ≡ old.clients.items → new.spare ≡ old.spare → Follows (disk_of old.server) (disk_of new.server)
+        → SameArms medium 0 old new
+    server_arms clients spare follows = record {
+      each = follows _ _ (subst (λ (ds : List D). AreUnarmed medium (with_clients old.clients.items old.spare.items) ds)
+          (λ i. with_clients (sym clients i) ((sym spare i).items))
+          (unarmed_same (with_clients old.clients.items old.spare.items)));
+      spare = as_many 0 spare;
+    }
+
+    -- another client stands at a place, and another server
+    pub put_arms : (c : ℕ) (was laptop : Laptop D) → slice_get old.clients.items c ≡ Some was
+        → new.clients.items ≡ slice_set old.clients.items c laptop → new.spare ≡ old.spare
+        → Follows (disk_of old.server) (disk_of new.server) → Follows (disk_in was) (disk_in laptop) → SameArms medium 0 old new
+    put_arms c was laptop get clients spare serves follows = record {
+      each = serves _ _ (subst (λ (ds : List D). AreUnarmed medium (with_clients old.clients.items old.spare.items) ds)
+          (λ i. with_clients (sym clients i) ((sym spare i).items))
+          (put_follows old.clients.items c was laptop old.spare.items get follows));
+      spare = as_many 0 spare;
+    }
+
+    -- a client was declared, and has the first of those that were spare
+    module _ (disk : D) (laptop : Laptop D) (server : new.server ≡ old.server) (capacity : vec_capacity new.spare ≡ vec_capacity old.spare)
+        (clients : new.clients.items ≡ old.clients.items ++ laptop ∷ []) (spare : old.spare.items ≡ disk ∷ new.spare.items)
+        (len : vec_len new.spare + 1 ≡ vec_len old.spare) (same : KeepsDisk medium (Some disk) (disk_in laptop)) where
+      pub pushed_keeps : KeepsDisks old new
+      pushed_keeps = record {
+        has = λ has. record {
+          server = subst (λ (s : ServerNode D). IsSome (disk_of s)) (sym server) has.server;
+          clients =
+              subst (λ (ls : List (Laptop D)). AllByRecursion LaptopHasDisk ls) (sym clients)
+              (has_push old.clients.items laptop (ap is_some same.new_has) has.clients);
+          room =
+              let more : length new.clients.items ≡ length old.clients.items + 1 =
+              ap length clients ∙ length-append old.clients.items (laptop ∷ []) in
+              omega (arith, more, len, capacity, has.room);
+        };
+        spare = record { front = disk ∷ []; split = spare };
       }
 
-  -- ---- the same disk
-
-  has_at : (laptops : List (Laptop D)) (c : ℕ) (was : Laptop D) → slice_get laptops c ≡ Some was → AllByRecursion LaptopHasDisk laptops
-      → LaptopHasDisk was
-  has_at [] c was at all = absurd cc
-  has_at (l ∷ ls) zero was at all = subst (λ (o : Laptop D). LaptopHasDisk o) (same_Some l was at) all.0
-  has_at (l ∷ ls) (suc c) was at all = has_at ls c was at all.1
-
-  same_with : (laptops : List (Laptop D)) (c : ℕ) (was laptop : Laptop D) (spare : List D) → slice_get laptops c ≡ Some was
-      → disk_in laptop ≡ disk_in was → with_clients (slice_set laptops c laptop) spare ≡ with_clients laptops spare
-  same_with [] c was laptop spare at same = refl
-  same_with (l ∷ ls) zero was laptop spare at same =
-      ap (λ (o : Option D). with_first o (with_clients ls spare)) (same ∙ ap (λ (o : Laptop D). disk_in o) (sym (same_Some l was at)))
-  same_with (l ∷ ls) (suc c) was laptop spare at same =
-      ap (with_first (disk_in l)) (same_with ls c was laptop spare at same)
-
-  -- the client at a place has changed, but its disk has not
-  pub same_client_disks : (old new : World D) (c : ℕ) (was laptop : Laptop D) → slice_get old.clients.items c ≡ Some was
-      → new.server ≡ old.server → new.clients.items ≡ slice_set old.clients.items c laptop
-      → new.spare ≡ old.spare → disk_in laptop ≡ disk_in was → SameDisks arms_of old new
-  same_client_disks old new c was laptop at server clients spare disk =
-      let same : disks_of new ≡ disks_of old =
-      (λ i. with_first (disk_of (server i)) (with_clients (clients i) ((spare i).items)))
-      ∙ ap (with_first (disk_of old.server)) (same_with old.clients.items c was laptop old.spare.items at disk) in
-      record {
-        arms = ap (map arms_of) same;
-        has = λ has.
-            (put_keeps old new c laptop
-            (subst (λ (o : Option D). IsSome o) (sym disk) (has_at old.clients.items c was at has.clients)) server clients spare).has has;
-        spare = last_same new.spare.items old.spare.items (ap (λ ds. ds.items) spare);
-      }
-
-  -- ---- a spare disk
-
-  spare_changed : (laptops : List (Laptop D)) (old new : List D) → SameList old new
-      → SameList (with_clients laptops old) (with_clients laptops new)
-  spare_changed [] old new same = same
-  spare_changed (l ∷ ls) old new same =
-      rest_changed (disk_in l) (with_clients ls old) (with_clients ls new) (spare_changed ls old new same)
-
-  has_push : (laptops : List (Laptop D)) (laptop : Laptop D) → LaptopHasDisk laptop → AllByRecursion LaptopHasDisk laptops
-      → AllByRecursion LaptopHasDisk (laptops ++ laptop ∷ [])
-  has_push [] laptop has all = (has, tt)
-  has_push (l ∷ ls) laptop has all = (all.0, has_push ls laptop has all.1)
-
-  module _ (old new : World D) (disk : D) (server : new.server ≡ old.server) (capacity : vec_capacity new.spare ≡ vec_capacity old.spare)
-    where
-      spared : (next : Option D) (rest : List D) → old.spare.items ≡ disk ∷ rest → SameDisk arms_of (Some disk) next
-          → SameList (disks_of old) (with_first (disk_of new.server) (with_clients old.clients.items (with_first next rest)))
-      spared next rest spare same =
-          subst (λ (s : ServerNode D). SameList (disks_of old)
-          (with_first (disk_of s) (with_clients old.clients.items (with_first next rest))))
-          (sym server)
-          (rest_changed (disk_of old.server) (with_clients old.clients.items old.spare.items)
-          (with_clients old.clients.items (with_first next rest))
-          (spare_changed old.clients.items old.spare.items (with_first next rest)
-          (subst (λ (ds : List D). SameList ds (with_first next rest)) (sym spare)
-          (first_changed (Some disk) next rest same))))
-
-      -- a client was declared, and has the first of those that were spare
-      pub pushed_disks : (laptop : Laptop D) → new.clients.items ≡ old.clients.items ++ laptop ∷ []
-          → old.spare.items ≡ disk ∷ new.spare.items → vec_len new.spare + 1 ≡ vec_len old.spare
-          → SameDisk arms_of (Some disk) (disk_in laptop) → SameDisks arms_of old new
-      pushed_disks laptop clients spare len same =
-          let are : disks_of new
-          ≡ with_first (disk_of new.server) (with_clients old.clients.items (with_first (disk_in laptop) new.spare.items)) =
-          ap (with_first (disk_of new.server))
-          (ap (λ (ls : List (Laptop D)). with_clients ls new.spare.items) clients
-          ∙ pushed_with old.clients.items laptop new.spare.items) in
+      pub pushed_arms : SameArms medium 1 old new
+      pushed_arms =
+          let were : with_clients old.clients.items (disk ∷ new.spare.items) ≡ with_clients old.clients.items old.spare.items =
+          ap (with_clients old.clients.items) (sym spare) in
+          let are : with_clients old.clients.items (with_first (disk_in laptop) new.spare.items)
+          ≡ with_clients new.clients.items new.spare.items =
+          sym (pushed_with old.clients.items laptop new.spare.items)
+          ∙ ap (λ (ls : List (Laptop D)). with_clients ls new.spare.items) (sym clients) in
           record {
-            arms = subst (λ (l : List D). SameList (disks_of old) l) (sym are) (spared (disk_in laptop) new.spare.items spare same);
-            has = λ has. record {
-              server = subst (λ (s : ServerNode D). IsSome (disk_of s)) (sym server) has.server;
-              clients =
-                  subst (λ (ls : List (Laptop D)). AllByRecursion LaptopHasDisk ls) (sym clients)
-                  (has_push old.clients.items laptop (ap is_some same.new_has) has.clients);
-              room =
-                  let more : length new.clients.items ≡ length old.clients.items + 1 =
-                  ap length clients ∙ length-append old.clients.items (laptop ∷ []) in
-                  omega (arith, more, len, capacity, has.room);
-            };
-            spare = record { front = disk ∷ []; split = spare };
+            each = same_follows (disk_of old.server) (disk_of new.server) (ap (λ (s : ServerNode D). disk_of s) server) _ _
+                (subst (λ (ds : List D). AreUnarmed medium ds (with_clients new.clients.items new.spare.items)) were
+                (subst (λ (ds : List D). AreUnarmed medium (with_clients old.clients.items (disk ∷ new.spare.items)) ds) are
+                (clients_follow old.clients.items (disk ∷ new.spare.items) (with_first (disk_in laptop) new.spare.items)
+                (kept_follows (Some disk) (disk_in laptop) same new.spare.items new.spare.items (unarmed_same new.spare.items)))));
+            spare = let more : length old.spare.items ≡ suc (length new.spare.items) = ap length spare in omega (arith, more);
           }
+
+  -- ---- what a call leaves of a node's disk
+
+  pub now_has : (old new : Option D) → KeepsDisk medium old new → IsSome new
+  now_has old new keeps = ap is_some keeps.new_has
+
+  pub has_kept : (old new : Option D) → KeepsDisk medium old new → IsSome old → IsSome new
+  has_kept old new keeps has = ap is_some keeps.new_has
+
+  pub node_has : {T E : Type 0} (arms : Bool) (r : Result T E) (old new : Laptop D) → KeepsNode medium arms r old new → LaptopHasDisk old
+      → LaptopHasDisk new
+  node_has false r old new keeps = has_kept (disk_in old) (disk_in new) keeps
+  node_has true (Ok done) old new keeps = keeps
+  node_has true (Err fault) old new keeps = has_kept (disk_in old) (disk_in new) keeps
+
+  pub node_arms : {T E : Type 0} (arms : Bool) (r : Result T E) (was laptop : Laptop D) (P : Type 0) → KeepsNode medium arms r was laptop
+      → (Follows (disk_in was) (disk_in laptop) → P) → UnlessArmed arms r P
+  node_arms false r was laptop P keeps then_ = then_ (kept_follows (disk_in was) (disk_in laptop) keeps)
+  node_arms true (Ok done) was laptop P keeps then_ = tt
+  node_arms true (Err fault) was laptop P keeps then_ = then_ (kept_follows (disk_in was) (disk_in laptop) keeps)
+
+  -- one that was not armed
+  pub keeps_node : {T E : Type 0} (arms : Bool) (r : Result T E) (old new : Laptop D) → KeepsDisk medium (disk_in old) (disk_in new)
+      → KeepsNode medium arms r old new
+  keeps_node false r old new keeps = keeps
+  keeps_node true (Ok done) old new keeps = has_kept (disk_in old) (disk_in new) keeps
+  keeps_node true (Err fault) old new keeps = keeps
 
 -- ---- the disks that a world gives back
 

@@ -1,96 +1,116 @@
--- What the server replies to a request for objects.
-use Rattle.std.proofs.Common.{◌≡◌, ◌<◌, ◌^◌, ℕ, List, [], ◌++◌, length, Some, Vec, refl, sym, ap, subst, ◌∙◌}
-use Rattle.std.specs.declared.alloc.Global.{Global}
-use Rattle.iot_tree.specs.Snapshots.{known}
-use Rattle.iot_tree.specs.Tree.{Nodes, IsTree, IsWhole}
-use Rattle.iot_tree.specs.declared.want.Want.{Want}
-use Rattle.iot_client.specs.Messages.{IsRefresh}
-use Rattle.iot_server.specs.Replies.{Answers, IsHandled, records_after}
-use Rattle.iot_server.specs.Servers as servers
-use Rattle.iot_server.specs.declared.server.Server.{Server}
-use Rattle.iot_store.specs.States.{State}
-use Rattle.iot_wire.specs.declared.requests.Request.{Request}
-use Rattle.iot_wire.specs.declared.requests.Request.TheVariants as requests
-use Rattle.iot_wire.specs.declared.replies.Reply.TheVariants as replies
+-- The clients that a world lends are the machine's.
+use Rattle.std.proofs.Common.{◌≡◌, ℕ, ◌<◌, ◌≤◌, List, length, Option, Some, None, sym, ap, subst, ◌∙◌, arith}
+use Rattle.std.proofs.Common.{slice_get, inl, inr, get_or, refl, true, false}
+use Rattle.std.proofs.lemmas.Option.{slice_get_read, same_Some}
+use Rattle.std.specs.Prelude.{IfSome}
+use Rattle.iot_kept.specs.States as kept
+use Rattle.iot_kept.specs.States.{view}
+use Rattle.iot_client.specs.Ties.{Live, live_of, disk_of as client_disk}
+use Rattle.iot_client.specs.declared.client.Client.{Client}
 use Rattle.iot_disk.specs.Disk.{Medium}
-use Rattle.iot_machine.specs.Clients.{snapshot}
-use Rattle.iot_machine.specs.Machine.{tree_after}
-use Rattle.iot_machine.specs.Serving.{Lends}
-use Rattle.iot_world.specs.Disks.{counts_on}
-use Rattle.iot_world.specs.Messages.{commit_said, Spells, SpellsCut}
-use Rattle.iot_world.specs.Servers.{count_of, Handled, StopsIn, Serves, ServerIsSound}
-use Rattle.iot_world.specs.declared.message.Message.{Message}
-use Rattle.iot_world.specs.declared.server.ServerNode.{ServerNode}
-use Rattle.iot_world.specs.declared.server.ServerNode.TheVariants.{Up}
-use Rattle.iot_judging.proofs.RunTreesLaws.{list_tree, list_whole}
-use Rattle.iot_world.proofs.ServersLaws.{stands_still, one_request, nothing_said}
+use Rattle.iot_machine.specs.Machine.{Machine, client_in}
+use Rattle.iot_node.specs.declared.post.Post.{Post}
+use Rattle.iot_node.specs.declared.post.Post.TheVariants.{Up, Down, Between}
+use Rattle.iot_laptop.specs.Laptops.{IsLent, LaptopStands, ClientStands, ItemsStand, RunningStandsIfAny}
+use Rattle.iot_laptop.specs.Laptops.{awake, fallen, lent_by, disk_by, state_in, live_in, disk_in, is_alive}
+use Rattle.iot_laptop.specs.declared.laptop.Laptop.{Laptop}
+use Rattle.iot_laptop.specs.declared.seated.Seated.{Seated}
+use Rattle.iot_laptop.proofs.LaptopsLaws.{view_is}
+use Rattle.iot_laptop.proofs.NodesLaws.{own_in, lent_at, awake_stands, is_awake}
+use Rattle.iot_world.specs.World.{StandsFor, LendsClient, ClientIs}
+use Rattle.iot_world.specs.declared.world.World.{World}
+use Rattle.iot_world.proofs.WorldsLaws.{same_length, inside_here, client_here}
 
-module _ {D : Type 0} (medium : Medium D) (names : List (List ℕ)) (message : Message) (client : ℕ)
-    (held : Nodes) (want : Want) (short : length message.request.items < 2 ^ 64)
-    (asks : IsRefresh client held want message.request.items) where
-  module _ (reply : Vec ℕ Global) (was now : Server D) (synced : servers.IsSynced medium now)
-      (handled : IsHandled (servers.state_of was) (servers.bodies_on medium was) message.request.items reply.items
-      (servers.state_of now) (servers.bodies_on medium now))
-      (same : counts_on medium (servers.disk_of now) ≡ counts_on medium (servers.disk_of was))
-      (sound : ServerIsSound medium (Up was)) where
-    asked : handled.request ≡ requests.Refresh client (known held) want
-    asked = one_request message.request.items short handled.request (requests.Refresh client (known held) want) handled.is asks
+-- what was looked up is there
+pub looked_up : {A : Type 0} (xs ys : List A) (place : ℕ) (x : A) → ys ≡ xs → place < length ys → x ≡ get_or ys place x
+    → slice_get xs place ≡ Some x
+looked_up xs ys place x same within value =
+    ap (λ l. slice_get l place) (sym same) ∙ slice_get_read ys (length ys) place x refl within value
 
-    told : (handled.answered.reply ≡ replies.Objects (snapshot held want (servers.state_of was).tree))
-        × (servers.state_of now ≡ servers.state_of was)
-    told =
-        subst (λ (request : Request). Answers (servers.state_of was) request handled.answered.reply (servers.state_of now)) asked
-        handled.answered.answers
+-- one element is at a place
+pub one_at : {A : Type 0} (xs : List A) (c : ℕ) (x y : A) → slice_get xs c ≡ Some x → slice_get xs c ≡ Some y → x ≡ y
+one_at xs c x y one other = same_Some x y (sym one ∙ other)
 
-    recorded : servers.bodies_on medium now ≡ servers.bodies_on medium was
-    recorded =
-        handled.answered.records
-        ∙ ap (λ (request : Request). records_after request handled.answered.reply (servers.bodies_on medium was)) asked
+-- the client that is lent is the laptop's
+lent_up : {D : Type 0} (post : Post (Seated D) D) (it : Client D) → Some it ≡ lent_by post → post ≡ Up (record { client = it })
+lent_up (Up seated) it is = ap (λ (one : Client _). Up (record { client = one })) (same_Some seated.client it (sym is))
+lent_up (Down down) it is = absurd cc
+lent_up Between it is = absurd cc
 
-    nothing_more : (x : List ℕ)
-        → x ++ commit_said (length (servers.state_of was).labels) (length (servers.state_of now).labels) message ≡ x ++ []
-    nothing_more x =
-        ap (λ (s : State). x ++ commit_said (length (servers.state_of was).labels) (length s.labels) message) told.1
-        ∙ ap (λ (text : List ℕ). x ++ text) (nothing_said (length (servers.state_of was).labels) message)
+module _ {D : Type 0} (medium : Medium D) where
+  -- the client at a place is the machine's there
+  module _ (world : World D) (place : ℕ) (laptop : Laptop D) (get : slice_get world.clients.items place ≡ Some laptop) where
+    lends_client : (it : Client D) → Some it ≡ lent_by laptop.post → (m : Machine) → StandsFor medium world m
+        → LendsClient medium (Some it) place m
+    lends_client it is m here =
+        let up : laptop.post ≡ Up (record { client = it }) = lent_up laptop.post it is in
+        let there : LaptopStands medium m.scripts laptop (client_in m place) =
+        awake_stands medium m.scripts laptop (client_in m place) (alive_by laptop.post it up)
+        (client_here medium world m here place laptop get) in
+        let lent : IsLent medium laptop it =
+        lent_at medium laptop it up (record { scripts = m.scripts; machine = client_in m place; stands = there }) in
+        let within : place < length m.clients = inside_here medium world m here place laptop get in
+        let many = same_length medium world m here in (
+          within,
+          record {
+            alive = there.alive;
+            held = ap (λ (s : kept.State). s.held) lent.state ∙ there.state.held;
+            view =
+                ap view lent.state
+                ∙ view_is (state_in laptop) (live_in laptop) (client_in m place).first (client_in m place).node.durable there.state
+                (own_in medium m.scripts laptop (client_in m place) there);
+            queue =
+                subst (λ (s : kept.State). ItemsStand s.items s.held (client_in m place).node.durable.items) (sym lent.state)
+                there.state.items;
+            running =
+                subst
+                (λ (s : kept.State). RunningStandsIfAny s.running (live_of it) (client_in m place).first
+                (client_in m place).node.durable.running)
+                (sym lent.state)
+                (subst
+                (λ (l : Option Live). RunningStandsIfAny (state_in laptop).running l (client_in m place).first
+                (client_in m place).node.durable.running)
+                (sym lent.live) there.state.running);
+            tied = lent.tied;
+            begun = lent.begun;
+            place_is = lent.place ∙ here.placed place laptop get;
+            few = omega (arith, within, many, here.eight);
+          },
+        )
+      where
+        alive_by : (post : Post (Seated D) D) (it : Client D) → post ≡ Up (record { client = it })
+            → is_alive (record laptop { post = post }) ≡ true
+        alive_by (Up seated) it is = refl
+        alive_by (Down down) it is = absurd cc
+        alive_by Between it is = absurd cc
 
-    its_tree : (servers.state_of was).tree ≡ tree_after sound.node.durable
-    its_tree = ap (λ (s : State). s.tree) sound.stands.keeps.store.has_state
+    lends_fallen : None ≡ lent_by laptop.post → (m : Machine) → StandsFor medium world m → LendsClient medium None place m
+    lends_fallen is m here = inr (by (client_here medium world m here place laptop get))
+      where
+        off_by : (post : Post (Seated D) D) → None ≡ lent_by post → is_alive (record laptop { post = post }) ≡ true → ⊥
+        off_by (Up seated) none up = absurd cc
+        off_by (Down down) none up = absurd cc
+        off_by Between none up = absurd cc
 
-    lends_up : (x y : List ℕ)
-        → y ≡ x ++ commit_said (length (servers.state_of was).labels) (length (servers.state_of now).labels) message
-        → Serves medium names (Lends held want) (SpellsCut held want) (Some reply) (Up was) (Up now) x y
-    lends_up x y said = (
-      snapshot held want (servers.state_of was).tree,
-      record {
-        spelled = subst (Spells reply.items) told.0 handled.answered.spelled;
-        server = (servers.state_of was).tree;
-        tree = subst IsTree (sym its_tree) (list_tree sound.node.durable);
-        whole = subst IsWhole (sym its_tree) (list_whole sound.node.durable);
-        cut = refl;
-      },
-      record {
-        step = λ node here. (
-          [],
-          node,
-          said ∙ nothing_more x,
-          (refl, ap (λ (s : State). Some (snapshot held want s.tree)) here.keeps.store.has_state, refl),
-          stands_still medium names was now node synced recorded told.1 same here,
-        );
-      },
-    )
+        by : ClientStands medium m.scripts laptop (client_in m place) → (client_in m place).node.alive ≡ false
+        by (awake there) = absurd (off_by laptop.post is (is_awake medium m.scripts laptop (client_in m place) there))
+        by (fallen there) = there.alive
 
-  -- its tree, cut down to what is known or wanted
-  pub lends : (reply : Vec ℕ Global) (old new : ServerNode D) (x y : List ℕ) → ServerIsSound medium old
-      → Handled medium message.request.items reply.items old new → y ≡ x ++ commit_said (count_of old) (count_of new) message
-      → Serves medium names (Lends held want) (SpellsCut held want) (Some reply) old new x y
-  lends reply old new x y sound handled said = rw (handled.old_is, handled.new_is)
-      (lends_up reply handled.was handled.now handled.synced handled.handled handled.counts
-      (subst (ServerIsSound medium) handled.old_is sound) x y
-      (said ∙ (λ i. x ++ commit_said (count_of (handled.old_is i)) (count_of (handled.new_is i)) message)))
+    -- whether it is alive or down
+    pub lends_any : (o : Option (Client D)) → o ≡ lent_by laptop.post → (m : Machine) → StandsFor medium world m
+        → LendsClient medium o place m
+    lends_any None is = lends_fallen is
+    lends_any (Some it) is = lends_client it is
 
-  -- it does not stop in that, since it appends nothing
-  pub lends_always : (old new : ServerNode D) → StopsIn medium message.request.items old new → ⊥
-  lends_always old new stops =
-      let same : requests.Commit stops.cut.label stops.cut.acts ≡ requests.Refresh client (known held) want =
-      one_request message.request.items short (requests.Commit stops.cut.label stops.cut.acts) (requests.Refresh client (known held) want)
-      stops.cut.asked asks in absurd cc
+    -- and its disk is that of the place
+    pub lends_disk : (o : Option (Client D)) → o ≡ lent_by laptop.post
+        → IfSome o (λ it. ClientIs (λ (l : Laptop D). disk_in l ≡ Some (client_disk it)) place world)
+    lends_disk None is = tt
+    lends_disk (Some it) is =
+        λ other there.
+        ap (λ (l : Laptop D). disk_in l) (sym (one_at world.clients.items place laptop other get there))
+        ∙ ap disk_by (lent_up laptop.post it is)
+
+  pub lends_none : (world : World D) (place : ℕ) → length world.clients.items ≤ place → (m : Machine)
+      → StandsFor medium world m → LendsClient medium None place m
+  lends_none world place without m here = let many = same_length medium world m here in inl (omega (arith, without, many))

@@ -1,33 +1,11 @@
 -- Lists that are looked up and changed at a place, and lists that go together by place.
 use Rattle.std.proofs.Common.{◌≡◌, ℕ, zero, suc, ◌<◌, List, [], ◌∷◌, ◌++◌, length, map, refl, ap, subst, arith}
-use Rattle.std.proofs.Common.{slice_get, slice_index_or, slice_set, Option, Some, None, Bor, sym}
-use Rattle.std.proofs.lemmas.Option.{same_Some, slice_get_past, slice_get_read}
-use Rattle.std.specs.Option.{option_copied}
-use Rattle.std.specs.Slice.{IsItemAt}
+use Rattle.std.proofs.Common.{slice_get, slice_index_or, slice_set, Some}
+use Rattle.std.proofs.lemmas.Option.{same_Some}
 use Rattle.iot_machine.specs.Machine.{Client, no_client}
 use Rattle.iot_world.specs.World.{Each}
 
--- the element at a place inside does not depend on the default
-pub any_default : {A : Type 0} (xs : List A) (place : ℕ) (d e : A) → place < length xs
-    → slice_index_or xs place d ≡ slice_index_or xs place e
-any_default [] place d e within = absurd (omega arith)
-any_default (x ∷ xs) zero d e within = refl
-any_default (x ∷ xs) (suc place) d e within = any_default xs place d e (omega arith)
-
--- the element that was set
-pub set_at : {A : Type 0} (xs : List A) (place : ℕ) (x d : A) → place < length xs → slice_index_or (slice_set xs place x) place d ≡ x
-set_at [] place x d within = absurd (omega arith)
-set_at (y ∷ ys) zero x d within = refl
-set_at (y ∷ ys) (suc place) x d within = set_at ys place x d (omega arith)
-
 module _ {W M : Type 0} (stands : W → M → Type 0) where
-  pub each_at : (ws : List W) (ms : List M) (c : ℕ) (d : W) (e : M) → c < length ws → Each stands ws ms
-      → stands (slice_index_or ws c d) (slice_index_or ms c e)
-  each_at [] ms c d e within all = absurd (omega arith)
-  each_at (w ∷ ws) [] c d e within all = absurd all
-  each_at (w ∷ ws) (m ∷ ms) zero d e within all = all.0
-  each_at (w ∷ ws) (m ∷ ms) (suc c) d e within all = each_at ws ms c d e (omega arith) all.1
-
   pub each_set : (ws : List W) (ms : List M) (c : ℕ) (w : W) (m : M) → stands w m → Each stands ws ms
       → Each stands (slice_set ws c w) (slice_set ms c m)
   each_set [] [] c w m it all = tt
@@ -49,12 +27,6 @@ module _ {W M : Type 0} (stands : W → M → Type 0) where
   each_length (w ∷ ws) [] all = absurd all
   each_length (w ∷ ws) (m ∷ ms) all = ap suc (each_length ws ms all.1)
 
--- what was set last is there
-pub set_twice : {A : Type 0} (xs : List A) (place : ℕ) (x y : A) → slice_set (slice_set xs place x) place y ≡ slice_set xs place y
-set_twice [] place x y = refl
-set_twice (z ∷ zs) zero x y = refl
-set_twice (z ∷ zs) (suc place) x y = ap (λ zs. z ∷ zs) (set_twice zs place x y)
-
 module _ {W M : Type 0} (stands : W → M → Type 0) where
   -- the elements at one place go together
   pub each_get : (ws : List W) (ms : List M) (c : ℕ) (w : W) (e : M) → slice_get ws c ≡ Some w → Each stands ws ms
@@ -69,30 +41,6 @@ module _ {W M : Type 0} (stands : W → M → Type 0) where
   get_inside (w' ∷ ws) [] c w at all = absurd all
   get_inside (w' ∷ ws) (m ∷ ms) zero w at all = omega arith
   get_inside (w' ∷ ws) (m ∷ ms) (suc c) w at all = let e : c < length ms = get_inside ws ms c w at all.1 in omega (arith, e)
-
--- there is an element at a place inside
-pub inside_get : {A : Type 0} (xs : List A) (c : ℕ) → c < length xs → (x : A) × (slice_get xs c ≡ Some x)
-inside_get [] c within = absurd (omega arith)
-inside_get (x ∷ xs) zero within = (x, refl)
-inside_get (x ∷ xs) (suc c) within = inside_get xs c (omega (arith, within))
-
--- what was set is there
-pub get_set : {A : Type 0} (xs : List A) (c : ℕ) (x y : A) → slice_get (slice_set xs c x) c ≡ Some y → x ≡ y
-get_set [] c x y at = absurd cc
-get_set (z ∷ zs) zero x y at = same_Some x y at
-get_set (z ∷ zs) (suc c) x y at = get_set zs c x y at
-
--- what was set is there, inside
-pub get_here : {A : Type 0} (xs : List A) (c : ℕ) (x y : A) → slice_get xs c ≡ Some y → slice_get (slice_set xs c x) c ≡ Some x
-get_here [] c x y at = absurd cc
-get_here (z ∷ zs) zero x y at = refl
-get_here (z ∷ zs) (suc c) x y at = get_here zs c x y at
-
--- setting what is there changes nothing
-pub set_same : {A : Type 0} (xs : List A) (c : ℕ) (d : A) → slice_set xs c (slice_index_or xs c d) ≡ xs
-set_same [] c d = refl
-set_same (z ∷ zs) zero d = refl
-set_same (z ∷ zs) (suc c) d = ap (λ zs. z ∷ zs) (set_same zs c d)
 
 -- what is so of each element at its place is so of the list in which one is set that is so at its place
 pub each_place_set : {A : Type 0} (P : ℕ → A → Type 0) (xs : List A) (c : ℕ) (x : A)
@@ -111,13 +59,7 @@ each_place_push P [] x all it (suc n) y at = absurd cc
 each_place_push P (z ∷ zs) x all it zero y at = all zero y at
 each_place_push P (z ∷ zs) x all it (suc n) y at = each_place_push (λ n. P (suc n)) zs x (λ n y at. all (suc n) y at) it n y at
 
--- ---- what is lent
-
--- an element that is lent is the one at its place
-pub lent_element : {A : Type 0} (xs : List A) (place : ℕ) (o : Option (Bor A)) → IsItemAt xs place o
-    → option_copied o ≡ slice_get xs place
-lent_element xs place None it = sym (slice_get_past xs place it.3)
-lent_element xs place (Some x) it = sym (slice_get_read xs (length xs) place x.now refl it.3.0 it.1)
+-- ---- the names of clients
 
 -- another client of the same name leaves the names
 pub names_put : (clients : List Client) (c : ℕ) (client : Client) → client.name ≡ (slice_index_or clients c no_client).name
@@ -125,3 +67,10 @@ pub names_put : (clients : List Client) (c : ℕ) (client : Client) → client.n
 names_put [] c client same = refl
 names_put (k ∷ ks) zero client same = ap (λ (n : List ℕ). n ∷ map (λ (k : Client). k.name) ks) same
 names_put (k ∷ ks) (suc c) client same = ap (λ (ns : List (List ℕ)). k.name ∷ ns) (names_put ks c client same)
+
+-- the name of a client at a place inside
+pub name_at : (clients : List Client) (c : ℕ) → c < length clients
+    → slice_get (map (λ (k : Client). k.name) clients) c ≡ Some (slice_index_or clients c no_client).name
+name_at [] c within = absurd (omega arith)
+name_at (k ∷ ks) zero within = refl
+name_at (k ∷ ks) (suc c) within = name_at ks c (omega arith)

@@ -1,5 +1,5 @@
--- The transactions that wait are those of the machine as they are kept, so that looking in says the same of both.
-use Rattle.std.proofs.Common.{◌≡◌, ℕ, Bool, List, [], ◌∷◌, refl, ap, ◌∙◌}
+-- What a client keeps is what the machine's client keeps, with the acts of its scripts.
+use Rattle.std.proofs.Common.{◌≡◌, ℕ, List, [], ◌∷◌, Option, Some, None, refl, ap, ◌∙◌}
 use Rattle.iot_tree.specs.Tree.{Nodes, Path}
 use Rattle.iot_tree.specs.declared.acts.Act.{Act}
 use Rattle.iot_tree.specs.declared.labels.OnConflict.{OnConflict}
@@ -8,10 +8,12 @@ use Rattle.iot_queue.specs.declared.items.Item.{Item}
 use Rattle.iot_queue.specs.declared.items.Resolution.{Resolution}
 use Rattle.iot_queue.specs.declared.items.Stage.{Stage}
 use Rattle.iot_queue.specs.declared.items.Stage.TheVariants as stages
-use Rattle.iot_inspect.specs.declared.waiting.RunLine.{RunLine}
+use Rattle.iot_kept.specs.States.{Transaction, State}
 use Rattle.iot_machine.specs.Clients as clients
-use Rattle.iot_machine.specs.Recorded.{resolution_kept, stage_kept, item_kept, items_kept}
-use Rattle.iot_world.specs.Laptops.{ResolutionStands, StageStands, ItemStands, ItemsStand}
+use Rattle.iot_machine.specs.Clients.{ClientState, base}
+use Rattle.iot_machine.specs.Recorded.{resolution_kept, stage_kept, item_kept, items_kept, queue_kept}
+use Rattle.iot_laptop.specs.Kept.{ResolutionStands, StageStands, ItemStands, ItemsStand, RunningKeptIfAny, StateKept}
+use Rattle.iot_world.specs.Holding.{running_kept, state_kept}
 
 -- ---- a resolution and a stage
 
@@ -57,20 +59,43 @@ item_is : (t : Nodes) (item : Item) (m : clients.Item) → ItemStands t item m �
 item_is t item m it =
     same_item _ _ _ _ _ _ _ _ _ _ _ _ it.number it.name it.budget it.acts it.option (stage_is item.stage m.stage it.stage)
 
-pub items_are : (items : List Item) (t : Nodes) (ms : List clients.Item) → ItemsStand items t ms → items ≡ items_kept t ms
-items_are [] t [] it = refl
-items_are [] t (m ∷ ms) it = absurd it
-items_are (item ∷ items) t [] it = absurd it
-items_are (item ∷ items) t (m ∷ ms) it =
+pub listed_are : (items : List Item) (t : Nodes) (ms : List clients.Item) → ItemsStand items t ms → items ≡ items_kept t ms
+listed_are [] t [] it = refl
+listed_are [] t (m ∷ ms) it = absurd it
+listed_are (item ∷ items) t [] it = absurd it
+listed_are (item ∷ items) t (m ∷ ms) it =
     ap (λ (i : Item). i ∷ items) (item_is t item m it.0)
     ∙ ap (λ (rest : List Item). item_kept t m ∷ rest)
-    (items_are items (after_acts t item.acts) ms it.1 ∙ ap (λ (u : Nodes). items_kept u ms) it.0.tree)
+    (listed_are items (after_acts t item.acts) ms it.1 ∙ ap (λ (u : Nodes). items_kept u ms) it.0.tree)
 
--- ---- the transaction that runs, as a line says it
+pub queue_are : (items : List Item) (t : Nodes) (m : ClientState) → t ≡ m.held → ItemsStand items t m.items → items ≡ queue_kept m
+queue_are items t m held it = listed_are items t m.items it ∙ ap (λ (u : Nodes). items_kept u m.items) held
 
-abbrev pub line_as : ℕ → List ℕ → Bool → ℕ → RunLine
-line_as tid script first acts = record { tid = tid; script = script; first = first; acts = acts }
+-- ---- a state
 
-pub same_line : (t t_ : ℕ) (s s_ : List ℕ) (f f_ : Bool) (a a_ : ℕ) → t ≡ t_ → s ≡ s_ → f ≡ f_ → a ≡ a_
-    → line_as t s f a ≡ line_as t_ s_ f_ a_
-same_line t t_ s s_ f f_ a a_ one two three four = cc
+abbrev transaction_as : ℕ → List ℕ → OnConflict → List Act → Transaction
+transaction_as number script option acts = record { number = number; script = script; option = option; acts = acts }
+
+same_transaction : (n n_ : ℕ) (s s_ : List ℕ) (o o_ : OnConflict) (a a_ : List Act) → n ≡ n_ → s ≡ s_ → o ≡ o_ → a ≡ a_
+    → transaction_as n s o a ≡ transaction_as n_ s_ o_ a_
+same_transaction n n_ s s_ o o_ a a_ one two three four = cc
+
+running_is : (m : ClientState) (r : Option Transaction) (o : Option clients.Running) → RunningKeptIfAny (base m) r o
+    → r ≡ running_kept m o
+running_is m None None it = refl
+running_is m None (Some run) it = absurd it
+running_is m (Some running) None it = absurd it
+running_is m (Some running) (Some run) it =
+    ap (λ (t : Transaction). Some t) (same_transaction _ _ _ _ _ _ _ _ it.number it.name it.option it.acts)
+
+abbrev state_as : Nodes → List Item → Option Transaction → ℕ → State
+state_as held items running last = record { held = held; items = items; running = running; last = last }
+
+same_state : (h h_ : Nodes) (i i_ : List Item) (r r_ : Option Transaction) (l l_ : ℕ) → h ≡ h_ → i ≡ i_ → r ≡ r_ → l ≡ l_
+    → state_as h i r l ≡ state_as h_ i_ r_ l_
+same_state h h_ i i_ r r_ l l_ one two three four = cc
+
+-- what is kept, said plainly
+pub state_is : (s : State) (m : ClientState) → StateKept s m → s ≡ state_kept m
+state_is s m it =
+    same_state _ _ _ _ _ _ _ _ it.held (queue_are s.items s.held m it.held it.items) (running_is m s.running m.running it.running) it.last

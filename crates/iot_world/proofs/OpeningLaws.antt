@@ -1,6 +1,6 @@
 -- A new world is that of a machine that has opened.
 use Rattle.std.proofs.Common.{◌≡◌, ℕ, ◌<◌, Bool, List, [], ◌∷◌, length, map}
-use Rattle.std.proofs.Common.{refl, sym, ap, subst, ◌∙◌, arith}
+use Rattle.std.proofs.Common.{Some, refl, sym, ap, subst, ◌∙◌, arith}
 use Rattle.std.proofs.lemmas.List.{append-nil}
 use Rattle.std.specs.List.{AllByRecursion}
 use Rattle.std.specs.Prelude.{IsSome}
@@ -8,36 +8,35 @@ use Rattle.std.specs.Vec.{vec_len, vec_capacity}
 use Rattle.iot_disk.specs.Disk.{Medium}
 use Rattle.iot_machine.specs.Machine.{Machine, handed}
 use Rattle.iot_machine.specs.Nodes.{Counts, unopened}
-use Rattle.iot_machine.specs.Refining.{Refines}
 use Rattle.iot_machine.specs.Serving.{server_name}
 use Rattle.iot_machine.specs.Stops.{OpensNode}
 use Rattle.iot_machine.specs.Transcript.{Opening}
 use Rattle.iot_machine.proofs.SoundLaws.{sound_opening}
-use Rattle.iot_world.specs.Disks.{IsEmpty, AreFresh, counts_on}
-use Rattle.iot_world.specs.Laptops.{ClientStands}
-use Rattle.iot_world.specs.Servers.{disk_of, ServerStands, HasAnswered}
-use Rattle.iot_world.specs.World.{Each, ScriptStands, ArePlaced, LaptopHasDisk, Opens}
-use Rattle.iot_world.specs.declared.laptop.Laptop.{Laptop}
-use Rattle.iot_world.specs.declared.server.ServerNode.{ServerNode}
-use Rattle.iot_world.specs.declared.world.DeclaredScript.{DeclaredScript}
+use Rattle.iot_node.specs.Disks.{IsEmpty, KeepsDisk, counts_on}
+use Rattle.iot_node.specs.Steps.{StepsTo}
+use Rattle.iot_server_node.specs.Servers.{disk_of, ServerStands, HavingAnswered}
+use Rattle.iot_server_node.specs.declared.server.ServerNode.{ServerNode}
+use Rattle.iot_laptop.specs.Laptops.{ClientStands}
+use Rattle.iot_laptop.specs.declared.laptop.Laptop.{Laptop}
+use Rattle.iot_exchange.specs.Scripts as exchange
+use Rattle.iot_exchange.specs.declared.declared.DeclaredScript.{DeclaredScript}
+use Rattle.iot_world.specs.Disks.{AreFresh}
+use Rattle.iot_world.specs.World.{Each, ArePlaced, AreUnarmed, GivesBack, LaptopHasDisk, Opens, with_first, with_clients}
 use Rattle.iot_world.specs.declared.world.World.{World}
+use Rattle.iot_world.proofs.DisksLaws.{kept_follows, unarmed_same}
 
 module _ {D : Type 0} (medium : Medium D) (disks : List D) (first : D) (rest : List D) (split : disks ≡ first ∷ rest)
     (fresh : AreFresh medium disks) where
   all : AllByRecursion (IsEmpty medium) (first ∷ rest)
   all = subst (λ (ds : List D). AllByRecursion (IsEmpty medium) ds) split fresh.each
 
-  -- the first disk is empty
-  pub first_empty : IsEmpty medium first
-  first_empty = all.0
-
   -- a world of its server alone
   pub opens : (world : World D) (was : ServerNode D) (x y : List ℕ) (on : Bool)
-      → ServerStands medium [] was (unopened [] (counts_on medium first))
-      → Refines (ServerStands medium []) (OpensNode server_name) was world.server x y on → HasAnswered 0 world.server
+      → ServerStands medium [] was (unopened [] (counts_on medium first)) 0
+      → StepsTo (HavingAnswered medium [] 0) (HavingAnswered medium [] 0) (OpensNode server_name) was world.server x y on
       → IsSome (disk_of world.server) → world.clients.items ≡ [] → world.scripts.items ≡ [] → world.spare.items ≡ rest
       → vec_len world.spare < vec_capacity world.spare → Opens medium disks x y world
-  opens world was x y on stands one answered some clients scripts spare room =
+  opens world was x y on stands one some clients scripts spare room =
       let counts : List Counts = map (counts_on medium) disks in
       let handed_on : handed counts ≡ handed (map (counts_on medium) (first ∷ rest)) =
       ap (λ (ds : List D). handed (map (counts_on medium) ds)) split in
@@ -62,9 +61,8 @@ module _ {D : Type 0} (medium : Medium D) (disks : List D) (first : D) (rest : L
         stands = record {
           stands = record {
             server = s.4;
-            requests = answered;
-            clients = subst (λ (ls : List (Laptop D)). Each (ClientStands medium []) ls []) (sym clients) tt;
-            scripts = subst (λ (ss : List DeclaredScript). Each ScriptStands ss []) (sym scripts) tt;
+            clients_ = subst (λ (ls : List (Laptop D)). Each (ClientStands medium []) ls []) (sym clients) tt;
+            scripts = ap (λ (ss : List DeclaredScript). exchange.scripts_of ss) (sym scripts);
             apart = λ place script at. absurd cc;
             placed = subst ArePlaced (sym clients) (λ place laptop at. absurd cc);
             spare = subst (λ (ds : List D). AllByRecursion (IsEmpty medium) ds) (sym spare) all.1;
@@ -83,3 +81,28 @@ module _ {D : Type 0} (medium : Medium D) (disks : List D) (first : D) (rest : L
         first = first;
         were = split ∙ ap (λ (ds : List D). first ∷ ds) (sym spare);
       }
+
+  -- in which no disk was armed
+  module _ (was now : ServerNode D) (has : disk_of was ≡ Some first) (keeps : KeepsDisk medium (disk_of was) (disk_of now)) where
+    unarmed_with : AreUnarmed medium (first ∷ rest) (with_first (disk_of now) rest)
+    unarmed_with = subst (λ o. AreUnarmed medium (with_first o rest) (with_first (disk_of now) rest)) has
+        (kept_follows medium (disk_of was) (disk_of now) keeps rest rest (unarmed_same medium rest))
+
+    pub opens_unarmed : (laptops : List (Laptop D)) (spare : List D) → laptops ≡ [] → spare ≡ rest
+        → AreUnarmed medium disks (with_first (disk_of now) (with_clients laptops spare))
+    opens_unarmed laptops spare none others =
+        subst (λ (ds : List D). AreUnarmed medium ds (with_first (disk_of now) (with_clients laptops spare))) (sym split)
+        (subst (λ (ds : List D). AreUnarmed medium (first ∷ rest) ds)
+        (λ i. with_first (disk_of now) (with_clients (sym none i) (sym others i)))
+        unarmed_with)
+
+    -- the disks come back
+    pub gives_back : (back : List D) (disk : D) → disk_of now ≡ Some disk → back ≡ disk ∷ rest → GivesBack medium disks back
+    gives_back back disk is put = record {
+      was = first;
+      now = disk;
+      rest = rest;
+      disks_are = split;
+      back_are = put;
+      unarmed = (subst (λ o. AreUnarmed medium (first ∷ rest) (with_first o rest)) is unarmed_with).0;
+    }

@@ -1,7 +1,6 @@
 -- Scripts by their names, as more are declared.
-use Rattle.std.proofs.Common.{◌≡◌, ℕ, ◌<◌, zero, suc, Bool, true, false, List, [], ◌∷◌, ◌++◌, map, length, Option, Some, None, IfSome, cond}
-use Rattle.std.proofs.Common.{refl, ap, subst, ◌||◌, ◌⊎◌, inl, inr, bytes_eq, slice_get, slice_index_or}
-use Rattle.std.proofs.lemmas.Option.{slice_get-get_or}
+use Rattle.std.proofs.Common.{◌≡◌, ℕ, zero, suc, Bool, true, false, List, [], ◌∷◌, ◌++◌, map, Option, Some, None, IfSome, cond}
+use Rattle.std.proofs.Common.{refl, subst, ◌||◌, ◌⊎◌, inl, inr, bytes_eq, slice_get}
 use Rattle.std.proofs.lemmas.Slice.Eq.{bytes_eq-Decides}
 use Rattle.std.specs.List.{find, AllByRecursion}
 use Rattle.iot_event.specs.Meanings.{is_declared}
@@ -10,29 +9,12 @@ use Rattle.iot_machine.specs.Clients.{Declared, Item, Running, ClientState}
 use Rattle.iot_machine.specs.Machine as machine
 use Rattle.iot_machine.specs.Options as options
 use Rattle.iot_machine.specs.Options.{OnConflict}
-use Rattle.iot_world.specs.Laptops.{ClientStands, awake, fallen}
-use Rattle.iot_world.specs.Scripts.{script_named, IsNamed, HasNamed, AreApart, ItemIsNamed, RunIsNamedIfAny, AreNamed}
-use Rattle.iot_world.specs.Scripts.{option_named, or_none, meant}
-use Rattle.iot_world.specs.World.{Each, ScriptStands, script_of}
-use Rattle.iot_world.specs.declared.laptop.Laptop.{Laptop}
-use Rattle.iot_world.specs.declared.world.DeclaredScript.{DeclaredScript}
-
--- the machine's scripts are those of the world
-pub scripts_are : (ws : List DeclaredScript) (ms : List Declared) → Each ScriptStands ws ms → ms ≡ map script_of ws
-scripts_are [] [] each = refl
-scripts_are [] (m ∷ ms) each = absurd each
-scripts_are (w ∷ ws) [] each = absurd each
-scripts_are (w ∷ ws) (m ∷ ms) each = (λ i. each.0 i ∷ scripts_are ws ms each.1 i)
-
--- ---- options
-
--- an option is what its names mean
-pub meant_named : (scripts : List Declared) (option : OnConflict Declared) → HasNamed scripts option
-    → meant scripts (option_named option) ≡ option
-meant_named scripts options.Reexec named = refl
-meant_named scripts (options.Resolver script) named = ap (λ (o : Option Declared). options.Resolver (or_none o)) named
-meant_named scripts options.Abort named = refl
-meant_named scripts options.Manual named = refl
+use Rattle.iot_laptop.specs.Laptops.{ClientStands, awake, fallen}
+use Rattle.iot_laptop.specs.Scripts.{script_named, IsNamed, HasNamed, ItemIsNamed, RunIsNamedIfAny, AreNamed}
+use Rattle.iot_laptop.specs.declared.laptop.Laptop.{Laptop}
+use Rattle.iot_exchange.specs.Scripts.{AreApart, script_of}
+use Rattle.iot_exchange.specs.declared.declared.DeclaredScript.{DeclaredScript}
+use Rattle.iot_world.specs.World.{Each}
 
 -- ---- one script more
 
@@ -93,9 +75,7 @@ module _ (scripts : List Declared) (one : Declared) where
       name = here.name;
       link = here.link;
       alive = here.alive;
-      sure = here.sure;
-      counts = here.counts;
-      tied = here.tied;
+      node = here.node;
       state = here.state;
       named = state_more m.node.durable here.named;
     })
@@ -103,11 +83,7 @@ module _ (scripts : List Declared) (one : Declared) where
       name = here.name;
       link = here.link;
       alive = here.alive;
-      disk = here.disk;
-      doubt = here.doubt;
-      down = here.down;
-      counts = here.counts;
-      holds = here.holds;
+      node = here.node;
       named = record {
         is = state_more m.node.durable here.named.is;
         may_be = if_more m.node.doubt here.named.may_be;
@@ -155,8 +131,3 @@ undeclared (w ∷ ws) name none = by (bytes_eq name w.name) none (λ rest. undec
         → cond b (Some (script_of w)) (script_named name (map script_of ws)) ≡ None
     by true none more = absurd cc
     by false none more = more none
-
--- the script at a place is the one of its name
-pub named_at : (scripts : List Declared) (place : ℕ) (d : Declared) → place < length scripts → AreApart scripts
-    → IsNamed scripts (slice_index_or scripts place d)
-named_at scripts place d within apart = apart place (slice_index_or scripts place d) (slice_get-get_or scripts place d within)

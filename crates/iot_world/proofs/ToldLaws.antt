@@ -20,38 +20,25 @@ use Rattle.iot_machine.specs.Events.{names_in}
 use Rattle.iot_machine.specs.Json.{client_data, server_tree, json_text}
 use Rattle.iot_machine.specs.Machine.{Machine, Client, client_in, tree_after, no_client}
 use Rattle.iot_machine.specs.Recorded.{queue_kept, labels_of}
-use Rattle.iot_world.specs.Laptops.{LaptopStands, ClientStands, StandsAnyhow, Stands, IsView}
+use Rattle.iot_server_node.specs.Servers.{IsServerOf}
+use Rattle.iot_laptop.specs.Laptops.{LaptopStands, StandsAnyhow, IsView, is_alive, state_in}
+use Rattle.iot_laptop.specs.declared.laptop.Laptop.{Laptop}
+use Rattle.iot_laptop.proofs.NodesLaws.{awake_stands}
 use Rattle.iot_world.specs.Looks.{HasTold, AddsTold, Tells}
-use Rattle.iot_world.specs.Nodes.{is_alive, state_in}
-use Rattle.iot_world.specs.World.{StandsFor, StandsForSome, IsServerOf}
-use Rattle.iot_world.specs.declared.laptop.Laptop.{Laptop}
+use Rattle.iot_world.specs.World.{StandsFor, StandsForSome}
 use Rattle.iot_world.specs.declared.world.World.{World}
-use Rattle.iot_world.proofs.ListLaws.{each_length, get_inside}
-use Rattle.iot_world.proofs.LookingLaws.{queue_is}
-use Rattle.iot_world.proofs.NodesLaws.{awake_stands, fallen_stands}
-use Rattle.iot_world.proofs.StepsLaws.{client_stands}
+use Rattle.iot_world.proofs.ListedLaws.{queue_are}
+use Rattle.iot_world.proofs.WorldsLaws.{same_length, inside_here, client_here}
 
 -- ---- one client
 
--- the data of one that is alive, and of one that is down
+-- the data of one that is alive
 live_is : (m : Client) → m.node.alive ≡ true
     → live_data m.name (queue_kept m.node.durable) (view m.node.durable) ≡ client_data m
 live_is m up =
     ap (λ (b : Bool). if b then live_data m.name (queue_kept m.node.durable) (view m.node.durable) else down_data m.name) (sym up)
 
-down_is : (m : Client) → m.node.alive ≡ false → down_data m.name ≡ client_data m
-down_is m down =
-    ap (λ (b : Bool). if b then live_data m.name (queue_kept m.node.durable) (view m.node.durable) else down_data m.name) (sym down)
-
 module _ {D : Type 0} (medium : Medium D) where
-  -- one that is alive or down, and is alive
-  pub awake_some : (laptop : Laptop D) → StandsAnyhow medium laptop → is_alive laptop ≡ true → Stands medium laptop
-  awake_some laptop stands up = record {
-    scripts = stands.scripts;
-    machine = stands.machine;
-    stands = awake_stands medium stands.scripts laptop stands.machine up stands.stands;
-  }
-
   module _ (laptop : Laptop D) (old new : Json) (names : named new ≡ named old ++ laptop.name ∷ []) where
     adds : (m : Client) (data_ : Data) → laptop.name ≡ m.name → data_ ≡ client_data m → shown new ≡ shown old ++ data_ ∷ []
         → AddsTold m old new
@@ -67,15 +54,11 @@ module _ {D : Type 0} (medium : Medium D) where
         let there : LaptopStands medium scripts laptop m = awake_stands medium scripts laptop m up here in
         adds m (live_data laptop.name items t) there.name
         (ap (λ (n : List ℕ). live_data n items t) there.name
-        ∙ ap (λ (is : List Item). live_data m.name is t) (same ∙ queue_is medium scripts laptop m there)
+        ∙ ap (λ (is : List Item). live_data m.name is t)
+        (same ∙ queue_are (state_in laptop).items (state_in laptop).held m.node.durable there.state.held there.state.items)
         ∙ ap (live_data m.name (queue_kept m.node.durable)) (sees scripts m there)
         ∙ live_is m there.alive)
         told
-
-    pub tells_down : is_alive laptop ≡ false → shown new ≡ shown old ++ down_data laptop.name ∷ [] → Tells medium laptop old new
-    tells_down down told = λ scripts m here.
-        let there = fallen_stands medium scripts laptop m down here in
-        adds m (down_data laptop.name) there.name (ap down_data there.name ∙ down_is m there.alive) told
 
   -- ---- all clients
 
@@ -92,7 +75,7 @@ module _ {D : Type 0} (medium : Medium D) where
     stands_at some = record {
       scripts = some.machine.scripts;
       machine = client_in some.machine n;
-      stands = client_stands medium world some.machine n laptop get some.stands;
+      stands = client_here medium world some.machine some.stands n laptop get;
     }
 
     -- one more
@@ -100,9 +83,8 @@ module _ {D : Type 0} (medium : Medium D) where
     tells_more old new so_far one = λ m here.
         let front : HasTold (take n m.clients) old = so_far m here in
         let added : AddsTold (client_in m n) old new =
-        one m.scripts (client_in m n) (client_stands medium world m n laptop get here) in
-        let within : n < length m.clients =
-        get_inside (ClientStands medium m.scripts) world.clients.items m.clients n laptop get here.clients in
+        one m.scripts (client_in m n) (client_here medium world m here n laptop get) in
+        let within : n < length m.clients = inside_here medium world m here n laptop get in
         record {
           clients =
               added.clients ∙ ap (λ (ds : List Data). ds ++ client_data (client_in m n) ∷ []) front.clients
@@ -115,8 +97,7 @@ module _ {D : Type 0} (medium : Medium D) where
   pub tells_all : (world : World D) (n : ℕ) (json : Json) → length world.clients.items ≤ n → TellsFirst world n json → (m : Machine)
       → StandsFor medium world m → HasTold m.clients json
   tells_all world n json all so_far m here =
-      let long : length world.clients.items ≡ length m.clients =
-      each_length (ClientStands medium m.scripts) world.clients.items m.clients here.clients in
+      let long : length world.clients.items ≡ length m.clients = same_length medium world m here in
       subst (λ (ms : List Client). HasTold ms json) (take_all n m.clients (omega (arith, all, long))) (so_far m here)
 
 -- ---- the server
@@ -138,7 +119,8 @@ told_with m json labels tree told =
     ∙ ap (λ (ns : List (List ℕ)). compact_text (whole_data (items_of (map client_data m.clients)) ns labels tree)) told.names
 
 pub json_up : {D : Type 0} (m : Machine) (json : Json) (labels : List Label) (t : Nodes) (it : Server D) → HasTold m.clients json
-    → labels ≡ (state_of it).labels → t ≡ (state_of it).tree → IsServerOf it m → text_with json labels (Some t) ≡ json_text m
+    → labels ≡ (state_of it).labels → t ≡ (state_of it).tree → IsServerOf it m.server m.requests
+    → text_with json labels (Some t) ≡ json_text m
 json_up m json labels t it told are is lent =
     told_with m json labels (Some t) told
     ∙ ap (λ (ls : List Label). said ls (Some t)) (are ∙ lent.labels)

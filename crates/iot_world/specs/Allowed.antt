@@ -1,53 +1,44 @@
 -- Which event may come, if so many clients, and scripts of these names, are declared.
-use Rattle.std.specs.Prelude.{◌≡◌, ℕ, ◌<◌, ◌≤◌, Bool, true, false, List, length}
-use Rattle.iot_event.specs.Declarations.{ResolverIsDeclared}
+use Rattle.std.specs.Prelude.{◌≡◌, ℕ, ◌<◌, Bool, true, false, List, length}
 use Rattle.iot_event.specs.Meanings.{is_declared}
 use Rattle.iot_event.specs.declared.declared.TheConstants.{CLIENT_LIMIT}
+use Rattle.iot_event.specs.declared.event.ClientEvent.{ClientEvent}
+use Rattle.iot_event.specs.declared.event.ClientEvent.TheVariants.{Node, Link, Task}
 use Rattle.iot_event.specs.declared.event.Event.{Event}
 use Rattle.iot_event.specs.declared.event.Event.TheVariants as events
+use Rattle.iot_event.specs.declared.event.NodeEvent.{NodeEvent}
+use Rattle.iot_event.specs.declared.event.NodeEvent.TheVariants.{Show, Stop, Crash, Restart}
+use Rattle.iot_exchange.specs.Scripts.{MayDo}
 
--- there are not too many clients, no script is declared again, each event is on a client, of a script and with a resolver that are
--- declared, and those that wait are counted from 1
+-- what a client is asked to do is with scripts that are declared
+abbrev pub MayBefall : ClientEvent ℕ → (scripts : ℕ) → Type 0
+MayBefall (Node what) scripts = Unit {0}
+MayBefall (Link what) scripts = Unit {0}
+MayBefall (Task task) scripts = MayDo task scripts
+
+-- there are not too many clients, no script is declared again, and each event of a client is of one that is declared
 abbrev pub IsAllowed : Event → (clients : ℕ) (scripts : List (List ℕ)) → Type 0
 IsAllowed (events.Client name) clients scripts = clients < CLIENT_LIMIT
 IsAllowed (events.Script name code) clients scripts = is_declared name scripts ≡ false
-IsAllowed (events.Run client script option) clients scripts =
-    (client < clients) × (script < length scripts) × ResolverIsDeclared option (length scripts)
-IsAllowed (events.Hoard client path) clients scripts = client < clients
-IsAllowed (events.Refresh client) clients scripts = client < clients
-IsAllowed (events.Begin client script option) clients scripts =
-    (client < clients) × (script < length scripts) × ResolverIsDeclared option (length scripts)
-IsAllowed (events.Step client count) clients scripts = client < clients
-IsAllowed (events.End client) clients scripts = client < clients
-IsAllowed (events.Connect client) clients scripts = client < clients
-IsAllowed (events.Disconnect client) clients scripts = client < clients
-IsAllowed (events.Lose client loss) clients scripts = client < clients
-IsAllowed (events.Sync client) clients scripts = client < clients
-IsAllowed (events.Drain client) clients scripts = client < clients
-IsAllowed (events.Repair client script) clients scripts = (client < clients) × (script < length scripts)
-IsAllowed (events.Discard client) clients scripts = client < clients
-IsAllowed events.ShowServer clients scripts = Unit {0}
-IsAllowed (events.ShowClient client) clients scripts = client < clients
-IsAllowed (events.StopServer calls pick) clients scripts = Unit {0}
-IsAllowed (events.StopClient client calls pick) clients scripts = client < clients
-IsAllowed events.CrashServer clients scripts = Unit {0}
-IsAllowed (events.CrashClient client) clients scripts = client < clients
-IsAllowed events.RestartServer clients scripts = Unit {0}
-IsAllowed (events.RestartClient client) clients scripts = client < clients
-IsAllowed (events.Queue client) clients scripts = client < clients
-IsAllowed (events.Reads client item) clients scripts = (client < clients) × (1 ≤ item)
+IsAllowed (events.At client what) clients scripts = (client < clients) × MayBefall what (length scripts)
+IsAllowed (events.Server what) clients scripts = Unit {0}
 IsAllowed events.Log clients scripts = Unit {0}
 
--- it makes a later call of a disk fail
-abbrev pub arms_a_disk : Event → Bool
-arms_a_disk (events.StopServer calls pick) = true
-arms_a_disk (events.StopClient client calls pick) = true
-arms_a_disk other = false
+-- the events that arm a disk
+abbrev pub stops_node : NodeEvent → Bool
+stops_node Show = false
+stops_node (Stop calls pick) = true
+stops_node Crash = false
+stops_node Restart = false
 
--- it does so, or starts a node again from its disk
-abbrev pub is_of_disks : Event → Bool
-is_of_disks (events.StopServer calls pick) = true
-is_of_disks (events.StopClient client calls pick) = true
-is_of_disks events.RestartServer = true
-is_of_disks (events.RestartClient client) = true
-is_of_disks other = false
+abbrev pub stops_client : ClientEvent ℕ → Bool
+stops_client (Node what) = stops_node what
+stops_client (Link what) = false
+stops_client (Task task) = false
+
+abbrev pub arms_a_disk : Event → Bool
+arms_a_disk (events.Client name) = false
+arms_a_disk (events.Script name code) = false
+arms_a_disk (events.At client what) = stops_client what
+arms_a_disk (events.Server what) = stops_node what
+arms_a_disk events.Log = false

@@ -1,60 +1,62 @@
--- If all images of a disk have the record that is in doubt, or none has it, that decides whether it is kept.
-use Rattle.std.specs.Prelude.{◌≡◌, ◌⊎◌, ℕ, ◌+◌, List, ◌++◌, length, Option, Some, None, IfSome, slice_get}
+-- What decides whether a record that is in doubt is kept: the image from which its node comes back. So if all images of the disk have it,
+-- or none has it, that decides.
+use Rattle.std.specs.Prelude.{◌≡◌, ℕ, true, List}
+use Rattle.iot_disk.specs.Disk.{Medium}
+use Rattle.iot_event.specs.declared.event.ClientEvent.{ClientEvent}
+use Rattle.iot_event.specs.declared.event.ClientEvent.TheVariants as client_events
 use Rattle.iot_event.specs.declared.event.Event.{Event}
 use Rattle.iot_event.specs.declared.event.Event.TheVariants as events
-use Rattle.iot_journal.specs.Decoding.{Encodes, decoded}
+use Rattle.iot_event.specs.declared.event.NodeEvent.{NodeEvent}
+use Rattle.iot_event.specs.declared.event.NodeEvent.TheVariants.{Restart}
+use Rattle.iot_machine.specs.Clients.{Declared}
+use Rattle.iot_machine.specs.Machine.{Client, Commit}
+use Rattle.iot_machine.specs.Nodes.{Node}
 use Rattle.iot_machine.specs.Serving.{server_name}
-use Rattle.iot_machine.specs.Texts.{stopped_line, kept_line, lost_line}
-use Rattle.iot_world.specs.declared.laptop.Laptop.{Laptop}
-use Rattle.iot_world.specs.declared.node.ClientNode.{ClientNode}
-use Rattle.iot_world.specs.declared.node.ClientNode.TheVariants as clients
-use Rattle.iot_world.specs.declared.server.ServerNode.{ServerNode}
-use Rattle.iot_world.specs.declared.server.ServerNode.TheVariants as servers
+use Rattle.iot_node.specs.Posts.{is_fallen, CameIf}
+use Rattle.iot_node.specs.declared.post.Post.{Post}
+use Rattle.iot_node.specs.declared.post.Post.TheVariants.{Up, Down, Between}
+use Rattle.iot_server_node.specs.Deciding.{DecidesIfAny, DecidesServer}
+use Rattle.iot_server_node.specs.Keepers.{lists}
+use Rattle.iot_server_node.specs.Servers.{ServerStands, post_of, is_up}
+use Rattle.iot_laptop.specs.Calls.{Came}
+use Rattle.iot_laptop.specs.Laptops.{ClientStands}
+use Rattle.iot_laptop.specs.declared.laptop.Laptop.{Laptop}
+use Rattle.iot_laptop.specs.declared.seated.Seated.{Seated}
+use Rattle.iot_world.specs.World.{ClientIs}
 use Rattle.iot_world.specs.declared.world.World.{World}
 
--- the bytes are a journal of so many records
-pub record HasCount (count : ℕ) (bytes : List ℕ) : Type 0 where
-  pub records : List (List ℕ)
-  pub read : decoded bytes ≡ Encodes records
-  pub counted : length records ≡ count
+-- a client that comes back, by all images
+abbrev pub DecidesPost : {D : Type 0} → Medium D → Post (Seated D) D → (name before after : List ℕ) → Type 0
+DecidesPost medium (Up seated) name before after = Unit {0}
+DecidesPost medium (Down fallen) name before after = DecidesIfAny (medium.may_leave fallen.disk) fallen.doubt name before after
+DecidesPost medium Between name before after = Unit {0}
 
--- each of the images is one
-pub record EachHas (images : List ℕ → Type 0) (count : ℕ) : Type 0 where
-  pub each : (image : List ℕ) → images image → HasCount count image
+-- and by the image from which it does
+pub record DecidesClient {D : Type 0} (medium : Medium D) (before after : List ℕ) (laptop : Laptop D) : Type 0 where
+  pub by_all : DecidesPost medium laptop.post laptop.name before after
+  pub by_image : is_fallen laptop.post ≡ true → (scripts : List Declared) (m : Client) → ClientStands medium scripts laptop m
+      → Came medium laptop before after m
 
--- the text was added, and perhaps more
-pub record Begins (text before after : List ℕ) : Type 0 where
-  pub rest : List ℕ
-  pub is : after ≡ before ++ (text ++ rest)
+-- the server, likewise
+pub record RestartDecides {D : Type 0} (medium : Medium D) (old new : World D) (before after : List ℕ) : Type 0 where
+  pub by_all : DecidesServer medium old.server before after
+  pub by_image : (names : List (List ℕ)) (n : ℕ) (node : Node (List Commit)) → ServerStands medium names old.server node n
+      → CameIf (lists medium) medium (is_up new.server) (post_of old.server) server_name before after node
 
--- a node of this name that comes back says so of the record behind so many, or that it has stopped again
-pub record DecidesBy (images : List ℕ → Type 0) (count : ℕ) (name before after : List ℕ) : Type 0 where
-  pub kept : EachHas images (count + 1) → Begins (kept_line name) before after ⊎ Begins (stopped_line name) before after
-  pub lost : EachHas images count → Begins (lost_line name) before after ⊎ Begins (stopped_line name) before after
+-- a node that the event restarts
+abbrev pub ClientDecides : {D : Type 0} → Medium D → NodeEvent → (before after : List ℕ) → Laptop D → Type 0
+ClientDecides medium Restart before after laptop = DecidesClient medium before after laptop
+ClientDecides medium other before after laptop = Unit {0}
 
-abbrev pub DecidesIfAny : (images : List ℕ → Type 0) → Option ℕ → (name before after : List ℕ) → Type 0
-DecidesIfAny images None name before after = Unit {0}
-DecidesIfAny images (Some count) name before after = DecidesBy images count name before after
+abbrev pub ServerDecides : {D : Type 0} → Medium D → NodeEvent → (old new : World D) → (before after : List ℕ) → Type 0
+ServerDecides medium Restart old new before after = RestartDecides medium old new before after
+ServerDecides medium other old new before after = Unit {0}
 
--- a client that comes back, if something is in doubt
-abbrev pub decides_client_by : {D : Type 0} → (D → List ℕ → Type 0) → ClientNode D → (name before after : List ℕ) → Type 0
-decides_client_by may_leave (clients.Up it) name before after = Unit {0}
-decides_client_by may_leave (clients.Down disk doubt) name before after = DecidesIfAny (may_leave disk) doubt name before after
-decides_client_by may_leave clients.Between name before after = Unit {0}
+abbrev pub DecidesAt : {D : Type 0} → Medium D → ClientEvent ℕ → (client : ℕ) → (old : World D) → (before after : List ℕ) → Type 0
+DecidesAt medium (client_events.Node what) client old before after = ClientIs (ClientDecides medium what before after) client old
+DecidesAt medium other client old before after = Unit {0}
 
-abbrev pub DecidesClient : {D : Type 0} → (D → List ℕ → Type 0) → (before after : List ℕ) → Laptop D → Type 0
-DecidesClient may_leave before after laptop = decides_client_by may_leave laptop.node laptop.name before after
-
--- the server
-abbrev pub DecidesServer : {D : Type 0} → (D → List ℕ → Type 0) → ServerNode D → (before after : List ℕ) → Type 0
-DecidesServer may_leave (servers.Up it) before after = Unit {0}
-DecidesServer may_leave (servers.Down disk None) before after = Unit {0}
-DecidesServer may_leave (servers.Down disk (Some doubt)) before after = DecidesBy (may_leave disk) doubt.count server_name before after
-DecidesServer may_leave servers.Between before after = Unit {0}
-
--- the node that the event restarts
-abbrev pub Decides : {D : Type 0} → (D → List ℕ → Type 0) → Event → (old : World D) → (before after : List ℕ) → Type 0
-Decides may_leave events.RestartServer old before after = DecidesServer may_leave old.server before after
-Decides may_leave (events.RestartClient client) old before after =
-    IfSome (slice_get old.clients.items client) (DecidesClient may_leave before after)
-Decides may_leave other old before after = Unit {0}
+abbrev pub Decides : {D : Type 0} → Medium D → Event → (old new : World D) → (before after : List ℕ) → Type 0
+Decides medium (events.Server what) old new before after = ServerDecides medium what old new before after
+Decides medium (events.At client what) old new before after = DecidesAt medium what client old before after
+Decides medium other old new before after = Unit {0}

@@ -1,32 +1,44 @@
 -- What the disks hold that a world gives back, and what they count.
 use Rattle.std.specs.Prelude.{◌≡◌, ◌⊎◌, ℕ, List, ◌∷◌, ◌++◌, length, map, Option, Some, None}
-use Rattle.iot_kept.specs.States.{State}
+use Rattle.iot_kept.specs.States.{Transaction, State}
 use Rattle.iot_kept.specs.Standing.{StandFor}
 use Rattle.iot_disk.specs.Disk.{Medium}
-use Rattle.iot_machine.specs.Clients.{ClientState}
+use Rattle.iot_machine.specs.Clients.{ClientState, Running, base, so_far}
 use Rattle.iot_machine.specs.Machine.{Machine, Client, Commit}
 use Rattle.iot_machine.specs.Nodes.{Counts}
-use Rattle.iot_world.specs.Laptops.{ClientHolds, StateKept}
-use Rattle.iot_world.specs.Records.{IsImage, Holds, records_of, state_of}
+use Rattle.iot_machine.specs.Recorded.{option_named, queue_kept}
+use Rattle.iot_server_node.specs.Records.{IsImage}
 use Rattle.iot_world.specs.World.{Each}
 
--- each of the images has the server's list; if a commit is in doubt, it has the list without it or with it
+-- an image has this list, a record for each commit
+abbrev pub IsListed : List Commit → (image : List ℕ) → Type 0
+IsListed commits image = IsImage image (length commits) commits
+
+-- each of the images is so of a state; if a record is in doubt, of that without it or with it
+abbrev pub Holds : {S : Type 0} → (S → List ℕ → Type 0) → (images : List ℕ → Type 0) → S → (doubt : Option S) → Type 0
+Holds Is images s None = (image : List ℕ) → images image → Is s image
+Holds Is images s (Some after) = (image : List ℕ) → images image → Is s image ⊎ Is after image
+
+-- each has the server's list
 abbrev pub HoldsList : (images : List ℕ → Type 0) → List Commit → (doubt : Option (List Commit)) → Type 0
-HoldsList images commits None = Holds images commits
-HoldsList images commits (Some after) =
-    (image : List ℕ) → images image
-    → IsImage (records_of commits) (state_of commits) image ⊎ IsImage (records_of after) (state_of after) image
+HoldsList images commits doubt = Holds IsListed images commits doubt
+
+-- what a client keeps, with the acts of its scripts: what is durable of it
+abbrev pub running_kept : ClientState → Option Running → Option Transaction
+running_kept m None = None
+running_kept m (Some it) =
+    Some (record { number = it.number; script = it.script.name; option = option_named it.option; acts = (so_far (base m) it).acts })
+
+abbrev pub state_kept : ClientState → State
+state_kept m = record { held = m.held; items = queue_kept m; running = running_kept m m.running; last = m.last }
 
 -- an image is what a client keeps
-pub record IsKept (m : ClientState) (image : List ℕ) : Type 0 where
-  pub state : State
-  pub stands : StandFor image state
-  pub kept : StateKept state m
+abbrev pub IsKept : ClientState → (image : List ℕ) → Type 0
+IsKept m image = StandFor image (state_kept m)
 
--- each of the images is what the client keeps; if a record is in doubt, without it or with it
+-- each of the images is that
 abbrev pub HoldsClient : (images : List ℕ → Type 0) → ClientState → (doubt : Option ClientState) → Type 0
-HoldsClient images m None = ClientHolds images m
-HoldsClient images m (Some after) = (image : List ℕ) → images image → IsKept m image ⊎ IsKept after image
+HoldsClient images m doubt = Holds IsKept images m doubt
 
 -- this disk is a client's
 abbrev pub KeepsClient : {D : Type 0} → Medium D → D → Client → Type 0

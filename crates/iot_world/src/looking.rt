@@ -1,51 +1,25 @@
-//! Looking in at the nodes: what they hold, as lines and as JSON.
-ghost use Rattle.std.specs.Prelude.{◌≡◌, ◌≤◌, ◌-◌, ◌∷◌, [], length, slice_get, IfOk, OnOk, Some, None};
-ghost use Rattle.std.specs.Option.{option_copied};
-ghost use Rattle.iot_machine.specs.Events.{Queues, ReadsOf, Logs};
+//! Looking in at the server's list, and at what all nodes hold.
+ghost use Rattle.std.specs.Prelude.{◌≡◌, IfOk, OnOk};
+ghost use Rattle.iot_laptop.specs.Laptops.{StandsAnyhow};
+ghost use Rattle.iot_machine.specs.Events.{Logs};
 ghost use Rattle.iot_machine.specs.Json.{row_count, json_text};
 ghost use Rattle.iot_machine.specs.Machine.{Machine};
+ghost use Rattle.iot_world.specs.Looks.{Tells};
 
-use crate::laptop::Laptop;
-use crate::texts::say;
 use crate::world::World;
-use iot_client::Running;
 use iot_disk::Disk;
-use iot_inspect::{Json, RunLine, log, queue, reads};
-use iot_queue::Item;
+use iot_inspect::{Json, log};
+use iot_laptop::Laptop;
+use iot_node::say;
 use iot_text::{Name, NoMemory, Text};
 use iot_tree::Labels;
 use std::alloc::Global;
 
 impl<D: Disk> World<D> {
     ghost use Rattle.iot_world.specs.Looks.{client_names, HasTold};
-    ghost use Rattle.iot_world.specs.World.{StandsFor, StandsForSome, IsWorldOfSome, IsReady, Steps};
+    ghost use Rattle.iot_world.specs.World.{StandsFor, StandsForSome, IsWorldOfSome, Steps};
 
-    // ---- events
-
-    /// The transactions of a client: those that wait, and then the one that runs.
-    pub(crate) fn queue(&self, client: u64, out: &mut Text) -> Result<(), NoMemory>
-        requires ready { IsReady D.medium client self.now }
-        ensures { OnOk result (Steps D.medium (Queues client) self.now self.now out.old out.new tt) }
-    {
-        self.clients[client as usize].say_queue(out)?;
-        Ok(())
-    }
-
-    /// What the client's transaction at this place of those that wait, from 1, has read in its own run, if so many wait.
-    pub(crate) fn reads(&self, client: u64, place: u64, out: &mut Text) -> Result<(), NoMemory>
-        requires ready { IsReady D.medium client self.now }
-        requires counts { 1 ≤ place }
-        ensures { OnOk result
-            (Steps D.medium (ReadsOf client place) self.now self.now out.old out.new tt) }
-    {
-        match self.clients[client as usize].waiting(place) {
-            Some(item) => reads(item, out)?,
-            None => say(b"nothing", out)?,
-        }
-        Ok(())
-    }
-
-    /// What was committed, unless the server is down.
+    /// Says what was committed, unless the server is down.
     pub(crate) fn log(&self, alloc: Global, out: &mut Text) -> Result<(), NoMemory>
         requires sound { IsWorldOfSome D.medium self.now }
         ensures { OnOk result (Steps D.medium Logs self.now self.now out.old out.new tt) }
@@ -66,12 +40,10 @@ impl<D: Disk> World<D> {
     {
         let mut names = Vec::new(alloc);
         for laptop in &self.clients {
-            names.push(laptop.name)?;
+            names.push(*laptop.name())?;
         }
         Ok(names)
     }
-
-    // ---- all nodes
 
     /// How many rows the server's tree has, or 0 if the server is down. Does not allocate.
     pub fn server_rows(&self) -> u64
@@ -105,66 +77,21 @@ impl<D: Disk> World<D> {
     {
         let mut json = Json::new(alloc);
         for laptop in &self.clients {
-            laptop.tell(&mut json)?;
+            tell(laptop, &mut json)?;
         }
         Ok(json)
     }
 }
 
-impl<D: Disk> Laptop<D> {
-    ghost use Rattle.iot_world.specs.Nodes.{state_in};
-    ghost use Rattle.iot_world.specs.Laptops.{Stands, StandsAnyhow};
-    ghost use Rattle.iot_world.specs.Looks.{SaysQueue, Tells};
-
-    /// Says its transactions: those that wait, and then the one that runs.
-    fn say_queue(&self, out: &mut Text) -> Result<(), NoMemory>
-        requires { Stands D.medium self.now }
-        ensures { OnOk result (SaysQueue D.medium self.now out.old out.new) }
-    {
-        let waiting = self.client().queue();
-        match self.running() {
-            Some(running) => queue(&self.name, waiting, &[line_of(running)], out)?,
-            None => queue(&self.name, waiting, &[], out)?,
-        }
-        Ok(())
-    }
-
-    /// Its transaction at this place of those that wait, from 1.
-    fn waiting(&self, place: u64) -> Option<&Item>
-        requires stands { Stands D.medium self.now }
-        requires counts { 1 ≤ place }
-        ensures { option_copied result ≡ slice_get (state_in self.now).items (place - 1) }
-    {
-        self.client().queue().items().get(place as usize - 1)
-    }
-
-    /// Tells its queue and its view, or that it is down.
-    fn tell(&self, json: &mut Json) -> Result<(), NoMemory>
-        requires { StandsAnyhow D.medium self.now }
-        ensures { OnOk result (Tells D.medium self.now json.old json.new) }
-    {
-        if !self.is_alive() {
-            json.down(&self.name)?;
-            return Ok(());
-        }
-        json.live(&self.name, self.client().queue(), self.view())?;
-        Ok(())
-    }
-}
-
-/// A transaction that runs, as a line says it.
-fn line_of(running: &Running) -> RunLine
-    ensures { result ≡ record {
-      tid = running.now.tid;
-      script = running.now.script;
-      first = running.now.first;
-      acts = length running.now.acts;
-    } }
+/// Tells a client's queue and its view, or that it is down.
+fn tell<D: Disk>(laptop: &Laptop<D>, json: &mut Json) -> Result<(), NoMemory>
+    requires { StandsAnyhow D.medium laptop.now }
+    ensures { OnOk result (Tells D.medium laptop.now json.old json.new) }
 {
-    RunLine {
-        tid: running.tid,
-        script: running.script,
-        first: running.first,
-        acts: running.acts.len() as u64,
+    if !laptop.is_alive() {
+        json.down(laptop.name())?;
+        return Ok(());
     }
+    json.live(laptop.name(), laptop.client().queue(), laptop.view())?;
+    Ok(())
 }

@@ -1,24 +1,51 @@
-use Rattle.iot_event.specs.declared.event.Event.TheVariants as events
-use Rattle.iot_world.proofs.BeginsLaws.{arms_none}
-use Rattle.iot_world.proofs.DisksLaws.{keeps_of}
-use Rattle.iot_world.proofs.WorldLaws.{event_steps}
+use Rattle.std.proofs.Common.{refl, sym, ◌∙◌}
+use Rattle.iot_text.proofs.TextsLaws.{extends_either, extends_none, extends_nothing}
+use Rattle.iot_world.proofs.DecidingLaws.{decides_behind}
+use Rattle.iot_world.proofs.DisksLaws.{if_err, unarmed, err_unarmed}
+use Rattle.iot_world.proofs.EventsLaws.{then_ok, always_ok, behind}
 use Rattle.iot_world.proofs.world.World.apply.Goals as goal
 
-pub act_after-requires-clause-unarmed : goal.act_after-requires-clause-unarmed
-act_after-requires-clause-unarmed g c = arms_none c.args.event.now c.in_default.not-StopServer c.in_default.not-StopClient
+pub returns-then-is_empty-clause-arms : goal.returns-then-is_empty-clause-arms
+returns-then-is_empty-clause-arms g c = err_unarmed _ c.act.result _ c.act.ensures.arms
 
-pub returns-in_ok-stop_server-in-StopServer-clause-step : goal.returns-in_ok-stop_server-in-StopServer-clause-step
-returns-in_ok-stop_server-in-StopServer-clause-step g c =
-    rw c.in-StopServer.is
-    (event_steps _ (events.StopServer c.in-StopServer.calls c.in-StopServer.pick) c.args.self.now c.stop_server.new.self c.args.out.now
-    c.stop_server.new.out c.in_ok-stop_server-in-StopServer.ensures.step)
+pub returns-then-is_empty-clause-text : goal.returns-then-is_empty-clause-text
+returns-then-is_empty-clause-text g c = extends_nothing c.args.out.now c.act.new.out (c.is_empty.ensures.0 c.if-is_empty.true)
 
-pub returns-in_ok-stop_client-in-StopClient-clause-step : goal.returns-in_ok-stop_client-in-StopClient-clause-step
-returns-in_ok-stop_client-in-StopClient-clause-step g c =
-    rw c.in-StopClient.is
-    (event_steps _ (events.StopClient c.in-StopClient.client c.in-StopClient.calls c.in-StopClient.pick) c.args.self.now
-    c.stop_client.new.self c.args.out.now c.stop_client.new.out c.in_ok-stop_client-in-StopClient.ensures.step)
+pub returns-then-arms-clause-arms : goal.returns-then-arms-clause-arms
+returns-then-arms-clause-arms g c = err_unarmed _ c.act-then-arms.result _ c.act-then-arms.ensures.arms
 
-pub returns-in_ok-act_after-in_default-clause-disks : goal.returns-in_ok-act_after-in_default-clause-disks
-returns-in_ok-act_after-in_default-clause-disks g c =
-    keeps_of g.D.Disk.medium.arms c.args.self.now c.act_after.new.self c.in_ok-act_after-in_default.ensures.disks
+pub returns-then-arms-clause-text : goal.returns-then-arms-clause-text
+returns-then-arms-clause-text g c = c.act-then-arms.ensures.text (sym c.arms.ensures ∙ c.if-arms.true)
+
+pub returns-in_err-act-clause-arms : goal.returns-in_err-act-clause-arms
+returns-in_err-act-clause-arms g c =
+    if_err _ _ (unarmed _ c.act-2.result _ (sym c.arms.ensures ∙ c.if-arms.false) c.act-2.ensures.arms)
+
+pub returns-in_err-act-clause-text : goal.returns-in_err-act-clause-text
+returns-in_err-act-clause-text g c = extends_none c.args.out.now _ refl
+
+pub returns-clause-step : goal.returns-clause-step
+returns-clause-step g c =
+    then_ok c.append_text.result
+    (λ wrote. behind c.args.self.now c.act-2.new.self c.args.out.now c.append_text.new.self c.act-2.new.out tt
+    (rw (← c.new-said.ensures) c.in_ok-act.ensures.step) wrote)
+    c.append_text.ensures.ok
+
+pub returns-clause-decided : goal.returns-clause-decided
+returns-clause-decided g c =
+    then_ok c.append_text.result
+    (λ wrote. decides_behind g.D.Disk.medium c.args.out.now c.append_text.new.self c.act-2.new.out wrote c.args.event.now
+    c.args.self.now c.act-2.new.self (rw (← c.new-said.ensures) c.in_ok-act.ensures.decided))
+    c.append_text.ensures.ok
+
+pub returns-clause-arms : goal.returns-clause-arms
+returns-clause-arms g c =
+    if_err _ _ (unarmed _ c.act-2.result _ (sym c.arms.ensures ∙ c.if-arms.false) c.act-2.ensures.arms)
+
+pub returns-clause-declared : goal.returns-clause-declared
+returns-clause-declared g c = always_ok c.append_text.result c.in_ok-act.ensures.declared
+
+pub returns-clause-text : goal.returns-clause-text
+returns-clause-text g c =
+    extends_either c.args.out.now c.append_text.new.self c.act-2.new.out c.append_text.result c.append_text.ensures.ok
+    c.append_text.ensures.err

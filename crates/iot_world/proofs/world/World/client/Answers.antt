@@ -1,18 +1,18 @@
 use Rattle.std.proofs.Common.{length, subst, ◌≤◌}
-use Rattle.iot_world.proofs.WorldLaws.{lends_any, lends_disk, lends_none, looked_up}
+use Rattle.iot_world.proofs.LendingLaws.{lends_any, lends_disk, lends_none, looked_up}
 use Rattle.iot_world.proofs.world.World.client.Goals as goal
 
 pub returns-in-Some-clause-lent : goal.returns-in-Some-clause-lent
 returns-in-Some-clause-lent g c =
     lends_any _ c.args.self.now c.args.place c.in-Some.laptop.now
     (looked_up c.args.self.now.clients.items c.deref.result.now c.args.place c.in-Some.laptop.now c.deref.ensures.value
-    c.in-Some.ensures.lookup.3.0 c.in-Some.ensures.lookup.1) _ c.lent.ensures
+    c.in-Some.ensures.lookup.3.0 c.in-Some.ensures.lookup.1) _ c.lent.ensures.lent
 
 pub returns-in-Some-clause-disk : goal.returns-in-Some-clause-disk
 returns-in-Some-clause-disk g c =
     lends_disk g.D.Disk.medium c.args.self.now c.args.place c.in-Some.laptop.now
     (looked_up c.args.self.now.clients.items c.deref.result.now c.args.place c.in-Some.laptop.now c.deref.ensures.value
-    c.in-Some.ensures.lookup.3.0 c.in-Some.ensures.lookup.1) _ c.lent.ensures
+    c.in-Some.ensures.lookup.3.0 c.in-Some.ensures.lookup.1) _ c.lent.ensures.lent
 
 pub returns-in-None-clause-lent : goal.returns-in-None-clause-lent
 returns-in-None-clause-lent g c =

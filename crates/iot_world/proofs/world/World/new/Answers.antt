@@ -1,11 +1,22 @@
-use Rattle.std.proofs.Common.{[], ap, refl}
-use Rattle.std.specs.Prelude.{is_some}
-use Rattle.iot_world.proofs.OpeningLaws.{opens}
+use Rattle.std.proofs.Common.{[], refl}
+use Rattle.iot_world.proofs.DisksLaws.{now_has}
+use Rattle.iot_world.proofs.OpeningLaws.{opens, opens_unarmed, gives_back}
 use Rattle.iot_world.proofs.world.World.new.Goals as goal
 
 pub returns-in-Ok-clause-opens : goal.returns-in-Ok-clause-opens
 returns-in-Ok-clause-opens g c =
     opens _ c.args.disks.items c.take_first.result c.take_first.new.disks.items c.take_first.ensures.items c.requires _
-    c.unopened-server.result c.args.out.now c.open.new.out c.in-Ok._on (c.unopened-server.ensures.stands []) (c.in-Ok.ensures.step [])
-    c.in-Ok.ensures.requests (ap is_some c.in-Ok.ensures.disk.new_has) c.new.ensures.items c.new-in-Ok.ensures.items refl
-    c.take_first.ensures.room
+    c.unopened-server.result c.args.out.now c.open.new.out c.in-Ok._on (c.unopened-server.ensures.stands [] 0) (c.in-Ok.ensures.step [] 0)
+    (now_has g.D.Disk.medium _ _ c.open.ensures.disk) c.new.ensures.items c.new-in-Ok.ensures.items refl c.take_first.ensures.room
+
+pub returns-in-Ok-clause-arms : goal.returns-in-Ok-clause-arms
+returns-in-Ok-clause-arms g c =
+    opens_unarmed g.D.Disk.medium c.args.disks.items c.take_first.result c.take_first.new.disks.items c.take_first.ensures.items c.requires
+    c.unopened-server.result c.open.new.self c.unopened-server.ensures.disk c.open.ensures.disk c.new.result.items
+    c.take_first.new.disks.items c.new.ensures.items refl
+
+pub returns-in-Err-clause-refused : goal.returns-in-Err-clause-refused
+returns-in-Err-clause-refused g c =
+    gives_back g.D.Disk.medium c.args.disks.items c.take_first.result c.take_first.new.disks.items c.take_first.ensures.items
+    c.requires c.unopened-server.result c.open.new.self c.unopened-server.ensures.disk c.open.ensures.disk _ c.into_disk.result
+    c.into_disk.ensures c.put_first.ensures.items

@@ -1,6 +1,6 @@
 use Rattle.std.proofs.Common.{length, ◌≤◌, subst}
 use Rattle.iot_world.proofs.ToldLaws.{tells_none, stands_at, tells_more, tells_all}
-use Rattle.iot_world.proofs.WorldLaws.{looked_up}
+use Rattle.iot_world.proofs.LendingLaws.{looked_up}
 use Rattle.iot_world.proofs.world.World.told.Goals as goal
 
 pub loop-laptop-init : goal.loop-laptop-init

@@ -1,0 +1,18 @@
+use Rattle.std.proofs.Common.{sym, ap, ◌∙◌}
+use Rattle.iot_kept.specs.States.{State}
+use Rattle.iot_laptop.proofs.NodesLaws.{some_awake}
+use Rattle.iot_world.proofs.ToldLaws.{tells_live}
+use Rattle.iot_world.proofs.looking.tell.Goals as goal
+
+pub client-requires : goal.client-requires
+client-requires g c = some_awake _ c.args.laptop.now c.requires (sym c.is_alive.ensures ∙ c.if-not-is_alive.false)
+
+pub view-requires : goal.view-requires
+view-requires g c = some_awake _ c.args.laptop.now c.requires (sym c.is_alive.ensures ∙ c.if-not-is_alive.false)
+
+pub returns : goal.returns
+returns g c =
+    tells_live _ c.args.laptop.now c.args.json.now c.live.new.self (rw c.name-2.ensures at c.in_ok-live.ensures.names)
+    c.queue.result.now c.view.result.now (sym c.is_alive.ensures ∙ c.if-not-is_alive.false)
+    (c.queue.ensures ∙ ap (λ (s : State). s.items) c.client.ensures.state) c.view.ensures
+    (rw c.name-2.ensures at c.in_ok-live.ensures.clients)

@@ -1,0 +1,17 @@
+use Rattle.std.proofs.Common.{sym, ◌∙◌}
+use Rattle.iot_laptop.proofs.NodesLaws.{some_awake}
+use Rattle.iot_world.proofs.ShowingLaws.{shows, shows_down}
+use Rattle.iot_world.proofs.nodes.show_view.Goals as goal
+
+pub view-requires : goal.view-requires
+view-requires g c = some_awake _ c.args.laptop.now c.requires (sym c.is_alive.ensures ∙ c.if-is_alive.true)
+
+pub returns-then-is_alive : goal.returns-then-is_alive
+returns-then-is_alive g c =
+    shows g.D.Disk.medium c.args.laptop.now c.view.result.now c.args.out.now c.show.new.out
+    (sym c.is_alive.ensures ∙ c.if-is_alive.true) c.view.ensures c.in_ok-show.ensures.ok
+
+pub returns : goal.returns
+returns g c =
+    shows_down g.D.Disk.medium c.args.laptop.now c.args.out.now c.say.new.out (sym c.is_alive.ensures ∙ c.if-is_alive.false)
+    c.in_ok-say.ensures

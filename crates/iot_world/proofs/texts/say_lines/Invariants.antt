@@ -1,7 +1,0 @@
-use Rattle.std.proofs.Common.{◌≡◌, ◌++◌, take}
-use Rattle.iot_machine.specs.Texts.{output}
-use Rattle.iot_world.proofs.texts.say_lines.Given as goal
-
--- the lines so far are said
-abbrev pub invariant-loop-line : goal.invariant-loop-line
-invariant-loop-line l = l.out ≡ l.initial.out ++ output (take l.line-index l.lines)

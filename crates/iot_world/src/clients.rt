@@ -1,0 +1,99 @@
+//! Declarations, and the events of one client among all.
+ghost use Rattle.std.specs.Prelude.{◌≡◌, ◌<◌, true, OnOk};
+ghost use Rattle.iot_event.specs.declared.event.ClientEvent.{ClientEvent as Befalls};
+ghost use Rattle.iot_machine.specs.Events.{Declares, client_part};
+ghost use Rattle.iot_text.specs.Texts.{Extends};
+ghost use Rattle.iot_world.specs.Allowed.{MayBefall, stops_client};
+
+use crate::disks::take_first;
+use crate::nodes::{befall, relink};
+use crate::texts::say_client;
+use crate::world::World;
+use iot_disk::Disk;
+use iot_event::{ClientEvent, SharedScript};
+use iot_exchange::{DeclaredScript, perform};
+use iot_laptop::Laptop;
+use iot_text::{Name, NoMemory, Text};
+use std::alloc::Global;
+
+impl<D: Disk> World<D> {
+    ghost use Rattle.iot_world.specs.World.{StandsForSome, IsInside, Steps, SameDeclared, KeepsDisks, SameArms, DeclaresClient, AddsScript};
+    ghost use Rattle.iot_world.specs.World.{UnlessArmed, scripts_of, script_count, client_count};
+    ghost use Rattle.iot_world.specs.Deciding.{DecidesAt};
+
+    /// A client joins, and starts on the next disk. If that fails in it, the client has stopped, which is said in place of its line.
+    pub(crate) fn declare_client(
+        &mut self,
+        alloc: Global,
+        name: &Name,
+        out: &mut Text,
+    ) -> Result<(), NoMemory>
+        requires stands { StandsForSome D.medium self.old }
+        requires few { client_count self.old < 8 }
+        ensures step { OnOk result
+            (Steps D.medium (Declares name.now) self.old self.new out.old out.new tt) }
+        ensures declared { OnOk result (DeclaresClient self.old self.new) }
+        ensures disks { KeepsDisks self.old self.new }
+        ensures arms { SameArms D.medium 1 self.old self.new }
+    {
+        self.clients.reserve(1)?;
+        let place = self.clients.len() as u64;
+        let disk = take_first(&mut self.spare);
+        self.clients
+            .push_reserved(Laptop::unopened(*name, place, disk));
+        if self.clients[place as usize].open(alloc, out)? {
+            say_client(name, out)?;
+        }
+        Ok(())
+    }
+
+    /// A script joins.
+    pub(crate) fn declare_script(
+        &mut self,
+        name: &Name,
+        script: &SharedScript,
+    ) -> Result<(), NoMemory>
+        ensures world { OnOk result (AddsScript name.now script.now self.old self.new) }
+        ensures disks { KeepsDisks self.old self.new }
+        ensures arms { SameArms D.medium 0 self.old self.new }
+    {
+        self.scripts.push(DeclaredScript {
+            name: *name,
+            script: script.share()?,
+        })?;
+        Ok(())
+    }
+
+    /// An event of the client at this place.
+    pub(crate) fn at(
+        &mut self,
+        alloc: Global,
+        client: u64,
+        what: &ClientEvent<u64>,
+        out: &mut Text,
+    ) -> Result<(), NoMemory>
+        requires inside { IsInside D.medium client self.old }
+        requires may { MayBefall what.now (script_count self.old) }
+        ensures step { OnOk result
+            (Steps D.medium (client_part (scripts_of self.old) client what.now) self.old self.new out.old out.new tt) }
+        ensures decided { OnOk result (DecidesAt D.medium what.now client self.old out.old out.new) }
+        ensures counts { SameDeclared self.old self.new }
+        ensures disks { KeepsDisks self.old self.new }
+        ensures arms { UnlessArmed (stops_client what.now) result (SameArms D.medium 0 self.old self.new) }
+        ensures text { stops_client what.now ≡ true → Extends out.old out.new }
+    {
+        let laptop = &mut self.clients[client as usize];
+        match what {
+            ClientEvent::Node(event) => befall(laptop, alloc, *event, out),
+            ClientEvent::Link(event) => relink(laptop, *event, out),
+            ClientEvent::Task(task) => perform(
+                laptop,
+                &mut self.server,
+                alloc,
+                self.scripts.as_slice(),
+                task,
+                out,
+            ),
+        }
+    }
+}
