@@ -76,11 +76,11 @@ module _ (it : Effects) where
   -- ---- the events
 
   on_events : (job : Job) (status : Status) (events : List Event) → GivesEvents job it.took it.at_end events
-      → Did it.handed it.wrote it.holds it.armed it.unread it.disk job status events → OnEvents it job status
+      → Did it.handed it.wrote it.holds it.stays it.unread it.disk job status events → OnEvents it job status
   on_events job status events given did = record { events = events; given = given; did = did }
 
   pub events_end : (job : Job) (status : Status) (events : List Event) → GivesEvents job it.took it.at_end events
-      → Did it.handed it.wrote it.holds it.armed it.unread it.disk job status events → JobEnds it job status
+      → Did it.handed it.wrote it.holds it.stays it.unread it.disk job status events → JobEnds it job status
   events_end job statuses.Done events given did = on_events job statuses.Done events given did
   events_end job statuses.Refused events given did = absurd did
   events_end job statuses.Usage events given did = absurd did

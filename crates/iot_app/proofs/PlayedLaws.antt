@@ -2,30 +2,34 @@
 use Rattle.std.proofs.Common.{◌≡◌, ℕ, suc, ◌+◌, ◌<◌, ◌≤◌, List, [], ◌∷◌, ◌++◌, length, map, take, drop, slice_index_or}
 use Rattle.std.proofs.Common.{Option, Some, None, true}
 use Rattle.std.proofs.Common.{refl, sym, ap, subst, ◌∙◌, append_assoc, add-one, inl, inr, arith}
-use Rattle.std.proofs.lemmas.List.{append-nil, take_all, take-append-drop}
-use Rattle.std.proofs.lemmas.Simd.{map-map}
+use Rattle.std.proofs.lemmas.List.{append-nil, length-append, take_all, take-append-drop}
 use Rattle.std.proofs.Math.Seq.{drop-cons, take-suc}
 use Rattle.std.specs.Io.KnownBytes.{Appends}
 use Rattle.std.proofs.KnownBytes.{Appends-trans}
-use Rattle.iot_disk.specs.Disk.{Medium, Arms}
-use Rattle.iot_event.specs.Declarations.{AreDeclared}
+use Rattle.iot_disk.specs.Disk.{Medium}
+use Rattle.iot_event.specs.Declarations.{AreDeclared, ClientEventIsDeclared}
+use Rattle.iot_event.specs.declared.event.ClientEvent.{ClientEvent}
+use Rattle.iot_event.specs.declared.event.ClientEvent.TheVariants as client_events
 use Rattle.iot_event.specs.declared.event.Event.{Event}
 use Rattle.iot_event.specs.declared.event.Event.TheVariants as events
+use Rattle.iot_event.specs.declared.event.Task.TheVariants as tasks
 use Rattle.iot_machine.specs.Machine.{Machine, handed as before_all}
 use Rattle.iot_machine.specs.Nodes.{Counts, opened}
 use Rattle.iot_machine.specs.Events.{event_part}
 use Rattle.iot_machine.specs.Transcript.{Opening, InTurn, Transcript}
-use Rattle.iot_world.specs.Allowed.{IsAllowed}
+use Rattle.iot_world.specs.Allowed.{IsAllowed, MayBefall}
 use Rattle.iot_world.specs.Disks.{AreFresh, counts_on}
 use Rattle.iot_world.specs.Holding.{counts_in}
 use Rattle.iot_world.specs.World.{StandsFor, IsWorldOf, IsWorldOfSome, EventSteps, DeclaredOn, client_count, script_names, disks_of}
-use Rattle.iot_world.specs.World.{Opens, KeepsDisks, SameArms}
+use Rattle.iot_world.specs.World.{Each, Opens, KeepsDisks, AreUnarmed, SameArms, GivesBack, joined_by}
 use Rattle.iot_world.specs.declared.world.World.{World}
 use Rattle.iot_world.proofs.DisksLaws.{last_here, last_then}
 use Rattle.iot_world.proofs.HoldingLaws.{disks_hold, disks_count}
-use Rattle.iot_app.specs.Keeping.{DisksKeep, AreArmed}
+use Rattle.iot_world.proofs.ListLaws.{each_length}
+use Rattle.iot_world.proofs.SparesLaws.{used_by, used_first, eight_spare, nine_counts}
+use Rattle.iot_app.specs.Keeping.{DisksKeep, CountsSince, DisksStay}
 use Rattle.iot_app.specs.Played.{Reported, WroteFront, DidFirst, WroteFirst, WroteCut, CutsOpening, Played}
-use Rattle.iot_app.specs.Running.{IsOpened, IsArmed}
+use Rattle.iot_app.specs.Running.{IsOpened, StaysIn}
 use Rattle.iot_app.specs.declared.status.Status.{Status}
 use Rattle.iot_app.specs.declared.status.Status.TheVariants as statuses
 
@@ -79,34 +83,30 @@ transcript_none handed m text opens = record {
 
 -- ---- which event may come
 
+-- what a client may be asked, if it says what it may say
+may_befall : (what : ClientEvent ℕ) (scripts : ℕ) → ClientEventIsDeclared what scripts → MayBefall what scripts
+may_befall (client_events.Node what) scripts declared = tt
+may_befall (client_events.Link what) scripts declared = tt
+may_befall (client_events.Task (tasks.Run script option)) scripts declared = declared
+may_befall (client_events.Task (tasks.Hoard path)) scripts declared = tt
+may_befall (client_events.Task tasks.Refresh) scripts declared = tt
+may_befall (client_events.Task (tasks.Begin script option)) scripts declared = declared
+may_befall (client_events.Task (tasks.Step count)) scripts declared = tt
+may_befall (client_events.Task tasks.End) scripts declared = tt
+may_befall (client_events.Task tasks.Sync) scripts declared = tt
+may_befall (client_events.Task tasks.Drain) scripts declared = tt
+may_befall (client_events.Task (tasks.Repair script)) scripts declared = declared
+may_befall (client_events.Task tasks.Discard) scripts declared = tt
+may_befall (client_events.Task tasks.Queue) scripts declared = tt
+may_befall (client_events.Task (tasks.Reads item)) scripts declared = declared.0
+
 -- the first of events that are declared may come
 allowed : {D : Type 0} (event : Event) (later : List Event) (world : World D) → DeclaredOn (event ∷ later) world
     → IsAllowed event (client_count world) (script_names world)
 allowed (events.Client name) later world declared = declared.0
 allowed (events.Script name code) later world declared = declared.1
-allowed (events.Run client script option) later world declared = (declared.0, declared.1, declared.2)
-allowed (events.Hoard client path) later world declared = declared.0
-allowed (events.Refresh client) later world declared = declared.0
-allowed (events.Begin client script option) later world declared = (declared.0, declared.1, declared.2)
-allowed (events.Step client count) later world declared = declared.0
-allowed (events.End client) later world declared = declared.0
-allowed (events.Connect client) later world declared = declared.0
-allowed (events.Disconnect client) later world declared = declared.0
-allowed (events.Lose client loss) later world declared = declared.0
-allowed (events.Sync client) later world declared = declared.0
-allowed (events.Drain client) later world declared = declared.0
-allowed (events.Repair client script) later world declared = (declared.0, declared.1)
-allowed (events.Discard client) later world declared = declared.0
-allowed events.ShowServer later world declared = tt
-allowed (events.ShowClient client) later world declared = declared.0
-allowed (events.StopServer calls pick) later world declared = tt
-allowed (events.StopClient client calls pick) later world declared = declared.0
-allowed events.CrashServer later world declared = tt
-allowed (events.CrashClient client) later world declared = declared.0
-allowed events.RestartServer later world declared = tt
-allowed (events.RestartClient client) later world declared = declared.0
-allowed (events.Queue client) later world declared = declared.0
-allowed (events.Reads client item) later world declared = (declared.0, declared.1)
+allowed (events.At client what) later world declared = (declared.0, may_befall what (length (script_names world)) declared.1)
+allowed (events.Server what) later world declared = tt
 allowed events.Log later world declared = tt
 
 -- ---- the disks meanwhile
@@ -123,18 +123,39 @@ keeps_then old mid new first second = record {
 }
 
 module _ {D : Type 0} (medium : Medium D) where
-  abbrev pub arms_in : D → Arms
-  arms_in disk = (counts_on medium disk).arms
+  each_since : (was now : List D) → AreUnarmed medium was now → Each (CountsSince medium) (map (counts_on medium) was) now
+  each_since [] [] all = tt
+  each_since [] (d ∷ ds) all = absurd all
+  each_since (d ∷ ds) [] all = absurd all
+  each_since (d ∷ ds) (e ∷ es) all = (record { arms = all.0.arms; faults = all.0.faults }, each_since ds es all.1)
 
-  -- the disks of a world were armed as those of its machine
-  pub armed_as : (world : World D) (m : Machine) → StandsFor medium world m → IsArmed arms_in world m
-  armed_as world m stands =
-      sym (map-map (λ (counts : Counts). counts.arms) (counts_on medium) (disks_of world))
-      ∙ ap (map (λ (counts : Counts). counts.arms)) (disks_count medium world m stands)
+  -- disks that were not armed since those before them counted this
+  pub all_since : (counts : List Counts) (was now : List D) → map (counts_on medium) was ≡ counts → AreUnarmed medium was now
+      → Each (CountsSince medium) counts now
+  all_since counts was now are unarmed = subst (λ (cs : List Counts). Each (CountsSince medium) cs now) are (each_since was now unarmed)
 
-  -- and still are, if none was armed since
-  pub still_armed : (old new : World D) (m : Machine) → StandsFor medium old m → SameArms arms_in old new → IsArmed arms_in new m
-  still_armed old new m stands arms = arms.same ∙ armed_as old m stands
+  pub unarmed : (disks : List D) → AreUnarmed medium disks disks
+  unarmed [] = tt
+  unarmed (d ∷ ds) = (record { arms = refl; faults = inl refl }, unarmed ds)
+
+  module _ (world : World D) (m : Machine) (stands : StandsFor medium world m) where
+    -- memory ran out between two events
+    pub stays_as : (later : List Event) → StaysIn medium world later m
+    stays_as later = record {
+      counted =
+          all_since (counts_in m) (disks_of world) (disks_of world) (disks_count medium world m stands) (unarmed (disks_of world));
+      nine = nine_counts medium world m stands;
+      spare = omega (arith, eight_spare medium world m stands);
+    }
+
+    -- or in the next one
+    pub still_stays : (new : World D) (event : Event) (later : List Event) → SameArms medium (joined_by event) world new
+        → StaysIn medium new (event ∷ later) m
+    still_stays new event later arms = record {
+      counted = all_since (counts_in m) (disks_of world) (disks_of new) (disks_count medium world m stands) arms.each;
+      nine = nine_counts medium world m stands;
+      spare = omega (arith, eight_spare medium world m stands, arms.spare);
+    }
 
 -- a new world has opened over its disks
 pub opened_on : {D : Type 0} (medium : Medium D) (disks : List D) (before after : List ℕ) (world : World D) → before ≡ []
@@ -157,6 +178,33 @@ disks_keep medium disks before world x y opens same m here = record {
   holds = disks_hold medium disks before world m x y here opens same;
   counted = disks_count medium world m here;
 }
+
+-- and what is known of them if memory ran out
+pub disks_stay : {D : Type 0} (medium : Medium D) (disks : List D) (before world : World D) (x y : List ℕ)
+    → Opens medium disks x y before → KeepsDisks before world → (later : List Event) (m : Machine) → StaysIn medium world later m
+    → DisksStay medium disks (disks_of world) later m
+disks_stay {D = D} medium disks before world x y opens same later m stays =
+    let whole : length (used_by world) + length world.spare.items ≡ 9 =
+    sym (length-append (used_by world) world.spare.items) ∙ ap length (sym (used_first world))
+    ∙ sym (each_length (CountsSince medium) (counts_in m) (disks_of world) stays.counted) ∙ stays.nine in
+    record {
+      counted = stays.counted;
+      used = used_by world;
+      spare = world.spare.items;
+      is = used_first world;
+      front = opens.first ∷ same.spare.front;
+      was = opens.were ∙ ap (λ (ds : List D). opens.first ∷ ds) same.spare.split;
+      aligned =
+          omega (
+            arith,
+            whole,
+            opens.stands.stands.eight,
+            opens.no_clients,
+            ap length same.spare.split,
+            length-append same.spare.front world.spare.items,
+          );
+      few = omega (arith, whole, stays.spare);
+    }
 
 -- ---- events in turn
 
@@ -265,31 +313,35 @@ module _ {D : Type 0} (medium : Medium D) (handed : List Counts) (so : List ℕ 
     declared = plays.declared;
   }
 
-  -- some are done, and the world is of no more use, but that none of its disks was armed since
-  pub plays_did : (done : ℕ) (plays : PlaysOn medium handed so events world done) (new : World D)
-      → IsArmed (arms_in medium) new plays.machine → DidFirst handed (IsArmed (arms_in medium) new) events
-  plays_did done plays new armed = record {
+  -- some are done, and the world is of no more use
+  plays_did : (done : ℕ) (plays : PlaysOn medium handed so events world done) (new : World D)
+      → StaysIn medium new (drop done events) plays.machine → DidFirst handed (StaysIn medium new) events
+  plays_did done plays new stays = record {
     done = done;
     text = plays.text;
     machine = plays.machine;
     transcript = plays.transcript;
-    arms = armed;
+    stayed = stays;
   }
 
   -- memory ran out in the next one
-  pub plays_failed : (done : ℕ) (new : World D) → PlaysOn medium handed so events world done → SameArms (arms_in medium) world new
-      → DidFirst handed (IsArmed (arms_in medium) new) events
-  plays_failed done new plays arms = plays_did done plays new (still_armed medium world new plays.machine plays.stands.stands arms)
+  module _ (done : ℕ) (event : Event) (new : World D) (plays : PlaysOn medium handed so events world done) (within : done < length events)
+      (here : event ≡ slice_index_or events done event) (arms : SameArms medium (joined_by event) world new) where
+    pub plays_failed : DidFirst handed (StaysIn medium new) events
+    plays_failed =
+        plays_did done plays new
+        (subst (λ (es : List Event). StaysIn medium new es plays.machine)
+        (sym (drop-cons events done event within ∙ ap (λ (e : Event). e ∷ drop (suc done) events) (sym here)))
+        (still_stays medium world plays.machine plays.stands.stands new event (drop (suc done) events) arms))
+
+    -- what was written before it is a transcript of those before it
+    pub plays_first : WroteFirst handed so (StaysIn medium new) events
+    unfolding plays_failed plays_did
+    plays_first = record { did = plays_failed; written = plays.said }
 
   -- memory ran out after them
-  pub plays_ended : (done : ℕ) → PlaysOn medium handed so events world done → DidFirst handed (IsArmed (arms_in medium) world) events
-  plays_ended done plays = plays_did done plays world (armed_as medium world plays.machine plays.stands.stands)
-
-  -- what was written before an event is a transcript of those before it
-  pub plays_first : (done : ℕ) (new : World D) → PlaysOn medium handed so events world done → SameArms (arms_in medium) world new
-      → WroteFirst handed so (IsArmed (arms_in medium) new) events
-  unfolding plays_failed plays_did
-  plays_first done new plays arms = record { did = plays_failed done new plays arms; written = plays.said }
+  pub plays_ended : (done : ℕ) → PlaysOn medium handed so events world done → DidFirst handed (StaysIn medium world) events
+  plays_ended done plays = plays_did done plays world (stays_as medium world plays.machine plays.stands.stands (drop done events))
 
   -- all are done
   pub whole_transcript : (done : ℕ) (plays : PlaysOn medium handed so events world done) → length events ≤ done
@@ -375,39 +427,52 @@ starts counts =
       whole = refl;
     })
 
--- no event was done, and the disks came back as they were armed
+-- no event was done, and the disks came back
 module _ {D : Type 0} (medium : Medium D) (disks back : List D) (events : List Event) (fresh : AreFresh medium disks)
-    (arms : map (arms_in medium) back ≡ map (arms_in medium) disks) where
+    (gives : GivesBack medium disks back) where
   counts_started : (ds : List D) → length ds ≡ 9 → counts_in (started (map (counts_on medium) ds)) ≡ map (counts_on medium) ds
   counts_started [] nine = absurd (omega (arith, nine))
   counts_started (d ∷ ds) nine = refl
 
-  pub none_did : DidFirst (map (counts_on medium) disks) (AreArmed medium back) events
+  since : Each (CountsSince medium) (counts_in (started (map (counts_on medium) disks))) back
+  since =
+      all_since medium (counts_in (started (map (counts_on medium) disks))) disks back (sym (counts_started disks fresh.nine))
+      (subst (AreUnarmed medium disks) (sym gives.back_are)
+      (subst (λ (ds : List D). AreUnarmed medium ds (gives.now ∷ gives.rest)) (sym gives.disks_are)
+      (gives.unarmed, unarmed medium gives.rest)))
+
+  pub none_did : DidFirst (map (counts_on medium) disks) (DisksStay medium disks back) events
   none_did = record {
     done = 0;
     text = [];
     machine = started (map (counts_on medium) disks);
     transcript = starts (map (counts_on medium) disks);
-    arms =
-        arms
-        ∙ sym (map-map (λ (counts : Counts). counts.arms) (counts_on medium) disks)
-        ∙ ap (map (λ (counts : Counts). counts.arms)) (sym (counts_started disks fresh.nine));
+    stayed = record {
+      counted = since;
+      used = gives.now ∷ [];
+      spare = gives.rest;
+      is = gives.back_are;
+      front = gives.was ∷ [];
+      was = gives.disks_are;
+      aligned = refl;
+      few = omega arith;
+    };
   }
 
   pub none_played : (written : Option (List ℕ))
-      → WroteFirst (map (counts_on medium) disks) (Appends written written) (AreArmed medium back) events
+      → WroteFirst (map (counts_on medium) disks) (Appends written written) (DisksStay medium disks back) events
   unfolding none_did
   none_played written = record { did = none_did; written = appends_none written }
 
--- how the disks were armed, in other words
-pub did_as : (handed : List Counts) (one other : Machine → Type 0) (events : List Event) → ((m : Machine) → one m → other m)
-    → DidFirst handed one events → DidFirst handed other events
+-- what is known of the disks, in other words
+pub did_as : (handed : List Counts) (one other : List Event → Machine → Type 0) (events : List Event)
+    → ((later : List Event) (m : Machine) → one later m → other later m) → DidFirst handed one events → DidFirst handed other events
 did_as handed one other events means did = record {
   done = did.done;
   text = did.text;
   machine = did.machine;
   transcript = did.transcript;
-  arms = means did.machine did.arms;
+  stayed = means (drop did.done events) did.machine did.stayed;
 }
 
 -- what they hold, in other words
@@ -451,20 +516,20 @@ module _ (handed : List Counts) (wrote : List ℕ → Type 0) (one other : Machi
     kept = means cut.machine cut.kept;
   }
 
-pub holds_as : (handed : List Counts) (status : Status) (wrote : List ℕ → Type 0) (one other armed armed_so : Machine → Type 0)
-    (events : List Event)
-    → ((m : Machine) → one m → other m) → ((m : Machine) → armed m → armed_so m)
-    → Played handed status wrote one armed events → Played handed status wrote other armed_so events
+pub holds_as : (handed : List Counts) (status : Status) (wrote : List ℕ → Type 0) (one other : Machine → Type 0)
+    (stays so : List Event → Machine → Type 0) (events : List Event)
+    → ((m : Machine) → one m → other m) → ((later : List Event) (m : Machine) → stays later m → so later m)
+    → Played handed status wrote one stays events → Played handed status wrote other so events
 unfolding did_as
-holds_as handed statuses.Done wrote one other armed armed_so events means arms played =
+holds_as handed statuses.Done wrote one other stays so events means after played =
     reported_as handed wrote one other events means (λ transcript m. transcript) played
-holds_as handed statuses.Refused wrote one other armed armed_so events means arms played = absurd played
-holds_as handed statuses.Usage wrote one other armed armed_so events means arms played = absurd played
-holds_as handed statuses.ReadFailed wrote one other armed armed_so events means arms played = absurd played
-holds_as handed statuses.WriteFailed wrote one other armed armed_so events means arms (inl played) =
+holds_as handed statuses.Refused wrote one other stays so events means after played = absurd played
+holds_as handed statuses.Usage wrote one other stays so events means after played = absurd played
+holds_as handed statuses.ReadFailed wrote one other stays so events means after played = absurd played
+holds_as handed statuses.WriteFailed wrote one other stays so events means after (inl played) =
     inl (opening_as handed wrote one other events means played)
-holds_as handed statuses.WriteFailed wrote one other armed armed_so events means arms (inr played) =
+holds_as handed statuses.WriteFailed wrote one other stays so events means after (inr played) =
     inr (cut_as handed wrote one other events means played)
-holds_as handed statuses.NoMemory wrote one other armed armed_so events means arms played =
-    record { did = did_as handed armed armed_so events arms played.did; written = played.written }
-holds_as handed statuses.SaveFailed wrote one other armed armed_so events means arms played = absurd played
+holds_as handed statuses.NoMemory wrote one other stays so events means after played =
+    record { did = did_as handed stays so events after played.did; written = played.written }
+holds_as handed statuses.SaveFailed wrote one other stays so events means after played = absurd played

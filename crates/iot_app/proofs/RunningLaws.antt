@@ -1,8 +1,8 @@
 -- Runs whose events are done while nothing is written, and what is written then.
-use Rattle.std.proofs.Common.{◌≡◌, ℕ, ◌<◌, ◌≤◌, List, [], ◌∷◌, ◌++◌, length, map, drop, slice_set, get_or, refl, sym, ap, subst, ◌∙◌, arith}
+use Rattle.std.proofs.Common.{◌≡◌, ℕ, suc, ◌<◌, ◌≤◌, List, [], ◌∷◌, ◌++◌, length, map, drop, slice_set, get_or}
+use Rattle.std.proofs.Common.{refl, sym, ap, subst, ◌∙◌, arith}
 use Rattle.std.specs.Prelude.{Result, Ok, Err, IfOk, IfErr, Option, None, Some}
 use Rattle.std.proofs.lemmas.List.{take_all}
-use Rattle.std.proofs.lemmas.Simd.{map-map}
 use Rattle.iot_count.specs.Counts.{Counted, Stayed, Rose}
 use Rattle.iot_disk.specs.Disk.{Medium, CountsFault, SameImages}
 use Rattle.iot_disk.specs.declared.disk.DiskFault.{DiskFault}
@@ -14,42 +14,43 @@ use Rattle.iot_machine.specs.Transcript.{Transcript}
 use Rattle.iot_words.specs.declared.jobs.Job.{Job}
 use Rattle.iot_words.specs.declared.jobs.Job.TheVariants.{Transcript as Plays, Json, Generate, Save}
 use Rattle.iot_world.specs.Disks.{counts_on}
-use Rattle.iot_world.specs.Holding.{DisksHold, HoldsList, counts_in}
+use Rattle.iot_world.specs.Holding.{DisksHold, HoldsList, KeepsClient, counts_in}
 use Rattle.iot_world.specs.World.{StandsFor, IsWorldOfSome}
 use Rattle.iot_world.specs.declared.world.World.{World}
+use Rattle.iot_world.proofs.ListLaws.{each_length}
 use Rattle.iot_app.specs.Counting.{HasCounted}
 use Rattle.iot_app.specs.Doing.{Did}
 use Rattle.iot_app.specs.Faults.{ended_by_read}
 use Rattle.iot_app.specs.Job.{TextEnds}
-use Rattle.iot_app.specs.Keeping.{DisksKeep, DisksKeepUnread, AreArmed}
+use Rattle.iot_app.specs.Keeping.{DisksKeep, DisksKeepUnread, DisksStay}
 use Rattle.iot_app.specs.Outputs.{output_of}
 use Rattle.iot_app.specs.Played.{RanAll, Reported, DidFirst, WroteFront, Played}
-use Rattle.iot_app.specs.Running.{told_of, tells, RanIn, IsArmed, IsTold}
+use Rattle.iot_app.specs.Running.{told_of, tells, RanIn, StaysIn, IsTold}
 use Rattle.iot_app.specs.Saving.{first_reads}
 use Rattle.iot_app.specs.Summary.{counts_of}
 use Rattle.iot_app.specs.declared.counts.Counts.{Counts}
 use Rattle.iot_app.specs.declared.status.Status.{Status}
 use Rattle.iot_app.specs.declared.status.Status.TheVariants as statuses
 use Rattle.iot_app.proofs.EndingsLaws.{by_text}
-use Rattle.iot_app.proofs.PlayedLaws.{PlaysOn, whole_transcript, armed_as, arms_in, reported_as}
+use Rattle.iot_app.proofs.PlayedLaws.{PlaysOn, whole_transcript, stays_as, all_since, unarmed, reported_as}
 
 -- ---- runs in other words
 
-module _ (handed : List DiskCounts) (one other : Machine → Type 0) (events : List Event) (ran : RanAll handed one events)
-    (means : (m : Machine) → one m → other m) where
-  pub ran_as : RanAll handed other events
-  ran_as = record { text = ran.text; machine = ran.machine; transcript = ran.transcript; kept = means ran.machine ran.kept }
+module _ (handed : List DiskCounts) (one : Machine → Type 0) (events : List Event) (ran : RanAll handed one events) where
+  pub ran_as : (other : Machine → Type 0) → ((m : Machine) → one m → other m) → RanAll handed other events
+  ran_as other means = record { text = ran.text; machine = ran.machine; transcript = ran.transcript; kept = means ran.machine ran.kept }
 
-  -- as a run of the first so many events
-  pub all_did : DidFirst handed other events
-  all_did = record {
+  -- memory ran out after all events
+  pub all_did : (stays : List Event → Machine → Type 0) → ((later : List Event) (m : Machine) → one m → stays later m)
+      → DidFirst handed stays events
+  all_did stays means = record {
     done = length events;
     text = ran.text;
     machine = ran.machine;
     transcript =
         subst (λ (es : List Event). Transcript handed es ran.text ran.machine) (sym (take_all (length events) events (omega arith)))
         ran.transcript;
-    arms = means ran.machine ran.kept;
+    stayed = means (drop (length events) events) ran.machine ran.kept;
   }
 
 module _ {T E : Type 0} (result : Result T E) where
@@ -113,18 +114,18 @@ module _ {D : Type 0} (medium : Medium D) (handed : List DiskCounts) (events : L
     }
 
     -- memory ran out when that was to be said
-    pub ran_untold : DidFirst handed (IsArmed (arms_in medium) w) events
+    pub ran_untold : DidFirst handed (StaysIn medium w) events
     ran_untold =
-        all_did handed (StandsFor medium w) (IsArmed (arms_in medium) w) events
-        (record { text = ran.text; machine = ran.machine; transcript = ran.transcript; kept = ran.stands.stands })
-        (armed_as medium w)
+        all_did handed (StandsFor medium w) events
+        (record { text = ran.text; machine = ran.machine; transcript = ran.transcript; kept = ran.stands.stands }) (StaysIn medium w)
+        (λ later m stands. stays_as medium w m stands later)
 
 -- ---- writing it
 
-module _ (handed : List DiskCounts) (wrote : List ℕ → Type 0) (holds armed unread : Machine → Type 0) (disk : List ℕ)
-    (events : List Event) where
+module _ (handed : List DiskCounts) (wrote : List ℕ → Type 0) (holds : Machine → Type 0) (stays : List Event → Machine → Type 0)
+    (unread : Machine → Type 0) (disk : List ℕ) (events : List Event) where
   abbrev Does : Job → Status → Type 0
-  Does job status = Did handed wrote holds armed unread disk job status events
+  Does job status = Did handed wrote holds stays unread disk job status events
 
   -- what was to be written was written, or a front of it
   reported_by : (so : List ℕ → Type 0) (text : List ℕ) (says other : List ℕ → Machine → List ℕ)
@@ -151,7 +152,7 @@ module _ (handed : List DiskCounts) (wrote : List ℕ → Type 0) (holds armed u
   text_did Save text status f e is told ends = absurd is
 
   -- nothing was written, since memory ran out
-  pub nothing_did : (job : Job) → IsTold job → DidFirst handed armed events → wrote [] → Does job statuses.NoMemory
+  pub nothing_did : (job : Job) → IsTold job → DidFirst handed stays events → wrote [] → Does job statuses.NoMemory
   nothing_did Plays is did written = absurd is
   nothing_did Json is did written = record { did = did; written = written }
   nothing_did (Generate n) is did written = record { did = did; written = written }
@@ -166,7 +167,7 @@ module _ (handed : List DiskCounts) (wrote : List ℕ → Type 0) (holds armed u
       (λ written. record { ran = ran; written = subst (WroteFront wrote) is written })
 
   -- a transcript
-  pub played_did : (status : Status) → Played handed status wrote holds armed events → Does Plays status
+  pub played_did : (status : Status) → Played handed status wrote holds stays events → Does Plays status
   played_did statuses.Done played = played
   played_did statuses.Refused played = absurd played
   played_did statuses.Usage played = absurd played
@@ -196,7 +197,7 @@ module _ {D : Type 0} (medium : Medium D) (handed old : List D) (was now : D) (h
 
   list_changed : (commits : List Commit) (doubt : Option (List Commit)) → HoldsList (medium.may_leave was) commits doubt
       → HoldsList (medium.may_leave now) commits doubt
-  list_changed commits None list = record { each = λ image leaves. list.each image (images.was image leaves) }
+  list_changed commits None list = λ image leaves. list image (images.was image leaves)
   list_changed commits (Some after) list = λ image leaves. list image (images.was image leaves)
 
   holds_changed : DisksHold medium handed (slice_set old 0 now) m
@@ -249,11 +250,19 @@ module _ {D : Type 0} (medium : Medium D) (handed old : List D) (was now : D) (h
   pub reads_changed : medium.reads now ≡ first_reads medium (slice_set old 0 now)
   reads_changed = sym (ap (first_reads medium) changed)
 
--- disks that have counted what a machine's have were armed as they were
-pub keeps_armed : {D : Type 0} (medium : Medium D) (handed back : List D) (m : Machine) → DisksKeep medium handed back m
-    → AreArmed medium back m
-keeps_armed medium handed back m keeps =
-    sym (map-map (λ (c : DiskCounts). c.arms) (counts_on medium) back) ∙ ap (map (λ (c : DiskCounts). c.arms)) keeps.counted
+-- memory ran out later
+pub keeps_stay : {D : Type 0} (medium : Medium D) (handed back : List D) (later : List Event) (m : Machine)
+    → DisksKeep medium handed back m → DisksStay medium handed back later m
+keeps_stay medium handed back later m keeps = record {
+  counted = all_since medium (counts_in m) back back keeps.counted (unarmed medium back);
+  used = keeps.holds.server ∷ keeps.holds.clients;
+  spare = keeps.holds.spare;
+  is = keeps.holds.is;
+  front = keeps.holds.first ∷ keeps.holds.front;
+  was = keeps.holds.was;
+  aligned = ap suc keeps.holds.aligned;
+  few = omega (arith, each_length (KeepsClient medium) keeps.holds.clients m.clients keeps.holds.each);
+}
 
 -- and then the disk could not be read
 module _ {D : Type 0} (medium : Medium D) (handed old : List D) (was now : D) (here : was ≡ get_or old 0 was)
@@ -265,18 +274,18 @@ module _ {D : Type 0} (medium : Medium D) (handed old : List D) (was now : D) (h
 
   pub unsaved_did : (T : Type 0) (fault : DiskFault)
       → CountsFault {T = T} (Err fault) (counts_on medium was).faults (counts_on medium now).faults
-      → Did (map (counts_on medium) handed) wrote (DisksKeep medium handed now_in) (AreArmed medium now_in)
+      → Did (map (counts_on medium) handed) wrote (DisksKeep medium handed now_in) (DisksStay medium handed now_in)
       (DisksKeepUnread medium handed now_in) disk Save (ended_by_read fault) events
   unsaved_did T reading.NoMemory stayed = record {
     did =
-        all_did (map (counts_on medium) handed) (DisksKeep medium handed old) (AreArmed medium now_in) events ran
-        (λ m keeps.
-        keeps_armed medium handed now_in m (keeps_read medium handed old was now here images arms m keeps stayed));
+        all_did (map (counts_on medium) handed) (DisksKeep medium handed old) events ran (DisksStay medium handed now_in)
+        (λ later m keeps.
+        keeps_stay medium handed now_in later m (keeps_read medium handed old was now here images arms m keeps stayed));
     written = written;
   }
   unsaved_did T reading.Failed rose = record {
     ran =
-        ran_as (map (counts_on medium) handed) (DisksKeep medium handed old) (DisksKeepUnread medium handed now_in) events ran
+        ran_as (map (counts_on medium) handed) (DisksKeep medium handed old) events ran (DisksKeepUnread medium handed now_in)
         (λ m keeps. keeps_unread medium handed old was now here images arms m keeps rose);
     written = written;
   }

@@ -12,7 +12,8 @@ use Rattle.iot_app.specs.Played.{RanAll, Reported, WroteFront, DidFirst, WroteFi
 use Rattle.iot_app.specs.declared.status.Status.{Status}
 use Rattle.iot_app.specs.declared.status.Status.TheVariants.{Done, WriteFailed, NoMemory, SaveFailed}
 
-module _ (handed : List Counts) (wrote : List ℕ → Type 0) (holds armed unread : Machine → Type 0) (disk : List ℕ) where
+module _ (handed : List Counts) (wrote : List ℕ → Type 0) (holds : Machine → Type 0) (stays : List Event → Machine → Type 0)
+    (unread : Machine → Type 0) (disk : List ℕ) where
   -- a write failed: of a transcript in the middle of a text, after which no event was done; else after all events
   abbrev pub CutsOutput : Job → List Event → Type 0
   CutsOutput Transcript = λ events. CutsOpening handed wrote holds ⊎ WroteCut handed wrote holds events
@@ -20,12 +21,12 @@ module _ (handed : List Counts) (wrote : List ℕ → Type 0) (holds armed unrea
 
   -- some events were done, and nothing was written
   pub record WritesNothing (events : List Event) : Type 0 where
-    pub did : DidFirst handed armed events
+    pub did : DidFirst handed stays events
     pub written : wrote []
 
   -- some events were done, of which only a transcript is written
   abbrev pub WritesSome : Job → List Event → Type 0
-  WritesSome Transcript = WroteFirst handed wrote armed
+  WritesSome Transcript = WroteFirst handed wrote stays
   WritesSome job = WritesNothing
 
   -- all events were done, but the server's disk could not be read then, and nothing was written

@@ -15,7 +15,8 @@ use Rattle.iot_app.specs.declared.status.Status.TheVariants.{Done, Refused, Usag
 
 -- What can be seen of a run but for its words: which bytes were taken from the source, and whether nothing is left there; which bytes
 -- were written to the sink; what the disks counted that were handed in; whether they hold and have counted now what a machine has, or do
--- but for a failed read of the first, or were armed as its disks were; what the first of them reads as; whether they are as they were.
+-- but for a failed read of the first, or are as they may be if memory ran out with these events left; what the first of them reads as;
+-- whether they are as they were.
 pub record Effects : Type 1 where
   pub took : List ℕ → Type 0
   pub at_end : Type 0
@@ -23,7 +24,7 @@ pub record Effects : Type 1 where
   pub handed : List Counts
   pub holds : Machine → Type 0
   pub unread : Machine → Type 0
-  pub armed : Machine → Type 0
+  pub stays : List Event → Machine → Type 0
   pub disk : List ℕ
   pub untouched : Type 0
 
@@ -52,7 +53,7 @@ pub record OnRefusal (it : Effects) (wrote : List ℕ → Type 0) (job : Job) : 
 pub record OnEvents (it : Effects) (job : Job) (status : Status) : Type 0 where
   pub events : List Event
   pub given : GivesEvents job it.took it.at_end events
-  pub did : Did it.handed it.wrote it.holds it.armed it.unread it.disk job status events
+  pub did : Did it.handed it.wrote it.holds it.stays it.unread it.disk job status events
 
 -- how a run ends whose words name this job
 abbrev pub JobEnds : Effects → Job → Status → Type 0

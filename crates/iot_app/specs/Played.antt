@@ -1,7 +1,7 @@
 -- What was done of some events, and what was written of what they say. `handed` is what the disks counted that were handed in,
 -- `wrote bytes` says that these bytes were written to the sink, `holds m` that the disks hold and have counted what this machine has, and
--- `armed m` that they were armed as its disks were.
-use Rattle.std.specs.Prelude.{◌≡◌, ◌⊎◌, ℕ, ◌<◌, List, ◌∷◌, ◌++◌, length, take}
+-- `stays later m` what is known of them if memory ran out when these events were not done yet, or only the first of them in part.
+use Rattle.std.specs.Prelude.{◌≡◌, ◌⊎◌, ℕ, ◌<◌, List, ◌∷◌, ◌++◌, length, take, drop}
 use Rattle.iot_event.specs.declared.event.Event.{Event}
 use Rattle.iot_machine.specs.Events.{event_part}
 use Rattle.iot_machine.specs.Machine.{Machine, handed as before_all}
@@ -29,17 +29,18 @@ pub record WroteFront (wrote : List ℕ → Type 0) (text : List ℕ) : Type 0 w
   pub cut : count < length text
   pub written : wrote (take count text)
 
--- the first so many events were done, and no disk was armed but by them
-pub record DidFirst (handed : List Counts) (armed : Machine → Type 0) (events : List Event) : Type 0 where
+-- the first so many events were done, and then memory ran out
+pub record DidFirst (handed : List Counts) (stays : List Event → Machine → Type 0) (events : List Event) : Type 0 where
   pub done : ℕ
   pub text : List ℕ
   pub machine : Machine
   pub transcript : Transcript handed (take done events) text machine
-  pub arms : armed machine
+  pub stayed : stays (drop done events) machine
 
 -- and a transcript of them was written
-pub record WroteFirst (handed : List Counts) (wrote : List ℕ → Type 0) (armed : Machine → Type 0) (events : List Event) : Type 0 where
-  pub did : DidFirst handed armed events
+pub record WroteFirst (handed : List Counts) (wrote : List ℕ → Type 0) (stays : List Event → Machine → Type 0) (events : List Event)
+    : Type 0 where
+  pub did : DidFirst handed stays events
   pub written : wrote did.text
 
 -- A transcript of the earlier events was written, and of what the next one says only a front. That event was done and no later one:
@@ -69,8 +70,9 @@ pub record CutsOpening (handed : List Counts) (wrote : List ℕ → Type 0) (hol
   pub kept : holds machine
 
 -- how writing a transcript ended
-abbrev pub Played : (handed : List Counts) → Status → (List ℕ → Type 0) → (holds armed : Machine → Type 0) → List Event → Type 0
-Played handed Done wrote holds armed events = Reported handed wrote holds (λ transcript m. transcript) events
-Played handed WriteFailed wrote holds armed events = CutsOpening handed wrote holds ⊎ WroteCut handed wrote holds events
-Played handed NoMemory wrote holds armed events = WroteFirst handed wrote armed events
-Played handed status wrote holds armed events = ⊥
+abbrev pub Played : (handed : List Counts) → Status → (List ℕ → Type 0) → (holds : Machine → Type 0)
+    → (stays : List Event → Machine → Type 0) → List Event → Type 0
+Played handed Done wrote holds stays events = Reported handed wrote holds (λ transcript m. transcript) events
+Played handed WriteFailed wrote holds stays events = CutsOpening handed wrote holds ⊎ WroteCut handed wrote holds events
+Played handed NoMemory wrote holds stays events = WroteFirst handed wrote stays events
+Played handed status wrote holds stays events = ⊥

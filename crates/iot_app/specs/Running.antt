@@ -1,8 +1,8 @@
 -- What is told of a run whose events were done while nothing was written.
-use Rattle.std.specs.Prelude.{◌≡◌, ℕ, List, [], map}
+use Rattle.std.specs.Prelude.{◌≡◌, ◌≤◌, ℕ, ◌+◌, List, [], length}
 use Rattle.iot_event.specs.declared.event.Event.{Event}
 use Rattle.iot_machine.specs.Json.{json_text, row_count}
-use Rattle.iot_disk.specs.Disk.{Medium, Arms}
+use Rattle.iot_disk.specs.Disk.{Medium}
 use Rattle.iot_machine.specs.Machine.{Machine, handed as before_all}
 use Rattle.iot_machine.specs.Nodes.{Counts as DiskCounts}
 use Rattle.iot_machine.specs.Texts.{line}
@@ -10,8 +10,9 @@ use Rattle.iot_machine.specs.Transcript.{Opening, Transcript}
 use Rattle.iot_words.specs.declared.jobs.Job.{Job}
 use Rattle.iot_words.specs.declared.jobs.Job.TheVariants.{Transcript as plays, Json, Generate, Save}
 use Rattle.iot_world.specs.Holding.{counts_in}
-use Rattle.iot_world.specs.World.{IsWorldOf, client_count, script_names, disks_of}
+use Rattle.iot_world.specs.World.{Each, IsWorldOf, client_count, script_names, disks_of}
 use Rattle.iot_world.specs.declared.world.World.{World}
+use Rattle.iot_app.specs.Keeping.{CountsSince, joined_next}
 use Rattle.iot_app.specs.Summary.{counts_of, summary_text}
 use Rattle.iot_app.specs.declared.counts.Counts.{Counts}
 
@@ -54,6 +55,9 @@ pub record IsOpenedSome {D : Type 0} (medium : Medium D) (text : List ℕ) (worl
   pub handed : List DiskCounts
   pub is : IsOpened medium handed text world
 
--- the disks of the world were armed as this machine's were
-abbrev pub IsArmed : {D : Type 0} → (D → Arms) → World D → Machine → Type 0
-IsArmed arms_of world m = map arms_of (disks_of world) ≡ map (λ counts. counts.arms) (counts_in m)
+-- Memory ran out in this world, and these events were not done, or the first of them in part: no disk was armed but by those that were
+-- done, each has failed as often as the machine's, or more often, and those are spare that no client has.
+pub record StaysIn {D : Type 0} (medium : Medium D) (world : World D) (later : List Event) (m : Machine) : Type 0 where
+  pub counted : Each (CountsSince medium) (counts_in m) (disks_of world)
+  pub nine : length (counts_in m) ≡ 9
+  pub spare : 8 ≤ length world.spare.items + length m.clients + joined_next later

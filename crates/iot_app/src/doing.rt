@@ -3,7 +3,7 @@ ghost use Rattle.std.specs.Prelude.{[], map};
 ghost use Rattle.std.specs.Io.KnownBytes.{Appends};
 ghost use Rattle.iot_event.specs.Declarations.{AreDeclared};
 ghost use Rattle.iot_world.specs.Disks.{AreFresh, counts_on};
-ghost use Rattle.iot_app.specs.Keeping.{DisksKeep, DisksKeepUnread, AreArmed};
+ghost use Rattle.iot_app.specs.Keeping.{DisksKeep, DisksKeepUnread, DisksStay};
 ghost use Rattle.iot_app.specs.Doing.{Did};
 ghost use Rattle.iot_app.specs.Running.{IsTold};
 ghost use Rattle.iot_app.specs.Saving.{first_reads};
@@ -33,7 +33,7 @@ pub(crate) fn do_events<K: Sink, D: Disk>(
     ensures ends { Did (map (counts_on D.medium) disks.items)
         (Appends (K.written sink.old) (K.written sink.new))
         (DisksKeep D.medium disks.items result.1.items)
-        (AreArmed D.medium result.1.items)
+        (DisksStay D.medium disks.items result.1.items)
         (DisksKeepUnread D.medium disks.items result.1.items)
         (first_reads D.medium result.1.items)
         job result.0 events.now }
@@ -63,7 +63,7 @@ fn report<K: Sink, D: Disk>(
     ensures ends { Did (map (counts_on D.medium) disks.items)
         (Appends (K.written sink.old) (K.written sink.new))
         (DisksKeep D.medium disks.items result.1.items)
-        (AreArmed D.medium result.1.items)
+        (DisksStay D.medium disks.items result.1.items)
         (DisksKeepUnread D.medium disks.items result.1.items)
         (first_reads D.medium result.1.items)
         job result.0 events.now }

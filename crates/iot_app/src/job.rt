@@ -3,7 +3,7 @@ ghost use Rattle.std.specs.Prelude.{◌≡◌, map};
 ghost use Rattle.std.specs.Io.KnownBytes.{Appends, IsAtEnd};
 ghost use Rattle.iot_io.specs.ReadAll.{Took};
 ghost use Rattle.iot_world.specs.Disks.{AreFresh, counts_on};
-ghost use Rattle.iot_app.specs.Keeping.{DisksKeep, DisksKeepUnread, AreArmed};
+ghost use Rattle.iot_app.specs.Keeping.{DisksKeep, DisksKeepUnread, DisksStay};
 ghost use Rattle.iot_app.specs.Endings.{Ends, JobEnds};
 ghost use Rattle.iot_app.specs.Saving.{first_reads};
 ghost use Rattle.iot_app.specs.Status.{HasStatus, SourceCounts, SinkCounts};
@@ -65,7 +65,9 @@ pub struct Outcome<D> {
 /// disk's faults rises in each event in which its node stops, in the opening if the server stops there, with status 6 once more, and at
 /// no other time. A disk is armed by the `stop` events of its node alone.
 ///
-/// With status 5 the disks are as they were, or only their arms are known: those of the events that were done.
+/// With status 5 the disks are as they were; or some events were done, and memory ran out in the next one, or after them. No disk was
+/// armed but by those that were done, and each has failed as often as after them, or more often. The disks of the clients that are not
+/// declared by them, or by the next one, are as they were.
 pub fn run<S: Source, K: Sink, D: Disk>(
     alloc: Global,
     words: &[&str],
@@ -83,7 +85,7 @@ pub fn run<S: Source, K: Sink, D: Disk>(
       handed = map (counts_on D.medium) disks.items;
       holds = DisksKeep D.medium disks.items result.disks.items;
       unread = DisksKeepUnread D.medium disks.items result.disks.items;
-      armed = AreArmed D.medium result.disks.items;
+      stays = DisksStay D.medium disks.items result.disks.items;
       disk = first_reads D.medium result.disks.items;
       untouched = result.disks.items ≡ disks.items;
     })) }
@@ -118,7 +120,7 @@ fn status_of<S: Source, K: Sink, D: Disk>(
       handed = map (counts_on D.medium) disks.items;
       holds = DisksKeep D.medium disks.items result.1.items;
       unread = DisksKeepUnread D.medium disks.items result.1.items;
-      armed = AreArmed D.medium result.1.items;
+      stays = DisksStay D.medium disks.items result.1.items;
       disk = first_reads D.medium result.1.items;
       untouched = result.1.items ≡ disks.items;
     }) result.0 }
@@ -149,7 +151,7 @@ fn do_job<S: Source, K: Sink, D: Disk>(
       handed = map (counts_on D.medium) disks.items;
       holds = DisksKeep D.medium disks.items result.1.items;
       unread = DisksKeepUnread D.medium disks.items result.1.items;
-      armed = AreArmed D.medium result.1.items;
+      stays = DisksStay D.medium disks.items result.1.items;
       disk = first_reads D.medium result.1.items;
       untouched = result.1.items ≡ disks.items;
     }) job result.0 }

@@ -3,10 +3,10 @@ ghost use Rattle.std.specs.Prelude.{[], List, map};
 ghost use Rattle.std.specs.Io.KnownBytes.{Appends};
 ghost use Rattle.iot_event.specs.Declarations.{AreDeclared};
 ghost use Rattle.iot_world.specs.Disks.{AreFresh, counts_on};
-ghost use Rattle.iot_app.specs.Keeping.{DisksKeep, AreArmed};
+ghost use Rattle.iot_app.specs.Keeping.{DisksKeep, DisksStay};
 ghost use Rattle.iot_machine.specs.Nodes.{Counts};
 ghost use Rattle.iot_world.specs.World.{StandsFor, KeepsDisks};
-ghost use Rattle.iot_app.specs.Running.{IsOpened, IsOpenedSome, IsArmed};
+ghost use Rattle.iot_app.specs.Running.{IsOpened, IsOpenedSome, StaysIn};
 ghost use Rattle.iot_app.specs.Played.{Played};
 ghost use Rattle.iot_app.specs.Status.{SinkCounts};
 
@@ -30,7 +30,7 @@ pub(crate) fn play<K: Sink, D: Disk>(
     ensures ends { Played (map (counts_on D.medium) disks.items) result.0
         (Appends (K.written sink.old) (K.written sink.new))
         (DisksKeep D.medium disks.items result.1.items)
-        (AreArmed D.medium result.1.items)
+        (DisksStay D.medium disks.items result.1.items)
         events.now }
     ensures sink_faults { SinkCounts result.0
         (record { before = K.faults sink.old; after = K.faults sink.new })
@@ -60,7 +60,7 @@ fn play_on<K: Sink, D: Disk>(
         → Played handed result
         (Appends (K.written sink.old) (K.written sink.new))
         (StandsFor D.medium world.new)
-        (IsArmed D.medium.arms world.new)
+        (StaysIn D.medium world.new)
         events.now }
     ensures sink_faults { SinkCounts result
         (record { before = K.faults sink.old; after = K.faults sink.new })

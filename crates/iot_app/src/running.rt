@@ -5,11 +5,11 @@ ghost use Rattle.iot_machine.specs.Json.{json_text};
 ghost use Rattle.iot_machine.specs.Machine.{Machine};
 ghost use Rattle.iot_machine.specs.Texts.{line};
 ghost use Rattle.iot_world.specs.Disks.{AreFresh, counts_on};
-ghost use Rattle.iot_app.specs.Keeping.{DisksKeep, AreArmed};
+ghost use Rattle.iot_app.specs.Keeping.{DisksKeep, DisksStay};
 ghost use Rattle.iot_machine.specs.Nodes.{Counts as DiskCounts};
 ghost use Rattle.iot_world.specs.World.{StandsFor, IsWorldOfSome, KeepsDisks};
 ghost use Rattle.iot_app.specs.Played.{Reported, DidFirst};
-ghost use Rattle.iot_app.specs.Running.{RanIn, IsOpened, IsOpenedSome, IsArmed, told_of, tells};
+ghost use Rattle.iot_app.specs.Running.{RanIn, IsOpened, IsOpenedSome, StaysIn, told_of, tells};
 
 use crate::counts::Counts;
 use crate::summary::sum_up;
@@ -34,7 +34,7 @@ pub(crate) fn run_events<D: Disk>(
         Reported (map (counts_on D.medium) disks.items) (λ told. text ≡ told)
         (DisksKeep D.medium disks.items result.1.items) (tells job) events.now) }
     ensures failed { IfErr result.0 (λ _. DidFirst (map (counts_on D.medium) disks.items)
-        (AreArmed D.medium result.1.items) events.now) }
+        (DisksStay D.medium disks.items result.1.items) events.now) }
 {
     let mut opening = Text::new(alloc);
     match World::new(alloc, disks, &mut opening) {
@@ -61,7 +61,7 @@ fn run_in<D: Disk>(
         → Reported handed (λ told. text ≡ told) (StandsFor D.medium world.new) (tells job) events.now) }
     ensures failed { IfErr result (λ _. (handed : List DiskCounts)
         → IsOpened D.medium handed opening world.old
-        → DidFirst handed (IsArmed D.medium.arms world.new) events.now) }
+        → DidFirst handed (StaysIn D.medium world.new) events.now) }
     ensures disks { KeepsDisks world.old world.new }
 {
     let counts = do_all(alloc, opening, events, world)?;
@@ -82,7 +82,7 @@ fn do_all<D: Disk>(
         → RanIn D.medium handed events.now counts world.new) }
     ensures failed { IfErr result (λ _. (handed : List DiskCounts)
         → IsOpened D.medium handed opening world.old
-        → DidFirst handed (IsArmed D.medium.arms world.new) events.now) }
+        → DidFirst handed (StaysIn D.medium world.new) events.now) }
     ensures disks { KeepsDisks world.old world.new }
 {
     let mut counts = Counts::new();

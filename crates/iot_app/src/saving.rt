@@ -4,7 +4,7 @@ ghost use Rattle.std.specs.Io.KnownBytes.{Appends};
 ghost use Rattle.iot_disk.specs.Disk.{CountsFault, SameImages};
 ghost use Rattle.iot_event.specs.Declarations.{AreDeclared};
 ghost use Rattle.iot_world.specs.Disks.{AreFresh, counts_on};
-ghost use Rattle.iot_app.specs.Keeping.{DisksKeep, DisksKeepUnread, AreArmed};
+ghost use Rattle.iot_app.specs.Keeping.{DisksKeep, DisksKeepUnread, DisksStay};
 ghost use Rattle.iot_words.specs.declared.jobs.Job.TheVariants.{Save};
 ghost use Rattle.iot_app.specs.Doing.{Did};
 ghost use Rattle.iot_app.specs.Saving.{first_reads};
@@ -31,7 +31,7 @@ pub(crate) fn save<K: Sink, D: Disk>(
     ensures ends { Did (map (counts_on D.medium) disks.items)
         (Appends (K.written sink.old) (K.written sink.new))
         (DisksKeep D.medium disks.items result.1.items)
-        (AreArmed D.medium result.1.items)
+        (DisksStay D.medium disks.items result.1.items)
         (DisksKeepUnread D.medium disks.items result.1.items)
         (first_reads D.medium result.1.items)
         Save result.0 events.now }

@@ -1,5 +1,5 @@
 //! Event scripts whose events, or whose first bad line, were written by hand.
-use iot_event::{Choice, Event, EventFault, parse};
+use iot_event::{Choice, ClientEvent, Event, EventFault, NodeEvent, Task, parse};
 use std::test::Fail;
 
 /// A script with a comment, blank lines and blocks, and other forms of line.
@@ -7,34 +7,86 @@ const INPUT: &[u8] =
     b"# two clients\nclient laptop\nclient desk\n\nscript init {\nif ok {\n# made\nmkdir /src\n}\n}\n \t\n\
     run laptop init resolver init\nhoard desk /src\nstep desk 7\nshow desk\ncrash server\n\n#\n\trestart  server\nshow server";
 
+/// Whether an event declares a client, or a script, of this name.
+fn declares(event: &Event, name: &[u8]) -> bool {
+    match event {
+        Event::Client(declared) | Event::Script(declared, _) => declared.as_bytes() == name,
+        _ => false,
+    }
+}
+
+/// What the client at this place is asked to do by an event.
+fn task_at(event: &Event, place: u64) -> Option<&Task<u64>> {
+    match event {
+        Event::At {
+            client,
+            what: ClientEvent::Task(task),
+        } if *client == place => Some(task),
+        _ => None,
+    }
+}
+
+/// What befalls the node of the client at this place by an event.
+fn befalls_client(event: &Event, place: u64) -> Option<NodeEvent> {
+    match event {
+        Event::At {
+            client,
+            what: ClientEvent::Node(what),
+        } if *client == place => Some(*what),
+        _ => None,
+    }
+}
+
+/// What befalls the server by an event.
+fn befalls_server(event: &Event) -> Option<NodeEvent> {
+    match event {
+        Event::Server(what) => Some(*what),
+        _ => None,
+    }
+}
+
 #[test]
-fn gives_events(rt: HostRuntime) -> Result<(), Fail> {
+fn gives_declarations(rt: HostRuntime) -> Result<(), Fail> {
     let events = parse(rt.alloc(), INPUT)?;
-    let [
-        Event::Client(client),
-        Event::Client(other),
-        Event::Script(name, _),
-        Event::Run {
-            client: 0,
+    let [laptop, desk, init, _, _, _, _, _, _, _] = events.as_slice() else {
+        return Err(Fail::new("other events"));
+    };
+    assert!(rt; declares(laptop, b"laptop"));
+    assert!(rt; declares(desk, b"desk"));
+    assert!(rt; declares(init, b"init"));
+    Ok(())
+}
+
+#[test]
+fn gives_tasks(rt: HostRuntime) -> Result<(), Fail> {
+    let events = parse(rt.alloc(), INPUT)?;
+    let [_, _, _, run, hoard, step, _, _, _, _] = events.as_slice() else {
+        return Err(Fail::new("other events"));
+    };
+    let Some(
+        Task::Run {
             script: 0,
             option: Choice::Resolver(0),
         },
-        Event::Hoard { client: 1, .. },
-        Event::Step {
-            client: 1,
-            count: 7,
-        },
-        Event::ShowClient { client: 1 },
-        Event::CrashServer,
-        Event::RestartServer,
-        Event::ShowServer,
-    ] = events.as_slice()
+    ) = task_at(run, 0)
     else {
+        return Err(Fail::new("no run"));
+    };
+    assert!(rt; matches!(task_at(hoard, 1), Some(Task::Hoard { .. })));
+    assert!(rt; matches!(task_at(step, 1), Some(Task::Step { count: 7 })));
+    Ok(())
+}
+
+#[test]
+fn gives_what_befalls_nodes(rt: HostRuntime) -> Result<(), Fail> {
+    let events = parse(rt.alloc(), INPUT)?;
+    let [_, _, _, _, _, _, show, crash, restart, shown] = events.as_slice() else {
         return Err(Fail::new("other events"));
     };
-    assert_eq!(rt; client.as_bytes(), b"laptop".as_slice());
-    assert_eq!(rt; other.as_bytes(), b"desk".as_slice());
-    assert_eq!(rt; name.as_bytes(), b"init".as_slice());
+    assert!(rt; matches!(befalls_client(show, 1), Some(NodeEvent::Show)));
+    assert!(rt; matches!(befalls_server(crash), Some(NodeEvent::Crash)));
+    assert!(rt; matches!(befalls_server(restart), Some(NodeEvent::Restart)));
+    assert!(rt; matches!(befalls_server(shown), Some(NodeEvent::Show)));
     Ok(())
 }
 

@@ -1,7 +1,7 @@
 use Rattle.std.proofs.Common.{map}
 use Rattle.std.specs.Io.KnownBytes.{Appends}
 use Rattle.iot_world.specs.Disks.{counts_on}
-use Rattle.iot_app.specs.Keeping.{DisksKeep, DisksKeepUnread, AreArmed}
+use Rattle.iot_app.specs.Keeping.{DisksKeep, DisksKeepUnread, DisksStay}
 use Rattle.iot_app.specs.Saving.{first_reads}
 use Rattle.iot_app.proofs.RunningLaws.{played_did}
 use Rattle.iot_app.proofs.doing.do_events.Goals as goal
@@ -13,5 +13,5 @@ returns-in-Transcript-clause-ends g c =
     let back = c.play.result.1.items in
     rw c.in-Transcript.is
     (played_did counts (Appends (g.K.Sink.written c.args.sink.now) (g.K.Sink.written c.play.new.sink))
-    (DisksKeep it c.args.disks.items back) (AreArmed it back) (DisksKeepUnread it c.args.disks.items back)
+    (DisksKeep it c.args.disks.items back) (DisksStay it c.args.disks.items back) (DisksKeepUnread it c.args.disks.items back)
     (first_reads g.D.Disk.medium back) c.args.events.now c.play.result.0 c.play.ensures.ends)

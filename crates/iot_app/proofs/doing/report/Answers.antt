@@ -1,7 +1,7 @@
 use Rattle.std.proofs.Common.{◌≡◌, ℕ, List, map, subst, sym}
 use Rattle.std.specs.Io.KnownBytes.{Appends}
 use Rattle.iot_world.specs.Disks.{counts_on}
-use Rattle.iot_app.specs.Keeping.{DisksKeep, DisksKeepUnread, AreArmed}
+use Rattle.iot_app.specs.Keeping.{DisksKeep, DisksKeepUnread, DisksStay}
 use Rattle.iot_app.specs.Played.{Reported, DidFirst}
 use Rattle.iot_app.specs.Running.{tells}
 use Rattle.iot_app.specs.Saving.{first_reads}
@@ -20,7 +20,7 @@ returns-in-Ok-clause-ends g c =
     (DisksKeep it c.args.disks.items back) (tells c.args.job) c.args.events.now)
     c.in-Ok.text c.in-Ok.is c.run_events-told.ensures.told in
     text_did counts (Appends (g.K.Sink.written c.args.sink.now) (g.K.Sink.written c.write_text.new.sink))
-    (DisksKeep it c.args.disks.items back) (AreArmed it back) (DisksKeepUnread it c.args.disks.items back)
+    (DisksKeep it c.args.disks.items back) (DisksStay it c.args.disks.items back) (DisksKeepUnread it c.args.disks.items back)
     (first_reads g.D.Disk.medium back) c.args.events.now c.args.job c.as_bytes.result.now c.write_text.result
     (record { before = g.K.Sink.faults c.args.sink.now; after = g.K.Sink.faults c.write_text.new.sink })
     (record { before = g.K.Sink.empties c.args.sink.now; after = g.K.Sink.empties c.write_text.new.sink }) c.requires.told
@@ -36,8 +36,8 @@ returns-in-Err-clause-ends g c =
     let counts = map (counts_on it) c.args.disks.items in
     let back = c.run_events-told.result.1.items in
     nothing_did counts (Appends (g.K.Sink.written c.args.sink.now) (g.K.Sink.written c.args.sink.now))
-    (DisksKeep it c.args.disks.items back) (AreArmed it back) (DisksKeepUnread it c.args.disks.items back)
+    (DisksKeep it c.args.disks.items back) (DisksStay it c.args.disks.items back) (DisksKeepUnread it c.args.disks.items back)
     (first_reads g.D.Disk.medium back) c.args.events.now c.args.job c.requires.told
-    (if_err c.run_events-told.result.0 (λ _. DidFirst counts (AreArmed it back) c.args.events.now)
+    (if_err c.run_events-told.result.0 (λ _. DidFirst counts (DisksStay it c.args.disks.items back) c.args.events.now)
     c.in-Err._no_memory c.in-Err.is c.run_events-told.ensures.failed)
     (appends_none _)

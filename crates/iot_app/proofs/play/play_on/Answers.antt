@@ -33,14 +33,14 @@ returns-in-Err-apply-clause-ends g c =
     let it = g.D.Disk.medium in
     λ handed is.
     plays_first it handed (Appends (g.K.Sink.written c.args.sink.now) (g.K.Sink.written c.events.sink))
-    c.args.events.now c.events.world c.events.event-index c.apply.new.self
+    c.args.events.now c.events.world c.events.event-index c.event-item.result c.apply.new.self
     (plays_as it handed (Follows (g.K.Sink.written c.write_all.new.sink) c.args.opening.now (g.K.Sink.written c.events.sink))
     c.args.events.now c.events.world (Appends (g.K.Sink.written c.args.sink.now) (g.K.Sink.written c.events.sink))
     c.events.event-index
     (λ text follows. follows (g.K.Sink.written c.args.sink.now)
     (subst (Appends (g.K.Sink.written c.args.sink.now) (g.K.Sink.written c.write_all.new.sink)) c.as_bytes.ensures c.in-Ok.ensures.ok))
     (c.events.invariant.plays handed is))
-    c.in-Err-apply.ensures.arms
+    c.events-test.true c.event-item.is c.in-Err-apply.ensures.arms
 
 pub returns-in-Err-apply-clause-disks : goal.returns-in-Err-apply-clause-disks
 returns-in-Err-apply-clause-disks g c =

@@ -67,8 +67,8 @@ returns-in_err-apply-clause-failed g c =
     let it = g.D.Disk.medium in
     any_err c.from_residual.result _
     (λ handed is.
-    plays_failed it handed _ c.args.events.now c.events.world c.events.event-index c.apply.new.self
-    (c.events.invariant.plays handed is) c.in_err-apply.ensures.arms)
+    plays_failed it handed _ c.args.events.now c.events.world c.events.event-index c.event-item.result c.apply.new.self
+    (c.events.invariant.plays handed is) c.events-test.true c.event-item.is c.in_err-apply.ensures.arms)
 
 pub returns-in_err-apply-clause-disks : goal.returns-in_err-apply-clause-disks
 returns-in_err-apply-clause-disks g c =

@@ -5,7 +5,7 @@ use Rattle.iot_world.specs.Disks.{counts_on}
 use Rattle.iot_app.specs.Keeping.{DisksKeep}
 use Rattle.iot_app.specs.Played.{Reported}
 use Rattle.iot_app.specs.Running.{tells}
-use Rattle.iot_app.proofs.PlayedLaws.{opened_on, disks_keep, none_did}
+use Rattle.iot_app.proofs.PlayedLaws.{opened_on, disks_keep, disks_stay, did_as, none_did}
 use Rattle.iot_app.proofs.RunningLaws.{told_as, failed_as}
 use Rattle.iot_app.proofs.running.run_events.Goals as goal
 
@@ -42,8 +42,11 @@ returns-in-Ok-clause-failed g c =
     let counts = map (counts_on it) c.args.disks.items in
     rw c.into_disks.ensures
     (failed_as c.run_in-told.result _ _
-    (λ failed. failed counts
-    (opened_on it c.args.disks.items c.new-opening.result c.new.new.out c.in-Ok.world c.new-opening.ensures c.in-Ok.ensures.opens))
+    (λ failed.
+    did_as counts _ _ c.args.events.now
+    (disks_stay it c.args.disks.items _ _ _ _ c.in-Ok.ensures.opens c.run_in-told.ensures.disks)
+    (failed counts
+    (opened_on it c.args.disks.items c.new-opening.result c.new.new.out c.in-Ok.world c.new-opening.ensures c.in-Ok.ensures.opens)))
     c.run_in-told.ensures.failed)
 
 pub returns-in-Err-clause-failed : goal.returns-in-Err-clause-failed

@@ -2,7 +2,7 @@ use Rattle.std.proofs.Common.{◌≡◌, ℕ, List, Vec, Global, map, ◌∙◌,
 use Rattle.std.specs.Io.KnownBytes.{Appends}
 use Rattle.iot_words.specs.declared.jobs.Job.TheVariants.{Save}
 use Rattle.iot_world.specs.Disks.{counts_on}
-use Rattle.iot_app.specs.Keeping.{DisksKeep, DisksKeepUnread, AreArmed}
+use Rattle.iot_app.specs.Keeping.{DisksKeep, DisksKeepUnread, DisksStay}
 use Rattle.iot_app.specs.Played.{Reported, DidFirst}
 use Rattle.iot_app.specs.Running.{tells}
 use Rattle.iot_app.specs.Saving.{first_reads}
@@ -22,14 +22,14 @@ returns-in-Ok-read_whole-clause-ends g c =
     (DisksKeep it c.args.disks.items old) (tells Save) c.args.events.now)
     c.in-Ok.field-0 c.in-Ok.is c.run_events-told.ensures.told in
     saved_did counts (Appends (g.K.Sink.written c.args.sink.now) (g.K.Sink.written c.write_text.new.sink))
-    (DisksKeep it c.args.disks.items new) (AreArmed it new) (DisksKeepUnread it c.args.disks.items new)
+    (DisksKeep it c.args.disks.items new) (DisksStay it c.args.disks.items new) (DisksKeepUnread it c.args.disks.items new)
     (first_reads g.D.Disk.medium new) c.args.events.now c.deref.result.now c.write_text.result
     (record { before = g.K.Sink.faults c.args.sink.now; after = g.K.Sink.faults c.write_text.new.sink })
     (record { before = g.K.Sink.empties c.args.sink.now; after = g.K.Sink.empties c.write_text.new.sink })
     (c.deref.ensures.value ∙ c.in-Ok-read_whole.ensures.bytes
     ∙ reads_changed it c.args.disks.items old c.index_mut.result.now c.read_whole.new.disk c.index_mut.ensures.value
     c.read_whole.ensures.images c.read_whole.ensures.arms told.ran.machine told.ran.kept)
-    (ran_as counts (DisksKeep it c.args.disks.items old) (DisksKeep it c.args.disks.items new) c.args.events.now told.ran
+    (ran_as counts (DisksKeep it c.args.disks.items old) c.args.events.now told.ran (DisksKeep it c.args.disks.items new)
     (λ m keeps.
     keeps_read it c.args.disks.items old c.index_mut.result.now c.read_whole.new.disk c.index_mut.ensures.value
     c.read_whole.ensures.images c.read_whole.ensures.arms m keeps c.in-Ok-read_whole.ensures.faults))
@@ -60,7 +60,7 @@ returns-clause-ends g c =
     record {
       did =
           if_err c.run_events-told.result.0
-          (λ _. DidFirst counts (AreArmed it c.run_events-told.result.1.items) c.args.events.now)
+          (λ _. DidFirst counts (DisksStay it c.args.disks.items c.run_events-told.result.1.items) c.args.events.now)
           c.in-Err._no_memory c.in-Err.is c.run_events-told.ensures.failed;
       written = appends_none _;
     }
