@@ -5,6 +5,7 @@ mod faults;
 mod names;
 mod paths;
 mod quoting;
+mod shared;
 mod texts;
 
 pub use faults::TextFault;

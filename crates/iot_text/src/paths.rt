@@ -11,30 +11,28 @@ ghost use Rattle.iot_text.specs.Texts.{AppendsPart};
 ghost use Rattle.std.specs.List.{position_or_len};
 
 use crate::names::beginning_len;
+use crate::shared::SharedNames;
 use crate::{Name, NoMemory, Text, TextFault};
 use std::alloc::Global;
 use std::cmp::Ordering;
 use std::marker::Model;
-use std::rc::Rc;
 
 /// A path: the names on the way down from the root, whose own path has none.
 /// Contracts see it as the list of its names. Copies share them.
 #[derive(Clone, Debug, Drop)]
 pub struct Path {
-    /// The names; None of the root, which takes no memory.
-    names: Option<Rc<Vec<Name>>>,
+    names: SharedNames,
 }
 
 impl Model for Path {
-    ghost use Rattle.std.specs.Prelude.{ℕ, List, []};
-    ghost use Rattle.std.specs.Option.{option_map_or};
+    ghost use Rattle.std.specs.Prelude.{ℕ, List};
     ghost use Rattle.iot_text.specs.Paths.{IsPath};
 
     ghost Value = { List (List ℕ) };
 
-    ghost view = { λ path. option_map_or (λ names. names.value.items) path.names [] };
+    ghost view = { λ path. path.names };
 
-    ghost invariant = { λ path. IsPath (option_map_or (λ names. names.value.items) path.names []) };
+    ghost invariant = { λ path. IsPath path.names };
 }
 
 /// How many bytes come before the first `/`, or in all if there is none.
@@ -78,7 +76,9 @@ impl Path {
             return Err(TextFault::BadPath { at: 0 });
         }
         if text.len() == 1 {
-            return Ok(Path { names: None });
+            return Ok(Path {
+                names: SharedNames::none(),
+            });
         }
         let mut names = Vec::new(alloc);
         let mut start = 1;
@@ -102,7 +102,9 @@ impl Path {
     pub fn root(_alloc: Global) -> Path
         ensures { result ≡ [] }
     {
-        Path { names: None }
+        Path {
+            names: SharedNames::none(),
+        }
     }
 
     /// A path of these names, which its copies share.
@@ -110,9 +112,16 @@ impl Path {
         requires { IsPath names.items }
         ensures { IfOk result (λ path. path ≡ names.items) }
     {
-        let alloc = *names.allocator();
+        Path::from_slice(*names.allocator(), &names)
+    }
+
+    /// A path of a copy of these names, which its own copies share.
+    pub fn from_slice(alloc: Global, names: &[Name]) -> Result<Path, NoMemory>
+        requires { IsPath names.now }
+        ensures { IfOk result (λ path. path ≡ names.now) }
+    {
         Ok(Path {
-            names: Some(Rc::new(alloc, names)?),
+            names: SharedNames::of(alloc, names)?,
         })
     }
 
@@ -122,10 +131,7 @@ impl Path {
         ensures value { result.now ≡ self.now }
         ensures valid { IsPath result.now }
     {
-        match &self.names {
-            Some(names) => names.as_slice(),
-            None => &[],
-        }
+        self.names.as_slice()
     }
 
     /// The last name, which only the root's path has not.
@@ -159,7 +165,7 @@ impl Path {
         ensures { IfOk result (λ parent. parent ≡ parent_of self.now) }
     {
         match self.parent_names() {
-            Some(names) => Ok(Some(Path::from_names(Vec::from_slice(alloc, names)?)?)),
+            Some(names) => Ok(Some(Path::from_slice(alloc, names)?)),
             None => Ok(None),
         }
     }
@@ -186,11 +192,9 @@ impl Path {
     pub fn copy(&self, _alloc: Global) -> Result<Path, NoMemory>
         ensures { IfOk result (λ path. path ≡ self.now) }
     {
-        let names = match &self.names {
-            Some(names) => Some(Rc::clone(names)?),
-            None => None,
-        };
-        Ok(Path { names })
+        Ok(Path {
+            names: self.names.copy()?,
+        })
     }
 
     /// Appends the text of the path: `/` for the root, else each name after a `/`.

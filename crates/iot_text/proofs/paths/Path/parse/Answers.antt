@@ -1,4 +1,4 @@
-use Rattle.std.proofs.Common.{◌≡◌, length, drop, sym, ◌∙◌, ap, subst, arith}
+use Rattle.std.proofs.Common.{◌≡◌, length, drop, sym, ◌∙◌, ap, subst, arith, Some}
 use borrow.Author.Tests.{eqb-true}
 use Rattle.std.proofs.lemmas.List.{take_rest}
 use Rattle.iot_text.specs.Names.{IsName, beginning_len}
@@ -43,7 +43,7 @@ returns-then-is_empty-clause-none c = λ fault. elim c.then-is_empty.branch [
 
 pub returns-then-text-eq1-clause-found : goal.returns-then-text-eq1-clause-found
 returns-then-text-eq1-clause-found c =
-    path_of-root c.args.text.now c.if-text-eq1.true c.if-text-ne47.false
+    path_of-root c.args.text.now c.if-text-eq1.true c.if-text-ne47.false ∙ ap Some (sym c.none.ensures)
 
 pub returns-in_default-clause-none : goal.returns-in_default-clause-none
 returns-in_default-clause-none c = λ fault. path_of-none c.args.text.now (returns-in_default-clause-refused c).0
