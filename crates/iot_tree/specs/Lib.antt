@@ -1,3 +1,4 @@
+pub mod Blob
 pub mod Ancestors
 pub mod Tree
 pub mod Questions

@@ -1,22 +1,54 @@
 //! The contents of files.
-ghost use Rattle.std.specs.Prelude.{ℕ, List, ◌≡◌, ◌==◌, ◌↔◌, IsTrue, IfOk, length, nat_eq};
+ghost use Rattle.std.specs.Prelude.{ℕ, List, ◌≡◌, ◌≤◌, ◌==◌, ◌↔◌, IsTrue, IfOk, length, nat_eq};
 ghost use Rattle.std.specs.Cmp.{partial_equiv_from_equiv};
 ghost use Rattle.std.specs.Cmp.Lexicographic.{pointwise, nat_list_eq_equiv};
 
 use iot_text::NoMemory;
+use std::alloc::Global;
 use std::marker::Model;
 use std::rc::Rc;
 
-/// The contents of a file: any bytes. Contracts see it as their list. Copies share them.
+/// How many bytes lie in the value itself.
+const FEW: usize = 15;
+
+/// The contents of a file: any bytes. Contracts see it as their list. Copies share them, but a few are copied.
 #[derive(Drop)]
 pub struct Blob {
-    bytes: Rc<Vec<u8>>,
+    bytes: Bytes,
+}
+
+/// Where the bytes lie.
+#[derive(Drop)]
+enum Bytes {
+    Few { len: u8, room: [u8; FEW] },
+    Many(Rc<Vec<u8>>),
 }
 
 impl Model for Blob {
+    ghost use Rattle.std.specs.Prelude.{ℕ, List};
+    ghost use Rattle.iot_tree.specs.Blob.{bytes_in, AreIn};
+
     ghost Value = { List ℕ };
 
-    ghost view = { λ blob. blob.bytes.value.items };
+    ghost view = { λ blob. bytes_in blob.bytes };
+
+    ghost invariant = { λ blob. AreIn blob.bytes };
+}
+
+/// Bytes that lie in the value itself.
+#[inline]
+fn few(bytes: &[u8]) -> Blob
+    requires { length bytes.now ≤ 15 }
+    ensures { result ≡ bytes.now }
+{
+    let mut room = [0; FEW];
+    room[..bytes.len()].copy_from_slice(bytes);
+    Blob {
+        bytes: Bytes::Few {
+            len: bytes.len() as u8,
+            room,
+        },
+    }
 }
 
 impl Blob {
@@ -24,10 +56,23 @@ impl Blob {
     pub fn from_vec(bytes: Vec<u8>) -> Result<Blob, NoMemory>
         ensures { IfOk result (λ blob. blob ≡ bytes.items) }
     {
+        if bytes.len() <= FEW {
+            return Ok(few(&bytes));
+        }
         let alloc = *bytes.allocator();
         Ok(Blob {
-            bytes: Rc::new(alloc, bytes)?,
+            bytes: Bytes::Many(Rc::new(alloc, bytes)?),
         })
+    }
+
+    /// Copies these bytes.
+    pub fn from_slice(alloc: Global, bytes: &[u8]) -> Result<Blob, NoMemory>
+        ensures { IfOk result (λ blob. blob ≡ bytes.now) }
+    {
+        if bytes.len() <= FEW {
+            return Ok(few(bytes));
+        }
+        Blob::from_vec(Vec::from_slice(alloc, bytes)?)
     }
 
     /// The same contents: they share their bytes. Does not allocate.
@@ -39,9 +84,14 @@ impl Blob {
     pub(crate) fn share(&self) -> Result<Blob, NoMemory>
         ensures { IfOk result (λ blob. blob ≡ self.now) }
     {
-        Ok(Blob {
-            bytes: Rc::clone(&self.bytes)?,
-        })
+        let bytes = match &self.bytes {
+            Bytes::Few { len, room } => Bytes::Few {
+                len: *len,
+                room: *room,
+            },
+            Bytes::Many(bytes) => Bytes::Many(Rc::clone(bytes)?),
+        };
+        Ok(Blob { bytes })
     }
 
     /// The bytes.
@@ -49,7 +99,10 @@ impl Blob {
     pub fn as_slice(&self) -> &[u8]
         ensures { result.now ≡ self.now }
     {
-        self.bytes.as_slice()
+        match &self.bytes {
+            Bytes::Few { len, room } => &room[..usize::from(*len)],
+            Bytes::Many(bytes) => bytes.as_slice(),
+        }
     }
 
     /// How many bytes there are.
@@ -57,7 +110,7 @@ impl Blob {
     pub fn len(&self) -> usize
         ensures { result ≡ length self.now }
     {
-        self.bytes.len()
+        self.as_slice().len()
     }
 
     /// Whether there is no byte.
@@ -65,7 +118,7 @@ impl Blob {
     pub fn is_empty(&self) -> bool
         ensures { result ≡ (length self.now == 0) }
     {
-        self.bytes.is_empty()
+        self.as_slice().is_empty()
     }
 }
 
