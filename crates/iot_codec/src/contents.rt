@@ -55,7 +55,7 @@ impl Spelled for Blob {
         if !are_content_bytes(contents) {
             return Err(malformed(at));
         }
-        let blob = Blob::from_vec(Vec::from_slice(alloc, contents)?)?;
+        let blob = Blob::from_slice(alloc, contents)?;
         Ok((blob, end))
     }
 
