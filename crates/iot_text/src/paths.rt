@@ -125,6 +125,16 @@ impl Path {
         })
     }
 
+    /// A path of a copy of the names of both lists, one list after the other.
+    pub fn from_parts(alloc: Global, front: &[Name], back: &[Name]) -> Result<Path, NoMemory>
+        requires { IsPath (front.now ++ back.now) }
+        ensures { IfOk result (λ path. path ≡ front.now ++ back.now) }
+    {
+        Ok(Path {
+            names: SharedNames::of_both(alloc, front, back)?,
+        })
+    }
+
     /// The names of the path, from the root down.
     #[inline]
     pub fn names(&self) -> &[Name]
@@ -176,11 +186,7 @@ impl Path {
     {
         // That it is a name is known of its bytes.
         let _valid = name.as_bytes();
-        let above = self.names();
-        let mut names = Vec::with_capacity(alloc, above.len() + 1)?;
-        names.extend_from_slice(above)?;
-        names.push(*name)?;
-        Path::from_names(names)
+        Path::from_parts(alloc, self.names(), &[*name])
     }
 
     /// The same path: it shares its names. Does not allocate.

@@ -56,6 +56,32 @@ impl SharedNames {
         Ok(SharedNames { block })
     }
 
+    /// The names of both lists, one list after the other, in memory of their own.
+    pub fn of_both(alloc: Global, front: &[Name], back: &[Name]) -> Result<SharedNames, NoMemory>
+        ensures { IfOk result (λ shared. shared ≡ front.now ++ back.now) }
+    {
+        match (front, back) {
+            ([], _) => SharedNames::of(alloc, back),
+            (_, []) => SharedNames::of(alloc, front),
+            ([a], [b]) => SharedNames::of(alloc, &[*a, *b]),
+            ([a], [b, c]) => SharedNames::of(alloc, &[*a, *b, *c]),
+            ([a, b], [c]) => SharedNames::of(alloc, &[*a, *b, *c]),
+            _ => SharedNames::of_many(alloc, front, back),
+        }
+    }
+
+    /// The same of many names.
+    fn of_many(alloc: Global, front: &[Name], back: &[Name]) -> Result<SharedNames, NoMemory>
+        ensures { IfOk result (λ shared. shared ≡ front.now ++ back.now) }
+    {
+        let mut names = Vec::with_capacity(alloc, front.len() + back.len())?;
+        names.extend_from_slice(front)?;
+        names.extend_from_slice(back)?;
+        Ok(SharedNames {
+            block: Block::Many(Rc::new(alloc, names)?),
+        })
+    }
+
     /// The same names: they share their memory. Does not allocate.
     ///
     /// # Errors
