@@ -10,6 +10,7 @@ pub mod WithinLaws
 pub mod RenamedLaws
 pub mod WithoutLaws
 pub mod UpdateLaws
+pub mod FitsLaws
 pub mod LeafLaws
 pub mod ChildLaws
 pub mod ChildKindLaws

@@ -190,12 +190,11 @@ impl Grown {
     fn fits_put(&self, path: &Path) -> bool
         ensures { IsTrue result ↔ FitsPut self.now path.now }
     {
-        if !self.is_in_known_dir(path) {
-            return false;
-        }
+        // Each row but the root is in a known directory, since the rows make a tree.
+        let _tree = self.rows();
         match self.node(path.names()) {
             Some(node) => !node.is_dir(),
-            None => true,
+            None => self.is_in_known_dir(path),
         }
     }
 
@@ -203,10 +202,10 @@ impl Grown {
     fn fits_make_dir(&self, path: &Path) -> bool
         ensures { IsTrue result ↔ FitsMakeDir self.now path.now }
     {
-        if !self.is_in_known_dir(path) {
-            return false;
+        match self.node(path.names()) {
+            Some(_) => false,
+            None => self.is_in_known_dir(path),
         }
-        self.node(path.names()).is_none()
     }
 
     /// Whether the path is below the root, in a directory whose names are known.

@@ -18,10 +18,7 @@ fn renamed_path(alloc: Global, path: &Path, from: &Path, to: &Path) -> Result<Pa
         return path.copy(alloc);
     }
     let rest = &path.names()[from.names().len()..];
-    let mut names = Vec::with_capacity(alloc, to.names().len() + rest.len())?;
-    names.extend_from_slice(to.names())?;
-    names.extend_from_slice(rest)?;
-    Path::from_names(names)
+    Path::from_parts(alloc, to.names(), rest)
 }
 
 /// The paths of the rows, with `to` in place of `from`.
