@@ -12,8 +12,9 @@ use crate::CodecFault;
 use crate::lists::{put_list, read_items};
 use crate::numbers::at_most;
 use crate::spelled::{Spelled, read};
-use iot_text::{NoMemory, Text};
-use iot_tree::{ACT_LIMIT, Act, Acts, Lines, Reads, Update};
+use crate::updates::read_optional_update_on;
+use iot_text::{NoMemory, Path, Text};
+use iot_tree::{ACT_LIMIT, Act, Acts, Lines, Question, Read, Reads};
 use std::alloc::Global;
 
 impl Spelled for Act {
@@ -33,7 +34,8 @@ impl Spelled for Act {
     #[tactic(auto, unfolding(crate::specs::Decoding::act_at))]
     fn read(alloc: Global, bytes: &[u8], at: usize) -> Result<(Act, usize), CodecFault> {
         let (reads, at) = Reads::read(alloc, bytes, at)?;
-        let (update, at) = Option::<Update>::read(alloc, bytes, at)?;
+        let known = last_path(reads.as_slice());
+        let (update, at) = read_optional_update_on(alloc, known, bytes, at)?;
         let (lines, end) = Lines::read(alloc, bytes, at)?;
         let act = Act {
             reads,
@@ -44,6 +46,15 @@ impl Spelled for Act {
     }
 
     ghost laws = { act_laws };
+}
+
+/// The path of the last read, which the update most often has, too.
+fn last_path(reads: &[Read]) -> Option<&Path> {
+    match &reads.last()?.question {
+        Question::Kind(path) => Some(path),
+        Question::Content(path) => Some(path),
+        Question::Names(path) => Some(path),
+    }
 }
 
 impl Spelled for Acts {

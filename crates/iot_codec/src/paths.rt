@@ -28,19 +28,43 @@ impl Spelled for Path {
         put_list(self.names(), out)
     }
 
-    /// Up to three names are read without a list of them.
-    #[tactic(auto, unfolding(crate::specs::Decoding::path_at))]
     fn read(alloc: Global, bytes: &[u8], at: usize) -> Result<(Path, usize), CodecFault> {
-        let (count, after) = number_at(bytes, at)?;
-        match count {
-            1 => read_one(alloc, bytes, after),
-            2 => read_two(alloc, bytes, after),
-            3 => read_three(alloc, bytes, after),
-            _ => read_any(alloc, bytes, at),
-        }
+        read_path_on(alloc, None, bytes, at)
     }
 
     ghost laws = { path_laws };
+}
+
+/// Reads a path, which shares the names of the one that is given, if it is equal to that. Up to three names are
+/// read without a list of them.
+#[tactic(auto, unfolding(crate::specs::Decoding::path_at))]
+pub(crate) fn read_path_on(
+    alloc: Global,
+    known: Option<&Path>,
+    bytes: &[u8],
+    at: usize,
+) -> Result<(Path, usize), CodecFault>
+    ensures { IsOutcome result (path_at bytes.now at) }
+{
+    let (count, after) = number_at(bytes, at)?;
+    match count {
+        1 => read_one(alloc, known, bytes, after),
+        2 => read_two(alloc, known, bytes, after),
+        3 => read_three(alloc, known, bytes, after),
+        _ => read_any(alloc, bytes, at),
+    }
+}
+
+/// The path of these names: the one that is given, if it is equal, or else a new one.
+#[inline]
+fn path_of(alloc: Global, known: Option<&Path>, names: &[Name]) -> Result<Path, NoMemory>
+    requires { IsPath names.now }
+    ensures { IfOk result (λ path. path ≡ names.now) }
+{
+    match known {
+        Some(path) if path.names() == names => path.copy(alloc),
+        _ => Path::from_slice(alloc, names),
+    }
 }
 
 /// Reads a path from the number of its names on.
@@ -55,34 +79,49 @@ fn read_any(alloc: Global, bytes: &[u8], at: usize) -> Result<(Path, usize), Cod
 
 /// Reads a path of one name.
 #[inline]
-fn read_one(alloc: Global, bytes: &[u8], at: usize) -> Result<(Path, usize), CodecFault>
+fn read_one(
+    alloc: Global,
+    known: Option<&Path>,
+    bytes: &[u8],
+    at: usize,
+) -> Result<(Path, usize), CodecFault>
     ensures { IsOutcome result (items_at (λ _. name_at) 1 None bytes.now at) }
 {
     let (first, end) = name_at(alloc, bytes, at)?;
-    let path = Path::from_slice(alloc, &[first])?;
+    let path = path_of(alloc, known, &[first])?;
     Ok((path, end))
 }
 
 /// Reads a path of two names.
 #[inline]
-fn read_two(alloc: Global, bytes: &[u8], at: usize) -> Result<(Path, usize), CodecFault>
+fn read_two(
+    alloc: Global,
+    known: Option<&Path>,
+    bytes: &[u8],
+    at: usize,
+) -> Result<(Path, usize), CodecFault>
     ensures { IsOutcome result (items_at (λ _. name_at) 2 None bytes.now at) }
 {
     let (first, at) = name_at(alloc, bytes, at)?;
     let (second, end) = name_at(alloc, bytes, at)?;
-    let path = Path::from_slice(alloc, &[first, second])?;
+    let path = path_of(alloc, known, &[first, second])?;
     Ok((path, end))
 }
 
 /// Reads a path of three names.
 #[inline]
-fn read_three(alloc: Global, bytes: &[u8], at: usize) -> Result<(Path, usize), CodecFault>
+fn read_three(
+    alloc: Global,
+    known: Option<&Path>,
+    bytes: &[u8],
+    at: usize,
+) -> Result<(Path, usize), CodecFault>
     ensures { IsOutcome result (items_at (λ _. name_at) 3 None bytes.now at) }
 {
     let (first, at) = name_at(alloc, bytes, at)?;
     let (second, at) = name_at(alloc, bytes, at)?;
     let (third, end) = name_at(alloc, bytes, at)?;
-    let path = Path::from_slice(alloc, &[first, second, third])?;
+    let path = path_of(alloc, known, &[first, second, third])?;
     Ok((path, end))
 }
 

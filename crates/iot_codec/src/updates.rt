@@ -10,6 +10,7 @@ ghost use Rattle.iot_codec.specs.Laws.Updates.{update_laws, optional_update_laws
 
 use crate::CodecFault;
 use crate::parts::{malformed, tag_at};
+use crate::paths::read_path_on;
 use crate::spelled::{Spelled, read};
 use iot_text::{NoMemory, Path, Text};
 use iot_tree::{Blob, Update};
@@ -46,29 +47,8 @@ impl Spelled for Update {
         }
     }
 
-    #[tactic(auto, unfolding(crate::specs::Decoding::update_at))]
     fn read(alloc: Global, bytes: &[u8], at: usize) -> Result<(Update, usize), CodecFault> {
-        match tag_at(bytes, at) {
-            Some(1) => {
-                let (path, after) = Path::read(alloc, bytes, at + 1)?;
-                let (contents, end) = Blob::read(alloc, bytes, after)?;
-                Ok((Update::Put(path, contents), end))
-            }
-            Some(2) => {
-                let (path, end) = Path::read(alloc, bytes, at + 1)?;
-                Ok((Update::MakeDir(path), end))
-            }
-            Some(3) => {
-                let (path, end) = Path::read(alloc, bytes, at + 1)?;
-                Ok((Update::Remove(path), end))
-            }
-            Some(4) => {
-                let (path, after) = Path::read(alloc, bytes, at + 1)?;
-                let (other, end) = Path::read(alloc, bytes, after)?;
-                Ok((Update::Move(path, other), end))
-            }
-            _ => Err(malformed(at)),
-        }
+        read_update_on(alloc, None, bytes, at)
     }
 
     ghost laws = { update_laws };
@@ -89,16 +69,61 @@ impl Spelled for Option<Update> {
         }
     }
 
-    #[tactic(auto, unfolding(crate::specs::Decoding::optional_update_at))]
     fn read(alloc: Global, bytes: &[u8], at: usize) -> Result<(Option<Update>, usize), CodecFault> {
-        if let Some(0) = tag_at(bytes, at) {
-            return Ok((None, at + 1));
-        }
-        let (update, end) = Update::read(alloc, bytes, at)?;
-        Ok((Some(update), end))
+        read_optional_update_on(alloc, None, bytes, at)
     }
 
     ghost laws = { optional_update_laws };
+}
+
+/// Reads an update, whose first path shares the names of the one that is given, if it is equal to that.
+#[tactic(auto, unfolding(crate::specs::Decoding::update_at))]
+fn read_update_on(
+    alloc: Global,
+    known: Option<&Path>,
+    bytes: &[u8],
+    at: usize,
+) -> Result<(Update, usize), CodecFault>
+    ensures { IsOutcome result (update_at bytes.now at) }
+{
+    match tag_at(bytes, at) {
+        Some(1) => {
+            let (path, after) = read_path_on(alloc, known, bytes, at + 1)?;
+            let (contents, end) = Blob::read(alloc, bytes, after)?;
+            Ok((Update::Put(path, contents), end))
+        }
+        Some(2) => {
+            let (path, end) = read_path_on(alloc, known, bytes, at + 1)?;
+            Ok((Update::MakeDir(path), end))
+        }
+        Some(3) => {
+            let (path, end) = read_path_on(alloc, known, bytes, at + 1)?;
+            Ok((Update::Remove(path), end))
+        }
+        Some(4) => {
+            let (path, after) = read_path_on(alloc, known, bytes, at + 1)?;
+            let (other, end) = Path::read(alloc, bytes, after)?;
+            Ok((Update::Move(path, other), end))
+        }
+        _ => Err(malformed(at)),
+    }
+}
+
+/// Reads an update or none, as [`read_update_on`] does.
+#[tactic(auto, unfolding(crate::specs::Decoding::optional_update_at))]
+pub(crate) fn read_optional_update_on(
+    alloc: Global,
+    known: Option<&Path>,
+    bytes: &[u8],
+    at: usize,
+) -> Result<(Option<Update>, usize), CodecFault>
+    ensures { IsOutcome result (optional_update_at bytes.now at) }
+{
+    if let Some(0) = tag_at(bytes, at) {
+        return Ok((None, at + 1));
+    }
+    let (update, end) = read_update_on(alloc, known, bytes, at)?;
+    Ok((Some(update), end))
 }
 
 /// Appends the spelling of the update: its tag, and then what it holds.
