@@ -12,7 +12,7 @@ use crate::guards::is_guarded;
 use crate::running::Running;
 use iot_changes::Change;
 use iot_queue::{Queue, Stage};
-use iot_tree::{ACT_LIMIT, Act, Read, Tree, Update};
+use iot_tree::{ACT_LIMIT, Act, Read, Tree};
 
 impl Durable {
     /// Whether the change can follow; the tree is the view of what is durable.
@@ -76,21 +76,14 @@ fn is_empty(queue: &Queue) -> bool
 
 // ---- acts
 
-/// Whether the act is guarded, its update fits the tree, and each read is the tree's answer.
+/// Whether the act is guarded, its update fits the tree, and each read is the tree's answer. What is guarded by a
+/// tree's answers fits that tree, so it is not asked.
 fn suits(tree: &Tree, act: &Act) -> bool
     ensures { IsTrue result ↔ (IsGuarded act.now × FitsIfAny tree.now act.now.update × ReadsHold tree.now act.now.reads) }
 {
-    is_guarded(act) && fits_if_any(tree, &act.update) && do_hold(tree, act.reads.as_slice())
-}
-
-/// Whether the update, if there is one, fits the tree.
-fn fits_if_any(tree: &Tree, update: &Option<Update>) -> bool
-    ensures { IsTrue result ↔ FitsIfAny tree.now update.now }
-{
-    match update {
-        None => true,
-        Some(update) => tree.fits(update),
-    }
+    // The law is about trees, and that this is one is known of its rows.
+    let _tree = tree.rows();
+    is_guarded(act) && do_hold(tree, act.reads.as_slice())
 }
 
 /// Whether each read is the tree's answer.
