@@ -73,7 +73,7 @@ fn read_any(alloc: Global, bytes: &[u8], at: usize) -> Result<(Path, usize), Cod
     ensures { IsOutcome result (path_at bytes.now at) }
 {
     let (names, end) = read_list::<Name>(alloc, bytes, at)?;
-    let path = Path::from_slice(alloc, names.as_slice())?;
+    let path = Path::from_names(names.into_vec())?;
     Ok((path, end))
 }
 

@@ -112,7 +112,9 @@ impl Path {
         requires { IsPath names.items }
         ensures { IfOk result (λ path. path ≡ names.items) }
     {
-        Path::from_slice(*names.allocator(), &names)
+        Ok(Path {
+            names: SharedNames::of_vec(names)?,
+        })
     }
 
     /// A path of a copy of these names, which its own copies share.

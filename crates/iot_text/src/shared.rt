@@ -6,6 +6,9 @@ use std::alloc::Global;
 use std::marker::Model;
 use std::rc::Rc;
 
+/// How many names have a block of just their size.
+const FEW: usize = 4;
+
 /// Names that copies share, in one block of memory if they are few. Contracts see them as their list.
 #[derive(Clone, Debug, Drop)]
 pub(crate) struct SharedNames {
@@ -54,6 +57,19 @@ impl SharedNames {
             _ => Block::Many(Rc::new(alloc, Vec::from_slice(alloc, names)?)?),
         };
         Ok(SharedNames { block })
+    }
+
+    /// These names: the list itself, if they are many.
+    pub fn of_vec(names: Vec<Name>) -> Result<SharedNames, NoMemory>
+        ensures { IfOk result (λ shared. shared ≡ names.items) }
+    {
+        let alloc = *names.allocator();
+        if names.len() <= FEW {
+            return SharedNames::of(alloc, &names);
+        }
+        Ok(SharedNames {
+            block: Block::Many(Rc::new(alloc, names)?),
+        })
     }
 
     /// The names of both lists, one list after the other, in memory of their own.
