@@ -264,3 +264,10 @@ carrying_taken old now mid next p q names row are_apart carrying takes is puts =
     ap (drop (length p)) takes.0.2 ∙ drop-append_seam p (takes.0.0 ∷ takes.0.1) in
     carrying_more old (entries now) (entries mid) (entries next) p q are_apart carrying row.0.items takes.0 row.1 takes.1 takes.2
     (subst (λ (k : Path). Sets (entries mid) (entries next) k (Some row.1)) (is ∙ ap (λ (rest : Path). q ++ rest) rest) puts)
+
+-- what is not below p has its entry still when one below p was taken away
+pub kept_outside : (old new : Origins) (p : Path) (taken : Option (Key × Option Path)) → Takes old new p taken → (k : Path)
+    → ¬ IsBelow k p → entries new k ≡ entries old k
+kept_outside old new p None takes k out = ap (λ (origins : Origins). entries origins k) takes.1
+kept_outside old new p (Some row) takes k out =
+    takes.2.others k (λ same. out (subst (λ (q : Path). IsBelow q p) (sym same) takes.0))
