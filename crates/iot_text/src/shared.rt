@@ -1,5 +1,6 @@
 //! Names that copies share.
 ghost use Rattle.std.specs.Prelude.{◌≡◌, ◌++◌, ◌∷◌, [], IfOk};
+ghost use Rattle.iot_text.specs.Shared.{names_in};
 
 use crate::{Name, NoMemory};
 use std::alloc::Global;
@@ -12,27 +13,44 @@ const FEW: usize = 4;
 /// Names that copies share, in one block of memory if they are few. Contracts see them as their list.
 #[derive(Clone, Debug, Drop)]
 pub(crate) struct SharedNames {
-    block: Block,
+    /// The block; None of no names, which take no memory.
+    block: Option<Rc<Block>>,
 }
 
-/// The block, as large as it must be. None of no names, which take no memory.
-#[derive(Clone, Debug, Drop)]
+/// The names, in the block itself if they are few.
+#[derive(Debug, Drop)]
 enum Block {
-    None,
-    One(Rc<[Name; 1]>),
-    Two(Rc<[Name; 2]>),
-    Three(Rc<[Name; 3]>),
-    Four(Rc<[Name; 4]>),
-    Many(Rc<Vec<Name>>),
+    One([Name; 1]),
+    Two([Name; 2]),
+    Three([Name; 3]),
+    Four([Name; 4]),
+    Many(Vec<Name>),
 }
 
 impl Model for SharedNames {
-    ghost use Rattle.std.specs.Prelude.{ℕ, List};
+    ghost use Rattle.std.specs.Prelude.{ℕ, List, []};
+    ghost use Rattle.std.specs.Option.{option_map_or};
     ghost use Rattle.iot_text.specs.Shared.{names_in};
 
     ghost Value = { List (List ℕ) };
 
-    ghost view = { λ shared. names_in shared.block };
+    ghost view = { λ shared. option_map_or (λ block. names_in block.value) shared.block [] };
+}
+
+impl Block {
+    /// The names in it.
+    #[inline]
+    fn names(&self) -> &[Name]
+        ensures { result.now ≡ names_in self.now }
+    {
+        match self {
+            Block::One(names) => names.as_slice(),
+            Block::Two(names) => names.as_slice(),
+            Block::Three(names) => names.as_slice(),
+            Block::Four(names) => names.as_slice(),
+            Block::Many(names) => names.as_slice(),
+        }
+    }
 }
 
 impl SharedNames {
@@ -41,7 +59,17 @@ impl SharedNames {
     pub fn none() -> SharedNames
         ensures { result ≡ [] }
     {
-        SharedNames { block: Block::None }
+        SharedNames { block: None }
+    }
+
+    /// The names in this block.
+    #[inline]
+    fn on(alloc: Global, block: Block) -> Result<SharedNames, NoMemory>
+        ensures { IfOk result (λ shared. shared ≡ names_in block) }
+    {
+        Ok(SharedNames {
+            block: Some(Rc::new(alloc, block)?),
+        })
     }
 
     /// These names, in memory of their own.
@@ -49,14 +77,14 @@ impl SharedNames {
         ensures { IfOk result (λ shared. shared ≡ names.now) }
     {
         let block = match names {
-            [] => Block::None,
-            [a] => Block::One(Rc::new(alloc, [*a])?),
-            [a, b] => Block::Two(Rc::new(alloc, [*a, *b])?),
-            [a, b, c] => Block::Three(Rc::new(alloc, [*a, *b, *c])?),
-            [a, b, c, d] => Block::Four(Rc::new(alloc, [*a, *b, *c, *d])?),
-            _ => Block::Many(Rc::new(alloc, Vec::from_slice(alloc, names)?)?),
+            [] => return Ok(SharedNames::none()),
+            [a] => Block::One([*a]),
+            [a, b] => Block::Two([*a, *b]),
+            [a, b, c] => Block::Three([*a, *b, *c]),
+            [a, b, c, d] => Block::Four([*a, *b, *c, *d]),
+            _ => Block::Many(Vec::from_slice(alloc, names)?),
         };
-        Ok(SharedNames { block })
+        SharedNames::on(alloc, block)
     }
 
     /// These names: the list itself, if they are many.
@@ -67,9 +95,7 @@ impl SharedNames {
         if names.len() <= FEW {
             return SharedNames::of(alloc, &names);
         }
-        Ok(SharedNames {
-            block: Block::Many(Rc::new(alloc, names)?),
-        })
+        SharedNames::on(alloc, Block::Many(names))
     }
 
     /// The names of both lists, one list after the other, in memory of their own.
@@ -93,9 +119,7 @@ impl SharedNames {
         let mut names = Vec::with_capacity(alloc, front.len() + back.len())?;
         names.extend_from_slice(front)?;
         names.extend_from_slice(back)?;
-        Ok(SharedNames {
-            block: Block::Many(Rc::new(alloc, names)?),
-        })
+        SharedNames::on(alloc, Block::Many(names))
     }
 
     /// The same names: they share their memory. Does not allocate.
@@ -108,12 +132,8 @@ impl SharedNames {
         ensures { IfOk result (λ shared. shared ≡ self.now) }
     {
         let block = match &self.block {
-            Block::None => Block::None,
-            Block::One(names) => Block::One(Rc::clone(names)?),
-            Block::Two(names) => Block::Two(Rc::clone(names)?),
-            Block::Three(names) => Block::Three(Rc::clone(names)?),
-            Block::Four(names) => Block::Four(Rc::clone(names)?),
-            Block::Many(names) => Block::Many(Rc::clone(names)?),
+            Some(block) => Some(Rc::clone(block)?),
+            None => None,
         };
         Ok(SharedNames { block })
     }
@@ -124,12 +144,8 @@ impl SharedNames {
         ensures { result.now ≡ self.now }
     {
         match &self.block {
-            Block::None => &[],
-            Block::One(names) => names.as_slice(),
-            Block::Two(names) => names.as_slice(),
-            Block::Three(names) => names.as_slice(),
-            Block::Four(names) => names.as_slice(),
-            Block::Many(names) => names.as_slice(),
+            Some(block) => block.names(),
+            None => &[],
         }
     }
 }
