@@ -14,7 +14,7 @@ use crate::base_reads::base_of;
 use crate::origins::{Origins, follow};
 use iot_text::NoMemory;
 use iot_tree::{Access, Act, Acts, Duplicate, Places, Read, Reads, Tree, Update, Updates};
-use std::alloc::{AllocError, Global};
+use std::alloc::Global;
 
 /// The next place. Places end at 64 bits; no list in memory is that long.
 fn next_place(place: u64) -> Result<u64, NoMemory>
@@ -22,7 +22,7 @@ fn next_place(place: u64) -> Result<u64, NoMemory>
 {
     match place.checked_add(1) {
         Some(next) => Ok(next),
-        None => Err(AllocError),
+        None => Err(NoMemory),
     }
 }
 

@@ -5,7 +5,6 @@ ghost use Rattle.iot_app.specs.Summary.{count_lines, counts_of};
 
 use iot_lines::split_lines;
 use iot_text::{NoMemory, Text};
-use std::alloc::AllocError;
 
 /// How many lines of a transcript say that there was a commit, that there was a conflict, and that a transaction waits.
 #[derive(Clone, Copy)]
@@ -39,7 +38,7 @@ fn ends_line(text: &[u8]) -> bool
 fn total(count: u64, more: u64) -> Result<u64, NoMemory>
     ensures { IfOk result (λ total. total ≡ count + more) }
 {
-    count.checked_add(more).ok_or(AllocError)
+    count.checked_add(more).ok_or(NoMemory)
 }
 
 impl Counts {

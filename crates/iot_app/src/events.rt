@@ -15,7 +15,7 @@ use iot_gen::generate;
 use iot_io::Source;
 use iot_text::NoMemory;
 use iot_words::Job;
-use std::alloc::{AllocError, Global};
+use std::alloc::Global;
 
 /// The events of a job: those that are left in the source, or those of a generated text, for which nothing is read.
 pub(crate) fn events_of<S: Source>(
@@ -35,7 +35,7 @@ pub(crate) fn events_of<S: Source>(
     match job {
         Job::Generate(number) => match generated_events(alloc, number) {
             Ok(events) => Ok(events),
-            Err(AllocError) => Err(InputFault::NoMemory),
+            Err(NoMemory) => Err(InputFault::NoMemory),
         },
         Job::Transcript => read_events(alloc, source),
         Job::Json => read_events(alloc, source),
@@ -51,7 +51,7 @@ fn generated_events(alloc: Global, number: u64) -> Result<Vec<Event>, NoMemory>
     let text = generate(alloc, number)?;
     match parse(alloc, &text) {
         Ok(events) => Ok(events),
-        Err(EventFault::NoMemory) => Err(AllocError),
+        Err(EventFault::NoMemory) => Err(NoMemory),
         Err(_) => unreachable!(),
     }
 }

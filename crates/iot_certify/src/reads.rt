@@ -7,7 +7,7 @@ ghost use Rattle.iot_certify.specs.Verdicts.{IsFirstWrong};
 use crate::Verdict;
 use iot_text::NoMemory;
 use iot_tree::{Read, Tree};
-use std::alloc::{AllocError, Global};
+use std::alloc::Global;
 
 /// The index of the first read that is not the tree's answer. Does not allocate.
 pub(crate) fn first_wrong(t: &Tree, reads: &[Read]) -> Option<usize>
@@ -33,6 +33,6 @@ pub(crate) fn place_after(place: u64, count: usize) -> Result<u64, NoMemory>
 {
     match place.checked_add(count as u64) {
         Some(next) => Ok(next),
-        None => Err(AllocError),
+        None => Err(NoMemory),
     }
 }

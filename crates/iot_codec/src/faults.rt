@@ -1,7 +1,8 @@
 //! Why bytes are refused.
 ghost use Rattle.std.specs.Prelude.{◌≡◌};
 
-use std::alloc::{AllocError, AllocFailed};
+use iot_text::NoMemory;
+use std::alloc::AllocFailed;
 use thiserror::Error;
 
 /// Why no value was read.
@@ -18,12 +19,12 @@ pub enum CodecFault {
     Malformed { at: u64 },
 }
 
-impl From<AllocError> for CodecFault {
+impl From<NoMemory> for CodecFault {
     ghost use Rattle.iot_codec.specs.declared.faults.CodecFault.TheVariants.{NoMemory};
 
     ghost from_gives = { λ _ fault. fault ≡ NoMemory };
 
-    fn from(_error: AllocError) -> CodecFault {
+    fn from(_error: NoMemory) -> CodecFault {
         CodecFault::NoMemory
     }
 }

@@ -12,7 +12,7 @@ use crate::env::Env;
 use iot_lang::{Cond, Word};
 use iot_text::{Name, NoMemory, Path};
 use iot_tree::{Blob, Kind, Question, Sequence};
-use std::alloc::{AllocError, Global};
+use std::alloc::Global;
 
 /// The path whose text is the value of a word, if there is one.
 pub(crate) fn path_of(alloc: Global, env: &Env, word: &Word) -> Result<Option<Path>, NoMemory>
@@ -21,7 +21,7 @@ pub(crate) fn path_of(alloc: Global, env: &Env, word: &Word) -> Result<Option<Pa
     match env.path(alloc, word) {
         Ok(path) => Ok(Some(path)),
         Err(Stop::Refused(_)) => Ok(None),
-        Err(Stop::NoMemory) => Err(AllocError),
+        Err(Stop::NoMemory) => Err(NoMemory),
     }
 }
 

@@ -1,9 +1,9 @@
 //! How commands end.
 ghost use Rattle.std.specs.Prelude.{◌≡◌};
 
-use iot_text::{Path, Text};
+use iot_text::{NoMemory, Path, Text};
 use iot_tree::{Lines, Update};
-use std::alloc::{AllocError, AllocFailed};
+use std::alloc::AllocFailed;
 
 /// What a command does that is not refused.
 #[derive(Drop)]
@@ -58,12 +58,12 @@ pub(crate) enum Stop {
     Refused(Refusal),
 }
 
-impl From<AllocError> for Stop {
+impl From<NoMemory> for Stop {
     ghost use Rattle.iot_exec.specs.declared.endings.Stop.TheVariants.{NoMemory};
 
     ghost from_gives = { λ _ stop. stop ≡ NoMemory };
 
-    fn from(_error: AllocError) -> Stop {
+    fn from(_error: NoMemory) -> Stop {
         Stop::NoMemory
     }
 }

@@ -13,7 +13,7 @@ use crate::refusals::name_of;
 use iot_lang::{Command, Cond, Stmt, Word};
 use iot_text::{Name, NoMemory, Text};
 use iot_tree::{Act, Files, Lines, Reads, Sequence, Tree};
-use std::alloc::{AllocError, Global};
+use std::alloc::Global;
 
 /// What a script goes on with after an act.
 #[derive(Drop)]
@@ -110,7 +110,7 @@ fn finish(
     match end {
         Ok(success) => Ok(succeeded(alloc, reads, success)),
         Err(Stop::Refused(refusal)) => refused(alloc, reads, command, &refusal, Goes::Does(false)),
-        Err(Stop::NoMemory) => Err(AllocError),
+        Err(Stop::NoMemory) => Err(NoMemory),
     }
 }
 
@@ -158,7 +158,7 @@ fn do_loop(
             let goes = Goes::Loops(variable, Sequence::new(alloc), false);
             refused(alloc, asking.reads, b"for", &refusal, goes)
         }
-        Err(Stop::NoMemory) => Err(AllocError),
+        Err(Stop::NoMemory) => Err(NoMemory),
     }
 }
 

@@ -7,7 +7,6 @@ use crate::pieces::{put_empty, put_numbered, put_question};
 use iot_queue::Item;
 use iot_text::{Name, NoMemory, Text, quote};
 use iot_tree::{Act, Answer, Kind, Read};
-use std::alloc::AllocError;
 
 /// A name in a directory, with a `/` after that of a directory.
 fn put_child(child: &(Name, Kind), out: &mut Text) -> Result<(), NoMemory>
@@ -90,7 +89,7 @@ fn number_after(number: u64) -> Result<u64, NoMemory>
 {
     match number.checked_add(1) {
         Some(next) => Ok(next),
-        None => Err(AllocError),
+        None => Err(NoMemory),
     }
 }
 

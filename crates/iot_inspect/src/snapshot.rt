@@ -11,7 +11,7 @@ use iot_queue::Queue;
 use iot_text::{Name, NoMemory, Text};
 use iot_tree::{Labels, Tree};
 use serde_json::{Value, json};
-use std::alloc::{AllocError, Global};
+use std::alloc::Global;
 
 /// What is to be told of all nodes: of each client that was added so far.
 #[derive(Drop)]
@@ -119,7 +119,7 @@ impl Json {
             Ok(()) => Ok(()),
             Err(_) => {
                 self.names.pop();
-                Err(AllocError)
+                Err(NoMemory)
             }
         }
     }

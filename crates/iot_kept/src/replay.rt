@@ -14,7 +14,7 @@ use iot_codec::CodecFault;
 use iot_disk::StartFault;
 use iot_journal::{FIRST_GATE, RECORD};
 use iot_text::NoMemory;
-use std::alloc::{AllocError, Global};
+use std::alloc::Global;
 
 /// Makes the changes whose spellings these bodies are, in their order. A transaction that runs then is second class.
 pub(crate) fn replay(alloc: Global, bodies: &[Vec<u8>]) -> Result<Memory, StartFault>
@@ -44,6 +44,6 @@ fn replay_body(alloc: Global, memory: &mut Memory, body: &[u8]) -> Result<bool, 
     match read_change(alloc, body) {
         Ok(change) => memory.replay(alloc, change),
         Err(CodecFault::Malformed { .. }) => Ok(false),
-        Err(CodecFault::NoMemory) => Err(AllocError),
+        Err(CodecFault::NoMemory) => Err(NoMemory),
     }
 }

@@ -6,11 +6,11 @@ use crate::bytes::{is_end, is_quoted_byte, name_len, plain_len};
 use crate::faults::PartFault;
 use crate::words::{Piece, Word};
 use iot_lines::without_blanks;
-use iot_text::Text;
-use std::alloc::{AllocError, Global};
+use iot_text::{NoMemory, Text};
+use std::alloc::Global;
 
 /// These bytes as a text of its own.
-pub(crate) fn text_of(alloc: Global, bytes: &[u8]) -> Result<Text, AllocError>
+pub(crate) fn text_of(alloc: Global, bytes: &[u8]) -> Result<Text, NoMemory>
     ensures { IfOk result (λ text. text ≡ bytes.now) }
 {
     Ok(Text::from(Vec::from_slice(alloc, bytes)?))

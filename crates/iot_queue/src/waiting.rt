@@ -6,7 +6,7 @@ ghost use Rattle.iot_queue.specs.Queues.{head_of, with_head, staged, optioned};
 use crate::{Item, Stage};
 use iot_text::NoMemory;
 use iot_tree::{Acts, OnConflict};
-use std::alloc::{AllocError, Global};
+use std::alloc::Global;
 use std::marker::Model;
 use std::mem::replace;
 
@@ -54,7 +54,7 @@ impl Queue {
     {
         match self.items.push(item) {
             Ok(()) => Ok(()),
-            Err(refused) => Err((refused.value, AllocError)),
+            Err(refused) => Err((refused.value, NoMemory)),
         }
     }
 

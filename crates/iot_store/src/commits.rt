@@ -5,7 +5,7 @@ ghost use Rattle.iot_store.specs.Commits.{UpdatesIf, MakesIf, MakesAllIf};
 
 use iot_text::NoMemory;
 use iot_tree::{Act, Label, Labels, Read, Tree, Update};
-use std::alloc::{AllocError, Global};
+use std::alloc::Global;
 use std::collections::BTreeMap;
 use std::marker::Model;
 
@@ -119,7 +119,7 @@ impl Commits {
             Ok(_) => Ok(()),
             Err(_) => {
                 self.labels.remove(number - 1);
-                Err(AllocError)
+                Err(NoMemory)
             }
         }
     }

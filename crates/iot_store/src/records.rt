@@ -9,7 +9,7 @@ ghost use Rattle.iot_store.specs.Records.{record_spelling, IsDecodedAs, AreSpell
 use iot_codec::{CodecFault, put_acts, put_label, read_acts, read_label};
 use iot_text::{NoMemory, Text};
 use iot_tree::{Acts, Label};
-use std::alloc::{AllocError, Global};
+use std::alloc::Global;
 
 /// The tag of a commit's record.
 const COMMIT: u8 = 1;
@@ -51,7 +51,7 @@ pub(crate) fn read(alloc: Global, body: &[u8]) -> Result<Option<(Label, Acts)>, 
             }
         }
         Err(CodecFault::Malformed { .. }) => Ok(None),
-        Err(CodecFault::NoMemory) => Err(AllocError),
+        Err(CodecFault::NoMemory) => Err(NoMemory),
     }
 }
 

@@ -4,9 +4,9 @@ ghost use Rattle.iot_kept.specs.Kept.{IsSynced};
 
 use iot_disk::{Disk, MemDisk};
 use iot_kept::{Kept, StartFault};
-use iot_text::Path;
+use iot_text::{NoMemory, Path};
 use iot_tree::Kind;
-use std::alloc::{AllocError, Global};
+use std::alloc::Global;
 use std::test::Fail;
 
 /// The root alone is held, and is whole.
@@ -90,7 +90,7 @@ const DAMAGE: &[(&[&[u8]], &[&[u8]], u64)] = &[
 ];
 
 /// A disk with a journal of these bodies and of one more.
-fn written(alloc: Global, bodies: &[&[u8]], last: Option<&[u8]>) -> Result<MemDisk, AllocError> {
+fn written(alloc: Global, bodies: &[&[u8]], last: Option<&[u8]>) -> Result<MemDisk, NoMemory> {
     let mut bytes = Vec::from_slice(alloc, b"\xa5IOTJRNL1")?;
     for body in bodies {
         write(&mut bytes, body)?;
@@ -103,7 +103,7 @@ fn written(alloc: Global, bodies: &[&[u8]], last: Option<&[u8]>) -> Result<MemDi
 }
 
 /// Appends a record of this body.
-fn write(bytes: &mut Vec<u8>, body: &[u8]) -> Result<(), AllocError> {
+fn write(bytes: &mut Vec<u8>, body: &[u8]) -> Result<(), NoMemory> {
     bytes.push(165)?;
     bytes.extend_from_slice(&(body.len() as u64).to_be_bytes())?;
     bytes.extend_from_slice(body)?;
