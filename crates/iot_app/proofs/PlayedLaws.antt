@@ -7,22 +7,19 @@ use Rattle.std.proofs.Math.Seq.{drop-cons, take-suc}
 use Rattle.std.specs.Io.KnownBytes.{Appends}
 use Rattle.std.proofs.KnownBytes.{Appends-trans}
 use Rattle.iot_disk.specs.Disk.{Medium}
-use Rattle.iot_event.specs.Declarations.{AreDeclared, ClientEventIsDeclared}
-use Rattle.iot_event.specs.declared.event.ClientEvent.{ClientEvent}
-use Rattle.iot_event.specs.declared.event.ClientEvent.TheVariants as client_events
+use Rattle.iot_event.specs.Declarations.{AreDeclared}
 use Rattle.iot_event.specs.declared.event.Event.{Event}
-use Rattle.iot_event.specs.declared.event.Event.TheVariants as events
-use Rattle.iot_event.specs.declared.event.Task.TheVariants as tasks
 use Rattle.iot_machine.specs.Machine.{Machine, handed as before_all}
 use Rattle.iot_machine.specs.Nodes.{Counts, opened}
 use Rattle.iot_machine.specs.Events.{event_part}
 use Rattle.iot_machine.specs.Transcript.{Opening, InTurn, Transcript}
-use Rattle.iot_world.specs.Allowed.{IsAllowed, MayBefall}
+use Rattle.iot_world.specs.Allowed.{IsAllowed}
 use Rattle.iot_world.specs.Disks.{AreFresh, counts_on}
 use Rattle.iot_world.specs.Holding.{counts_in}
 use Rattle.iot_world.specs.World.{StandsFor, IsWorldOf, IsWorldOfSome, EventSteps, DeclaredOn, client_count, script_names, disks_of}
 use Rattle.iot_world.specs.World.{Each, Opens, KeepsDisks, AreUnarmed, SameArms, GivesBack, joined_by}
 use Rattle.iot_world.specs.declared.world.World.{World}
+use Rattle.iot_world.proofs.AllowedLaws as worlds
 use Rattle.iot_world.proofs.DisksLaws.{last_here, last_then}
 use Rattle.iot_world.proofs.HoldingLaws.{disks_hold, disks_count}
 use Rattle.iot_world.proofs.ListLaws.{each_length}
@@ -80,34 +77,6 @@ transcript_none handed m text opens = record {
   second = (refl, refl);
   whole = sym (append-nil text);
 }
-
--- ---- which event may come
-
--- what a client may be asked, if it says what it may say
-may_befall : (what : ClientEvent ℕ) (scripts : ℕ) → ClientEventIsDeclared what scripts → MayBefall what scripts
-may_befall (client_events.Node what) scripts declared = tt
-may_befall (client_events.Link what) scripts declared = tt
-may_befall (client_events.Task (tasks.Run script option)) scripts declared = declared
-may_befall (client_events.Task (tasks.Hoard path)) scripts declared = tt
-may_befall (client_events.Task tasks.Refresh) scripts declared = tt
-may_befall (client_events.Task (tasks.Begin script option)) scripts declared = declared
-may_befall (client_events.Task (tasks.Step count)) scripts declared = tt
-may_befall (client_events.Task tasks.End) scripts declared = tt
-may_befall (client_events.Task tasks.Sync) scripts declared = tt
-may_befall (client_events.Task tasks.Drain) scripts declared = tt
-may_befall (client_events.Task (tasks.Repair script)) scripts declared = declared
-may_befall (client_events.Task tasks.Discard) scripts declared = tt
-may_befall (client_events.Task tasks.Queue) scripts declared = tt
-may_befall (client_events.Task (tasks.Reads item)) scripts declared = declared.0
-
--- the first of events that are declared may come
-allowed : {D : Type 0} (event : Event) (later : List Event) (world : World D) → DeclaredOn (event ∷ later) world
-    → IsAllowed event (client_count world) (script_names world)
-allowed (events.Client name) later world declared = declared.0
-allowed (events.Script name code) later world declared = declared.1
-allowed (events.At client what) later world declared = (declared.0, may_befall what (length (script_names world)) declared.1)
-allowed (events.Server what) later world declared = tt
-allowed events.Log later world declared = tt
 
 -- ---- the disks meanwhile
 
@@ -228,9 +197,7 @@ plays_none medium handed so events opening world is declared said = record {
   transcript = transcript_none handed is.machine opening is.step;
   stands = is.stands;
   said = said;
-  declared =
-      subst (λ (n : ℕ). AreDeclared events n (script_names world)) (sym is.no_clients)
-      (subst (AreDeclared events 0) (sym is.no_scripts) declared);
+  declared = worlds.declared_new world is.no_clients is.no_scripts events declared;
 }
 
 -- the event that is done next, and the text that it is added to
@@ -245,9 +212,7 @@ module _ {D : Type 0} (medium : Medium D) (handed : List Counts) (so : List ℕ 
       ∙ ap (λ (e : Event). take done events ++ e ∷ []) (sym here)
 
   rest : drop done events ≡ event ∷ drop (done + 1) events
-  rest =
-      drop-cons events done event within ∙ ap (λ (e : Event). e ∷ drop (suc done) events) (sym here)
-      ∙ ap (λ (k : ℕ). event ∷ drop k events) (sym (add-one done))
+  rest = worlds.next_is events done event within here
 
   record Next : Type 0 where
     says : List ℕ
@@ -274,7 +239,7 @@ module _ {D : Type 0} (medium : Medium D) (handed : List Counts) (so : List ℕ 
         (transcript_more handed (take done events) event plays.machine next.machine plays.text next.says plays.transcript next.last);
     stands = next.stands;
     said = adds plays.text next.says next.is plays.said;
-    declared = declares (drop (done + 1) events) (subst (λ (es : List Event). DeclaredOn es old) rest plays.declared);
+    declared = worlds.rest_declared events done event old plays.declared within here new declares;
   }
 
   -- it is done, and of its text, which is all that there is, only a front is written
@@ -365,10 +330,7 @@ module _ {D : Type 0} (medium : Medium D) (handed : List Counts) (so : List ℕ 
   pub next_allowed : (done : ℕ) (event : Event) → PlaysOn medium handed so events world done → done < length events
       → event ≡ slice_index_or events done event
       → IsAllowed event (client_count world) (script_names world)
-  next_allowed done event plays within here =
-      allowed event (drop (suc done) events) world
-      (subst (λ (es : List Event). DeclaredOn es world)
-      (drop-cons events done event within ∙ ap (λ (e : Event). e ∷ drop (suc done) events) (sym here)) plays.declared)
+  next_allowed done event plays within here = worlds.next_allowed events done event world plays.declared within here
 
   -- in a world that stands for a machine
   pub plays_some : (done : ℕ) → PlaysOn medium handed so events world done → IsWorldOfSome medium world

@@ -11,3 +11,5 @@ mod images;
 mod jobs;
 #[cfg(test)]
 mod runs;
+#[cfg(test)]
+mod worlds;

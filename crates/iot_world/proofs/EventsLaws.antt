@@ -14,7 +14,7 @@ use Rattle.iot_machine.specs.Events.{client_part, event_part}
 use Rattle.iot_machine.specs.Refining.{Refines}
 use Rattle.iot_machine.proofs.SoundLaws.{sound_event}
 use Rattle.iot_node.proofs.StepsLaws.{bind, asks}
-use Rattle.iot_world.specs.World.{Steps, EventSteps, DeclaresClient, AddsScript, SameDeclared, DeclaredOn, scripts_of}
+use Rattle.iot_world.specs.World.{Steps, EventSteps, DeclaresClient, AddsScript, SameDeclared, DeclaredOn, IsWorldOfSome, scripts_of}
 use Rattle.iot_world.specs.World.{client_count, script_names}
 use Rattle.iot_world.specs.declared.world.World.{World}
 
@@ -80,3 +80,10 @@ module _ {D : Type 0} (medium : Medium D) where
   client_steps c what old new x y one =
       event_steps (events.At c what) old new x y
       (bind old old new x x y (scripts_of old) tt (asks old x (scripts_of old) (λ m here. sym here.scripts)) one)
+
+  -- after it this is the world of some machine, if it was before
+  pub steps_some : (event : Event) (old new : World D) (x y : List ℕ) → IsWorldOfSome medium old → EventSteps medium event old new x y
+      → IsWorldOfSome medium new
+  steps_some event old new x y some one =
+      let s = one.step some.machine some.stands in
+      record { machine = s.1; stands = s.4 }

@@ -17,7 +17,7 @@ use Rattle.iot_laptop.specs.declared.laptop.Laptop.{Laptop}
 use Rattle.iot_laptop.specs.declared.seated.Seated.{Seated}
 use Rattle.iot_laptop.proofs.LaptopsLaws.{view_is}
 use Rattle.iot_laptop.proofs.NodesLaws.{own_in, lent_at, awake_stands, is_awake}
-use Rattle.iot_world.specs.World.{StandsFor, LendsClient, ClientIs}
+use Rattle.iot_world.specs.World.{StandsFor, IsWorldOfSome, LendsClient, ClientIs, IsReady}
 use Rattle.iot_world.specs.declared.world.World.{World}
 use Rattle.iot_world.proofs.WorldsLaws.{same_length, inside_here, client_here}
 
@@ -114,3 +114,12 @@ module _ {D : Type 0} (medium : Medium D) where
   pub lends_none : (world : World D) (place : ℕ) → length world.clients.items ≤ place → (m : Machine)
       → StandsFor medium world m → LendsClient medium None place m
   lends_none world place without m here = let many = same_length medium world m here in inl (omega (arith, without, many))
+
+  -- in the world of some machine what is lent can be looked at
+  pub lends_ready : (world : World D) (place : ℕ) (o : Option (Client D))
+      → ((m : Machine) → StandsFor medium world m → LendsClient medium o place m) → IsWorldOfSome medium world
+      → IfSome o (λ it. IsReady medium place it)
+  lends_ready world place None lends some = tt
+  lends_ready world place (Some it) lends some =
+      let lent = (lends some.machine some.stands.stands).1 in
+      record { tied = lent.tied; begun = lent.begun; place_is = lent.place_is; few = lent.few }

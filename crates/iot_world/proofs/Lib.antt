@@ -12,6 +12,7 @@ pub mod ToldLaws
 pub mod HoldingLaws
 pub mod DecidingLaws
 pub mod EventsLaws
+pub mod AllowedLaws
 pub mod HaveLaws
 pub mod ShowingLaws
 pub mod SparesLaws

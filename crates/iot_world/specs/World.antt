@@ -231,6 +231,13 @@ pub record IsClientOf {D : Type 0} (medium : Medium D) (it : Client D) (place : 
   pub place_is : place_of it ≡ place
   pub few : place ≤ 7
 
+-- it meets what those calls of a client ask for that look at it, or ask it for what it submits
+pub record IsReady {D : Type 0} (medium : Medium D) (place : ℕ) (it : Client D) : Type 0 where
+  pub tied : IsTied medium it
+  pub begun : IsBegunIfAny (state_of it).running (live_of it)
+  pub place_is : place_of it ≡ place
+  pub few : place ≤ 7
+
 -- none is lent of a client that is not declared, or is down
 abbrev pub LendsClient : {D : Type 0} → Medium D → Option (Client D) → ℕ → Machine → Type 0
 LendsClient medium None place m = (length m.clients ≤ place) ⊎ ((client_in m place).node.alive ≡ false)

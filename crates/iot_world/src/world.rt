@@ -1,7 +1,8 @@
 //! The world: the server and its clients, as they are between two events.
-ghost use Rattle.std.specs.Prelude.{◌≡◌, List, ◌∷◌, true, OnOk, IfOk, IfErr, IfSome};
+ghost use Rattle.std.specs.Prelude.{◌≡◌, List, [], ◌∷◌, true, OnOk, IfOk, IfErr, IfSome};
 ghost use Rattle.std.specs.Option.{option_copied};
 ghost use Rattle.iot_client.specs.Ties.{disk_of as client_disk};
+ghost use Rattle.iot_event.specs.Declarations.{AreDeclared};
 ghost use Rattle.iot_event.specs.declared.event.Event.{Event as Happens};
 ghost use Rattle.iot_laptop.specs.Laptops.{disk_in};
 ghost use Rattle.iot_machine.specs.Machine.{Machine};
@@ -39,7 +40,7 @@ pub struct World<D: Disk> {
 impl<D: Disk> World<D> {
     ghost use Rattle.iot_world.specs.World.{StandsFor, StandsForSome, IsWorldOfSome, EventSteps, DeclaredOn, Opens};
     ghost use Rattle.iot_world.specs.World.{HasDisks, KeepsDisks, SameArms, AreUnarmed, UnlessArmed, GivesBack, joined_by, disks_of};
-    ghost use Rattle.iot_world.specs.World.{ClientIs, client_count, script_names, LendsServer, LendsClient};
+    ghost use Rattle.iot_world.specs.World.{ClientIs, client_count, script_names, LendsServer, LendsClient, IsReady};
     ghost use Rattle.iot_world.specs.Deciding.{Decides};
 
     /// The world before any event, with a server on the first of the disks. Each client that is declared takes the next one. If the
@@ -51,6 +52,12 @@ impl<D: Disk> World<D> {
     pub fn new(alloc: Global, disks: Vec<D>, out: &mut Text) -> Result<World<D>, Vec<D>>
         requires { AreFresh D.medium disks.items }
         ensures opens { IfOk result (Opens D.medium disks.items out.old out.new) }
+
+        // So it can be used: events of which one input is made may come in their order.
+        ensures stands { IfOk result (λ world. IsWorldOfSome D.medium world) }
+        ensures has { IfOk result (λ world. HasDisks world) }
+        ensures declared { IfOk result (λ world. (events : List Happens) → AreDeclared events 0 [] → DeclaredOn events world) }
+
         ensures arms { IfOk result (λ world. AreUnarmed D.medium disks.items (disks_of world)) }
         ensures refused { IfErr result (λ back. GivesBack D.medium disks.items back.items) }
 
@@ -87,6 +94,7 @@ impl<D: Disk> World<D> {
         // its list goes together with the queues. A node may stop in it, but only if its disk failed.
         ensures step { OnOk result
             (EventSteps D.medium event.now self.old self.new out.old out.new) }
+        ensures stands { OnOk result (IsWorldOfSome D.medium self.new) }
 
         // If all images of a disk have the record that is in doubt, or none has it, this decides whether it is kept; and so does the
         // image that a node came back from.
@@ -132,6 +140,7 @@ impl<D: Disk> World<D> {
         // looked at: it meets what `view`, `running`, `at_end` and `submission` of a client ask for.
         ensures lent { (m : Machine) → StandsFor D.medium self.now m
             → LendsClient D.medium (option_copied result) place m }
+        ensures ready { IsWorldOfSome D.medium self.now → IfSome (option_copied result) (λ it. IsReady D.medium place it) }
         ensures disk { IfSome (option_copied result) (λ it. ClientIs (λ laptop. disk_in laptop ≡ Some (client_disk it)) place self.now) }
     {
         match self.clients.get(place as usize) {

@@ -1,5 +1,5 @@
 use Rattle.std.proofs.Common.{length, subst, ◌≤◌}
-use Rattle.iot_world.proofs.LendingLaws.{lends_any, lends_disk, lends_none, looked_up}
+use Rattle.iot_world.proofs.LendingLaws.{lends_any, lends_disk, lends_none, lends_ready, looked_up}
 use Rattle.iot_world.proofs.world.World.client.Goals as goal
 
 pub returns-in-Some-clause-lent : goal.returns-in-Some-clause-lent
@@ -7,6 +7,10 @@ returns-in-Some-clause-lent g c =
     lends_any _ c.args.self.now c.args.place c.in-Some.laptop.now
     (looked_up c.args.self.now.clients.items c.deref.result.now c.args.place c.in-Some.laptop.now c.deref.ensures.value
     c.in-Some.ensures.lookup.3.0 c.in-Some.ensures.lookup.1) _ c.lent.ensures.lent
+
+pub returns-in-Some-clause-ready : goal.returns-in-Some-clause-ready
+returns-in-Some-clause-ready g c =
+    lends_ready g.D.Disk.medium c.args.self.now c.args.place _ (returns-in-Some-clause-lent g c)
 
 pub returns-in-Some-clause-disk : goal.returns-in-Some-clause-disk
 returns-in-Some-clause-disk g c =

@@ -1,4 +1,5 @@
 use Rattle.std.proofs.Common.{[], refl}
+use Rattle.iot_world.proofs.AllowedLaws.{declared_new}
 use Rattle.iot_world.proofs.DisksLaws.{now_has}
 use Rattle.iot_world.proofs.OpeningLaws.{opens, opens_unarmed, gives_back}
 use Rattle.iot_world.proofs.world.World.new.Goals as goal
@@ -8,6 +9,19 @@ returns-in-Ok-clause-opens g c =
     opens _ c.args.disks.items c.take_first.result c.take_first.new.disks.items c.take_first.ensures.items c.requires _
     c.unopened-server.result c.args.out.now c.open.new.out c.in-Ok._on (c.unopened-server.ensures.stands [] 0) (c.in-Ok.ensures.step [] 0)
     (now_has g.D.Disk.medium _ _ c.open.ensures.disk) c.new.ensures.items c.new-in-Ok.ensures.items refl c.take_first.ensures.room
+
+pub returns-in-Ok-clause-stands : goal.returns-in-Ok-clause-stands
+returns-in-Ok-clause-stands g c =
+    let made = returns-in-Ok-clause-opens g c in
+    record { machine = made.machine; stands = made.stands }
+
+pub returns-in-Ok-clause-has : goal.returns-in-Ok-clause-has
+returns-in-Ok-clause-has g c = (returns-in-Ok-clause-opens g c).has
+
+pub returns-in-Ok-clause-declared : goal.returns-in-Ok-clause-declared
+returns-in-Ok-clause-declared g c =
+    let made = returns-in-Ok-clause-opens g c in
+    declared_new _ made.no_clients made.no_scripts
 
 pub returns-in-Ok-clause-arms : goal.returns-in-Ok-clause-arms
 returns-in-Ok-clause-arms g c =
