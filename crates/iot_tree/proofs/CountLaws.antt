@@ -76,7 +76,8 @@ module _ (p : Row → Bool) (rows : List Row) where
 
 -- ---- rows after a path
 
-outside_each : (p : Path) (rows : List Row) → Outside p rows → (j : ℕ) (d : Row) → j < length rows → is_within p (get_or rows j d) ≡ true → ⊥
+outside_each : (p : Path) (rows : List Row) → Outside p rows → (j : ℕ) (d : Row) → j < length rows
+    → is_within p (get_or rows j d) ≡ true → ⊥
 outside_each p [] out j d lt test = absurd (omega arith)
 outside_each p (row ∷ rows) out zero d lt test = out.0 _ ((test_is p row.0).0 test)
 outside_each p (row ∷ rows) out (suc j) d lt test = outside_each p rows out.1 j d (omega arith) test
@@ -88,7 +89,8 @@ parted_after p (row ∷ rows) below rising zero zero d le lt test = test
 parted_after p (row ∷ rows) below rising zero (suc j) d le lt test = elim (side p row.0) [
   | inside rest is here ↦ here
   | outside away none ↦
-      absurd (outside_each p rows (outside_behind p row.0 rows (is_less _ (first_so _ _ below)) away (first_so _ _ rising)) j d (omega arith) test)
+      let none_behind = outside_behind p row.0 rows (is_less _ (first_so _ _ below)) away (first_so _ _ rising) in
+      absurd (outside_each p rows none_behind j d (omega arith) test)
 ]
 parted_after p (row ∷ rows) below rising (suc i) zero d le lt test = absurd (omega arith)
 parted_after p (row ∷ rows) below rising (suc i) (suc j) d le lt test =

@@ -1,5 +1,5 @@
 -- When a file can be put at a path that has a row.
-use Rattle.std.proofs.Common.{◌≡◌, ◌≢◌, [], sym, subst, refl, IsTrue, Some, IsSome, inl, inr}
+use Rattle.std.proofs.Common.{◌≡◌, ◌≢◌, [], sym, subst, Bool, true, false, refl, IsTrue, Some, IsSome, inl, inr, ◌⊎◌}
 use Rattle.std.specs.Prelude.{not}
 use Rattle.std.specs.FinMap.{get}
 use Rattle.iot_tree.specs.Questions.{is_dir}
