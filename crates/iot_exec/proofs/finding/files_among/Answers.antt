@@ -1,4 +1,4 @@
-use Rattle.std.proofs.Common.{◌∙◌, ◌++◌, ◌∷◌, [], sym, ap}
+use Rattle.std.proofs.Common.{◌∙◌, ◌++◌, ◌∷◌, [], ap}
 use Rattle.iot_exec.proofs.FindingLaws.{one_more, no_more, file_by_set}
 use Rattle.iot_exec.proofs.finding.files_among.Goals.{in-Some+in_ok-push, in_default}
 use Rattle.iot_exec.proofs.finding.files_among.Goals as goal
