@@ -1,8 +1,7 @@
--- The bodies of records as lists of bytes.
-use Rattle.std.specs.Prelude.{ℕ, List, [], ◌∷◌, Vec}
-use Rattle.std.specs.declared.alloc.Global.{Global}
+-- Bodies of records that stand one after another in one list of bytes.
+use Rattle.std.specs.Prelude.{ℕ, List, [], ◌∷◌, take, drop}
 
--- the lists of bytes in a list of vectors
-abbrev pub bodies_of : List (Vec ℕ Global) → List (List ℕ)
-bodies_of [] = []
-bodies_of (body ∷ bodies) = body.items ∷ bodies_of bodies
+-- the pieces of these lengths
+abbrev pub pieces : (lengths bytes : List ℕ) → List (List ℕ)
+pieces [] bytes = []
+pieces (n ∷ lengths) bytes = take n bytes ∷ pieces lengths (drop n bytes)

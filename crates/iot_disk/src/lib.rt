@@ -10,7 +10,7 @@ mod faults;
 mod memory;
 mod unsynced;
 
-pub use bodies::Bodies;
+pub use bodies::{Bodies, BodyIterator};
 pub use disk::{Arm, Disk, DiskFault, LIMIT, Pick};
 pub use durable::keep;
 pub use faults::{JournalFault, StartFault};

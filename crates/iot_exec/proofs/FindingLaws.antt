@@ -3,14 +3,15 @@ use Rattle.std.specs.Prelude.{⊤}
 use Rattle.std.proofs.Common.{◌≡◌, ◌⊎◌, ℕ, zero, suc, ◌+◌, ◌-◌, ◌<◌, ◌≤◌, Bool, true, false, IsTrue, List, [], ◌∷◌, ◌++◌, Option, Some}
 use Rattle.std.proofs.Common.{None, Result, Ok, Err, length, take, get_or, refl, sym, ap, subst, ◌∙◌, inl, inr, append_assoc}
 use Rattle.std.proofs.Common.{length-append, zero-add, arith, if◌then◌else◌}
-use Rattle.std.proofs.lemmas.List.{append-nil, take_more}
+use Rattle.std.proofs.lemmas.List.{append-nil, take_more, take_all}
 use Rattle.std.proofs.lemmas.List.Elements.{filter_map-append}
+use Rattle.std.specs.BTreeSet.{BTreeSet, contains, Updates}
 use Rattle.std.specs.Result.{result_ok}
 use Rattle.std.specs.Cmp.{eq_by_cmp_equiv, first_so, second_so}
 use Rattle.std.specs.Cmp.Derive.{both_true}
 use Rattle.std.specs.FinMap.{get, get-from_entries, is_sorted, find}
 use Rattle.std.specs.FinMap.Entries.{below_all}
-use Rattle.std.specs.List.{filter_map, cons_option}
+use Rattle.std.specs.List.{filter_map, cons_option, list_any}
 use Rattle.std.specs.Ordering.{is_lt, eq_by_cmp}
 use Rattle.iot_text.specs.Paths.{path_cmp}
 use Rattle.iot_text.proofs.PathsLaws.{path_total}
@@ -58,6 +59,47 @@ no_more paths files i row lt is none =
     ∙ filter_map-append (file_if paths) (take i files) (row ∷ [])
     ∙ ap (λ (o : Option File). filter_map (file_if paths) (take i files) ++ cons_option o []) none
     ∙ append-nil (filter_map (file_if paths) (take i files)))
+
+-- ---- paths in a set
+
+either_first : (a b r : Bool) → (if a then true else if b then true else r) ≡ (if b then true else if a then true else r)
+either_first true true r = refl
+either_first true false r = refl
+either_first false true r = refl
+either_first false false r = refl
+
+-- one path more
+among_push : (q path : Path) (paths : List Path)
+    → is_among q (paths ++ path ∷ []) ≡ (if eq_by_cmp path_cmp q path then true else is_among q paths)
+among_push q path [] = refl
+among_push q path (other ∷ paths) =
+    ap (λ (r : Bool). if eq_by_cmp path_cmp q other then true else r) (among_push q path paths)
+    ∙ either_first (eq_by_cmp path_cmp q other) (eq_by_cmp path_cmp q path) (is_among q paths)
+
+-- the set has the paths
+abbrev pub HasPaths : BTreeSet Path → List Path → Type 0
+HasPaths set paths = (q : Path) → contains path_cmp set q ≡ is_among q paths
+
+pub has_none : (set : BTreeSet Path) → set.keys ≡ [] → HasPaths set []
+has_none set empty q = ap (list_any (eq_by_cmp path_cmp q)) empty
+
+pub has_more : (paths : List Path) (i : ℕ) (path key : Path) (set more : BTreeSet Path) → i < length paths → path ≡ get_or paths i path
+    → key ≡ path → Updates path_cmp set more key true → HasPaths set (take i paths) → HasPaths more (take (i + 1) paths)
+has_more paths i path key set more lt is same updates before q =
+    updates.0 q
+    ∙ ap (λ (r : Bool). if eq_by_cmp path_cmp key q then true else r) (before q)
+    ∙ ap (λ (k : Path). if eq_by_cmp path_cmp k q then true else is_among q (take i paths)) same
+    ∙ ap (λ (b : Bool). if b then true else is_among q (take i paths)) ((eq_by_cmp_equiv path_total).symm path q)
+    ∙ sym (among_push q path (take i paths))
+    ∙ ap (is_among q) (sym (take_more paths i path lt ∙ ap (λ (r : Path). take i paths ++ r ∷ []) (sym is)))
+
+pub has_all : (paths : List Path) (i : ℕ) (set : BTreeSet Path) → length paths ≤ i → HasPaths set (take i paths) → HasPaths set paths
+has_all paths i set over before q = before q ∙ ap (is_among q) (take_all i paths over)
+
+-- what the set says of a file
+pub file_by_set : (paths : List Path) (set : BTreeSet Path) (row : File) (found : Option File) → HasPaths set paths
+    → found ≡ (if contains path_cmp set row.0 then Some row else None) → file_if paths row ≡ found
+file_by_set paths set row found has is = sym (is ∙ ap (λ (b : Bool). if b then Some row else None) (has row.0))
 
 -- ---- the files among them
 

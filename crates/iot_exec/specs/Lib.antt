@@ -14,6 +14,7 @@ pub mod Passing
 pub mod Going
 pub mod Misses
 pub mod Files
+pub mod Kept
 pub mod Finding
 pub mod Execs
 pub mod Parting

@@ -13,6 +13,7 @@ ghost use Rattle.iot_exec.specs.Misses.{first_away, path_of_question};
 use crate::env::Env;
 use crate::finding::found;
 use crate::going::go_on;
+use crate::kept::KeptFiles;
 use crate::performing::perform;
 use crate::position::Position;
 use iot_lang::Script;
@@ -27,7 +28,7 @@ use std::rc::Rc;
 #[derive(Drop)]
 pub struct Exec {
     script: Rc<Script>,
-    kept: Files,
+    kept: KeptFiles,
     env: Env,
     position: Position,
     acts: u64,
@@ -84,6 +85,7 @@ impl Exec {
     pub fn new(alloc: Global, script: Rc<Script>, kept: Files) -> Exec
         ensures { (t : Nodes) → IsRunning script.value (kept_files kept) t 0 [] result t }
     {
+        let kept = KeptFiles::new(kept);
         Exec {
             script,
             kept,
@@ -98,6 +100,7 @@ impl Exec {
         ensures runs { (t : Nodes) → IsRunning script.value (kept_files kept) t 0 [] result t }
         ensures place { place result ≡ start script.value }
     {
+        let kept = KeptFiles::new(kept);
         Exec {
             script,
             kept,

@@ -1,16 +1,19 @@
 //! What `keep` finds among the kept files.
-ghost use Rattle.std.specs.Prelude.{◌≡◌, ◌++◌, [], IfOk, OnOk};
+ghost use Rattle.std.specs.Prelude.{◌≡◌, ◌++◌, ℕ, List, [], Some, None, IfOk, OnOk, if◌then◌else◌};
 ghost use Rattle.std.specs.List.{cons_option};
+ghost use Rattle.std.specs.BTreeSet.{contains};
+ghost use Rattle.iot_text.specs.Paths.{path_cmp};
 ghost use Rattle.iot_exec.specs.Commands.{kept_files};
-ghost use Rattle.iot_exec.specs.Finding.{wanted_by, wanted_of, found_of, is_among, file_if, files_among};
+ghost use Rattle.iot_exec.specs.Finding.{wanted_by, wanted_of, found_of, is_among, files_among};
 
 use crate::conditions::path_of;
 use crate::env::Env;
-use crate::kept::kept_at;
+use crate::kept::KeptFiles;
 use iot_lang::{Command, Stmt};
 use iot_text::{NoMemory, Path};
 use iot_tree::{Blob, Duplicate, Files, Paths};
 use std::alloc::Global;
+use std::collections::BTreeSet;
 
 /// The path at which a command looks for a kept file.
 fn wanted_by(alloc: Global, env: &Env, command: &Command) -> Result<Option<Path>, NoMemory>
@@ -44,7 +47,7 @@ fn wanted(alloc: Global, env: &Env, statement: &Stmt) -> Result<Option<Path>, No
 pub(crate) fn found(
     alloc: Global,
     env: &Env,
-    kept: &Files,
+    kept: &KeptFiles,
     statement: &Stmt,
 ) -> Result<Option<Path>, NoMemory>
     ensures { IfOk result (λ path. path ≡ found_of (kept_files kept.now) (wanted_of env.now statement.now)) }
@@ -52,7 +55,7 @@ pub(crate) fn found(
     let Some(path) = wanted(alloc, env, statement)? else {
         return Ok(None);
     };
-    match kept_at(kept, &path) {
+    match kept.get(&path) {
         Some(_) => Ok(Some(path)),
         None => Ok(None),
     }
@@ -68,27 +71,26 @@ pub(crate) fn push_path(paths: &mut Paths, path: Option<Path>) -> Result<(), NoM
     }
 }
 
-/// Whether the path is one of these.
-fn is_among(path: &Path, paths: &[Path]) -> bool
-    ensures { result ≡ is_among path.now paths.now }
+/// The set of these paths.
+fn set_of(alloc: Global, paths: &[Path]) -> Result<BTreeSet<Path>, NoMemory>
+    ensures { IfOk result (λ set. (path : List (List ℕ)) → contains path_cmp set path ≡ is_among path paths.now) }
 {
-    'paths: for other in paths {
-        if path.cmp(other).is_eq() {
-            return true;
-        }
+    let mut set = BTreeSet::new(alloc);
+    'paths: for path in paths {
+        set.insert(path.copy(alloc)?)?;
     }
-    false
+    Ok(set)
 }
 
-/// The file, if it lies at one of the paths, in memory of its own.
+/// The file, if its path is in the set, in memory of its own.
 fn file_among(
     alloc: Global,
     file: &(Path, Blob),
-    paths: &[Path],
+    paths: &BTreeSet<Path>,
 ) -> Result<Option<(Path, Blob)>, NoMemory>
-    ensures { IfOk result (λ found. found ≡ file_if paths.now file.now) }
+    ensures { IfOk result (λ found. found ≡ (if contains path_cmp paths.now file.now.0 then Some file.now else None)) }
 {
-    if is_among(&file.0, paths) {
+    if paths.contains(&file.0) {
         Ok(Some((file.0.copy(alloc)?, file.1.copy(alloc)?)))
     } else {
         Ok(None)
@@ -99,10 +101,11 @@ fn file_among(
 pub(crate) fn files_among(alloc: Global, files: &Files, paths: &[Path]) -> Result<Files, NoMemory>
     ensures { IfOk result (λ found. found ≡ files_among paths.now files.now) }
 {
+    let wanted = set_of(alloc, paths)?;
     let mut found = Files::new(alloc);
     let rows = files.as_slice();
     'rows: for row in rows {
-        if let Some(file) = file_among(alloc, row, paths)? {
+        if let Some(file) = file_among(alloc, row, &wanted)? {
             found.push(file)?;
         }
     }

@@ -9,10 +9,11 @@ ghost use Rattle.iot_exec.specs.Going.{IsDone, IsBranch, IsLoop, Finishes, done_
 use crate::asking::Asking;
 use crate::endings::{Refusal, Stop, Success};
 use crate::env::Env;
+use crate::kept::KeptFiles;
 use crate::refusals::name_of;
 use iot_lang::{Command, Cond, Stmt, Word};
 use iot_text::{Name, NoMemory, Text};
-use iot_tree::{Act, Files, Lines, Reads, Sequence, Tree};
+use iot_tree::{Act, Lines, Reads, Sequence, Tree};
 use std::alloc::Global;
 
 /// What a script goes on with after an act.
@@ -119,7 +120,7 @@ fn do_command(
     alloc: Global,
     tree: &Tree,
     env: &Env,
-    kept: &Files,
+    kept: &KeptFiles,
     command: &Command,
 ) -> Result<Done, NoMemory>
     ensures { IfOk result
@@ -167,7 +168,7 @@ pub(crate) fn perform(
     alloc: Global,
     tree: &Tree,
     env: &Env,
-    kept: &Files,
+    kept: &KeptFiles,
     statement: &Stmt,
 ) -> Result<Done, NoMemory>
     ensures done { IfOk result

@@ -5,17 +5,17 @@ ghost use Rattle.iot_exec.specs.Commands.{table, keep, kept_files};
 use crate::asking::Asking;
 use crate::endings::{Reason, Stop, Success};
 use crate::env::Env;
-use crate::kept::kept_at;
+use crate::kept::KeptFiles;
 use iot_lang::Command;
 use iot_text::Path;
-use iot_tree::{Blob, Duplicate, Files};
+use iot_tree::{Blob, Duplicate};
 
 impl<'t> Asking<'t> {
     /// Does a command but for its update, its lines and its variable.
     pub(crate) fn command(
         &mut self,
         env: &Env,
-        kept: &Files,
+        kept: &KeptFiles,
         command: &Command,
     ) -> Result<Success, Stop>
         ensures { Ends self.old (table (kept_files kept.now) env.now command.now) self.new result }
@@ -68,10 +68,10 @@ impl<'t> Asking<'t> {
     }
 
     /// `keep P Q`
-    fn keep(&mut self, kept: &Files, from: &Path, to: Path) -> Result<Success, Stop>
+    fn keep(&mut self, kept: &KeptFiles, from: &Path, to: Path) -> Result<Success, Stop>
         ensures { Ends self.old (keep (kept_files kept.now) from.now to) self.new result }
     {
-        match kept_at(kept, from) {
+        match kept.get(from) {
             Some(bytes) => {
                 let copy = bytes.copy(self.alloc)?;
                 self.write(to, copy)

@@ -35,7 +35,7 @@ pub fn read_records(alloc: Global, bytes: &[u8], at: u64) -> Result<Found, Start
     ensures ok { IfOk result (λ found. IsSeries bytes.now at found.bodies found.gate) }
     ensures err { IfErr result (λ fault. IsCutReason fault (series_in at bytes.now)) }
 {
-    let mut bodies = Bodies::new(alloc);
+    let mut bodies = Bodies::with_capacity(alloc, bytes.len())?;
     let mut rest = bytes;
     while rest[0] == OPEN {
         let Some(body) = whole_body(&rest[1..]) else {
@@ -43,7 +43,7 @@ pub fn read_records(alloc: Global, bytes: &[u8], at: u64) -> Result<Found, Start
                 at: at + (bytes.len() - rest.len()) as u64,
             });
         };
-        bodies.push(body.to_vec(alloc)?)?;
+        bodies.push(body)?;
         rest = &rest[9 + body.len()..];
     }
     Ok(Found {

@@ -180,7 +180,7 @@ impl Stamped {
         let Ok(at) = place_of(rows, from.names()) else {
             return Ok(());
         };
-        let count = count_within(&rows[at..], from.names());
+        let count = count_within(rows, at, from.names());
         let goes = place_of(rows, to.names()).is_ok();
         self.tree.apply(alloc, u)?;
         let moved = self.tree.rows().as_slice();

@@ -1,5 +1,5 @@
 -- What a tree answers at a path that has a row, and at one that has none.
-use Rattle.std.proofs.Common.{inl, inr, ◌⊎◌, ◌≡◌, ℕ, List, refl, sym, ap, ◌∙◌, ◌+◌, Bool, true, false, Some, None, take, drop, get_or}
+use Rattle.std.proofs.Common.{inl, inr, ◌⊎◌, ◌≡◌, ℕ, List, refl, sym, ap, ◌∙◌, Bool, true, false, Some, None, take, drop, get_or}
 use Rattle.std.proofs.Common.{IsSome, Option}
 use Rattle.std.specs.FinMap.{get}
 use Rattle.std.specs.List.{filter_map, prefix_len}
@@ -54,7 +54,7 @@ module _ (rows : List Row) (all : AreTreeRows rows) (p : Path) (at : ℕ) (stand
   node_here = get_here rows all.rising p at stands row ∙ ap (λ (r : Row). Some r.1) (sym is)
 
   pub names_of_dir : (kids : List (List ℕ × Kind)) → row.1 ≡ Dir
-      → kids ≡ filter_map (child_of p) (take (prefix_len (is_within p) (drop (at + 1) rows)) (drop (at + 1) rows))
+      → kids ≡ filter_map (child_of p) (take (prefix_len (is_within p) (drop at rows)) (drop at rows))
       → Names kids ≡ names_answer (get (map_of rows) p) far (children_of (map_of rows) p)
   names_of_dir kids dir are =
       ap Names (are ∙ children_at rows all p at stands)

@@ -29,7 +29,9 @@ use Rattle.iot_tree.proofs.WithoutLaws.{without_at, sorted_without, remove_is}
 none_zero : (p : Path) (rows : List Row) → nat_lt 0 (prefix_len (is_within p) rows) ≡ false → prefix_len (is_within p) rows ≡ 0
 none_zero p rows none = omega (arith, ltb-false 0 (prefix_len (is_within p) rows) none)
 
-below_of : (p path rest : Path) → path ≡ p ++ rest → path_cmp p path ≡ Less → (name : List ℕ) × (tail : Path) × (path ≡ p ++ name ∷ tail)
+-- a path below p has a name after it
+pub below_of : (p path rest : Path) → path ≡ p ++ rest → path_cmp p path ≡ Less
+    → (name : List ℕ) × (tail : Path) × (path ≡ p ++ name ∷ tail)
 below_of p path [] is lt = absurd (not_less p (subst (λ (other : Path). path_cmp p other ≡ Less) (is ∙ append-nil p) lt))
 below_of p path (name ∷ rest) is lt = (name, rest, is)
 

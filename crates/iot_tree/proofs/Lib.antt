@@ -12,6 +12,7 @@ pub mod WithoutLaws
 pub mod UpdateLaws
 pub mod FitsLaws
 pub mod LeafLaws
+pub mod CountLaws
 pub mod ChildLaws
 pub mod ChildKindLaws
 pub mod AnswerLaws

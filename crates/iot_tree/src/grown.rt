@@ -132,7 +132,7 @@ impl Grown {
     }
 
     /// The answer to the question. Allocates for contents and names alone. The question for names
-    /// takes time for each row below the directory.
+    /// makes a search for each name in the directory.
     pub fn answer(&self, alloc: Global, question: &Question) -> Result<Answer, NoMemory>
         ensures answer { IfOk result (λ answer. answer ≡ answer_of self.now question.now) }
         ensures tree { IsTree self.now }
@@ -145,7 +145,7 @@ impl Grown {
     }
 
     /// Whether the tree answers the question as it was answered in this read. Does not allocate. The
-    /// question for names takes time for each row below the directory.
+    /// question for names makes a search for each name in the directory.
     pub fn answers(&self, read: &Read) -> bool
         ensures answers { IsTrue result ↔ (answer_of self.now read.now.question ≡ read.now.answer) }
         ensures tree { IsTree self.now }
@@ -269,9 +269,9 @@ impl Grown {
         match place_of(rows, path.names()) {
             Ok(at) => match &rows[at].1 {
                 Node::Dir => {
-                    let below = &rows[at + 1..];
-                    let count = count_within(below, path.names());
-                    Ok(Answer::Names(children_of(alloc, &below[..count], path.names())?))
+                    let count = count_within(rows, at, path.names());
+                    let within = &rows[at..at + count];
+                    Ok(Answer::Names(children_of(alloc, within, path.names())?))
                 }
                 Node::FarDir => Ok(Answer::Away),
                 Node::File(_) | Node::FarFile => Ok(Answer::Absent),
@@ -302,9 +302,8 @@ impl Grown {
         match place_of(rows, path.names()) {
             Ok(at) => match &rows[at].1 {
                 Node::Dir => {
-                    let below = &rows[at + 1..];
-                    let count = count_within(below, path.names());
-                    is_names(&below[..count], path.names(), answer)
+                    let count = count_within(rows, at, path.names());
+                    is_names(&rows[at..at + count], path.names(), answer)
                 }
                 Node::FarDir => Kind::Away.is_answer(answer),
                 Node::File(_) | Node::FarFile => Kind::Absent.is_answer(answer),
@@ -386,9 +385,8 @@ impl Grown {
         let Ok(at) = place_of(rows, from.names()) else {
             return Ok(());
         };
-        let moving = &rows[at..];
-        let count = count_within(moving, from.names());
-        let paths = renamed_paths(alloc, &moving[..count], from, to)?;
+        let count = count_within(rows, at, from.names());
+        let paths = renamed_paths(alloc, &rows[at..at + count], from, to)?;
         self.rows.set_keys(at, paths);
         self.rows.rotate(at, count);
         put_last(&mut self.rows, count, to.names());

@@ -133,7 +133,7 @@ impl Tree {
     }
 
     /// The answer to the question. Allocates for contents and names alone. The question for names
-    /// takes time for each row below the directory.
+    /// makes a search for each name in the directory.
     pub fn answer(&self, alloc: Global, question: &Question) -> Result<Answer, NoMemory>
         ensures answer { IfOk result (λ answer. answer ≡ answer_of self.now question.now) }
         ensures tree { IsTree self.now }
@@ -142,7 +142,7 @@ impl Tree {
     }
 
     /// Whether the tree answers the question as it was answered in this read. Does not allocate. The
-    /// question for names takes time for each row below the directory.
+    /// question for names makes a search for each name in the directory.
     pub fn answers(&self, read: &Read) -> bool
         ensures answers { IsTrue result ↔ (answer_of self.now read.now.question ≡ read.now.answer) }
         ensures tree { IsTree self.now }

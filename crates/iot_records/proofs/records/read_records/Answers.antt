@@ -1,4 +1,4 @@
-use Rattle.std.proofs.Common.{◌≡◌, ◌<◌, ℕ, ◌+◌, ◌-◌, List, [], ◌∷◌, ◌++◌, length, take, drop, ◌∙◌, sym, ap, subst, rules, arith}
+use Rattle.std.proofs.Common.{◌≡◌, ◌<◌, ℕ, ◌+◌, ◌-◌, List, [], ◌∷◌, ◌++◌, length, take, drop, ◌∙◌, sym, ap, subst, arith}
 use Rattle.std.proofs.Common.{length-drop}
 use Rattle.std.proofs.lemmas.List.{take_rest}
 use Rattle.iot_records.specs.Records.{records}
@@ -18,9 +18,7 @@ loop-rest-preserved c =
     let body = c.in-Some.body.now in
     let left = take (length rest - (9 + length body)) (drop (9 + length body) rest) in
     let left_is : left ≡ drop (9 + length body) rest = take_rest rest (9 + length body) in
-    let copied : c.in_ok-to_vec.field-0.items ≡ body = search rules in
-    let pushed : c.push.new.self ≡ c.loop-rest.bodies ++ body ∷ [] =
-    c.in_ok-push.ensures.ok ∙ ap (λ (l : List ℕ). c.loop-rest.bodies ++ l ∷ []) copied in
+    let pushed : c.push.new.self ≡ c.loop-rest.bodies ++ body ∷ [] = c.in_ok-push.ensures.ok in
     record {
       split =
           next_split c.args.bytes.now rest c.loop-rest.bodies so_far.split so_far.gate body left c.loop-rest-test.true

@@ -1,8 +1,13 @@
-use Rattle.std.proofs.Common.{◌≡◌, ◌↔◌, drop}
+use Rattle.std.proofs.Common.{◌≡◌, ◌↔◌, length}
 use Rattle.std.specs.List.{filter_map}
 use Rattle.iot_tree.specs.Questions.{child_of}
+use Rattle.iot_tree.specs.Rows.{Rising}
 use Rattle.iot_tree.proofs.children.are_children.Given as goal
 
 -- what is left of both is the same exactly if both are
-abbrev pub invariant-rows : goal.invariant-rows
-invariant-rows l = (filter_map (child_of l.names) (drop l.row-index l.rows) ≡ l.left) ↔ (filter_map (child_of l.names) l.rows ≡ l.children)
+abbrev pub invariant-names : goal.invariant-names
+invariant-names l =
+    Rising l.left × ((filter_map (child_of l.names) l.left ≡ l.expected) ↔ (filter_map (child_of l.names) l.rows ≡ l.children))
+
+abbrev pub decreases-names : goal.decreases-names
+decreases-names l = length l.left

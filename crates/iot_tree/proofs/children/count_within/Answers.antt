@@ -1,21 +1,36 @@
-use Rattle.std.proofs.Common.{◌≡◌, ◌∙◌, false, [], slice_index_or, length, sym, ap, arith}
-use Rattle.std.proofs.lemmas.List.{get_or_read}
-use Rattle.std.proofs.lemmas.List.Sums.{prefix_len_is}
+use Rattle.std.proofs.Common.{◌≡◌, ◌∙◌, ◌+◌, ◌≤◌, length, drop, subst, sym, ap, arith, rules}
+use Rattle.std.proofs.lemmas.List.{take_rest}
+use Rattle.std.specs.List.{prefix_len}
+use Rattle.std.specs.List.Sorted.{IsPartitionedBy}
 use Rattle.iot_tree.specs.Questions.{is_within}
-use Rattle.iot_tree.specs.declared.nodes.Node.TheVariants.{Dir}
+use Rattle.iot_tree.proofs.CountLaws.{rest_parted, own_and_rest, rest_fits}
 use Rattle.iot_tree.proofs.children.count_within.Goals as goal
 
-pub returns-then-not-is_within : goal.returns-then-not-is_within
-returns-then-not-is_within c =
-    let stop : is_within c.args.names.now (slice_index_or c.args.rows.now c.rows.count ([], Dir)) ≡ false =
-    ap (is_within c.args.names.now)
-    (sym (get_or_read c.args.rows.now c.rows.count c.index-rows-count.result c.rows-test.true c.index-rows-count.is ([], Dir)))
-    ∙ sym c.is_within.ensures ∙ c.if-not-is_within.true in
-    sym (prefix_len_is (is_within c.args.names.now) c.args.rows.now c.rows.count ([], Dir) (omega arith) c.rows.invariant (λ _. stop))
+pub front_within-requires : goal.front_within-requires
+front_within-requires c =
+    subst (IsPartitionedBy (is_within c.args.names.now)) (sym (take_rest c.args.rows.now (c.args.at + 1)))
+    (rest_parted c.args.rows.now c.requires.rising c.args.names.now c.args.at c.requires.row)
 
-pub returns : goal.returns
-returns c =
-    let all : c.rows.count ≡ length c.args.rows.now = omega arith in
-    sym
-    (prefix_len_is (is_within c.args.names.now) c.args.rows.now (length c.args.rows.now) ([], Dir) (omega arith)
-    (λ k h. c.rows.invariant k (omega arith)) (λ h. absurd (omega arith)))
+pub returns-clause-count : goal.returns-clause-count
+returns-clause-count c =
+    let rest : c.front_within.result ≡ prefix_len (is_within c.args.names.now) (drop (c.args.at + 1) c.args.rows.now) =
+    rw (take_rest c.args.rows.now (c.args.at + 1)) at c.front_within.ensures in
+    ap (λ n. 1 + n) rest ∙ own_and_rest c.args.rows.now c.requires.rising c.args.names.now c.args.at c.requires.row
+
+pub overflow_add-result : goal.overflow_add-result
+overflow_add-result c =
+    let fits : c.args.at + (1 + c.front_within.result) ≤ length c.args.rows.now =
+    omega (
+      arith,
+      rest_fits c.args.rows.now c.requires.rising c.args.names.now c.args.at c.requires.row,
+      (rw (take_rest c.args.rows.now (c.args.at + 1)) at c.front_within.ensures),
+    ) in
+    search rules
+
+pub returns-clause-fits : goal.returns-clause-fits
+returns-clause-fits c =
+    omega (
+      arith,
+      rest_fits c.args.rows.now c.requires.rising c.args.names.now c.args.at c.requires.row,
+      (rw (take_rest c.args.rows.now (c.args.at + 1)) at c.front_within.ensures),
+    )

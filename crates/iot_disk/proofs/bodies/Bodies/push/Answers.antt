@@ -1,6 +1,6 @@
-use Rattle.std.proofs.Common.{[], ◌∷◌}
-use Rattle.iot_disk.proofs.BodiesLaws.{bodies_of-append}
+use Rattle.iot_disk.proofs.BodiesLaws.{pieces-push}
 use Rattle.iot_disk.proofs.bodies.Bodies.push.Goals as goal
 
-pub returns-clause-ok : goal.returns-clause-ok
-returns-clause-ok c = rw (c.in_ok-push.ensures.items, ← c.self.view_is) (bodies_of-append c.self.inside.list.items (c.args.body ∷ []))
+pub returns-in-Ok-clause-ok : goal.returns-in-Ok-clause-ok
+returns-in-Ok-clause-ok c = rw (c.in-Ok.ensures.items, c.in_ok-push.ensures.items, ← c.self.view_is)
+    (pieces-push c.self.inside.lengths.items c.self.inside.bytes.items c.args.body.now c.self.invariant)

@@ -1,4 +1,4 @@
-use Rattle.std.proofs.Common.{refl}
+use Rattle.std.proofs.Common.{refl, ap}
 use Rattle.iot_exec.specs.Commands.{kept_files}
 use Rattle.iot_exec.proofs.ExecLaws.{starts}
 use Rattle.iot_exec.proofs.FindingLaws.{starts_at}
@@ -6,7 +6,7 @@ use Rattle.iot_exec.proofs.exec.Exec.at_start.Goals as goal
 
 pub returns-clause-runs : goal.returns-clause-runs
 returns-clause-runs c = λ t. record {
-  kept_same = refl;
+  kept_same = ap kept_files c.new-kept.ensures;
   counted = refl;
   after =
       starts c.args.script.value (kept_files c.args.kept) t _ _ c.new.result (c.start.ensures.here c.args.script.value)

@@ -1,5 +1,5 @@
 use Rattle.std.proofs.Common.{◌≡◌, ◌∙◌, sym, ap, subst, refl, arith, length, take, drop, ◌+◌, ◌-◌}
-use Rattle.std.proofs.lemmas.List.{take_rest, length-take}
+use Rattle.std.proofs.lemmas.List.{length-take}
 use Rattle.std.specs.FinMap.{entries}
 use Rattle.iot_tree.specs.Place.{IsGap}
 use Rattle.iot_tree.specs.Rows.{AreTreeRows}
@@ -63,7 +63,7 @@ steps c =
     (Move c.args.from.now c.args.to.now) c.requires.fits)
     (c.in_ok-apply.ensures.ok ∙ ap (λ (u : Update). updated c.self.inside.tree u) c.requires.moves) c.in-Ok.at
     (rw (c.in-Ok.is, rows, c.names.ensures.value) at c.place_of.ensures) c.count_within-count.result
-    (rw (rows, c.names-2.ensures.value, take_rest (entries c.self.inside.tree) c.in-Ok.at) at c.count_within-count.ensures)
+    (rw (rows, c.names-2.ensures.value) at c.count_within-count.ensures.count)
     c.in-Ok-place_of.place (rw (c.in-Ok-place_of.is, news, c.names-4.ensures.value) at c.place_of-3.ensures)
     c.is_ok-goes.result
     (c.is_ok-goes.ensures.value
@@ -88,7 +88,7 @@ carry_steps c =
     (Move c.args.from.now c.args.to.now) c.requires.fits)
     (c.in_ok-apply.ensures.ok ∙ ap (λ (u : Update). updated c.self.inside.tree u) c.requires.moves) c.in-Ok.at
     (rw (c.in-Ok.is, rows, c.names.ensures.value) at c.place_of.ensures) c.count_within-count.result
-    (rw (rows, c.names-2.ensures.value, take_rest (entries c.self.inside.tree) c.in-Ok.at) at c.count_within-count.ensures)
+    (rw (rows, c.names-2.ensures.value) at c.count_within-count.ensures.count)
     c.in-Ok-place_of.place (rw (c.in-Ok-place_of.is, news, c.names-4.ensures.value) at c.place_of-3.ensures)
     c.is_ok-goes.result
     (c.is_ok-goes.ensures.value
@@ -115,7 +115,7 @@ last_steps c =
     (Move c.args.from.now c.args.to.now) c.requires.fits)
     (c.in_ok-apply.ensures.ok ∙ ap (λ (u : Update). updated c.self.inside.tree u) c.requires.moves) c.in-Ok.at
     (rw (c.in-Ok.is, rows, c.names.ensures.value) at c.place_of.ensures) c.count_within-count.result
-    (rw (rows, c.names-2.ensures.value, take_rest (entries c.self.inside.tree) c.in-Ok.at) at c.count_within-count.ensures)
+    (rw (rows, c.names-2.ensures.value) at c.count_within-count.ensures.count)
     c.in-Ok-place_of.place (rw (c.in-Ok-place_of.is, news, c.names-4.ensures.value) at c.place_of-3.ensures)
     c.is_ok-goes.result
     (c.is_ok-goes.ensures.value

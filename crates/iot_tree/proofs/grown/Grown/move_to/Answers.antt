@@ -2,7 +2,7 @@
 use Rattle.std.proofs.Common.{◌≡◌, ℕ, List, [], ◌∷◌, ◌++◌, sym, ap, ◌∙◌, ◌+◌, ◌≤◌, length, take, drop, get_or, arith, length-append}
 use Rattle.std.proofs.Common.{append_assoc, subst, ◌-◌, map}
 use Rattle.std.proofs.Math.Seq.{take-append_seam, drop-append_seam}
-use Rattle.std.proofs.lemmas.List.{drop_more, take-append-drop, length-take-le, length-map, take_rest}
+use Rattle.std.proofs.lemmas.List.{drop_more, take-append-drop, length-take-le, length-map}
 use Rattle.std.proofs.lemmas.List.Sums.{prefix_len-le-length}
 use Rattle.std.specs.Cmp.{second_so}
 use Rattle.std.specs.FinMap.Entries.{put, below_all}
@@ -14,6 +14,7 @@ use Rattle.iot_tree.specs.Rows.{Rising, map_of, AreTreeRows}
 use Rattle.iot_tree.specs.Tree.{Path, Row}
 use Rattle.iot_tree.specs.Updates.{FitsMove, renamed, renamed_row, moved}
 use Rattle.iot_tree.specs.declared.nodes.Node.TheVariants.{Dir}
+use Rattle.iot_tree.proofs.CountLaws.{block_len}
 use Rattle.iot_tree.proofs.LeafLaws.{whole_at}
 use Rattle.iot_tree.proofs.MovedLaws.{sorted_skip, moved_map, moved_tree}
 use Rattle.iot_tree.proofs.PlaceLaws.{back_after}
@@ -193,8 +194,8 @@ pub rotate-requires : goal.rotate-requires
 rotate-requires c =
     let m = moves c.self.inside.rows c.self.invariant c.args.from.now c.args.to.now (rw c.self.view_is c.requires) c.in-Ok.at
     (rw (c.in-Ok.is, c.as_slice-rows.ensures, c.names.ensures.value) at c.place_of.ensures) c.count_within-count.result
-    (rw (c.as_slice-rows.ensures, c.names-2.ensures.value, take_rest c.self.inside.rows c.in-Ok.at) at c.count_within-count.ensures)
-    c.in_ok-paths.paths.items (rw (c.as_slice-rows.ensures, take_rest c.self.inside.rows c.in-Ok.at) at c.in_ok-paths.ensures)
+    (rw (c.as_slice-rows.ensures, c.names-2.ensures.value) at c.count_within-count.ensures.count)
+    c.in_ok-paths.paths.items (rw (c.as_slice-rows.ensures, block_len c.in-Ok.at c.count_within-count.result) at c.in_ok-paths.ensures)
     c.set_keys.new.self c.set_keys.ensures in
     m.len
 
@@ -202,8 +203,8 @@ pub put_last-requires-clause-count : goal.put_last-requires-clause-count
 put_last-requires-clause-count c =
     let m = moves c.self.inside.rows c.self.invariant c.args.from.now c.args.to.now (rw c.self.view_is c.requires) c.in-Ok.at
     (rw (c.in-Ok.is, c.as_slice-rows.ensures, c.names.ensures.value) at c.place_of.ensures) c.count_within-count.result
-    (rw (c.as_slice-rows.ensures, c.names-2.ensures.value, take_rest c.self.inside.rows c.in-Ok.at) at c.count_within-count.ensures)
-    c.in_ok-paths.paths.items (rw (c.as_slice-rows.ensures, take_rest c.self.inside.rows c.in-Ok.at) at c.in_ok-paths.ensures)
+    (rw (c.as_slice-rows.ensures, c.names-2.ensures.value) at c.count_within-count.ensures.count)
+    c.in_ok-paths.paths.items (rw (c.as_slice-rows.ensures, block_len c.in-Ok.at c.count_within-count.result) at c.in_ok-paths.ensures)
     c.set_keys.new.self c.set_keys.ensures in
     (m.puts c.rotate.new.self c.rotate.ensures).len
 
@@ -211,8 +212,8 @@ pub put_last-requires-clause-rising : goal.put_last-requires-clause-rising
 put_last-requires-clause-rising c =
     let m = moves c.self.inside.rows c.self.invariant c.args.from.now c.args.to.now (rw c.self.view_is c.requires) c.in-Ok.at
     (rw (c.in-Ok.is, c.as_slice-rows.ensures, c.names.ensures.value) at c.place_of.ensures) c.count_within-count.result
-    (rw (c.as_slice-rows.ensures, c.names-2.ensures.value, take_rest c.self.inside.rows c.in-Ok.at) at c.count_within-count.ensures)
-    c.in_ok-paths.paths.items (rw (c.as_slice-rows.ensures, take_rest c.self.inside.rows c.in-Ok.at) at c.in_ok-paths.ensures)
+    (rw (c.as_slice-rows.ensures, c.names-2.ensures.value) at c.count_within-count.ensures.count)
+    c.in_ok-paths.paths.items (rw (c.as_slice-rows.ensures, block_len c.in-Ok.at c.count_within-count.result) at c.in_ok-paths.ensures)
     c.set_keys.new.self c.set_keys.ensures in
     (m.puts c.rotate.new.self c.rotate.ensures).rising
 
@@ -220,8 +221,8 @@ pub invariant_of-self : goal.invariant_of-self
 invariant_of-self c =
     let m = moves c.self.inside.rows c.self.invariant c.args.from.now c.args.to.now (rw c.self.view_is c.requires) c.in-Ok.at
     (rw (c.in-Ok.is, c.as_slice-rows.ensures, c.names.ensures.value) at c.place_of.ensures) c.count_within-count.result
-    (rw (c.as_slice-rows.ensures, c.names-2.ensures.value, take_rest c.self.inside.rows c.in-Ok.at) at c.count_within-count.ensures)
-    c.in_ok-paths.paths.items (rw (c.as_slice-rows.ensures, take_rest c.self.inside.rows c.in-Ok.at) at c.in_ok-paths.ensures)
+    (rw (c.as_slice-rows.ensures, c.names-2.ensures.value) at c.count_within-count.ensures.count)
+    c.in_ok-paths.paths.items (rw (c.as_slice-rows.ensures, block_len c.in-Ok.at c.count_within-count.result) at c.in_ok-paths.ensures)
     c.set_keys.new.self c.set_keys.ensures in
     (m.puts c.rotate.new.self c.rotate.ensures).tree c.put_last.new.rows (rw c.names-3.ensures.value at c.put_last.ensures)
 
@@ -229,8 +230,8 @@ pub returns-clause-ok : goal.returns-clause-ok
 returns-clause-ok c =
     let m = moves c.self.inside.rows c.self.invariant c.args.from.now c.args.to.now (rw c.self.view_is c.requires) c.in-Ok.at
     (rw (c.in-Ok.is, c.as_slice-rows.ensures, c.names.ensures.value) at c.place_of.ensures) c.count_within-count.result
-    (rw (c.as_slice-rows.ensures, c.names-2.ensures.value, take_rest c.self.inside.rows c.in-Ok.at) at c.count_within-count.ensures)
-    c.in_ok-paths.paths.items (rw (c.as_slice-rows.ensures, take_rest c.self.inside.rows c.in-Ok.at) at c.in_ok-paths.ensures)
+    (rw (c.as_slice-rows.ensures, c.names-2.ensures.value) at c.count_within-count.ensures.count)
+    c.in_ok-paths.paths.items (rw (c.as_slice-rows.ensures, block_len c.in-Ok.at c.count_within-count.result) at c.in_ok-paths.ensures)
     c.set_keys.new.self c.set_keys.ensures in
     rw (← c.self.view_is)
     ((m.puts c.rotate.new.self c.rotate.ensures).map c.put_last.new.rows (rw c.names-3.ensures.value at c.put_last.ensures))

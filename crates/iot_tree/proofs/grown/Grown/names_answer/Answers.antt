@@ -1,9 +1,14 @@
-use Rattle.std.proofs.Common.{◌∙◌, ◌+◌, false, ap}
-use Rattle.std.proofs.lemmas.List.{take_rest}
+use Rattle.std.proofs.Common.{◌∙◌, ◌+◌, ◌-◌, false, ap}
 use Rattle.iot_tree.specs.Place.{IsRowAt, IsGap}
 use Rattle.iot_tree.specs.Questions.{kind_answer, is_dir}
 use Rattle.iot_tree.proofs.AnswerLaws.{names_of_dir, names_of_far, names_of_file, names_in_gap, file_is_no_dir}
+use Rattle.iot_tree.proofs.CountLaws.{block_len, rising_block}
 use Rattle.iot_tree.proofs.grown.Grown.names_answer.Goals as goal
+
+pub children_of-requires : goal.children_of-requires
+children_of-requires c =
+    rw c.as_slice-rows.ensures
+    (rising_block c.in-Ok.at (c.in-Ok.at + c.count_within-count.result - c.in-Ok.at) c.self.inside.rows c.self.invariant.rising)
 
 pub returns-in_ok-children_of-in-Dir-clause-answer : goal.returns-in_ok-children_of-in-Dir-clause-answer
 returns-in_ok-children_of-in-Dir-clause-answer c =
@@ -11,11 +16,9 @@ returns-in_ok-children_of-in-Dir-clause-answer c =
     rw (c.in-Ok.is, c.as_slice-rows.ensures, c.names.ensures.value) at c.place_of.ensures in
     let row = rw c.as_slice-rows.ensures at c.index-rows-at.is in
     let dir = rw c.as_slice-rows.ensures at c.in-Dir.is in
-    let count =
-    rw (c.as_slice-rows.ensures, c.names-in-Dir.ensures.value, take_rest c.self.inside.rows (c.in-Ok.at + 1)) at
-    c.count_within-count.ensures in
+    let count = rw (c.as_slice-rows.ensures, c.names-in-Dir.ensures.value) at c.count_within-count.ensures.count in
     let kids =
-    rw (c.as_slice-rows.ensures, c.names-in-Dir-2.ensures.value, take_rest c.self.inside.rows (c.in-Ok.at + 1), count) at
+    rw (c.as_slice-rows.ensures, c.names-in-Dir-2.ensures.value, block_len c.in-Ok.at c.count_within-count.result, count) at
     c.in_ok-children_of-in-Dir.ensures in
     rw (← c.self.view_is)
     (names_of_dir c.self.inside.rows c.self.invariant c.args.path.now c.in-Ok.at stands c.index-rows-at.result row _
