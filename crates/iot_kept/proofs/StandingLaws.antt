@@ -1,10 +1,6 @@
 -- Bodies that lead from one state to another, and the states for which images of a disk stand whose journal is known.
-use Rattle.std.proofs.Common.{◌≡◌, ◌≤◌, ◌<◌, inl, inr, true, ℕ, Bool, Option, None, ◌+◌, ◌^◌, List, [], ◌∷◌, ◌++◌, length, drop, get_or}
+use Rattle.std.proofs.Common.{◌≡◌, ◌≤◌, ◌<◌, inl, inr, true, ℕ, Bool, Option, None, ◌+◌, ◌^◌, List, [], ◌∷◌, ◌++◌, length}
 use Rattle.std.proofs.Common.{refl, sym, ap, ◌∙◌, subst, arith, append_assoc, append-nil}
-use Rattle.std.specs.Prelude.{Vec}
-use Rattle.std.specs.declared.alloc.Global.{Global}
-use Rattle.std.proofs.lemmas.List.{drop_all}
-use Rattle.iot_disk.specs.Bodies.{bodies_of}
 use Rattle.iot_disk.specs.declared.faults.StartFault.{StartFault}
 use Rattle.iot_disk.specs.declared.faults.StartFault.TheVariants as fault
 use Rattle.iot_journal.specs.Decoding.{Encodes, decoded, records, bodies_decoded}
@@ -24,7 +20,6 @@ use Rattle.iot_kept.specs.Replaying.{ReplaysIf}
 use Rattle.iot_kept.specs.declared.memory.Memory.{Memory}
 use Rattle.iot_kept.specs.Causes.{IsReason, TakesBytes}
 use Rattle.iot_kept.specs.Standing.{Leads, StandFor, EachStands, EachStandsEither, CannotFollow, IsDamagedAt, IsRecord}
-use Rattle.iot_kept.proofs.FollowingLaws.{left_is}
 use Rattle.iot_kept.proofs.StatesLaws.{keeps, keeps_guarded, opening_holds, opening_guarded}
 
 -- the spelling of a change is its record
@@ -135,47 +130,44 @@ second_after (Resolved done) before now is second = subst IsSecond (sym is) seco
 second_after (Repaired script) before now is second = subst IsSecond (sym is) second
 second_after Left before now is second = subst IsSecond (sym is) second
 
--- what is in memory is made by the bodies before a place, and the gate is that of the record there
-pub record BodiesOnWay (bodies : List (Vec ℕ Global)) (i : ℕ) (memory : Memory) (gate : ℕ) : Type 0 where
+-- what is in memory is made by the bodies before the ones that are left, and the gate is that of the record there
+pub record BodiesOnWay (bodies left : List (List ℕ)) (memory : Memory) (gate : ℕ) : Type 0 where
   pub front : List (List ℕ)
-  pub split : bodies_of bodies ≡ front ++ bodies_of (drop i bodies)
+  pub split : bodies ≡ front ++ left
   pub leads : Leads front opening (memory_state memory)
   pub class : IsSecond (class_of memory.durable.running)
   pub sees : Sees memory
   pub place : gate ≡ 9 + length (records front)
 
-pub none_on_way : (bodies : List (Vec ℕ Global)) (memory : Memory) → memory_state memory ≡ opening
-    → class_of memory.durable.running ≡ None → Sees memory → BodiesOnWay bodies 0 memory 9
-none_on_way bodies memory is none sees = record {
+pub none_on_way : (bodies left : List (List ℕ)) (memory : Memory) → left ≡ bodies → memory_state memory ≡ opening
+    → class_of memory.durable.running ≡ None → Sees memory → BodiesOnWay bodies left memory 9
+none_on_way bodies left memory all is none sees = record {
   front = [];
-  split = refl;
+  split = sym all;
   leads = is;
   class = subst IsSecond (sym none) tt;
   sees = sees;
   place = refl;
 }
 
-module _ (bodies : List (Vec ℕ Global)) (i : ℕ) (memory : Memory) (gate : ℕ) (way : BodiesOnWay bodies i memory gate) where
+module _ (bodies left : List (List ℕ)) (memory : Memory) (gate : ℕ) (way : BodiesOnWay bodies left memory gate) where
   pub way_holds : AllHold (memory_state memory)
   way_holds = leads_holds way.front (memory_state memory) way.leads
 
-  module _ (body : Vec ℕ Global) (within : i < length bodies) (is : body ≡ get_or bodies i body) where
-    abbrev rest : List (List ℕ)
-    rest = bodies_of (drop (i + 1) bodies)
+  module _ (body : List ℕ) (rest : List (List ℕ)) (is : left ≡ body ∷ rest) where
+    split_here : bodies ≡ way.front ++ body ∷ rest
+    split_here = way.split ∙ ap (λ (bs : List (List ℕ)). way.front ++ bs) is
 
-    split_here : bodies_of bodies ≡ way.front ++ body.items ∷ rest
-    split_here = way.split ∙ ap (λ bs. way.front ++ bodies_of bs) (left_is bodies i body within is)
-
-    pub gate_fits : 9 + length (records (bodies_of bodies)) ≤ 2 ^ 62 → gate + 9 + length body.items ≤ 2 ^ 62
+    pub gate_fits : 9 + length (records bodies) ≤ 2 ^ 62 → gate + 9 + length body ≤ 2 ^ 62
     gate_fits limit =
         let size = ap (λ (bs : List (List ℕ)). length (records bs)) split_here in
-        let parts = length-records-append way.front (body.items ∷ rest) in
-        omega (arith, way.place, limit, size, parts, length-records body.items rest)
+        let parts = length-records-append way.front (body ∷ rest) in
+        omega (arith, way.place, limit, size, parts, length-records body rest)
 
-    pub body_damaged : CannotFollow (memory_state memory) body.items → IsDamagedAt (bodies_of bodies) gate
+    pub body_damaged : CannotFollow (memory_state memory) body → IsDamagedAt bodies gate
     body_damaged bad = record {
       front = way.front;
-      body = body.items;
+      body = body;
       later = rest;
       split = split_here;
       state = memory_state memory;
@@ -184,24 +176,24 @@ module _ (bodies : List (Vec ℕ Global)) (i : ℕ) (memory : Memory) (gate : �
       place = way.place;
     }
 
-    pub body_replayed : (next : Memory) (later : ℕ) → ReplaysIf true body.items memory next → later ≡ gate + (9 + length body.items) →
-        BodiesOnWay bodies (i + 1) next later
+    pub body_replayed : (next : Memory) (later : ℕ) → ReplaysIf true body memory next → later ≡ gate + (9 + length body) →
+        BodiesOnWay bodies rest next later
     body_replayed next later replays moved =
         let takes = replays.2 in
-        let more = leads_push way.front opening (memory_state memory) body.items replays.0 way.leads replays.1 takes.0 in
+        let more = leads_push way.front opening (memory_state memory) body replays.0 way.leads replays.1 takes.0 in
         record {
-          front = way.front ++ body.items ∷ [];
-          split = split_here ∙ sym (append_assoc way.front (body.items ∷ []) rest);
-          leads = subst (λ s. Leads (way.front ++ body.items ∷ []) opening s) (sym takes.1) more;
+          front = way.front ++ body ∷ [];
+          split = split_here ∙ sym (append_assoc way.front (body ∷ []) rest);
+          leads = subst (λ s. Leads (way.front ++ body ∷ []) opening s) (sym takes.1) more;
           class = second_after replays.0 (class_of memory.durable.running) (class_of next.durable.running) takes.2 way.class;
           sees = takes.3;
-          place = omega (arith, moved, way.place, length-records-push way.front body.items);
+          place = omega (arith, moved, way.place, length-records-push way.front body);
         }
 
-  pub bodies_lead : length bodies ≤ i → Leads (bodies_of bodies) opening (memory_state memory)
-  bodies_lead past =
-      let none = ap (λ bs. way.front ++ bodies_of bs) (drop_all i bodies past) in
-      subst (λ (bs : List (List ℕ)). Leads bs opening (memory_state memory)) (sym (way.split ∙ none ∙ append-nil way.front)) way.leads
+  pub bodies_lead : left ≡ [] → Leads bodies opening (memory_state memory)
+  bodies_lead none =
+      let all = way.split ∙ ap (λ (bs : List (List ℕ)). way.front ++ bs) none ∙ append-nil way.front in
+      subst (λ (bs : List (List ℕ)). Leads bs opening (memory_state memory)) (sym all) way.leads
 
 -- ---- what a start says
 

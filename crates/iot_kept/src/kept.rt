@@ -102,7 +102,7 @@ impl<D: Disk> Kept<D> {
             Ok(started) => started,
             Err(refused) => return Err(refused),
         };
-        match replay(alloc, bodies.as_slice()) {
+        match replay(alloc, &bodies) {
             Ok(memory) => Ok(Kept {
                 journal,
                 memory,

@@ -1,6 +1,5 @@
 //! What the records on a disk make.
 ghost use Rattle.std.specs.Prelude.{◌≤◌, ◌+◌, ◌^◌, length, IfOk, IfErr};
-ghost use Rattle.iot_disk.specs.Bodies.{bodies_of};
 ghost use Rattle.iot_journal.specs.Decoding.{records};
 ghost use Rattle.iot_kept.specs.States.{opening, AllHold};
 ghost use Rattle.iot_kept.specs.Memory.{memory_state, class_of, IsSecond, Sees};
@@ -11,22 +10,22 @@ ghost use Rattle.iot_kept.specs.Causes.{IsReason};
 use crate::memory::Memory;
 use iot_changes::read_change;
 use iot_codec::CodecFault;
-use iot_disk::StartFault;
+use iot_disk::{Bodies, StartFault};
 use iot_journal::{FIRST_GATE, RECORD};
 use iot_text::NoMemory;
 use std::alloc::Global;
 
 /// Makes the changes whose spellings these bodies are, in their order. A transaction that runs then is second class.
-pub(crate) fn replay(alloc: Global, bodies: &[Vec<u8>]) -> Result<Memory, StartFault>
-    requires { 9 + length (records (bodies_of bodies.now)) ≤ 2 ^ 62 }
-    ensures leads { IfOk result (λ memory. Leads (bodies_of bodies.now) opening (memory_state memory)) }
+pub(crate) fn replay(alloc: Global, bodies: &Bodies) -> Result<Memory, StartFault>
+    requires { 9 + length (records bodies.now) ≤ 2 ^ 62 }
+    ensures leads { IfOk result (λ memory. Leads bodies.now opening (memory_state memory)) }
     ensures class { IfOk result (λ memory. IsSecond (class_of memory.durable.running)) }
     ensures sees { IfOk result Sees }
-    ensures err { IfErr result (λ fault. IsReason fault (bodies_of bodies.now)) }
+    ensures err { IfErr result (λ fault. IsReason fault bodies.now) }
 {
     let mut memory = Memory::new(alloc)?;
     let mut gate: u64 = FIRST_GATE;
-    'bodies: for body in bodies {
+    'bodies: for body in bodies.iter() {
         if !replay_body(alloc, &mut memory, body)? {
             return Err(StartFault::Damaged { at: gate });
         }

@@ -1,10 +1,6 @@
 -- Bodies that lead from one state to another, and the states for which images of a disk stand whose journal is known.
-use Rattle.std.proofs.Common.{◌≡◌, ◌≤◌, ◌<◌, inl, inr, true, ℕ, ◌+◌, ◌^◌, List, [], ◌∷◌, ◌++◌, length, drop, get_or}
+use Rattle.std.proofs.Common.{◌≡◌, ◌≤◌, ◌<◌, inl, inr, true, ℕ, ◌+◌, ◌^◌, List, [], ◌∷◌, ◌++◌, length}
 use Rattle.std.proofs.Common.{refl, sym, ap, ◌∙◌, subst, arith, append_assoc, append-nil}
-use Rattle.std.specs.Prelude.{Vec}
-use Rattle.std.specs.declared.alloc.Global.{Global}
-use Rattle.std.proofs.lemmas.List.{drop_all}
-use Rattle.iot_disk.specs.Bodies.{bodies_of}
 use Rattle.iot_disk.specs.declared.faults.StartFault.{StartFault}
 use Rattle.iot_disk.specs.declared.faults.StartFault.TheVariants as fault
 use Rattle.iot_journal.specs.Decoding.{Encodes, decoded, records, bodies_decoded}
@@ -17,7 +13,6 @@ use Rattle.iot_store.specs.Records.{IsRecord}
 use Rattle.iot_store.specs.Commits.{ReplaysIf}
 use Rattle.iot_store.specs.Causes.{IsReason, TakesBytes}
 use Rattle.iot_store.specs.Standing.{Leads, StandFor, EachStands, EachStandsEither, CannotFollow, IsDamagedAt}
-use Rattle.iot_store.proofs.CommitsLaws.{left_is}
 use Rattle.iot_store.proofs.RecordsLaws.{record_alone}
 
 -- one record more
@@ -85,31 +80,28 @@ either_stands images bodies state body label acts leads is follows encodes = rec
 
 -- ---- replaying
 
--- the commits so far are those of the bodies before a place, and the gate is that of the record there
-pub record BodiesOnWay (bodies : List (Vec ℕ Global)) (i : ℕ) (state : State) (gate : ℕ) : Type 0 where
+-- the commits so far are those of the bodies before the ones that are left, and the gate is that of the record there
+pub record BodiesOnWay (bodies left : List (List ℕ)) (state : State) (gate : ℕ) : Type 0 where
   pub front : List (List ℕ)
-  pub split : bodies_of bodies ≡ front ++ bodies_of (drop i bodies)
+  pub split : bodies ≡ front ++ left
   pub leads : Leads front opening state
   pub place : gate ≡ 9 + length (records front)
 
-module _ (bodies : List (Vec ℕ Global)) (i : ℕ) (state : State) (gate : ℕ) (way : BodiesOnWay bodies i state gate) where
-  module _ (body : Vec ℕ Global) (within : i < length bodies) (is : body ≡ get_or bodies i body) where
-    abbrev rest : List (List ℕ)
-    rest = bodies_of (drop (i + 1) bodies)
+module _ (bodies left : List (List ℕ)) (state : State) (gate : ℕ) (way : BodiesOnWay bodies left state gate) where
+  module _ (body : List ℕ) (rest : List (List ℕ)) (is : left ≡ body ∷ rest) where
+    split_here : bodies ≡ way.front ++ body ∷ rest
+    split_here = way.split ∙ ap (λ (bs : List (List ℕ)). way.front ++ bs) is
 
-    split_here : bodies_of bodies ≡ way.front ++ body.items ∷ rest
-    split_here = way.split ∙ ap (λ bs. way.front ++ bodies_of bs) (left_is bodies i body within is)
-
-    pub gate_fits : 9 + length (records (bodies_of bodies)) ≤ 2 ^ 62 → gate + 9 + length body.items ≤ 2 ^ 62
+    pub gate_fits : 9 + length (records bodies) ≤ 2 ^ 62 → gate + 9 + length body ≤ 2 ^ 62
     gate_fits limit =
         let size = ap (λ (bs : List (List ℕ)). length (records bs)) split_here in
-        let parts = length-records-append way.front (body.items ∷ rest) in
-        omega (arith, way.place, limit, size, parts, length-records body.items rest)
+        let parts = length-records-append way.front (body ∷ rest) in
+        omega (arith, way.place, limit, size, parts, length-records body rest)
 
-    pub body_damaged : CannotFollow state body.items → IsDamagedAt (bodies_of bodies) gate
+    pub body_damaged : CannotFollow state body → IsDamagedAt bodies gate
     body_damaged bad = record {
       front = way.front;
-      body = body.items;
+      body = body;
       later = rest;
       split = split_here;
       state = state;
@@ -118,21 +110,21 @@ module _ (bodies : List (Vec ℕ Global)) (i : ℕ) (state : State) (gate : ℕ)
       place = way.place;
     }
 
-    pub body_replayed : (after : State) (next : ℕ) → ReplaysIf true body.items state after → next ≡ gate + (9 + length body.items) →
-        BodiesOnWay bodies (i + 1) after next
+    pub body_replayed : (after : State) (next : ℕ) → ReplaysIf true body state after → next ≡ gate + (9 + length body) →
+        BodiesOnWay bodies rest after next
     body_replayed after next replays moved =
-        let more = leads_push way.front opening state body.items replays.0 replays.1 way.leads replays.2 replays.3 in
+        let more = leads_push way.front opening state body replays.0 replays.1 way.leads replays.2 replays.3 in
         record {
-          front = way.front ++ body.items ∷ [];
-          split = split_here ∙ sym (append_assoc way.front (body.items ∷ []) rest);
-          leads = subst (λ s. Leads (way.front ++ body.items ∷ []) opening s) (sym replays.4) more;
-          place = omega (arith, moved, way.place, length-records-push way.front body.items);
+          front = way.front ++ body ∷ [];
+          split = split_here ∙ sym (append_assoc way.front (body ∷ []) rest);
+          leads = subst (λ s. Leads (way.front ++ body ∷ []) opening s) (sym replays.4) more;
+          place = omega (arith, moved, way.place, length-records-push way.front body);
         }
 
-  pub bodies_lead : length bodies ≤ i → Leads (bodies_of bodies) opening state
-  bodies_lead past =
-      let none = ap (λ bs. way.front ++ bodies_of bs) (drop_all i bodies past) in
-      subst (λ (bs : List (List ℕ)). Leads bs opening state) (sym (way.split ∙ none ∙ append-nil way.front)) way.leads
+  pub bodies_lead : left ≡ [] → Leads bodies opening state
+  bodies_lead none =
+      let all = way.split ∙ ap (λ (bs : List (List ℕ)). way.front ++ bs) none ∙ append-nil way.front in
+      subst (λ (bs : List (List ℕ)). Leads bs opening state) (sym all) way.leads
 
 -- ---- what a start says
 

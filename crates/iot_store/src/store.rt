@@ -1,6 +1,5 @@
 //! The store itself.
 ghost use Rattle.std.specs.Prelude.{◌≡◌, ◌≤◌, ◌+◌, ◌^◌, ◌++◌, [], ◌∷◌, length, IfOk, IfErr, IfSome, OnOk, IsErrOf, MatchResult, true};
-ghost use Rattle.iot_disk.specs.Bodies.{bodies_of};
 ghost use Rattle.iot_disk.specs.Disk.{armed_with, Only, SameImages};
 ghost use Rattle.iot_disk.specs.Faults.{CountsJournalFault};
 ghost use Rattle.iot_journal.specs.Decoding.{Encodes, decoded, records, is_started};
@@ -18,7 +17,7 @@ ghost use Rattle.iot_store.specs.Causes.{HasCause, TakesBytes, IsReason};
 
 use crate::commits::Commits;
 use crate::records::{read, spell, take_spelling};
-use iot_disk::{Disk, JournalFault, Pick, StartFault};
+use iot_disk::{Bodies, Disk, JournalFault, Pick, StartFault};
 use iot_journal::{FIRST_GATE, Journal, RECORD};
 use iot_text::{NoMemory, Text};
 use iot_tree::{Acts, Label, Labels, Tree};
@@ -93,7 +92,7 @@ impl<D: Disk> Store<D> {
             Ok(started) => started,
             Err(refused) => return Err(refused),
         };
-        match replay(alloc, bodies.as_slice()) {
+        match replay(alloc, &bodies) {
             Ok(commits) => Ok(Store {
                 journal,
                 commits,
@@ -286,14 +285,14 @@ impl<D: Disk> Store<D> {
 }
 
 /// The commits whose records these bodies are, in their order.
-fn replay(alloc: Global, bodies: &[Vec<u8>]) -> Result<Commits, StartFault>
-    requires { 9 + length (records (bodies_of bodies.now)) ≤ 2 ^ 62 }
-    ensures leads { IfOk result (λ commits. Leads (bodies_of bodies.now) opening commits) }
-    ensures err { IfErr result (λ fault. IsReason fault (bodies_of bodies.now)) }
+fn replay(alloc: Global, bodies: &Bodies) -> Result<Commits, StartFault>
+    requires { 9 + length (records bodies.now) ≤ 2 ^ 62 }
+    ensures leads { IfOk result (λ commits. Leads bodies.now opening commits) }
+    ensures err { IfErr result (λ fault. IsReason fault bodies.now) }
 {
     let mut commits = Commits::new(alloc)?;
     let mut gate: u64 = FIRST_GATE;
-    'bodies: for body in bodies {
+    'bodies: for body in bodies.iter() {
         if !replay_body(alloc, &mut commits, body)? {
             return Err(StartFault::Damaged { at: gate });
         }

@@ -2,4 +2,4 @@ use Rattle.iot_store.proofs.StandingLaws.{BodiesOnWay}
 use Rattle.iot_store.proofs.store.replay.Given as goal
 
 abbrev pub invariant-bodies : goal.invariant-bodies
-invariant-bodies l = BodiesOnWay l.bodies l.body-index l.commits l.gate
+invariant-bodies l = BodiesOnWay l.bodies l.body-iterator l.commits l.gate

@@ -1,6 +1,5 @@
 use Rattle.std.proofs.Common.{◌≡◌, ◌≤◌, ◌+◌, ◌^◌, ℕ, List, ◌∷◌, true, drop, ◌∙◌, sym, ap, subst, arith, length}
 use Rattle.std.proofs.lemmas.Bool.{cond-true}
-use Rattle.iot_disk.specs.Bodies.{bodies_of}
 use Rattle.iot_disk.specs.Disk.{Only, SameImages}
 use Rattle.iot_disk.specs.declared.faults.StartFault.{StartFault}
 use Rattle.iot_disk.specs.declared.faults.StartFault.TheVariants as fault
@@ -40,28 +39,25 @@ same_alone one other before now only_before only_now was is same = record {
 pub returns-in-Ok-replay-clause-only : goal.returns-in-Ok-replay-clause-only
 returns-in-Ok-replay-clause-only g c = λ state stands.
     let begun = c.in-Ok.ensures in
-    let bodies = bodies_of c.as_slice.result.now in
-    let size = fits _ _ bodies _ begun.synced.layout begun.synced.limit (begun.same ∙ sym c.as_slice.ensures) in
-    only_state _ bodies (omega (arith, size)) (begun.bodies ∙ ap Encodes (sym c.as_slice.ensures)) _ state c.in-Ok-replay.ensures.leads
-    stands
+    let size = fits _ _ _ _ begun.synced.layout begun.synced.limit begun.same in
+    only_state _ _ (omega (arith, size)) begun.bodies _ state c.in-Ok-replay.ensures.leads stands
 
 pub returns-clause-never : goal.returns-clause-never
 returns-clause-never g c = λ state stands.
     let begun = c.in-Ok.ensures in
-    let bodies = bodies_of c.as_slice.result.now in
-    let size = fits _ _ bodies _ begun.synced.layout begun.synced.limit (begun.same ∙ sym c.as_slice.ensures) in
-    takes _ bodies (omega (arith, size)) (begun.bodies ∙ ap Encodes (sym c.as_slice.ensures)) _ state c.in-Err-replay.ensures.err stands
+    let size = fits _ _ _ _ begun.synced.layout begun.synced.limit begun.same in
+    takes _ _ (omega (arith, size)) begun.bodies _ state c.in-Err-replay.ensures.err stands
 
 pub returns-clause-refused_reads : goal.returns-clause-refused_reads
 returns-clause-refused_reads g c =
     let begun = c.in-Ok.ensures in
-    refused_same _ _ _ _ (begun.bodies ∙ ap Encodes (sym c.as_slice.ensures)) c.in-Err-replay.ensures.err
+    refused_same _ _ _ _ begun.bodies c.in-Err-replay.ensures.err
     (λ same. ap g.D.Disk.medium.reads c.into_disk.ensures ∙ begun.bytes ∙ same)
 
 pub returns-clause-refused_images : goal.returns-clause-refused_images
 returns-clause-refused_images g c =
     let begun = c.in-Ok.ensures in
     let image = g.met.D.Disk.reads_is_image in
-    refused_same _ _ _ _ (begun.bodies ∙ ap Encodes (sym c.as_slice.ensures)) c.in-Err-replay.ensures.err (λ same.
+    refused_same _ _ _ _ begun.bodies c.in-Err-replay.ensures.err (λ same.
     subst (λ disk. SameImages (g.D.Disk.medium.may_leave c.args.disk) (g.D.Disk.medium.may_leave disk)) (sym c.into_disk.ensures)
     (same_alone (g.D.Disk.medium.reads c.args.disk) _ _ _ c.requires begun.synced.only (image c.args.disk) (image _) (begun.bytes ∙ same)))
