@@ -15,3 +15,4 @@ pub mod EventsLaws
 pub mod HaveLaws
 pub mod ShowingLaws
 pub mod SparesLaws
+pub mod BeginningLaws
