@@ -1,4 +1,4 @@
-use Rattle.std.proofs.Common.{true, false, subst, arith}
+use Rattle.std.proofs.Common.{subst, arith}
 use Rattle.iot_kept.specs.Replaying.{ReplaysIf}
 use Rattle.iot_kept.proofs.StandingLaws.{way_holds, body_damaged, body_replayed, gate_fits}
 use Rattle.iot_kept.proofs.replay.replay.Goals as goal

@@ -1,4 +1,4 @@
-use Rattle.std.proofs.Common.{true, false, subst, arith}
+use Rattle.std.proofs.Common.{subst, arith}
 use Rattle.iot_store.specs.Commits.{ReplaysIf}
 use Rattle.iot_store.proofs.StandingLaws.{body_damaged, body_replayed, gate_fits}
 use Rattle.iot_store.proofs.store.replay.Goals as goal
