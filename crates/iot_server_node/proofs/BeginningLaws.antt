@@ -1,5 +1,5 @@
 -- What each image of the server's disk begins with.
-use Rattle.std.proofs.Common.{◌≡◌, ◌⊎◌, ◌+◌, ℕ, List, [], ◌∷◌, ◌++◌, Option, Some, append_assoc, inl, inr, refl, sym, ap, subst, ◌∙◌}
+use Rattle.std.proofs.Common.{◌≡◌, ◌⊎◌, ◌+◌, ℕ, List, [], ◌∷◌, ◌++◌, Option, append_assoc, inl, inr, refl, sym, ap, subst, ◌∙◌}
 use Rattle.std.proofs.lemmas.List.{append-nil}
 use Rattle.iot_disk.specs.Disk.{Medium}
 use Rattle.iot_disk.specs.declared.faults.JournalFault.{JournalFault}
@@ -176,7 +176,7 @@ module _ {D : Type 0} (medium : Medium D) (is_image : (disk : D) → medium.may_
         → (image : List ℕ) → images image → BeginsWith bodies image
     cut_begins asked images cut image there =
         let standing = any_state image (servers.state_of was) (after_commit (servers.state_of was) cut.label cut.acts)
-            (cut.either.each image there) in
+        (cut.either.each image there) in
         elim (cut.one_record.each image there) [
           | inl same ↦ standing_begin [] image standing.0
               (same ∙ ap Encodes (sym (append-nil (servers.bodies_on medium was)))) standing.1
