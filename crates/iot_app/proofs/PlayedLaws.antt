@@ -20,6 +20,7 @@ use Rattle.iot_world.specs.World.{StandsFor, IsWorldOf, IsWorldOfSome, EventStep
 use Rattle.iot_world.specs.World.{Each, Opens, KeepsDisks, AreUnarmed, SameArms, GivesBack, joined_by}
 use Rattle.iot_world.specs.declared.world.World.{World}
 use Rattle.iot_world.proofs.AllowedLaws as worlds
+use Rattle.iot_world.proofs.BeginningLaws.{world_begins, still_begins}
 use Rattle.iot_world.proofs.DisksLaws.{last_here, last_then}
 use Rattle.iot_world.proofs.HoldingLaws.{disks_hold, disks_count}
 use Rattle.iot_world.proofs.ListLaws.{each_length}
@@ -113,6 +114,7 @@ module _ {D : Type 0} (medium : Medium D) where
     stays_as later = record {
       counted =
           all_since (counts_in m) (disks_of world) (disks_of world) (disks_count medium world m stands) (unarmed (disks_of world));
+      begins = world_begins medium world m stands;
       nine = nine_counts medium world m stands;
       spare = omega (arith, eight_spare medium world m stands);
     }
@@ -122,6 +124,7 @@ module _ {D : Type 0} (medium : Medium D) where
         → StaysIn medium new (event ∷ later) m
     still_stays new event later arms = record {
       counted = all_since (counts_in m) (disks_of world) (disks_of new) (disks_count medium world m stands) arms.each;
+      begins = still_begins medium world new m (joined_by event) stands arms;
       nine = nine_counts medium world m stands;
       spare = omega (arith, eight_spare medium world m stands, arms.spare);
     }
@@ -158,6 +161,7 @@ disks_stay {D = D} medium disks before world x y opens same later m stays =
     ∙ sym (each_length (CountsSince medium) (counts_in m) (disks_of world) stays.counted) ∙ stays.nine in
     record {
       counted = stays.counted;
+      begins = stays.begins;
       used = used_by world;
       spare = world.spare.items;
       is = used_first world;
@@ -411,6 +415,7 @@ module _ {D : Type 0} (medium : Medium D) (disks back : List D) (events : List E
     transcript = starts (map (counts_on medium) disks);
     stayed = record {
       counted = since;
+      begins = gives.begins;
       used = gives.now ∷ [];
       spare = gives.rest;
       is = gives.back_are;

@@ -17,6 +17,7 @@ use Rattle.iot_world.specs.Disks.{counts_on}
 use Rattle.iot_world.specs.Holding.{DisksHold, HoldsList, KeepsClient, counts_in}
 use Rattle.iot_world.specs.World.{StandsFor, IsWorldOfSome}
 use Rattle.iot_world.specs.declared.world.World.{World}
+use Rattle.iot_world.proofs.BeginningLaws.{held_begins}
 use Rattle.iot_world.proofs.ListLaws.{each_length}
 use Rattle.iot_app.specs.Counting.{HasCounted}
 use Rattle.iot_app.specs.Doing.{Did}
@@ -209,6 +210,7 @@ module _ {D : Type 0} (medium : Medium D) (handed old : List D) (was now : D) (h
     list =
         list_changed m.server.durable m.server.doubt
         (subst (λ (d : D). HoldsList (medium.may_leave d) m.server.durable m.server.doubt) (sym first) held.list);
+    longer = held.longer;
     each = held.each;
     first = held.first;
     front = held.front;
@@ -255,6 +257,7 @@ pub keeps_stay : {D : Type 0} (medium : Medium D) (handed back : List D) (later 
     → DisksKeep medium handed back m → DisksStay medium handed back later m
 keeps_stay medium handed back later m keeps = record {
   counted = all_since medium (counts_in m) back back keeps.counted (unarmed medium back);
+  begins = held_begins medium handed back m keeps.holds;
   used = keeps.holds.server ∷ keeps.holds.clients;
   spare = keeps.holds.spare;
   is = keeps.holds.is;

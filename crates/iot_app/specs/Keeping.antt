@@ -5,7 +5,7 @@ use Rattle.iot_disk.specs.Disk.{Medium}
 use Rattle.iot_event.specs.declared.event.Event.{Event}
 use Rattle.iot_machine.specs.Machine.{Machine}
 use Rattle.iot_machine.specs.Nodes.{Counts}
-use Rattle.iot_world.specs.Disks.{counts_on}
+use Rattle.iot_world.specs.Disks.{counts_on, FirstBegins}
 use Rattle.iot_world.specs.Holding.{DisksHold, counts_in}
 use Rattle.iot_world.specs.World.{Each, joined_by}
 
@@ -35,10 +35,12 @@ joined_next [] = 0
 joined_next (event ∷ later) = joined_by event
 
 -- Memory ran out, and these events were not done, or the first of them in part. No disk was armed but by those that were done, and each
--- has failed as often as the machine's, or more often. The disks of the clients that are not declared are as they were handed in, and in
--- their places; one more may be declared if the first of these events does that.
+-- has failed as often as the machine's, or more often. Whichever image a crash leaves of the first disk, it begins with the commits of the
+-- machine's list. The disks of the clients that are not declared are as they were handed in, and in their places; one more may be declared
+-- if the first of these events does that.
 pub record DisksStay {D : Type 0} (medium : Medium D) (handed back : List D) (later : List Event) (m : Machine) : Type 0 where
   pub counted : Each (CountsSince medium) (counts_in m) back
+  pub begins : FirstBegins medium m.server.durable back
   pub used : List D
   pub spare : List D
   pub is : back ≡ used ++ spare

@@ -9,6 +9,7 @@ use Rattle.iot_machine.specs.Texts.{line}
 use Rattle.iot_machine.specs.Transcript.{Opening, Transcript}
 use Rattle.iot_words.specs.declared.jobs.Job.{Job}
 use Rattle.iot_words.specs.declared.jobs.Job.TheVariants.{Transcript as plays, Json, Generate, Save}
+use Rattle.iot_world.specs.Disks.{FirstBegins}
 use Rattle.iot_world.specs.Holding.{counts_in}
 use Rattle.iot_world.specs.World.{Each, IsWorldOf, client_count, script_names, disks_of}
 use Rattle.iot_world.specs.declared.world.World.{World}
@@ -56,8 +57,10 @@ pub record IsOpenedSome {D : Type 0} (medium : Medium D) (text : List ℕ) (worl
   pub is : IsOpened medium handed text world
 
 -- Memory ran out in this world, and these events were not done, or the first of them in part: no disk was armed but by those that were
--- done, each has failed as often as the machine's, or more often, and those are spare that no client has.
+-- done, each has failed as often as the machine's, or more often, the server's begins with the machine's list, and those are spare that no
+-- client has.
 pub record StaysIn {D : Type 0} (medium : Medium D) (world : World D) (later : List Event) (m : Machine) : Type 0 where
   pub counted : Each (CountsSince medium) (counts_in m) (disks_of world)
+  pub begins : FirstBegins medium m.server.durable (disks_of world)
   pub nine : length (counts_in m) ≡ 9
   pub spare : 8 ≤ length world.spare.items + length m.clients + joined_next later

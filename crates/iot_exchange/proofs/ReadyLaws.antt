@@ -7,8 +7,10 @@ use Rattle.iot_machine.specs.Clients.{Declared}
 use Rattle.iot_machine.specs.Machine.{Pair}
 use Rattle.iot_node.specs.Disks.{KeepsDisk}
 use Rattle.iot_node.specs.Steps.{StepsTo}
+use Rattle.iot_server_node.specs.Records.{KeepsRecords}
 use Rattle.iot_server_node.specs.Servers.{ServerIsSound, HasDisk, disk_of}
 use Rattle.iot_server_node.specs.declared.server.ServerNode.{ServerNode}
+use Rattle.iot_server_node.proofs.BeginningLaws.{records_same, records_then}
 use Rattle.iot_server_node.proofs.ServersLaws as servers
 use Rattle.iot_laptop.specs.Laptops.{LaptopStands, Stands, disk_in}
 use Rattle.iot_laptop.specs.declared.laptop.Laptop.{Laptop}
@@ -29,6 +31,7 @@ module _ {D : Type 0} (medium : Medium D) where
         restarts.keeps_then medium (disk_in u.laptop) (disk_in v.laptop) (disk_in w.laptop) one.client other.client;
     server =
         restarts.keeps_then medium (disk_of u.server) (disk_of v.server) (disk_of w.server) one.server other.server;
+    records = records_then medium (disk_of u.server) (disk_of v.server) (disk_of w.server) one.records other.records;
   }
 
   -- it is the same disk
@@ -42,7 +45,11 @@ module _ {D : Type 0} (medium : Medium D) where
   -- only the client's may have changed
   pub client_keeps : (old new : Laptop D) (server : ServerNode D) → HasDisk server → KeepsDisk medium (disk_in old) (disk_in new)
       → KeepsDisks medium (two old server) (two new server)
-  client_keeps old new server has keeps = record { client = keeps; server = server_keeps server has }
+  client_keeps old new server has keeps = record {
+    client = keeps;
+    server = server_keeps server has;
+    records = records_same medium (disk_of server) (disk_of server) refl;
+  }
 
   -- so has each its disk afterwards
   keeps_new : (old new : Option D) → KeepsDisk medium old new → KeepsDisk medium new new
@@ -59,6 +66,7 @@ module _ {D : Type 0} (medium : Medium D) where
   keeps_now u v keeps = record {
     client = keeps_new (disk_in u.laptop) (disk_in v.laptop) keeps.client;
     server = keeps_new (disk_of u.server) (disk_of v.server) keeps.server;
+    records = records_same medium (disk_of v.server) (disk_of v.server) refl;
   }
 
   pub has_now : (u v : Both) → KeepsDisks medium u v → HasDisk v.server
@@ -112,14 +120,18 @@ module _ {D : Type 0} (medium : Medium D) where
 
     -- the client's is the same, and the server's may have changed
     pub keeps_served : (laptop : Laptop D) (server : ServerNode D) → disk_in laptop ≡ disk_in u.laptop
-        → KeepsDisk medium (disk_of u.server) (disk_of server) → KeepsDisks medium u (two laptop server)
-    keeps_served laptop server same keeps = record {
+        → KeepsDisk medium (disk_of u.server) (disk_of server) → KeepsRecords medium (disk_of u.server) (disk_of server)
+        → KeepsDisks medium u (two laptop server)
+    keeps_served laptop server same keeps records = record {
       client = keeps_as (disk_in u.laptop) (disk_in laptop) (laptop_keeps u.laptop stands) same;
       server = keeps;
+      records = records;
     }
 
     pub keeps_linked : (laptop : Laptop D) → disk_in laptop ≡ disk_in u.laptop → KeepsDisks medium u (two laptop u.server)
-    keeps_linked laptop same = keeps_served laptop u.server same (server_keeps u.server has_disk)
+    keeps_linked laptop same =
+        keeps_served laptop u.server same (server_keeps u.server has_disk)
+        (records_same medium (disk_of u.server) (disk_of u.server) refl)
 
   -- ---- after a step
 

@@ -19,7 +19,9 @@ use Rattle.iot_machine.specs.Transactions.{runs, SyncsAll}
 use Rattle.iot_node.specs.Steps.{StepsTo, Ends}
 use Rattle.iot_node.specs.declared.halt.Halt.{Halt}
 use Rattle.iot_node.specs.declared.halt.Halt.TheVariants.{Over}
+use Rattle.iot_server_node.specs.Servers.{disk_of}
 use Rattle.iot_server_node.specs.declared.server.ServerNode.{ServerNode}
+use Rattle.iot_server_node.proofs.BeginningLaws.{records_same}
 use Rattle.iot_server_node.proofs.ServersLaws as servers
 use Rattle.iot_laptop.specs.Laptops.{LaptopStands, ClientStands, awake, fallen, is_alive, state_in}
 use Rattle.iot_laptop.specs.Scripts.{IsNamed, HasNamed, option_named}
@@ -149,6 +151,7 @@ module _ {D : Type 0} (medium : Medium D) (scripts : List Declared) (u : Two (La
     server =
         server_keeps medium u.server
         (servers.has_disk medium it.names u.server.post it.pair.server it.stands.server.post);
+    records = records_same medium (disk_of u.server) (disk_of u.server) refl;
   }
 
   -- it says that it is down

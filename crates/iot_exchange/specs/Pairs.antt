@@ -15,6 +15,7 @@ use Rattle.iot_machine.specs.Transactions.{Exchange}
 use Rattle.iot_node.specs.Disks.{KeepsDisk}
 use Rattle.iot_node.specs.Steps.{StepsTo, Ends}
 use Rattle.iot_node.specs.declared.halt.Halt.{Halt}
+use Rattle.iot_server_node.specs.Records.{KeepsRecords}
 use Rattle.iot_server_node.specs.Servers.{ServerStands, disk_of}
 use Rattle.iot_server_node.specs.declared.server.ServerNode.{ServerNode}
 use Rattle.iot_laptop.specs.Laptops.{LaptopStands, ClientStands, state_in, disk_in}
@@ -82,10 +83,11 @@ pub record IsStandingWith {D : Type 0} (medium : Medium D) (scripts : List Decla
 
 -- ---- what they do
 
--- both have their disks, and neither was armed
+-- both have their disks, and neither was armed; the server's has lost no record
 pub record KeepsDisks {D : Type 0} (medium : Medium D) (old new : Two (Laptop D) (ServerNode D)) : Type 0 where
   pub client : KeepsDisk medium (disk_in old.laptop) (disk_in new.laptop)
   pub server : KeepsDisk medium (disk_of old.server) (disk_of new.server)
+  pub records : KeepsRecords medium (disk_of old.server) (disk_of new.server)
 
 -- Among these scripts, whatever the names of the clients and the place of this one, each pair for which they stand does this: the client
 -- is alive then, or the event is over, and it may be down. If memory runs out, nothing is said but of the disks.

@@ -6,6 +6,7 @@ ghost use Rattle.iot_machine.specs.Transactions.{Exchange};
 ghost use Rattle.iot_laptop.specs.Laptops.{state_in};
 ghost use Rattle.iot_node.specs.Disks.{KeepsDisk};
 ghost use Rattle.iot_server_node.specs.Messages.{IsSomeRequest, IsRefresh, SpellsCut, SpellsVerdict, said_of};
+ghost use Rattle.iot_server_node.specs.Records.{KeepsRecords};
 ghost use Rattle.iot_server_node.specs.Servers.{ServerStands, ServerIsSound, IsHanded, IsNamedIn, is_up, disk_of};
 ghost use Rattle.iot_tree.specs.Tree.{Nodes};
 ghost use Rattle.iot_tree.specs.declared.want.Want.{Want};
@@ -74,6 +75,7 @@ fn serve<D: Disk>(
     ensures judges { IfOk result (λ reply. (names : List (List ℕ)) (it : Submission) → IsHanded message.now it → IsNamedIn names it
         → Serves (ServerStands D.medium names) (SpellsVerdict it.reads) (Judges it) reply server.old server.new out.old out.new) }
     ensures disk { KeepsDisk D.medium (disk_of server.old) (disk_of server.new) }
+    ensures records { KeepsRecords D.medium (disk_of server.old) (disk_of server.new) }
 {
     let Some(served) = server.serve(alloc, message, out)? else {
         return Ok(None);

@@ -331,6 +331,7 @@ module _ {D : Type 0} (medium : Medium D) (label : Label) (acts : List Act) (tra
         known_stopped node after text (inr stop) known = subst (NodeIsKnown names) (sym stop.2.is) (record {
           durable = known.durable;
           doubt = all_more (IsKnown names) node.durable it.commit known.durable is_known;
+          longer = record { later = it.commit ∷ []; is = refl };
         })
 
     module _ (was now : Server D) (asked reply : List ℕ) (done : Handles medium asked reply was now) where

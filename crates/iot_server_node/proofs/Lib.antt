@@ -4,3 +4,4 @@ pub mod ServersLaws
 mod LendingLaws
 mod JudgesLaws
 mod DecidingLaws
+pub mod BeginningLaws

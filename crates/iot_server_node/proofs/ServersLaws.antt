@@ -37,7 +37,7 @@ use Rattle.iot_node.specs.declared.post.Doubt.{Doubt}
 use Rattle.iot_node.specs.declared.post.Post.{Post}
 use Rattle.iot_node.specs.declared.post.Post.TheVariants.{Up, Down, Between}
 use Rattle.iot_server_node.specs.Keepers.{lists, traffic_in, Handles, Refuses}
-use Rattle.iot_server_node.specs.Servers.{is_up, count_in, count_of, lent_in, IsKnown, AreKnown, AreKnownIfAny, NodeIsKnown}
+use Rattle.iot_server_node.specs.Servers.{is_up, count_in, count_of, lent_in, IsKnown, AreKnown, AreKnownIfAny, IsLongerIfAny, NodeIsKnown}
 use Rattle.iot_server_node.specs.Servers.{HasAnsweredIn, ServerStands}
 use Rattle.iot_server_node.specs.Servers.{HavingAnswered, ServerIsSound, IsUnopened, answered_since, AreOf, live, IsLive, Handled, Refused}
 use Rattle.iot_server_node.specs.declared.keeper.ServerKeeper.{ServerKeeper}
@@ -60,6 +60,9 @@ module _ (names : List (List ℕ)) where
   known_so node after durable doubt known = record {
     durable = subst (AreKnown names) (sym durable) known.durable;
     doubt = subst (AreKnownIfAny names) (sym doubt) known.doubt;
+    longer =
+        subst (λ (commits : List Commit). IsLongerIfAny commits after.doubt) (sym durable)
+        (subst (IsLongerIfAny node.durable) (sym doubt) known.longer);
   }
 
   pub known_opens : (node after : Node (List Commit)) (text : List ℕ) (on : Bool) → OpensNode server_name node text on after
@@ -73,6 +76,7 @@ module _ (names : List (List ℕ)) where
   known_back s node after is known = record {
     durable = subst (AreKnown names) (sym (ap (λ (n : Node (List Commit)). n.durable) is)) known;
     doubt = subst (AreKnownIfAny names) (sym (ap (λ (n : Node (List Commit)). n.doubt) is)) tt;
+    longer = subst (IsLongerIfAny after.durable) (sym (ap (λ (n : Node (List Commit)). n.doubt) is)) tt;
   }
 
   known_settled : (doubt : Option (List Commit)) (node after : Node (List Commit)) (text : List ℕ)
@@ -233,7 +237,7 @@ module _ {D : Type 0} (medium : Medium D) (names : List (List ℕ)) where
         };
       };
     };
-    known = record { durable = tt; doubt = tt };
+    known = record { durable = tt; doubt = tt; longer = tt };
     answered = tt;
   }
 
@@ -387,7 +391,11 @@ module _ {D : Type 0} (medium : Medium D) (names : List (List ℕ)) where
           counted = ap (λ (k : ℕ). k + 1) here.post.stands.counted ∙ sym (length-append node.durable (commit ∷ []));
         };
       };
-      known = record { durable = all_more (IsKnown names) node.durable commit here.known.durable known; doubt = here.known.doubt };
+      known = record {
+        durable = all_more (IsKnown names) node.durable commit here.known.durable known;
+        doubt = here.known.doubt;
+        longer = subst (IsLongerIfAny (add_commit commit node.durable)) (sym here.post.sure) tt;
+      };
       answered = counts_one was now n it.requests here.answered;
     }
 
@@ -501,6 +509,7 @@ module _ {D : Type 0} (medium : Medium D) (names : List (List ℕ)) (name : List
     known = record {
       durable = known_more names name node.durable here.known.durable;
       doubt = known_more_if_any names name node.doubt here.known.doubt;
+      longer = here.known.longer;
     };
     answered = here.answered;
   }

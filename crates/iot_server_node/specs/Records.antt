@@ -1,5 +1,6 @@
 -- What the server's disk keeps of the machine's list: one record for each commit.
-use Rattle.std.specs.Prelude.{◌≡◌, ℕ, List, [], ◌∷◌, length, map}
+use Rattle.std.specs.Prelude.{◌≡◌, ℕ, List, [], ◌∷◌, ◌++◌, length, map, Option, None, Some}
+use Rattle.iot_disk.specs.Disk.{Medium}
 use Rattle.iot_tree.specs.Tree.{Nodes, root_alone}
 use Rattle.iot_tree.specs.declared.nodes.Node.TheVariants.{Dir}
 use Rattle.iot_exec.specs.Serial.{run_entry}
@@ -28,3 +29,25 @@ pub record IsImage (bytes : List ℕ) (count : ℕ) (commits : List Commit) : Ty
   pub has_records : decoded bytes ≡ Encodes (records_of commits)
   pub leads : Leads (records_of commits) opening (state_of commits)
   pub counted : count ≡ length commits
+
+-- ---- what it begins with, whatever became of a call
+
+-- the bytes are a journal of records of commits, each of which can follow the ones before it, and these bodies are the first of them
+pub record BeginsWith (bodies : List (List ℕ)) (bytes : List ℕ) : Type 0 where
+  pub later : List (List ℕ)
+  pub has_records : decoded bytes ≡ Encodes (bodies ++ later)
+  pub state : State
+  pub leads : Leads (bodies ++ later) opening state
+
+-- so is each image of the disk
+pub record EachBegins {D : Type 0} (medium : Medium D) (bodies : List (List ℕ)) (disk : D) : Type 0 where
+  pub each : (image : List ℕ) → medium.may_leave disk image → BeginsWith bodies image
+
+-- there is a disk, and it is so
+abbrev pub DiskBegins : {D : Type 0} → Medium D → List (List ℕ) → Option D → Type 0
+DiskBegins medium bodies None = ⊥
+DiskBegins medium bodies (Some disk) = EachBegins medium bodies disk
+
+-- whatever bodies each image of the old disk begins with, each image of the new one begins with them, too
+pub record KeepsRecords {D : Type 0} (medium : Medium D) (old new : Option D) : Type 0 where
+  pub keeps : (bodies : List (List ℕ)) → DiskBegins medium bodies old → DiskBegins medium bodies new

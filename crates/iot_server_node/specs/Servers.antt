@@ -34,7 +34,7 @@ use Rattle.iot_wire.specs.Spelling.{request_spelling}
 use Rattle.iot_wire.specs.declared.requests.Request.TheVariants as requests
 use Rattle.iot_server_node.specs.Keepers.{lists, traffic_in, Handles, Refuses}
 use Rattle.iot_server_node.specs.Messages.{said_of}
-use Rattle.iot_server_node.specs.Records.{label_of}
+use Rattle.iot_server_node.specs.Records.{DiskBegins, label_of, records_of}
 use Rattle.iot_server_node.specs.declared.keeper.ServerKeeper.{ServerKeeper}
 use Rattle.iot_server_node.specs.declared.message.Handed.{Handed}
 use Rattle.iot_server_node.specs.declared.message.Message.{Message}
@@ -93,10 +93,20 @@ abbrev pub AreKnownIfAny : List (List ℕ) → Option (List Commit) → Type 0
 AreKnownIfAny names None = Unit {0}
 AreKnownIfAny names (Some commits) = AreKnown names commits
 
--- so is each commit of what is durable, and of what is in doubt
+-- a list that begins with these commits
+pub record IsLonger (commits longer : List Commit) : Type 0 where
+  pub later : List Commit
+  pub is : longer ≡ commits ++ later
+
+abbrev pub IsLongerIfAny : List Commit → Option (List Commit) → Type 0
+IsLongerIfAny commits None = Unit {0}
+IsLongerIfAny commits (Some longer) = IsLonger commits longer
+
+-- so is each commit of what is durable, and of what is in doubt, which begins with what is durable
 pub record NodeIsKnown (names : List (List ℕ)) (node : Node (List Commit)) : Type 0 where
   pub durable : AreKnown names node.durable
   pub doubt : AreKnownIfAny names node.doubt
+  pub longer : IsLongerIfAny node.durable node.doubt
 
 -- a live server has answered so many requests since its start, as far as it can count
 abbrev pub HasAnsweredIn : {D : Type 0} → ℕ → Post (ServerKeeper D) D → Type 0
@@ -136,6 +146,11 @@ pub record IsServerOf {D : Type 0} (it : Server D) (node : Node (List Commit)) (
 abbrev pub LendsServer : {D : Type 0} → Option (Server D) → Node (List Commit) → ℕ → Type 0
 LendsServer None node count = node.alive ≡ false
 LendsServer (Some it) node count = IsServerOf it node count
+
+-- whatever list the old server has, each image of the new one's disk begins with the records of its commits
+pub record KeepsCommits {D : Type 0} (medium : Medium D) (old new : ServerNode D) : Type 0 where
+  pub keeps : (names : List (List ℕ)) (node : Node (List Commit)) (n : ℕ) → ServerStands medium names old node n
+      → DiskBegins medium (records_of node.durable) (disk_of new)
 
 -- it was never started, and its disk is empty
 pub record IsUnopened {D : Type 0} (medium : Medium D) (server : ServerNode D) : Type 0 where

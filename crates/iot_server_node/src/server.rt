@@ -14,6 +14,7 @@ ghost use Rattle.iot_server.specs.Servers as servers;
 ghost use Rattle.iot_server_node.specs.Deciding.{DecidesServer};
 ghost use Rattle.iot_server_node.specs.Keepers.{lists};
 ghost use Rattle.iot_server_node.specs.Messages.{committed_since};
+ghost use Rattle.iot_server_node.specs.Records.{KeepsRecords};
 ghost use Rattle.iot_text.specs.Texts.{Extends};
 ghost use Rattle.iot_tree.specs.Tree.{Nodes};
 ghost use Rattle.iot_tree.specs.declared.want.Want.{Want};
@@ -48,7 +49,7 @@ impl<D: Disk> ServerNode<D> {
     ghost use Rattle.iot_server_node.specs.Messages.{IsSomeRequest, IsRefresh, SpellsCut, SpellsVerdict, printed_under};
     ghost use Rattle.iot_server_node.specs.Servers.{is_up, disk_of, post_of, count_of, tree_of, lent_of, ServerStands, HavingAnswered};
     ghost use Rattle.iot_server_node.specs.Servers.{ServerIsSound, IsUnopened, HasDisk, IsLive, Handled, Refused, GivesUp, ServesBy};
-    ghost use Rattle.iot_server_node.specs.Servers.{IsHanded, IsNamedIn, LendsServer, answered_since};
+    ghost use Rattle.iot_server_node.specs.Servers.{IsHanded, IsNamedIn, LendsServer, KeepsCommits, answered_since};
 
     /// A server on an empty disk, which was never started.
     pub fn unopened(disk: D) -> ServerNode<D>
@@ -70,6 +71,9 @@ impl<D: Disk> ServerNode<D> {
             → StepsTo (HavingAnswered D.medium names n) (HavingAnswered D.medium names 0) (OpensNode server_name)
             self.old self.new out.old out.new on) }
         ensures disk { KeepsDisk D.medium (disk_of self.old) (disk_of self.new) }
+
+        // Also if memory runs out.
+        ensures records { KeepsCommits D.medium self.old self.new }
         ensures text { Extends out.old out.new }
     {
         self.post.open(alloc, 0, b"server", out)
@@ -106,6 +110,9 @@ impl<D: Disk> ServerNode<D> {
             (node : Node (List Commit)) → IsHanded message.now it
             → ServerStands D.medium names self.old node n
             → Lasts (lists D.medium) D.medium (post_of self.new) (doubting (add_commit it.commit) node)) }
+
+        // Whatever comes of it, no record is lost.
+        ensures records { KeepsRecords D.medium (disk_of self.old) (disk_of self.new) }
         ensures disk { KeepsDisk D.medium (disk_of self.old) (disk_of self.new) }
     {
         let before = self.number();
@@ -204,6 +211,7 @@ impl<D: Disk> ServerNode<D> {
         ensures decided { OnOk result (DecidesServer D.medium self.old out.old out.new) }
         ensures lasts { (names : List (List ℕ)) (n : ℕ) (node : Node (List Commit))
             → ServerStands D.medium names self.old node n → Lasts (lists D.medium) D.medium (post_of self.new) node }
+        ensures records { KeepsCommits D.medium self.old self.new }
         ensures disk { KeepsDisk D.medium (disk_of self.old) (disk_of self.new) }
     {
         if self.is_up() {

@@ -10,8 +10,9 @@ use Rattle.iot_disk.specs.Disk.{Medium, Arms}
 use Rattle.iot_node.specs.Disks.{KeepsDisk}
 use Rattle.iot_laptop.specs.Laptops.{disk_in}
 use Rattle.iot_laptop.specs.declared.laptop.Laptop.{Laptop}
-use Rattle.iot_server_node.specs.Servers.{disk_of}
+use Rattle.iot_server_node.specs.Servers.{disk_of, KeepsCommits}
 use Rattle.iot_server_node.specs.declared.server.ServerNode.{ServerNode}
+use Rattle.iot_server_node.proofs.BeginningLaws.{commits_same}
 use Rattle.iot_world.specs.World.{with_first, with_clients, disks_of, LaptopHasDisk, AreLast, AreUnarmed, UnlessArmed, KeepsNode}
 use Rattle.iot_world.specs.World.{KeepsDisks, SameArms}
 use Rattle.iot_world.specs.declared.world.World.{World}
@@ -168,6 +169,9 @@ module _ {D : Type 0} (medium : Medium D) where
     as_many joins spare = let same : length new.spare.items ≡ length old.spare.items = ap (λ ds. length ds.items) spare in
         omega (arith, same)
 
+    same_commits : new.server ≡ old.server → KeepsCommits medium old.server new.server
+    same_commits server = commits_same medium old.server new.server (ap (λ (s : ServerNode D). disk_of s) server)
+
     pub arms_same : {joins : ℕ} → new.server ≡ old.server → new.clients.items ≡ old.clients.items → new.spare ≡ old.spare
         → SameArms medium joins old new
     arms_same {joins = joins} server clients spare = record {
@@ -175,27 +179,31 @@ module _ {D : Type 0} (medium : Medium D) where
           (λ i. with_first (disk_of (sym server i)) (with_clients (sym clients i) ((sym spare i).items)))
           (unarmed_same (disks_of old));
       spare = as_many joins spare;
+      commits = same_commits server;
     }
 
     -- only the server has changed
     pub server_arms : new.clients.items ≡ old.clients.items → new.spare ≡ old.spare → Follows (disk_of old.server) (disk_of new.server)
-        → SameArms medium 0 old new
-    server_arms clients spare follows = record {
+        → KeepsCommits medium old.server new.server → SameArms medium 0 old new
+    server_arms clients spare follows commits = record {
       each = follows _ _ (subst (λ (ds : List D). AreUnarmed medium (with_clients old.clients.items old.spare.items) ds)
           (λ i. with_clients (sym clients i) ((sym spare i).items))
           (unarmed_same (with_clients old.clients.items old.spare.items)));
       spare = as_many 0 spare;
+      commits = commits;
     }
 
     -- another client stands at a place, and another server
     pub put_arms : (c : ℕ) (was laptop : Laptop D) → slice_get old.clients.items c ≡ Some was
         → new.clients.items ≡ slice_set old.clients.items c laptop → new.spare ≡ old.spare
-        → Follows (disk_of old.server) (disk_of new.server) → Follows (disk_in was) (disk_in laptop) → SameArms medium 0 old new
-    put_arms c was laptop get clients spare serves follows = record {
+        → Follows (disk_of old.server) (disk_of new.server) → Follows (disk_in was) (disk_in laptop)
+        → KeepsCommits medium old.server new.server → SameArms medium 0 old new
+    put_arms c was laptop get clients spare serves follows commits = record {
       each = serves _ _ (subst (λ (ds : List D). AreUnarmed medium (with_clients old.clients.items old.spare.items) ds)
           (λ i. with_clients (sym clients i) ((sym spare i).items))
           (put_follows old.clients.items c was laptop old.spare.items get follows));
       spare = as_many 0 spare;
+      commits = commits;
     }
 
     -- a client was declared, and has the first of those that were spare
@@ -232,6 +240,7 @@ module _ {D : Type 0} (medium : Medium D) where
                 (clients_follow old.clients.items (disk ∷ new.spare.items) (with_first (disk_in laptop) new.spare.items)
                 (kept_follows (Some disk) (disk_in laptop) same new.spare.items new.spare.items (unarmed_same new.spare.items)))));
             spare = let more : length old.spare.items ≡ suc (length new.spare.items) = ap length spare in omega (arith, more);
+            commits = same_commits server;
           }
 
   -- ---- what a call leaves of a node's disk

@@ -158,6 +158,7 @@ module _ {D : Type 0} (medium : Medium D) where
             ap (λ (o : Option D). with_first o (with_clients world.clients.items world.spare.items)) server.is
             ∙ ap (λ (ds : List D). server.disk ∷ ds) (held.are world.spare.items);
         list = server.holds;
+        longer = here.server.known.longer;
         each = held.each;
         first = opens.first;
         front = same.spare.front;

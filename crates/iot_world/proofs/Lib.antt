@@ -16,3 +16,4 @@ pub mod AllowedLaws
 pub mod HaveLaws
 pub mod ShowingLaws
 pub mod SparesLaws
+pub mod BeginningLaws

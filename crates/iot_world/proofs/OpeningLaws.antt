@@ -1,6 +1,6 @@
 -- A new world is that of a machine that has opened.
 use Rattle.std.proofs.Common.{◌≡◌, ℕ, ◌<◌, Bool, List, [], ◌∷◌, length, map}
-use Rattle.std.proofs.Common.{Some, refl, sym, ap, subst, ◌∙◌, arith}
+use Rattle.std.proofs.Common.{Option, Some, refl, sym, ap, subst, ◌∙◌, arith}
 use Rattle.std.proofs.lemmas.List.{append-nil}
 use Rattle.std.specs.List.{AllByRecursion}
 use Rattle.std.specs.Prelude.{IsSome}
@@ -14,7 +14,8 @@ use Rattle.iot_machine.specs.Transcript.{Opening}
 use Rattle.iot_machine.proofs.SoundLaws.{sound_opening}
 use Rattle.iot_node.specs.Disks.{IsEmpty, KeepsDisk, counts_on}
 use Rattle.iot_node.specs.Steps.{StepsTo}
-use Rattle.iot_server_node.specs.Servers.{disk_of, ServerStands, HavingAnswered}
+use Rattle.iot_server_node.specs.Records.{DiskBegins, records_of}
+use Rattle.iot_server_node.specs.Servers.{disk_of, ServerStands, HavingAnswered, KeepsCommits}
 use Rattle.iot_server_node.specs.declared.server.ServerNode.{ServerNode}
 use Rattle.iot_laptop.specs.Laptops.{ClientStands}
 use Rattle.iot_laptop.specs.declared.laptop.Laptop.{Laptop}
@@ -97,12 +98,21 @@ module _ {D : Type 0} (medium : Medium D) (disks : List D) (first : D) (rest : L
         unarmed_with)
 
     -- the disks come back
-    pub gives_back : (back : List D) (disk : D) → disk_of now ≡ Some disk → back ≡ disk ∷ rest → GivesBack medium disks back
-    gives_back back disk is put = record {
+    pub gives_back : (back : List D) (disk : D) → disk_of now ≡ Some disk → back ≡ disk ∷ rest
+        → ServerStands medium [] was (unopened [] (counts_on medium first)) 0 → KeepsCommits medium was now → GivesBack medium disks back
+    gives_back back disk is put stands commits = record {
       was = first;
       now = disk;
       rest = rest;
       disks_are = split;
       back_are = put;
       unarmed = (subst (λ o. AreUnarmed medium (first ∷ rest) (with_first o rest)) is unarmed_with).0;
+      begins = record {
+        first = disk;
+        rest = rest;
+        is = put;
+        begins =
+            subst (λ (o : Option D). DiskBegins medium (records_of []) o) is
+            (commits.keeps [] (unopened [] (counts_on medium first)) 0 stands);
+      };
     }

@@ -1,8 +1,10 @@
 -- The disks of a world: the server's is the first, then those of its clients, and then those that no node has yet.
-use Rattle.std.specs.Prelude.{◌≡◌, ◌⊎◌, List, length}
+use Rattle.std.specs.Prelude.{◌≡◌, ◌⊎◌, List, ◌∷◌, length}
 use Rattle.std.specs.List.{AllByRecursion}
 use Rattle.iot_count.specs.Counts.{Rose}
 use Rattle.iot_disk.specs.Disk.{Medium}
+use Rattle.iot_machine.specs.Machine.{Commit}
+use Rattle.iot_server_node.specs.Records.{EachBegins, records_of}
 pub use Rattle.iot_node.specs.Disks.{counts_on, IsEmpty, CountsOn}
 
 -- nine empty disks on which nothing is pending
@@ -14,3 +16,11 @@ pub record AreFresh {D : Type 0} (medium : Medium D) (disks : List D) : Type 0 w
 pub record IsUnarmed {D : Type 0} (medium : Medium D) (old new : D) : Type 0 where
   pub arms : medium.arms new ≡ medium.arms old
   pub faults : (medium.faults new ≡ medium.faults old) ⊎ Rose (medium.faults old) (medium.faults new)
+
+-- Each image of the first disk is a journal that begins with the records of these commits, one for each, in their order. Behind them may be
+-- more, each of a commit that can follow the ones before it.
+pub record FirstBegins {D : Type 0} (medium : Medium D) (commits : List Commit) (disks : List D) : Type 0 where
+  pub first : D
+  pub rest : List D
+  pub is : disks ≡ first ∷ rest
+  pub begins : EachBegins medium (records_of commits) first

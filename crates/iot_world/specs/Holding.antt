@@ -8,6 +8,7 @@ use Rattle.iot_machine.specs.Machine.{Machine, Client, Commit}
 use Rattle.iot_machine.specs.Nodes.{Counts}
 use Rattle.iot_machine.specs.Recorded.{option_named, queue_kept}
 use Rattle.iot_server_node.specs.Records.{IsImage}
+use Rattle.iot_server_node.specs.Servers.{IsLongerIfAny}
 use Rattle.iot_world.specs.World.{Each}
 
 -- an image has this list, a record for each commit
@@ -44,14 +45,15 @@ HoldsClient images m doubt = Holds IsKept images m doubt
 abbrev pub KeepsClient : {D : Type 0} → Medium D → D → Client → Type 0
 KeepsClient medium disk client = HoldsClient (medium.may_leave disk) client.node.durable client.node.doubt
 
--- The first disk holds the server's list, and each of the next what a client keeps, in order of declaration. The disks behind them are
--- as they were handed in.
+-- The first disk holds the server's list, with which the one that is in doubt begins, and each of the next what a client keeps, in order
+-- of declaration. The disks behind them are as they were handed in.
 pub record DisksHold {D : Type 0} (medium : Medium D) (handed back : List D) (m : Machine) : Type 0 where
   pub server : D
   pub clients : List D
   pub spare : List D
   pub is : back ≡ server ∷ clients ++ spare
   pub list : HoldsList (medium.may_leave server) m.server.durable m.server.doubt
+  pub longer : IsLongerIfAny m.server.durable m.server.doubt
   pub each : Each (KeepsClient medium) clients m.clients
   pub first : D
   pub front : List D

@@ -23,12 +23,12 @@ use Rattle.iot_machine.specs.Transcript.{Opening}
 use Rattle.iot_node.specs.Disks.{IsEmpty, KeepsDisk, counts_on}
 use Rattle.iot_server.specs.declared.server.Server.{Server}
 use Rattle.iot_server_node.specs.Servers as servers
-use Rattle.iot_server_node.specs.Servers.{disk_of, ServerStands}
+use Rattle.iot_server_node.specs.Servers.{disk_of, ServerStands, KeepsCommits}
 use Rattle.iot_laptop.specs.Laptops.{ClientStands, ItemsStand, RunningStandsIfAny, disk_in}
 use Rattle.iot_laptop.specs.declared.laptop.Laptop.{Laptop}
 use Rattle.iot_exchange.specs.Scripts as exchange
 use Rattle.iot_exchange.specs.Scripts.{AreApart}
-use Rattle.iot_world.specs.Disks.{IsUnarmed}
+use Rattle.iot_world.specs.Disks.{IsUnarmed, FirstBegins}
 use Rattle.iot_world.specs.declared.world.World.{World}
 
 -- ---- what a world has
@@ -160,17 +160,19 @@ KeepsNode medium true (Err fault) old new = KeepsDisk medium (disk_in old) (disk
 abbrev pub AreUnarmed : {D : Type 0} → Medium D → (old new : List D) → Type 0
 AreUnarmed medium old new = Each (IsUnarmed medium) old new
 
--- nor was one of the world's; and at most so many that were spare are not any more
+-- nor was one of the world's; at most so many that were spare are not any more; and no commit of the server's list is lost
 pub record SameArms {D : Type 0} (medium : Medium D) (joins : ℕ) (old new : World D) : Type 0 where
   pub each : AreUnarmed medium (disks_of old) (disks_of new)
   pub spare : length old.spare.items ≤ length new.spare.items + joins
+  pub commits : KeepsCommits medium old.server new.server
 
 -- how many clients an event declares
 abbrev pub joined_by : Event → ℕ
 joined_by (events.Client name) = 1
 joined_by other = 0
 
--- the disks come back of a world that was not made: the first was not armed, and the others are as they were
+-- The disks come back of a world that was not made. The first was not armed, and each of its images is a journal; the others are as they
+-- were.
 pub record GivesBack {D : Type 0} (medium : Medium D) (disks back : List D) : Type 0 where
   pub was : D
   pub now : D
@@ -178,6 +180,7 @@ pub record GivesBack {D : Type 0} (medium : Medium D) (disks back : List D) : Ty
   pub disks_are : disks ≡ was ∷ rest
   pub back_are : back ≡ now ∷ rest
   pub unarmed : IsUnarmed medium was now
+  pub begins : FirstBegins medium [] back
 
 -- ---- how a world begins
 

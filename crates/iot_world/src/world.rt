@@ -100,7 +100,7 @@ impl<D: Disk> World<D> {
         // image that a node came back from.
         ensures decided { OnOk result (Decides D.medium event.now self.old self.new out.old out.new) }
 
-        // The disks are those of before. If memory ran out, none was armed.
+        // The disks are those of before. If memory ran out, none was armed, and the server's still begins with the commits of its list.
         ensures disks { KeepsDisks self.old self.new }
         ensures arms { IfErr result (λ _. SameArms D.medium (joined_by event.now) self.old self.new) }
 

@@ -53,17 +53,17 @@ returns-in_ok-_lost-in-ReplyLost-clause-judges g c = λ scripts names at it hand
 pub returns-in_ok-_lost-in-ReplyLost-clause-disks : goal.returns-in_ok-_lost-in-ReplyLost-clause-disks
 returns-in_ok-_lost-in-ReplyLost-clause-disks g c =
     keeps_served g.D.Disk.medium (two c.args.laptop.now c.args.server.now) c.requires.ready c.pass.new.self c.serve.new.server
-    c.pass.ensures.disk c.in_ok-_lost-in-ReplyLost.ensures.disk
+    c.pass.ensures.disk c.in_ok-_lost-in-ReplyLost.ensures.disk c.in_ok-_lost-in-ReplyLost.ensures.records
 
 pub returns-in_err-_lost-in-ReplyLost-clause-disks : goal.returns-in_err-_lost-in-ReplyLost-clause-disks
 returns-in_err-_lost-in-ReplyLost-clause-disks g c =
     keeps_served g.D.Disk.medium (two c.args.laptop.now c.args.server.now) c.requires.ready c.pass.new.self c.serve.new.server
-    c.pass.ensures.disk c.in_err-_lost-in-ReplyLost.ensures.disk
+    c.pass.ensures.disk c.in_err-_lost-in-ReplyLost.ensures.disk c.in_err-_lost-in-ReplyLost.ensures.records
 
 pub returns-in_err-reply-in-Both-clause-disks : goal.returns-in_err-reply-in-Both-clause-disks
 returns-in_err-reply-in-Both-clause-disks g c =
     keeps_served g.D.Disk.medium (two c.args.laptop.now c.args.server.now) c.requires.ready c.pass.new.self c.serve-in-Both.new.server
-    c.pass.ensures.disk c.in_err-reply-in-Both.ensures.disk
+    c.pass.ensures.disk c.in_err-reply-in-Both.ensures.disk c.in_err-reply-in-Both.ensures.records
 
 pub returns-in-Some-clause-lends : goal.returns-in-Some-clause-lends
 returns-in-Some-clause-lends g c = λ scripts names at client held want asks.
@@ -82,7 +82,7 @@ returns-in-Some-clause-judges g c = λ scripts names at it handed named.
 pub returns-in-Some-clause-disks : goal.returns-in-Some-clause-disks
 returns-in-Some-clause-disks g c =
     keeps_served g.D.Disk.medium (two c.args.laptop.now c.args.server.now) c.requires.ready c.pass.new.self c.serve-in-Both.new.server
-    c.pass.ensures.disk c.in_ok-reply-in-Both.ensures.disk
+    c.pass.ensures.disk c.in_ok-reply-in-Both.ensures.disk c.in_ok-reply-in-Both.ensures.records
 
 pub returns-in-None-clause-lends : goal.returns-in-None-clause-lends
 returns-in-None-clause-lends g c = λ scripts names at client held want asks.

@@ -2,6 +2,7 @@ use Rattle.iot_machine.specs.Serving.{server_name, kept_text}
 use Rattle.iot_machine.specs.Stops.{OpensNode}
 use Rattle.iot_server_node.proofs.KeepersLaws.{if_ok_both}
 use Rattle.iot_server_node.proofs.ServersLaws.{is_standing, with_known, known_opens, answered_fresh}
+use Rattle.iot_server_node.proofs.BeginningLaws.{commits_last}
 use Rattle.iot_server_node.proofs.server.ServerNode.open.Goals as goal
 
 pub open-requires-clause-stands : goal.open-requires-clause-stands
@@ -15,3 +16,8 @@ returns-clause-step g c =
     c.open.new.out on (step (kept_text names)) (λ node after text. known_opens names node after text on)
     (λ had. answered_fresh c.open.new.self on fresh))
     c.open.ensures.step c.open.ensures.live
+
+pub returns-clause-records : goal.returns-clause-records
+returns-clause-records g c =
+    commits_last g.D.Disk.medium c.args.self.now (record { post = c.open.new.self })
+    (λ names node n here. c.open.ensures.lasts (kept_text names) node here.post)

@@ -1,7 +1,8 @@
-use Rattle.std.proofs.Common.{sym, ◌∙◌}
+use Rattle.std.proofs.Common.{refl, sym, ◌∙◌}
 use Rattle.iot_machine.specs.Serving.{kept_text}
 use Rattle.iot_server_node.proofs.DecidingLaws.{decides, decides_up}
 use Rattle.iot_server_node.proofs.ServersLaws.{lasts, restart_up, restart_down}
+use Rattle.iot_server_node.proofs.BeginningLaws.{commits_last, commits_same}
 use Rattle.iot_server_node.proofs.server.ServerNode.restart.Goals as goal
 
 pub returns-in_err-say-clause-lasts : goal.returns-in_err-say-clause-lasts
@@ -34,3 +35,19 @@ returns-clause-decided g c =
     decides g.D.Disk.medium sound.names sound.node c.come_back.new.self c.args.out.now c.come_back.new.out c.args.self.now.post
     c.in_ok-come_back.field-0 sound.stands.post (c.in_ok-come_back.ensures.step (kept_text sound.names))
     (c.in_ok-come_back.ensures.came (kept_text sound.names) sound.node sound.stands.post)
+
+pub returns-in_err-say-clause-records : goal.returns-in_err-say-clause-records
+returns-in_err-say-clause-records g c = commits_same g.D.Disk.medium c.args.self.now c.args.self.now refl
+
+pub returns-then-is_up-clause-records : goal.returns-then-is_up-clause-records
+returns-then-is_up-clause-records g c = commits_same g.D.Disk.medium c.args.self.now c.args.self.now refl
+
+pub returns-in_err-come_back-clause-records : goal.returns-in_err-come_back-clause-records
+returns-in_err-come_back-clause-records g c =
+    commits_last g.D.Disk.medium c.args.self.now (record { post = c.come_back.new.self })
+    (λ names node n here. c.come_back.ensures.lasts (kept_text names) node here.post)
+
+pub returns-clause-records : goal.returns-clause-records
+returns-clause-records g c =
+    commits_last g.D.Disk.medium c.args.self.now (record { post = c.come_back.new.self })
+    (λ names node n here. c.come_back.ensures.lasts (kept_text names) node here.post)

@@ -4,6 +4,7 @@ use Rattle.iot_server_node.proofs.KeepersLaws.{always_err}
 use Rattle.iot_server_node.proofs.LendingLaws.{lends, lends_always, lends_lasts}
 use Rattle.iot_server_node.proofs.JudgesLaws.{judges, judges_stopped, judges_lasts}
 use Rattle.iot_server_node.proofs.ServersLaws.{is_live, few_there, answered_off}
+use Rattle.iot_server_node.proofs.BeginningLaws.{handled_records, refused_records}
 use Rattle.iot_server_node.proofs.server.ServerNode.serve.Goals as goal
 
 pub handle-requires-clause-synced : goal.handle-requires-clause-synced
@@ -61,3 +62,18 @@ returns-in_err-give_up-in-Err-clause-judges_lasts g c =
     judges_lasts g.D.Disk.medium c.args.message.now it
     (omega (arith, c.args.message.now.request.ok, c.args.message.now.request.small)) hands names c.in-Err.fault c.args.self.now
     c.handle.new.self c.give_up.new.self node n c.in-Err.ensures.refused c.give_up.ensures.disk here)
+
+pub returns-in-Ok-clause-records : goal.returns-in-Ok-clause-records
+returns-in-Ok-clause-records g c =
+    handled_records g.D.Disk.medium g.met.D.Disk.reads_is_image c.args.message.now.request.items c.args.self.now c.handle.new.self
+    c.handle.new.self c.requires.sound c.in-Ok.reply.items c.in-Ok.ensures.handled
+
+pub returns-in_ok-give_up-in-Err-clause-records : goal.returns-in_ok-give_up-in-Err-clause-records
+returns-in_ok-give_up-in-Err-clause-records g c =
+    refused_records g.D.Disk.medium g.met.D.Disk.reads_is_image c.args.message.now.request.items c.args.self.now c.handle.new.self
+    c.give_up.new.self c.requires.sound c.in-Err.fault c.in-Err.ensures.refused c.give_up.ensures.disk
+
+pub returns-in_err-give_up-in-Err-clause-records : goal.returns-in_err-give_up-in-Err-clause-records
+returns-in_err-give_up-in-Err-clause-records g c =
+    refused_records g.D.Disk.medium g.met.D.Disk.reads_is_image c.args.message.now.request.items c.args.self.now c.handle.new.self
+    c.give_up.new.self c.requires.sound c.in-Err.fault c.in-Err.ensures.refused c.give_up.ensures.disk

@@ -1,4 +1,5 @@
 use Rattle.std.proofs.Common.{refl}
+use Rattle.iot_server_node.proofs.BeginningLaws.{commits_same, commits_kept}
 use Rattle.iot_world.proofs.DecidingLaws.{decides_here}
 use Rattle.iot_world.proofs.DisksLaws.{unless_armed, put_arms, put_keeps, node_arms, node_has, kept_follows, same_follows}
 use Rattle.iot_world.proofs.EventsLaws.{then_ok, found}
@@ -55,7 +56,7 @@ returns-in-Node-clause-arms g c =
     rw c.in-Node.is
     (node_arms g.D.Disk.medium _ c.befall.result c.index_mut-laptop.result.now c.befall.new.laptop _ c.befall.ensures.disk
     (λ follows. put_arms _ c.args.self.now _ c.args.client c.index_mut-laptop.result.now c.befall.new.laptop get refl refl
-    (same_follows g.D.Disk.medium _ _ refl) follows))
+    (same_follows g.D.Disk.medium _ _ refl) follows (commits_same g.D.Disk.medium _ _ refl)))
 
 pub returns-in-Link-clause-step : goal.returns-in-Link-clause-step
 returns-in-Link-clause-step g c =
@@ -73,7 +74,8 @@ returns-in-Link-clause-arms g c =
     c.index_mut-laptop.ensures.value in
     unless_armed _ _ _
     (put_arms _ c.args.self.now _ c.args.client c.index_mut-laptop.result.now c.relink.new.laptop get refl refl
-    (same_follows g.D.Disk.medium _ _ refl) (same_follows g.D.Disk.medium _ _ c.relink.ensures.disk))
+    (same_follows g.D.Disk.medium _ _ refl) (same_follows g.D.Disk.medium _ _ c.relink.ensures.disk)
+    (commits_same g.D.Disk.medium _ _ refl))
 
 pub returns-in-Task-clause-step : goal.returns-in-Task-clause-step
 returns-in-Task-clause-step g c =
@@ -91,7 +93,8 @@ returns-in-Task-clause-arms g c =
     c.index_mut-laptop.ensures.value in
     unless_armed _ _ _
     (put_arms _ c.args.self.now _ c.args.client c.index_mut-laptop.result.now c.perform.new.laptop get refl refl
-    (kept_follows g.D.Disk.medium _ _ c.perform.ensures.disks.server) (kept_follows g.D.Disk.medium _ _ c.perform.ensures.disks.client))
+    (kept_follows g.D.Disk.medium _ _ c.perform.ensures.disks.server) (kept_follows g.D.Disk.medium _ _ c.perform.ensures.disks.client)
+    (commits_kept g.D.Disk.medium _ _ c.perform.ensures.disks.records))
 
 pub returns-in-Node-clause-disks : goal.returns-in-Node-clause-disks
 returns-in-Node-clause-disks g c =

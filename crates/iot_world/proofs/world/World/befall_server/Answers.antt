@@ -1,4 +1,6 @@
-use Rattle.std.proofs.Common.{refl}
+use Rattle.std.proofs.Common.{refl, ap}
+use Rattle.iot_server_node.specs.Servers.{disk_of}
+use Rattle.iot_server_node.proofs.BeginningLaws.{commits_same}
 use Rattle.iot_world.proofs.DisksLaws.{unless_armed, arms_same, server_keeps, server_arms, kept_follows, now_has}
 use Rattle.iot_world.proofs.HaveLaws.{server_after}
 use Rattle.iot_world.proofs.WorldsLaws.{at_server, restarts}
@@ -18,7 +20,8 @@ returns-in_err-arm-in-Stop-clause-disks g c =
 
 pub returns-in_err-arm-in-Stop-clause-arms : goal.returns-in_err-arm-in-Stop-clause-arms
 returns-in_err-arm-in-Stop-clause-arms g c =
-    unless_armed _ _ _ (server_arms _ c.args.self.now _ refl refl (kept_follows g.D.Disk.medium _ _ c.in_err-arm-in-Stop.ensures.disk))
+    unless_armed _ _ _ (server_arms _ c.args.self.now _ refl refl (kept_follows g.D.Disk.medium _ _ c.in_err-arm-in-Stop.ensures.disk)
+    (commits_same g.D.Disk.medium _ _ (ap (λ s. disk_of s) c.in_err-arm-in-Stop.ensures.same)))
 
 pub returns-in_ok-arm-in-Stop-clause-step : goal.returns-in_ok-arm-in-Stop-clause-step
 returns-in_ok-arm-in-Stop-clause-step g c =
@@ -37,7 +40,8 @@ returns-in_err-crash-in-Crash-clause-disks g c =
 
 pub returns-in_err-crash-in-Crash-clause-arms : goal.returns-in_err-crash-in-Crash-clause-arms
 returns-in_err-crash-in-Crash-clause-arms g c =
-    unless_armed _ _ _ (server_arms _ c.args.self.now _ refl refl (kept_follows g.D.Disk.medium _ _ c.crash.ensures.disk))
+    unless_armed _ _ _ (server_arms _ c.args.self.now _ refl refl (kept_follows g.D.Disk.medium _ _ c.crash.ensures.disk)
+    (commits_same g.D.Disk.medium _ _ c.crash.ensures.same))
 
 pub returns-in_ok-crash-in-Crash-clause-step : goal.returns-in_ok-crash-in-Crash-clause-step
 returns-in_ok-crash-in-Crash-clause-step g c =
@@ -54,7 +58,8 @@ returns-in_err-restart-in-Restart-clause-disks g c =
 
 pub returns-in_err-restart-in-Restart-clause-arms : goal.returns-in_err-restart-in-Restart-clause-arms
 returns-in_err-restart-in-Restart-clause-arms g c =
-    unless_armed _ _ _ (server_arms _ c.args.self.now _ refl refl (kept_follows g.D.Disk.medium _ _ c.restart.ensures.disk))
+    unless_armed _ _ _ (server_arms _ c.args.self.now _ refl refl (kept_follows g.D.Disk.medium _ _ c.restart.ensures.disk)
+    c.restart.ensures.records)
 
 pub returns-in_ok-restart-in-Restart-clause-step : goal.returns-in_ok-restart-in-Restart-clause-step
 returns-in_ok-restart-in-Restart-clause-step g c =
@@ -67,11 +72,13 @@ returns-in_ok-restart-in-Restart-clause-disks g c =
 
 pub returns-in_ok-crash-in-Crash-clause-arms : goal.returns-in_ok-crash-in-Crash-clause-arms
 returns-in_ok-crash-in-Crash-clause-arms g c =
-    unless_armed _ _ _ (server_arms _ c.args.self.now _ refl refl (kept_follows g.D.Disk.medium _ _ c.crash.ensures.disk))
+    unless_armed _ _ _ (server_arms _ c.args.self.now _ refl refl (kept_follows g.D.Disk.medium _ _ c.crash.ensures.disk)
+    (commits_same g.D.Disk.medium _ _ c.crash.ensures.same))
 
 pub returns-in_ok-restart-in-Restart-clause-arms : goal.returns-in_ok-restart-in-Restart-clause-arms
 returns-in_ok-restart-in-Restart-clause-arms g c =
-    unless_armed _ _ _ (server_arms _ c.args.self.now _ refl refl (kept_follows g.D.Disk.medium _ _ c.restart.ensures.disk))
+    unless_armed _ _ _ (server_arms _ c.args.self.now _ refl refl (kept_follows g.D.Disk.medium _ _ c.restart.ensures.disk)
+    c.restart.ensures.records)
 
 pub returns-in_ok-show-in-Show-clause-arms : goal.returns-in_ok-show-in-Show-clause-arms
 returns-in_ok-show-in-Show-clause-arms g c = unless_armed _ _ _ (arms_same _ c.args.self.now _ refl refl refl)

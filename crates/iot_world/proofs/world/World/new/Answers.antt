@@ -33,4 +33,4 @@ pub returns-in-Err-clause-refused : goal.returns-in-Err-clause-refused
 returns-in-Err-clause-refused g c =
     gives_back g.D.Disk.medium c.args.disks.items c.take_first.result c.take_first.new.disks.items c.take_first.ensures.items
     c.requires c.unopened-server.result c.open.new.self c.unopened-server.ensures.disk c.open.ensures.disk _ c.into_disk.result
-    c.into_disk.ensures c.put_first.ensures.items
+    c.into_disk.ensures c.put_first.ensures.items (c.unopened-server.ensures.stands [] 0) c.open.ensures.records
