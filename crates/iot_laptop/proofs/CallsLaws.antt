@@ -2,79 +2,71 @@
 use Rattle.std.proofs.Common.{◌≡◌, ◌⊎◌, ◌+◌, ℕ, Bool, true, false, List, [], ◌∷◌}
 use Rattle.std.proofs.Common.{◌++◌, length, Option, Some, None, Result, Ok, Err, inl, inr}
 use Rattle.std.proofs.Common.{refl, sym, ap, subst, ◌∙◌, length-append}
-use Rattle.std.specs.Prelude.{IfOk, OnOk, IfSome, IsErrOf}
+use Rattle.std.specs.Prelude.{IfOk, OnOk, IsErrOf}
 use Rattle.std.proofs.lemmas.List.{append-nil}
-use Rattle.iot_count.specs.Counts.{Rose}
+use Rattle.std.proofs.lemmas.Result.{IfOk-at_ok}
+use Rattle.iot_tree.specs.Tree.{Nodes}
+use Rattle.iot_tree.specs.declared.labels.OnConflict.{OnConflict as OnConflictNamed}
+use Rattle.iot_lang.specs.Scripts.{IsScript}
 use Rattle.iot_changes.specs.Spelling.{change_spelling}
 use Rattle.iot_changes.specs.declared.changes.Change.{Change}
-use Rattle.iot_kept.specs.States.{opening}
-use Rattle.iot_kept.specs.Changes.{after}
+use Rattle.iot_changes.specs.declared.changes.Change.TheVariants.{Held, Begun, Fetched, Repaired, Left}
+use Rattle.iot_kept.specs.States.{State, opening}
+use Rattle.iot_kept.specs.Changes.{CanFollow, after}
 use Rattle.iot_kept.specs.Standing.{Leads, IsRecord}
 use Rattle.iot_kept.proofs.StandingLaws.{leads_push}
-use Rattle.iot_client.specs.Calls.{CutsOff}
+use Rattle.iot_client.specs.Calls.{Notes, CutsOff, Brings, CutsOffByTree}
 use Rattle.iot_client.specs.Faults.{CountsFault}
-use Rattle.iot_client.specs.Ties.{IsTied, state_of, live_of, place_of, disk_of, bodies_on, records_of}
+use Rattle.iot_client.specs.Messages.{ReadsObjects}
+use Rattle.iot_client.specs.Ties.{Live, IsTied, state_of, live_of, disk_of, bodies_on, records_of}
 use Rattle.iot_client.specs.declared.client.Client.{Client}
 use Rattle.iot_client.specs.declared.fault.ClientFault.{ClientFault}
-use Rattle.iot_client.specs.declared.fault.ClientFault.TheVariants as faults
 use Rattle.iot_client.specs.declared.fault.ClientFault.TheVariants.{Stopped}
 use Rattle.iot_disk.specs.Disk.{Medium}
 use Rattle.iot_disk.specs.declared.faults.JournalFault.{JournalFault}
 use Rattle.iot_disk.specs.declared.faults.JournalFault.TheVariants as append
-use Rattle.iot_machine.specs.Clients.{Declared, ClientState, begin}
+use Rattle.iot_machine.specs.Clients.{Declared, ClientState, hold, fetch, leave, repair, begin}
 use Rattle.iot_machine.specs.Machine as machine
-use Rattle.iot_machine.specs.Nodes.{Node, changed, doubting}
+use Rattle.iot_machine.specs.Nodes.{Node, changed}
 use Rattle.iot_machine.specs.Options.{OnConflict}
-use Rattle.iot_machine.specs.Stops.{Appends, IsStopped}
-use Rattle.iot_machine.specs.Texts.{stopped_line}
+use Rattle.iot_machine.specs.Stops.{Appends}
+use Rattle.iot_machine.specs.Transactions.{Writes}
+use Rattle.iot_machine.proofs.PossiblyLaws.{possibly_sure, appends_possibly}
 use Rattle.iot_node.specs.Disks.{counts_on, KeepsDisk}
 use Rattle.iot_node.specs.Keeping.{Appended}
 use Rattle.iot_node.specs.Posts.{PostStands, UpStands, StepsFrom, Answered, is_on}
-use Rattle.iot_node.specs.Steps.{EndsBy}
+use Rattle.iot_node.specs.Steps.{StepsTo, EndsBy}
 use Rattle.iot_node.specs.declared.halt.Halt.{Halt}
 use Rattle.iot_node.specs.declared.halt.Halt.TheVariants.{NoMemory, Over}
 use Rattle.iot_node.specs.declared.post.Post.{Post}
 use Rattle.iot_node.specs.declared.post.Post.TheVariants.{Up, Down, Between}
+use Rattle.iot_node.proofs.PostsLaws.{same_counts}
+use Rattle.iot_node.proofs.StepsToLaws.{bind, answers}
 use Rattle.iot_laptop.specs.Alone.{NotesAlone, StartsAlone}
 use Rattle.iot_machine.specs.Events.{no_text}
-use Rattle.iot_laptop.specs.Calls.{appended, done, EndsAlone, GoesOn}
+use Rattle.iot_laptop.specs.Calls.{appended, done, EndsAlone, GoesOn, Changes, Begins, Repairs}
 use Rattle.iot_laptop.specs.Kept.{StateKept}
-use Rattle.iot_laptop.specs.Laptops.{LaptopStands, ClientStands, StateStands}
-use Rattle.iot_laptop.specs.Laptops.{fallen, state_in, live_in, records_in, records_by, disk_by}
+use Rattle.iot_laptop.specs.Laptops.{LaptopStands, ClientStands, StateStands, state_by, live_by, records_in, records_by, disk_by}
+use Rattle.iot_laptop.specs.Messages.{SpellsTree}
 use Rattle.iot_laptop.specs.Scripts.{AreNamed}
 use Rattle.iot_laptop.specs.Seats.{IsClientImage, seating}
 use Rattle.iot_laptop.specs.declared.laptop.Laptop.{Laptop}
 use Rattle.iot_laptop.specs.declared.seated.Seated.{Seated}
-use Rattle.iot_laptop.proofs.KeptStatesLaws.{KeptLive, stands_with}
-use Rattle.iot_laptop.proofs.NodesLaws.{not_both, up_stands}
-use Rattle.iot_laptop.proofs.SeatsLaws.{same_counts}
-
-pub on_ok : {T E P : Type 0} (answer : Result T E) (t : T) → answer ≡ Ok t → OnOk answer P → P
-on_ok {P = P} answer t is on = subst (λ r. OnOk r P) is on
-
-pub if_ok : {T E : Type 0} (answer : Result T E) (t : T) (P : T → Type 0) → answer ≡ Ok t → IfOk answer P → P t
-if_ok answer t P is on = subst (λ r. IfOk r P) is on
+use Rattle.iot_client.proofs.SpelledLaws.{tree_spelled}
+use Rattle.iot_laptop.proofs.RepliesLaws.{brought_tree}
+use Rattle.iot_laptop.proofs.KeptStatesLaws.{KeptLive, live_then, held_live, begun_live, fetched_live, left_live, repaired_live}
+use Rattle.iot_laptop.proofs.KeptStatesLaws.{KeepsNamed, hold_named, begin_named, fetch_named, leave_named, repair_named}
+use Rattle.iot_laptop.proofs.NodesLaws.{not_both, up_stands, awake_at, fallen_at}
 
 -- an answer that was done
 pub was_ok : {T : Type 0} (answer : Result T ClientFault) (t : T) → appended answer ≡ Ok t → answer ≡ Ok t
-was_ok (Ok u) t is = ap (λ (r : Result _ JournalFault). back r) is
-  where
-    back : {T : Type 0} → Result T JournalFault → Result T ClientFault
-    back (Ok u) = Ok u
-    back (Err fault) = Err faults.NoMemory
+was_ok (Ok u) t is = cc
 was_ok (Err fault) t is = absurd cc
 
 pub was_stopped : {T : Type 0} (answer : Result T ClientFault) → appended answer ≡ Err append.Stopped → IsErrOf answer Stopped
 was_stopped (Ok t) is = absurd cc
-was_stopped (Err faults.Stopped) is = refl
-was_stopped (Err faults.NoMemory) is = absurd cc
-was_stopped (Err faults.Busy) is = absurd cc
-was_stopped (Err faults.Pending) is = absurd cc
-was_stopped (Err faults.Idle) is = absurd cc
-was_stopped (Err faults.NotAtEnd) is = absurd cc
-was_stopped (Err faults.Nothing) is = absurd cc
-was_stopped (Err faults.NotManual) is = absurd cc
-was_stopped (Err (faults.BadReply at)) is = absurd cc
+was_stopped (Err Stopped) is = refl
+was_stopped (Err other) is = absurd cc
 
 pub each_ok : {T E P : Type 0} (answer : Result T E) → ((t : T) → answer ≡ Ok t → P) → OnOk answer P
 each_ok (Ok t) each = each t refl
@@ -118,28 +110,11 @@ pub record Before {D : Type 0} (medium : Medium D) (laptop : Laptop D) (was : Cl
 -- what is known of a change by it: if it was done, and if it was stopped
 pub record Fits {D T : Type 0} (medium : Medium D) (was now : Client D) (answer : Result T ClientFault) (scripts : List Declared)
     (next : ClientState) (first : Bool) : Type 0 where
-  pub place : OnOk answer (place_of now ≡ place_of was)
-  pub records : OnOk answer (records_of now ≡ records_of was + 1)
-  pub ok : OnOk answer (KeptLive (state_of now) (live_of now) first next)
+  pub ok : OnOk answer ((change : Change) × Notes change was now × KeptLive (after (state_of was) change) (live_of now) first next)
   pub cut : IsErrOf answer Stopped → (change : Change)
       × CutsOff change (state_of was) (bodies_on medium was) (medium.may_leave (disk_of now))
       × StateKept (after (state_of was) change) next
   pub named : AreNamed scripts next
-
--- it went on, and stands for this client then
-pub record WentOn {D : Type 0} (medium : Medium D) (scripts : List Declared) (new : Laptop D) (x y : List ℕ) (m : machine.Client)
-    : Type 0 where
-  pub silent : y ≡ x ++ []
-  pub stands : LaptopStands medium scripts new m
-
--- or it stopped in this change
-pub record Halted {D : Type 0} (medium : Medium D) (scripts : List Declared) (new : Laptop D) (x y : List ℕ) (m : machine.Client)
-    (change : ClientState → ClientState) : Type 0 where
-  pub node : Node ClientState
-  pub text : List ℕ
-  pub wrote : y ≡ x ++ text
-  pub step : Appends m.name change m.node text false node
-  pub stands : ClientStands medium scripts new (record m { node = node })
 
 -- each image is what the client keeps, without the record or with it
 either_image : {D : Type 0} (medium : Medium D) (was now : Client D) → IsTied medium was → (change : Change) (m next : ClientState)
@@ -171,12 +146,120 @@ either_image medium was now tied change m next cuts kept later n counted image l
       })
     ]
 
+-- the call as one of the keeper of a node
+appended_by : {D T : Type 0} (medium : Medium D) (place : ℕ) (was now : Client D) (answer : Result T ClientFault)
+    (scripts : List Declared) (m : ClientState) (change : ClientState → ClientState) (first : Bool)
+    → Fits medium was now answer scripts (change m) first → OnOk answer (IsTied medium now)
+    → CountsFault answer (medium.faults (disk_of was)) (medium.faults (disk_of now))
+    → medium.arms (disk_of now) ≡ medium.arms (disk_of was)
+    → Appended (seating medium place) medium change m (record { client = was }) (record { client = now }) (appended answer)
+appended_by medium place was now (Ok t) scripts m change first fits tied counts arms = (
+  (λ n seat. record {
+    place_is = fits.ok.1.place ∙ seat.place_is;
+    tied = tied;
+    counted = fits.ok.1.records ∙ ap (λ (k : ℕ). k + 1) seat.counted;
+    kept = subst (λ (s : State). StateKept s (change m)) (sym fits.ok.1.state) fits.ok.2.kept;
+  }),
+  same_counts medium (disk_of was) (disk_of now) counts arms,
+)
+appended_by medium place was now (Err Stopped) scripts m change first fits tied counts arms =
+    let cut = fits.cut refl in (
+      (λ n seat. record {
+        each = either_image medium was now seat.tied cut.0 m (change m) cut.1 seat.kept cut.2 n seat.counted;
+      }),
+      record { faults = counts; arms = arms },
+    )
+appended_by medium place was now (Err other) scripts m change first fits tied counts arms = tt
+
 module _ {D T : Type 0} {medium : Medium D} {laptop : Laptop D} {was now : Client D} {answer : Result T ClientFault} {new : Laptop D}
     {x y : List ℕ} {result : Result T Halt} (call : Called medium laptop was now answer new x y result) where
-  abbrev stand_posts : Post (Seated D) D → Node ClientState → Type 0
-  stand_posts = PostStands (seating medium laptop.place) medium no_text
+  abbrev s : State
+  s = state_of was
 
-  pub before : (scripts : List Declared) (m : machine.Client) → LaptopStands medium scripts laptop m → Before medium laptop was scripts m
+  abbrev cuts : Change → Type 0
+  cuts change = CutsOff change s (bodies_on medium was) (medium.may_leave (disk_of now))
+
+  abbrev Posted : Post (Seated D) D → Node ClientState → Type 0
+  Posted = PostStands (seating medium laptop.place) medium no_text
+
+  -- if its event is over, the call was stopped
+  pub answer_stopped : result ≡ Err Over → IsErrOf answer Stopped
+  answer_stopped same = call.goes.stopped (subst (λ (r : Result T Halt). IsErrOf r Over) (sym same) refl)
+
+  -- ---- for each client of the machine of which this is known
+
+  module _ (scripts : List Declared) (stands : Laptop D → machine.Client → Type 0) (change : ClientState → ClientState)
+      (class : Bool → Bool)
+      (each : (m : machine.Client) → stands laptop m → Before medium laptop was scripts m
+      × Fits medium was now answer scripts (change m.node.durable) (class m.first)) where
+    abbrev after_it : Laptop D → machine.Client → Type 0
+    after_it l m = LaptopStands medium scripts l (record m { first = class m.first })
+
+    answered : (m : machine.Client) → stands laptop m → (r : Result T Halt) → result ≡ r
+        → Answered (StepsFrom Posted (Appends laptop.name change) m.node new.post x y) (appended answer) r
+    answered m here r same =
+        let known = each m here in
+        subst (λ (r : Result T Halt). Answered (StepsFrom Posted (Appends laptop.name change) m.node new.post x y) (appended answer) r)
+        same
+        (call.goes.step (record { client = was }) (record { client = now }) change m.node refl known.0.up
+        (appended_by medium laptop.place was now answer scripts m.node.durable change (class m.first) known.1 call.tied call.counts
+        call.arms)
+        (call.counted ∙ ap records_by call.is))
+
+    -- it went on
+    pub goes_at : (t : T) → result ≡ Ok t → StepsTo stands after_it (Writes change) laptop new x y true
+    goes_at t same = record {
+      step = λ m here.
+          let known = each m here in
+          let s = (answered m here (Ok t) same).1 in
+          let n : Node ClientState = changed change m.node in
+          let went : s.1 ≡ n = elim s.3 [ | inl it ↦ it.2 | inr stop ↦ absurd (not_both stop.1) ] in
+          let is : new ≡ record laptop { post = Up (record { client = now }) } = IfOk-at_ok _ same call.goes.same in (
+            [],
+            record m { node = n },
+            IfOk-at_ok _ same call.goes.silent ∙ sym (append-nil x),
+            record { inner = n; step = inl (refl, refl, refl); is = refl },
+            subst (λ (l : Laptop D). LaptopStands medium scripts l (record m { node = n; first = class m.first })) (sym is)
+                (awake_at medium scripts laptop m known.0.name known.0.link (Up (record { client = now })) n
+                (subst (λ (l : Laptop D). Posted l.post n) is (subst (Posted new.post) went s.4)) known.0.alive (class m.first)
+                (IfOk-at_ok _ (IfOk-at_ok _ same call.goes.answers) known.1.ok).2.runs known.1.named),
+          );
+    }
+
+    -- or it stopped in that
+    pub halts_at : result ≡ Err Over → StepsTo stands (ClientStands medium scripts) (Writes change) laptop new x y false
+    halts_at same = record {
+      step = λ m here.
+          let known = each m here in
+          let s = answered m here (Err Over) same in
+          let down : s.1.alive ≡ false = elim s.3 [
+            | inl it ↦ absurd (not_both (sym it.1))
+            | inr stop ↦ ap (λ (n : Node ClientState). n.alive) stop.2.is
+          ] in (
+            s.0,
+            record m { node = s.1 },
+            s.2,
+            record {
+              inner = s.1;
+              step = subst (λ (name : List ℕ). Appends name change m.node s.0 false s.1) known.0.name s.3;
+              is = refl;
+            },
+            subst (λ (l : Laptop D). ClientStands medium scripts l (record m { node = s.1 })) (sym call.goes.rest)
+                (fallen_at medium scripts laptop m known.0.name known.0.link new.post s.1 s.4 down
+                (appends_possibly laptop.name change m.node s.1 s.0 false (λ _. known.1.named)
+                (possibly_sure m.node known.0.up.sure known.0.named) s.3)),
+          );
+    }
+
+    notes_at : (t : T) → result ≡ Ok t → StepsTo stands after_it (NotesAlone change) laptop new x y (Some tt)
+    notes_at t same = bind laptop new new x y y true (Some tt) (goes_at t same) (answers new new y (Some tt) (λ m here. here))
+
+    stops_at : result ≡ Err Over → StepsTo stands (ClientStands medium scripts) (NotesAlone change) laptop new x y None
+    stops_at same = bind laptop new new x y y false None (halts_at same) (answers new new y None (λ m here. here))
+
+  -- ---- what was so before
+
+  before : (scripts : List Declared) (m : machine.Client) → LaptopStands medium scripts laptop m → Before medium laptop was scripts m
   before scripts m here = record {
     name = here.name;
     link = here.link;
@@ -185,242 +268,161 @@ module _ {D T : Type 0} {medium : Medium D} {laptop : Laptop D} {was now : Clien
     named = here.named;
   }
 
-  -- if it went on, the call was done
-  pub answer_is : (t : T) → result ≡ Ok t → answer ≡ Ok t
-  answer_is t same = was_ok answer t (if_ok result t (λ u. appended answer ≡ Ok u) same call.goes.answers)
+  pub stands_was : (scripts : List Declared) (m : machine.Client) → LaptopStands medium scripts laptop m
+      → StateStands s (live_of was) m.first m.node.durable
+  stands_was scripts m here =
+      subst (λ (p : Post (Seated D) D). StateStands (state_by p) (live_by p) m.first m.node.durable) call.is here.state
 
-  -- if its event is over, the call was stopped
-  pub answer_stopped : result ≡ Err Over → IsErrOf answer Stopped
-  answer_stopped same = was_stopped answer (call.goes.stopped (subst (λ (r : Result T Halt). IsErrOf r Over) (sym same) refl))
+  known_was : (scripts : List Declared) (m : machine.Client) → LaptopStands medium scripts laptop m
+      → KeptLive s (live_of was) m.first m.node.durable
+  known_was scripts m here = record {
+    kept = (before scripts m here).up.stands.kept;
+    runs = live_then s.running (live_of was) m.first m.node.durable.running (stands_was scripts m here).running;
+  }
 
-  counts_as : (a : Result T ClientFault) → answer ≡ a → CountsFault a (medium.faults (disk_of was)) (medium.faults (disk_of now))
-  counts_as a same =
-      subst (λ (r : Result T ClientFault). CountsFault r (medium.faults (disk_of was)) (medium.faults (disk_of now))) same call.counts
+  -- ---- a change of the client of the machine
 
-  -- it is over its node where it was
-  node_of : (node : Node ClientState) → stand_posts new.post node → PostStands (seating medium new.place) medium no_text new.post node
-  node_of node stands =
-      subst (λ (place : ℕ). PostStands (seating medium place) medium no_text new.post node)
-      (sym (ap (λ (l : Laptop D). l.place) call.goes.rest)) stands
-
-  module _ (scripts : List Declared) (m : machine.Client) (change : ClientState → ClientState) (first : Bool)
-      (known : Before medium laptop was scripts m) (fits : Fits medium was now answer scripts (change m.node.durable) first) where
-    appended_by : (a : Result T ClientFault) → answer ≡ a
-        → Appended (seating medium laptop.place) medium change m.node.durable (record { client = was }) (record { client = now })
-        (appended a)
-    appended_by (Ok t) same = (
-      (λ n seat. record {
-        place_is = on_ok answer t same fits.place ∙ seat.place_is;
-        tied = on_ok answer t same call.tied;
-        counted = on_ok answer t same fits.records ∙ ap (λ (k : ℕ). k + 1) seat.counted;
-        kept = (on_ok answer t same fits.ok).kept;
-      }),
-      same_counts (counts_on medium (disk_of now)) (counts_on medium (disk_of was)) (counts_as (Ok t) same) call.arms,
-    )
-    appended_by (Err faults.Stopped) same =
-        let cut = fits.cut (subst (λ (r : Result T ClientFault). IsErrOf r Stopped) (sym same) refl) in (
-          (λ n seat. record {
-            each = either_image medium was now seat.tied cut.0 m.node.durable (change m.node.durable) cut.1 seat.kept cut.2 n seat.counted;
-          }),
-          record { faults = counts_as (Err faults.Stopped) same; arms = call.arms },
-        )
-    appended_by (Err faults.NoMemory) same = tt
-    appended_by (Err faults.Busy) same = tt
-    appended_by (Err faults.Pending) same = tt
-    appended_by (Err faults.Idle) same = tt
-    appended_by (Err faults.NotAtEnd) same = tt
-    appended_by (Err faults.Nothing) same = tt
-    appended_by (Err faults.NotManual) same = tt
-    appended_by (Err (faults.BadReply at)) same = tt
-
-    answered : (r : Result T Halt) → result ≡ r
-        → Answered (StepsFrom stand_posts (Appends laptop.name change) m.node new.post x y) (appended answer) r
-    answered r same =
-        subst
-        (λ (r : Result T Halt). Answered (StepsFrom stand_posts (Appends laptop.name change) m.node new.post x y) (appended answer) r) same
-        (call.goes.step (record { client = was }) (record { client = now }) change m.node refl known.up (appended_by answer refl)
-        (call.counted ∙ ap records_by call.is))
-
-    went_on : (t : T) → result ≡ Ok t → StepsFrom stand_posts (Appends laptop.name change) m.node new.post x y true
-        → WentOn medium scripts new x y (record m { node = changed change m.node; first = first })
-    went_on t same steps = by steps.3 (on_ok answer t (answer_is t same) fits.ok)
-      where
-        by : ((steps.0 ≡ []) × (true ≡ true) × (steps.1 ≡ changed change m.node))
-            ⊎ ((steps.0 ≡ stopped_line laptop.name) × (true ≡ false) × IsStopped (doubting change m.node) steps.1)
-            → KeptLive (state_of now) (live_of now) first (change m.node.durable)
-            → WentOn medium scripts new x y (record m { node = changed change m.node; first = first })
-        by (inr stop) next = absurd (not_both stop.1)
-        by (inl it) next = record {
-          silent = steps.2 ∙ ap (λ (text : List ℕ). x ++ text) it.0;
-          stands = record {
-            name = ap (λ (l : Laptop D). l.name) call.goes.rest ∙ known.name;
-            link = ap (λ (l : Laptop D). l.link) call.goes.rest ∙ known.link;
-            alive = known.alive;
-            node = node_of (changed change m.node) (subst (stand_posts new.post) it.2 steps.4);
-            state =
-                subst (λ (l : Laptop D). StateStands (state_in l) (live_in l) first (change m.node.durable))
-                (sym (on_ok result t same call.goes.same))
-                (stands_with (state_of now) (live_of now) first (change m.node.durable) next);
-            named = fits.named;
-          };
-        }
-
-    halted : IsErrOf answer Stopped → StepsFrom stand_posts (Appends laptop.name change) m.node new.post x y false
-        → Halted medium scripts new x y m change
-    halted stopped steps = by steps.3
-      where
-        by : ((steps.0 ≡ []) × (false ≡ true) × (steps.1 ≡ changed change m.node))
-            ⊎ ((steps.0 ≡ stopped_line laptop.name) × (false ≡ false) × IsStopped (doubting change m.node) steps.1)
-            → Halted medium scripts new x y m change
-        by (inl it) = absurd (not_both (sym it.1))
-        by (inr stop) = record {
-          node = steps.1;
-          text = steps.0;
-          wrote = steps.2;
-          step = subst (λ (name : List ℕ). Appends name change m.node steps.0 false steps.1) known.name steps.3;
-          stands = fallen (record {
-            name = ap (λ (l : Laptop D). l.name) call.goes.rest ∙ known.name;
-            link = ap (λ (l : Laptop D). l.link) call.goes.rest ∙ known.link;
-            alive = ap (λ (n : Node ClientState). n.alive) stop.2.is;
-            node = node_of steps.1 steps.4;
-            named = record {
-              is = subst (AreNamed scripts) (sym (ap (λ (n : Node ClientState). n.durable) stop.2.is)) known.named;
-              may_be = subst (λ (n : Node ClientState). IfSome n.doubt (AreNamed scripts)) (sym stop.2.is) fits.named;
-            };
-          });
-        }
-
-    pub goes_at : (t : T) → result ≡ Ok t → WentOn medium scripts new x y (record m { node = changed change m.node; first = first })
-    goes_at t same = let it = answered (Ok t) same in went_on t same it.1
-
-    pub halts_at : result ≡ Err Over → Halted medium scripts new x y m change
-    halts_at same = halted (answer_stopped same) (answered (Err Over) same)
-
--- ---- a change, and a stop in one, of the machine's client
-
-notes_done : (m : machine.Client) (change : ClientState → ClientState)
-    → NotesAlone change m [] (Some tt) (record m { node = changed change m.node })
-notes_done m change = record {
-  mid = record m { node = changed change m.node };
-  front = [];
-  rest = [];
-  answer = true;
-  first = record { inner = changed change m.node; step = inl (refl, refl, refl); is = refl };
-  second = (refl, refl, refl);
-  whole = refl;
-}
-
-notes_stopped : {D : Type 0} {medium : Medium D} {scripts : List Declared} {new : Laptop D} {x y : List ℕ} (m : machine.Client)
-    (change : ClientState → ClientState) (h : Halted medium scripts new x y m change)
-    → NotesAlone change m h.text None (record m { node = h.node })
-notes_stopped m change h = record {
-  mid = record m { node = h.node };
-  front = h.text;
-  rest = [];
-  answer = false;
-  first = record { inner = h.node; step = h.step; is = refl };
-  second = (refl, refl, refl);
-  whole = sym (append-nil h.text);
-}
-
-module _ {D T : Type 0} {medium : Medium D} {laptop : Laptop D} {was now : Client D} {answer : Result T ClientFault} {new : Laptop D}
-    {x y : List ℕ} {result : Result T Halt} (call : Called medium laptop was now answer new x y result) (scripts : List Declared) where
   -- it notes this change, or stops in that
-  pub notes_alone : (change : ClientState → ClientState)
-      → ((m : machine.Client) → LaptopStands medium scripts laptop m
+  pub notes_alone : (scripts : List Declared) (change : ClientState → ClientState)
+      → ((m : machine.Client) → LaptopStands medium scripts laptop m → KeptLive s (live_of was) m.first m.node.durable
       → Fits medium was now answer scripts (change m.node.durable) m.first)
       → EndsAlone medium scripts (NotesAlone change) laptop new x y (done result)
-  notes_alone change each = record { is = by result refl }
+  notes_alone scripts change each = record { is = by result refl }
     where
+      fits : (m : machine.Client) → LaptopStands medium scripts laptop m → Before medium laptop was scripts m
+          × Fits medium was now answer scripts (change m.node.durable) m.first
+      fits m here = (before scripts m here, each m here (known_was scripts m here))
+
       by : (r : Result T Halt) → result ≡ r
           → EndsBy (LaptopStands medium scripts) (ClientStands medium scripts) (NotesAlone change) laptop new x y (done r)
-      by (Ok t) same = record {
-        step = λ m here.
-            let it = goes_at call scripts m change m.first (before call scripts m here) (each m here) t same in
-            ([], record m { node = changed change m.node }, it.silent, notes_done m change, it.stands);
-      }
+      by (Ok t) same = notes_at scripts (LaptopStands medium scripts) change (λ b. b) fits t same
       by (Err NoMemory) same = tt
-      by (Err Over) same = record {
-        step = λ m here.
-            let it = halts_at call scripts m change m.first (before call scripts m here) (each m here) same in
-            (it.text, record m { node = it.node }, it.wrote, notes_stopped m change it, it.stands);
-      }
+      by (Err Over) same = stops_at scripts (LaptopStands medium scripts) change (λ b. b) fits same
 
   -- it begins, in this class, or stops in that
-  pub starts_alone : (script : Declared) (option : OnConflict Declared) (first : Bool)
-      → ((m : machine.Client) → LaptopStands medium scripts laptop m
+  starts_alone : (scripts : List Declared) (script : Declared) (option : OnConflict Declared) (first : Bool)
+      → ((m : machine.Client) → LaptopStands medium scripts laptop m → KeptLive s (live_of was) m.first m.node.durable
       → Fits medium was now answer scripts (begin script option m.node.durable) first)
       → EndsAlone medium scripts (StartsAlone script option first) laptop new x y (done result)
-  starts_alone script option first each = record { is = by result refl }
+  starts_alone scripts script option first each = record { is = by result refl }
     where
+      fits : (m : machine.Client) → LaptopStands medium scripts laptop m → Before medium laptop was scripts m
+          × Fits medium was now answer scripts (begin script option m.node.durable) first
+      fits m here = (before scripts m here, each m here (known_was scripts m here))
+
       by : (r : Result T Halt) → result ≡ r
           → EndsBy (LaptopStands medium scripts) (ClientStands medium scripts) (StartsAlone script option first) laptop new x y (done r)
-      by (Ok t) same = record {
-        step = λ m here.
-            let it = goes_at call scripts m (begin script option) first (before call scripts m here) (each m here) t same in (
-              [],
-              record m { node = changed (begin script option) m.node; first = first },
-              it.silent,
-              record {
-                mid = record m { node = changed (begin script option) m.node };
-                front = [];
-                rest = [];
-                answer = Some tt;
-                first = notes_done m (begin script option);
-                second = (refl, refl, refl);
-                whole = refl;
-              },
-              it.stands,
-            );
-      }
+      by (Ok t) same =
+          bind laptop new new x y y (Some tt) (Some tt)
+          (notes_at scripts (LaptopStands medium scripts) (begin script option) (λ _. first) fits t same)
+          (record { step = λ m here. ([], record m { first = first }, sym (append-nil y), (refl, refl, refl), here) })
       by (Err NoMemory) same = tt
-      by (Err Over) same = record {
-        step = λ m here.
-            let it = halts_at call scripts m (begin script option) first (before call scripts m here) (each m here) same in (
-              it.text,
-              record m { node = it.node },
-              it.wrote,
-              record {
-                mid = record m { node = it.node };
-                front = it.text;
-                rest = [];
-                answer = None;
-                first = notes_stopped m (begin script option) it;
-                second = (refl, refl, refl);
-                whole = sym (append-nil it.text);
-              },
-              it.stands,
-            );
-      }
+      by (Err Over) same =
+          bind laptop new new x y y None None
+          (stops_at scripts (LaptopStands medium scripts) (begin script option) (λ _. first) fits same)
+          (answers new new y None (λ m here. here))
+
+  -- one change, done or cut off
+  pub fits_with : (scripts : List Declared) (next : ClientState) (first : Bool) (change : Change) (live : Option Live)
+      → OnOk answer (Notes change was now) → OnOk answer (live_of now ≡ live) → (IsErrOf answer Stopped → cuts change)
+      → (CanFollow s change → KeptLive (after s change) live first next) → AreNamed scripts next
+      → Fits medium was now answer scripts next first
+  fits_with scripts next first change live notes lives stops known named = record {
+    ok = each_ok answer (λ t ok.
+        let note = IfOk-at_ok _ ok notes in (
+          change,
+          note,
+          subst (λ (l : Option Live). KeptLive (after s change) l first next) (sym (IfOk-at_ok _ ok lives)) (known note.follows),
+        ));
+    cut = λ stopped. let cut = stops stopped in (change, cut, (known cut.follows).kept);
+    named = named;
+  }
+
+  -- the same of each client for which it stood
+  pub alone : (scripts : List Declared) (other : ClientState → ClientState) (change : Change) (live : Option Live)
+      → OnOk answer (Notes change was now) → OnOk answer (live_of now ≡ live) → (IsErrOf answer Stopped → cuts change)
+      → ((m : machine.Client) → KeptLive s (live_of was) m.first m.node.durable → CanFollow s change
+      → KeptLive (after s change) live m.first (other m.node.durable))
+      → KeepsNamed scripts other → EndsAlone medium scripts (NotesAlone other) laptop new x y (done result)
+  alone scripts other change live notes lives stops known named =
+      notes_alone scripts other (λ m here was.
+      fits_with scripts (other m.node.durable) m.first change live notes lives stops (known m was) (named m.node.durable here.named))
+
+  -- ---- the first that waits leaves
+
+  pub leaves : OnOk answer (Notes Left was now) → OnOk answer (live_of now ≡ live_of was) → (IsErrOf answer Stopped → cuts Left)
+      → Changes medium leave laptop new x y (done result)
+  leaves notes lives stops scripts =
+      alone scripts leave Left (live_of was) notes lives stops (λ m. left_live s (live_of was) m.first m.node.durable) (leave_named scripts)
+
+  -- ---- trees that replies bring
+
+  -- the change by the tree that the reply spells
+  notes_by : (brought_by : Nodes → Change) (reply : List ℕ) → ReadsObjects reply → OnOk answer (Brings brought_by reply was now)
+      → (t : Nodes) → SpellsTree reply t → OnOk answer (Notes (brought_by t) was now)
+  notes_by brought_by reply only brings t spells =
+      each_ok answer (λ u ok.
+      let it = IfOk-at_ok _ ok brings in
+      subst (λ (tree : Nodes). Notes (brought_by tree) was now) (brought_tree reply it.tree t only it.brought spells) it.notes)
+
+  cuts_by : (brought_by : Nodes → Change) (reply : List ℕ) → ReadsObjects reply
+      → (IsErrOf answer Stopped → CutsOffByTree brought_by reply s (bodies_on medium was) (medium.may_leave (disk_of now)))
+      → (t : Nodes) → SpellsTree reply t → IsErrOf answer Stopped → cuts (brought_by t)
+  cuts_by brought_by reply only stops t spells stopped =
+      let it = stops stopped in
+      subst (λ (tree : Nodes). cuts (brought_by tree)) (brought_tree reply it.tree t only it.brought spells) it.cuts_off
+
+  pub holds : (reply : List ℕ) → ReadsObjects reply → OnOk answer (Brings (λ tree. Held tree) reply was now)
+      → OnOk answer (live_of now ≡ None)
+      → (IsErrOf answer Stopped → CutsOffByTree (λ tree. Held tree) reply s (bodies_on medium was) (medium.may_leave (disk_of now)))
+      → (t : Nodes) → SpellsTree reply t → Changes medium (hold t) laptop new x y (done result)
+  holds reply only brings lives stops t spells scripts =
+      alone scripts (hold t) (Held t) None (notes_by (λ tree. Held tree) reply only brings t spells) lives
+      (cuts_by (λ tree. Held tree) reply only stops t spells)
+      (λ m here follows.
+      held_live s (live_of was) m.first m.node.durable here t follows spells.value.tree (tree_spelled t spells.value))
+      (hold_named scripts t)
+
+  pub fetches : (reply : List ℕ) → ReadsObjects reply → OnOk answer (Brings (λ tree. Fetched tree) reply was now)
+      → OnOk answer (live_of now ≡ live_of was)
+      → (IsErrOf answer Stopped → CutsOffByTree (λ tree. Fetched tree) reply s (bodies_on medium was) (medium.may_leave (disk_of now)))
+      → (t : Nodes) → SpellsTree reply t → Changes medium (fetch t) laptop new x y (done result)
+  fetches reply only brings lives stops t spells scripts =
+      alone scripts (fetch t) (Fetched t) (live_of was) (notes_by (λ tree. Fetched tree) reply only brings t spells) lives
+      (cuts_by (λ tree. Fetched tree) reply only stops t spells)
+      (λ m here follows.
+      fetched_live s (live_of was) m.first m.node.durable here t follows spells.value.tree (tree_spelled t spells.value))
+      (fetch_named scripts t)
+
+  -- ---- the next transaction
+
+  pub begins : (number : T → ℕ) (script : Declared) (option : OnConflictNamed) (first : Bool) → IsScript script.code
+      → IfOk answer (λ t. number t ≡ s.last + 1)
+      → IfOk answer (λ t. Notes (Begun (number t) script.name option) was now)
+      → OnOk answer (live_of now ≡ Some (record { first = first; code = script.code }))
+      → (IsErrOf answer Stopped → cuts (Begun (s.last + 1) script.name option))
+      → Begins medium script option first laptop new x y (done result)
+  begins number script option first script_is numbers notes lives stops scripts on_conflict named has same =
+      starts_alone scripts script on_conflict first (λ m here known.
+      fits_with scripts (begin script on_conflict m.node.durable) first (Begun (s.last + 1) script.name option)
+      (Some (record { first = first; code = script.code }))
+      (each_ok answer (λ t ok.
+      subst (λ (n : ℕ). Notes (Begun n script.name option) was now) (IfOk-at_ok (λ t. number t ≡ s.last + 1) ok numbers)
+      (IfOk-at_ok (λ t. Notes (Begun (number t) script.name option) was now) ok notes)))
+      lives stops
+      (λ follows.
+      begun_live s (live_of was) m.first m.node.durable known (s.last + 1) script option first on_conflict follows script_is same)
+      (begin_named scripts script on_conflict named has m.node.durable here.named))
+
+  -- ---- a repair
+
+  pub repairs : (name : List ℕ) → OnOk answer (Notes (Repaired name) was now) → OnOk answer (live_of now ≡ live_of was)
+      → (IsErrOf answer Stopped → cuts (Repaired name)) → Repairs medium name laptop new x y (done result)
+  repairs name notes lives stops scripts script named same =
+      alone scripts (repair script) (Repaired name) (live_of was) notes lives stops
+      (λ m here follows. repaired_live s (live_of was) m.first m.node.durable here name script same) (repair_named scripts script named)
 
 -- ---- its disk
-
-counts_keep : {T : Type 0} (answer : Result T ClientFault) (before now : ℕ) → CountsFault answer before now
-    → (now ≡ before) ⊎ Rose before now
-counts_keep (Ok t) before now counts = inl counts
-counts_keep (Err faults.Stopped) before now counts = inr counts
-counts_keep (Err faults.NoMemory) before now counts = inl counts
-counts_keep (Err faults.Busy) before now counts = inl counts
-counts_keep (Err faults.Pending) before now counts = inl counts
-counts_keep (Err faults.Idle) before now counts = inl counts
-counts_keep (Err faults.NotAtEnd) before now counts = inl counts
-counts_keep (Err faults.Nothing) before now counts = inl counts
-counts_keep (Err faults.NotManual) before now counts = inl counts
-counts_keep (Err (faults.BadReply at)) before now counts = inl counts
-
--- after a call that was to append a record
-pub keeps_disk : {D T : Type 0} (medium : Medium D) (was now : Client D) (answer : Result T ClientFault) (old new : Option D)
-    → CountsFault answer (medium.faults (disk_of was)) (medium.faults (disk_of now))
-    → medium.arms (disk_of now) ≡ medium.arms (disk_of was) → old ≡ Some (disk_of was) → new ≡ Some (disk_of now)
-    → KeepsDisk medium old new
-keeps_disk medium was now answer old new counts arms had has = record {
-  was = disk_of was;
-  now = disk_of now;
-  old_has = had;
-  new_has = has;
-  arms = arms;
-  faults = counts_keep answer (medium.faults (disk_of was)) (medium.faults (disk_of now)) counts;
-}
 
 -- nothing was done
 pub keeps_same : {D : Type 0} (medium : Medium D) (post : Post (Seated D) D) → is_on post ≡ true → KeepsDisk medium (disk_by post)

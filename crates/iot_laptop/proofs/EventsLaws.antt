@@ -1,183 +1,234 @@
--- What befalls the node of a laptop: a start, a crash, an armed disk.
-use Rattle.std.proofs.Common.{◌≡◌, ℕ, Bool, true, false, List, []}
-use Rattle.std.proofs.Common.{◌++◌, Option, Some, None, Result, Ok, Err, inl, inr}
-use Rattle.std.proofs.Common.{refl, sym, ap, subst, ◌∙◌, if◌then◌else◌}
-use Rattle.std.specs.Prelude.{IfOk, OnOk, codes}
-use Rattle.std.proofs.lemmas.Option.{same_Some}
+-- What befalls a laptop: its link, and a start, a crash and an armed disk of its node.
+use Rattle.std.proofs.Common.{◌≡◌, ◌⊎◌, ℕ, true, false, List, ◌++◌, Option, Some, inl, inr, refl, sym, ap, subst, ◌∙◌, Bool, [], None}
+use Rattle.std.proofs.Common.{Result, Ok, Err, if◌then◌else◌}
+use Rattle.iot_kept.specs.States.{State, Transaction, opening}
+use Rattle.iot_client.specs.Calls.{second_class}
+use Rattle.iot_client.specs.Ties.{Live, IsTied, state_of, live_of, place_of, disk_of, records_of}
+use Rattle.iot_client.specs.declared.client.Client.{Client}
 use Rattle.iot_disk.specs.Disk.{Medium}
+use Rattle.iot_link.specs.Links.{LinkState, after_exchange}
+use Rattle.iot_link.specs.declared.passages.Passage.{Passage}
+use Rattle.iot_link.specs.declared.passages.Passage.TheVariants.{Away, RequestLost, ReplyLost, Both}
+use Rattle.iot_machine.specs.Calls.{Does}
+use Rattle.iot_machine.specs.Clients.{Declared, ClientState, new_client, base}
+use Rattle.iot_machine.specs.Refining.{Refines}
+use Rattle.iot_machine.specs.Texts.{disconnect_line}
+use Rattle.iot_node.specs.Disks.{counts_on, IsEmpty}
+use Rattle.iot_node.specs.Posts.{UpStands, is_on, PostStands, Ready, IsStanding}
+use Rattle.iot_node.specs.declared.post.Post.{Post}
+use Rattle.iot_node.specs.declared.post.Post.TheVariants.{Up, Down, Between}
+use Rattle.iot_node.proofs.StepsLaws.{does}
+use Rattle.iot_machine.specs.Events.{no_text, Disconnects, CrashesClient, ArmsClient}
+use Rattle.iot_machine.specs.Machine.{break}
+use Rattle.iot_laptop.specs.Kept.{StateKept, RunningKeptIfAny}
+use Rattle.iot_laptop.specs.Laptops.{LaptopStands, ClientStands, awake, fallen, Stands, Relinked, IsSecondNow, IsCutLink, after_passage}
+use Rattle.iot_laptop.specs.Laptops.{state_by, disk_by, FallenStands, live_by, IsUnopened, unopened_laptop}
+use Rattle.iot_laptop.specs.Seats.{seating, IsClientImage, besides}
+use Rattle.iot_laptop.specs.declared.laptop.Laptop.{Laptop}
+use Rattle.iot_laptop.specs.declared.seated.Seated.{Seated}
+use Rattle.iot_laptop.proofs.KeptStatesLaws.{LiveStands, live_then, second_live, idle_runs}
+use Rattle.iot_laptop.proofs.NodesLaws.{same_name, same_link, awake_at, on_is, kept_up, node_stands, may_be_named, fallen_stands, fallen_at}
+use Rattle.iot_laptop.proofs.NodesLaws.{refines, at_node}
+use Rattle.std.specs.Prelude.{IfOk}
+use Rattle.std.proofs.lemmas.Option.{same_Some}
 use Rattle.iot_disk.specs.declared.disk.Pick.{Pick}
 use Rattle.iot_journal.specs.Decoding.{decoded}
-use Rattle.iot_kept.specs.Standing.{StandFor}
-use Rattle.iot_kept.specs.States.{Transaction, opening}
-use Rattle.iot_client.specs.Ties.{Live}
 use Rattle.iot_tree.specs.Tree.{Nodes, IsTree, root_alone}
 use Rattle.iot_tree.specs.declared.nodes.Node.TheVariants.{FarDir}
 use Rattle.iot_tree.proofs.RowLaws.{root_rows, root_map}
 use Rattle.iot_judging.proofs.SpelledTreesLaws.{far_root_spelled}
-use Rattle.iot_link.specs.Links as links
-use Rattle.iot_machine.specs.Calls.{Does, Says, either}
-use Rattle.iot_machine.specs.Clients as clients
-use Rattle.iot_machine.specs.Clients.{Declared, ClientState, new_client, base}
-use Rattle.iot_machine.specs.Machine as machine
-use Rattle.iot_machine.specs.Nodes.{Node, fallen as crashed, armed, unopened}
-use Rattle.iot_machine.specs.Refining.{Refines}
+use Rattle.iot_machine.specs.Nodes.{Node, armed, unopened}
 use Rattle.iot_machine.specs.Sound.{Possibly}
 use Rattle.iot_machine.specs.Stops.{Crashes, ArmsDisk, OpensNode}
-use Rattle.iot_machine.specs.Texts.{line, stop_line}
-use Rattle.iot_node.specs.Disks.{IsEmpty, counts_on}
-use Rattle.iot_node.specs.Keeping.{EachIs}
-use Rattle.iot_node.specs.Posts as posts
-use Rattle.iot_node.specs.Posts.{is_on, PostStands, Ready, IsStanding}
-use Rattle.iot_node.specs.declared.post.Post.{Post}
-use Rattle.iot_node.specs.declared.post.Post.TheVariants.{Up, Down, Between}
-use Rattle.iot_machine.specs.Events.{no_text, CrashesClient, ArmsClient}
+use Rattle.iot_machine.proofs.PossiblyLaws.{SameStates, possibly_same, opens_states, crashes_within}
+use Rattle.iot_node.proofs.StepsToLaws.{bind, asks}
 use Rattle.iot_laptop.specs.Alone.{OpensClient}
-use Rattle.iot_laptop.specs.Kept.{StateKept, RunningKeptIfAny}
-use Rattle.iot_laptop.specs.Laptops.{LaptopStands, FallenStands, ClientStands, awake}
-use Rattle.iot_laptop.specs.Laptops.{fallen}
-use Rattle.iot_laptop.specs.Laptops.{StateStands, state_by, live_by, IsUnopened, unopened_laptop}
 use Rattle.iot_laptop.specs.Scripts.{AreNamed}
-use Rattle.iot_laptop.specs.Seats.{IsClientImage, seating, besides}
-use Rattle.iot_laptop.specs.declared.laptop.Laptop.{Laptop}
-use Rattle.iot_laptop.specs.declared.seated.Seated.{Seated}
-use Rattle.iot_laptop.proofs.KeptStatesLaws.{stands_with, kept_live, idle_live}
-use Rattle.iot_laptop.proofs.NodesLaws.{not_both, on_is, node_stands, same_name, same_link, may_be_named, fallen_stands}
+use Rattle.iot_link.specs.Links as links
+use Rattle.iot_machine.specs.Clients as clients
+use Rattle.iot_machine.specs.Machine as machine
+use Rattle.iot_node.specs.Posts as posts
 
-pub on_two : {T E P Q R : Type 0} (r : Result T E) → OnOk r P → OnOk r Q → (P → Q → R) → OnOk r R
-on_two (Ok t) p q both = both p q
-on_two (Err e) p q both = tt
+pub not_through : (p : Passage) → (p ≡ Away) ⊎ ((p ≡ RequestLost) ⊎ (p ≡ ReplyLost)) → p ≡ Both → ⊥
+not_through p (inl is) both = cc
+not_through p (inr (inl is)) both = cc
+not_through p (inr (inr is)) both = cc
+
+module _ {D : Type 0} (medium : Medium D) (laptop : Laptop D) where
+  -- ---- another link
+
+  over_link : (link : LinkState) (scripts : List Declared) (m : machine.Client) → LaptopStands medium scripts laptop m
+      → LaptopStands medium scripts (record laptop { link = link }) (record m { link = link })
+  over_link link scripts m here = record {
+    name = here.name;
+    link = refl;
+    alive = here.alive;
+    node = here.node;
+    state = here.state;
+    named = here.named;
+  }
+
+  linked : (link : LinkState) (scripts : List Declared) (m : machine.Client) → ClientStands medium scripts laptop m
+      → ClientStands medium scripts (record laptop { link = link }) (record m { link = link })
+  linked link scripts m (awake here) = awake (over_link link scripts m here)
+  linked link scripts m (fallen here) =
+      fallen (record { name = here.name; link = refl; alive = here.alive; node = here.node; named = here.named })
+
+  -- over another link it stands for some client too
+  pub stands_over : (link : LinkState) → Stands medium laptop → Stands medium (record laptop { link = link })
+  stands_over link stands = record {
+    scripts = stands.scripts;
+    machine = record stands.machine { link = link };
+    stands = over_link link stands.scripts stands.machine stands.stands;
+  }
+
+  -- its link is made another one, and that is said
+  pub relinks : (change : LinkState → LinkState) (line : List ℕ → List ℕ) (link : LinkState) (x y : List ℕ)
+      → link ≡ change laptop.link → y ≡ x ++ line laptop.name → (scripts : List Declared)
+      → Refines (ClientStands medium scripts) (Does (λ m. line m.name) (λ m. record m { link = change m.link }))
+      laptop (record laptop { link = link }) x y tt
+  relinks change line link x y is wrote scripts =
+      does laptop (record laptop { link = link }) x y (λ m here. (
+        wrote ∙ ap (λ (n : List ℕ). x ++ line n) (same_name medium scripts laptop m here),
+        subst (λ (l : LinkState). ClientStands medium scripts (record laptop { link = link }) (record m { link = l }))
+            (is ∙ ap change (same_link medium scripts laptop m here)) (linked link scripts m here),
+      ))
+
+  pub disconnects : (mid : Laptop D) (x y : List ℕ) → IsCutLink medium laptop mid → y ≡ x ++ disconnect_line mid.name
+      → (scripts : List Declared) → Refines (ClientStands medium scripts) Disconnects laptop mid x y tt
+  disconnects mid x y cut wrote scripts =
+      does laptop mid x y (λ m here. (
+        wrote ∙ ap (λ (n : List ℕ). x ++ disconnect_line n) (cut.name ∙ same_name medium scripts laptop m here),
+        cut.stands scripts m here,
+      ))
+
+  -- ---- second class
+
+  module _ (was now : Client D) (state : state_of now ≡ state_of was) (place : place_of now ≡ place_of was)
+      (disk : disk_of now ≡ disk_of was) (records : records_of now ≡ records_of was) (live : live_of now ≡ second_class (live_of was))
+      (tied : IsTied medium now) where
+    second_node : (m : machine.Client) → UpStands (seating medium laptop.place) medium no_text (record { client = was }) m.node
+        → UpStands (seating medium laptop.place) medium no_text (record { client = now }) m.node
+    second_node m up = record {
+      alive = up.alive;
+      sure = up.sure;
+      counts = ap (counts_on medium) disk ∙ up.counts;
+      count = up.count;
+      stands = record {
+        place_is = place ∙ up.stands.place_is;
+        tied = tied;
+        counted = records ∙ up.stands.counted;
+        kept = subst (λ (s : State). StateKept s m.node.durable) (sym state) up.stands.kept;
+      };
+    }
+
+    second_stands : (scripts : List Declared) (m : machine.Client)
+        → LaptopStands medium scripts (record laptop { post = Up (record { client = was }) }) m
+        → LaptopStands medium scripts (record laptop { post = Up (record { client = now }) }) (record m { first = false })
+    second_stands scripts m here =
+        awake_at medium scripts laptop m here.name here.link (Up (record { client = now })) m.node (second_node m here.node) here.alive
+        false
+        (subst (λ (l : Option Live). LiveStands l false m.node.durable.running) (sym live)
+        (second_live (live_of was) m.first m.node.durable.running
+        (live_then (state_of was).running (live_of was) m.first m.node.durable.running here.state.running)))
+        here.named
+
+    pub is_second : laptop.post ≡ Up (record { client = was })
+        → IsSecondNow medium laptop (record laptop { post = Up (record { client = now }) })
+    is_second is = record {
+      place = refl;
+      state = state ∙ sym (ap state_by is);
+      link = refl;
+      disk = ap Some disk ∙ sym (ap (λ (p : Post (Seated D) D). disk_by p) is);
+      alive = sym (ap (λ (p : Post (Seated D) D). is_on p) is);
+      stands = λ scripts m here.
+          second_stands scripts m (subst (λ (p : Post (Seated D) D). LaptopStands medium scripts (record laptop { post = p }) m) is here);
+    }
+
+  -- ---- an exchange that does not get through
+
+  -- over this link, what runs is second class
+  second_over : (link : LinkState) (new : Laptop D) → IsSecondNow medium (record laptop { link = link }) new
+      → Relinked medium (λ m. record m { link = link; first = false }) laptop new
+  second_over link new second = record {
+    place = second.place;
+    state = second.state;
+    stands = λ scripts m here. second.stands scripts (record m { link = link }) (over_link link scripts m here);
+  }
+
+  second_after : (p : Passage) (new : Laptop D) → (p ≡ Both → ⊥)
+      → IsSecondNow medium (record laptop { link = after_exchange p laptop.link }) new
+      → Relinked medium (after_passage p) laptop new
+  second_after Away new not second = record { place = second.place; state = second.state; stands = second.stands }
+  second_after RequestLost new not second = second_over links.broken new second
+  second_after ReplyLost new not second = second_over links.broken new second
+  second_after Both new not second = absurd (not refl)
+
+  -- what runs is second class after it
+  pub is_over : (p : Passage) (link : LinkState) (new : Laptop D) → link ≡ after_exchange p laptop.link
+      → (p ≡ Away) ⊎ ((p ≡ RequestLost) ⊎ (p ≡ ReplyLost))
+      → IsSecondNow medium (record laptop { link = link }) new → Relinked medium (after_passage p) laptop new
+  is_over p link new is lost second =
+      second_after p new (not_through p lost)
+      (subst (λ (l : LinkState). IsSecondNow medium (record laptop { link = l }) new) is second)
+
+  -- and after one in which the server stopped
+  pub is_broken : (link : LinkState) (new : Laptop D) → link ≡ links.broken → IsSecondNow medium (record laptop { link = link }) new
+      → Relinked medium break laptop new
+  is_broken link new is second =
+      second_over links.broken new (subst (λ (l : LinkState). IsSecondNow medium (record laptop { link = l }) new) is second)
+
+-- ---- its node
 
 pub if_two : {T E : Type 0} {P Q R : T → Type 0} (r : Result T E) → IfOk r P → IfOk r Q → ((t : T) → P t → Q t → R t) → IfOk r R
 if_two (Ok t) p q both = both t p q
 if_two (Err e) p q both = tt
 
--- ---- what a crash leaves
-
-module _ (P : ClientState → Type 0) where
-  crash_by : (b : Bool) (name : List ℕ) (node n : Node ClientState) (text : List ℕ)
-      → either (Does (λ _. line (codes "crash " ++ name)) crashed) (Says (λ _. line (codes "down"))) b node text tt n
-      → Possibly P node → Possibly P n
-  crash_by true name node n text it may = subst (Possibly P) (sym it.1) (record { is = may.is; may_be = may.may_be })
-  crash_by false name node n text it may = subst (Possibly P) (sym it.1) may
-
-  pub crash_keeps : (name : List ℕ) (node n : Node ClientState) (text : List ℕ) → Crashes name node text tt n → Possibly P node →
-      Possibly P n
-  crash_keeps name node n text it may =
-      crash_by it.answer name it.mid n it.rest it.second (subst (Possibly P) (sym it.first.2) may)
-
 module _ {D : Type 0} (medium : Medium D) (laptop : Laptop D) (post : Post (Seated D) D) where
   abbrev next : Laptop D
   next = record laptop { post = post }
 
-  abbrev stands : Post (Seated D) D → Node ClientState → Type 0
-  stands = PostStands (seating medium laptop.place) medium no_text
+  abbrev Posted : Post (Seated D) D → Node ClientState → Type 0
+  Posted = PostStands (seating medium laptop.place) medium no_text
 
-  pub crashes : (called x y : List ℕ) → called ≡ laptop.name → Refines stands (Crashes called) laptop.post post x y tt
+  -- ---- a crash
+
+  pub crashes : (called x y : List ℕ) → called ≡ laptop.name → Refines Posted (Crashes called) laptop.post post x y tt
       → is_on post ≡ false → (scripts : List Declared) → Refines (ClientStands medium scripts) CrashesClient laptop next x y tt
-  crashes called x y same it off scripts = record {
-    step = λ m here.
-        let s = it.step m.node (node_stands medium scripts laptop m here) in
-        let name : laptop.name ≡ m.name = same_name medium scripts laptop m here in (
-          s.0,
-          record m { node = s.1 },
-          s.2,
-          record {
-            mid = m;
-            front = [];
-            rest = s.0;
-            answer = m.name;
-            first = (refl, refl, refl);
-            second = record {
-              inner = s.1;
-              step = subst (λ (n : List ℕ). Crashes n m.node s.0 tt s.1) (same ∙ name) s.3;
-              is = refl;
-            };
-            whole = refl;
-          },
-          fallen (record {
-            name = name;
-            link = same_link medium scripts laptop m here;
-            alive = on_is (seating medium laptop.place) medium no_text post s.1 s.4 ∙ off;
-            node = s.4;
-            named = crash_keeps (AreNamed scripts) called m.node s.1 s.0 s.3 (may_be_named medium scripts laptop m here);
-          }),
-        );
-  }
+  crashes called x y same it off scripts =
+      refines
+      (bind laptop laptop next x x y laptop.name tt (asks laptop x laptop.name (same_name medium scripts laptop))
+      (at_node medium laptop post Crashes (λ _. laptop.name) called x y tt it (λ m here. (same, node_stands medium scripts laptop m here))
+      (λ m here n text step stands.
+      fallen_at medium scripts laptop m (same_name medium scripts laptop m here) (same_link medium scripts laptop m here) post n stands
+      (on_is (seating medium laptop.place) medium no_text post n stands ∙ off)
+      ((crashes_within called m.node n text tt step).each (AreNamed scripts) (may_be_named medium scripts laptop m here)))))
 
--- ---- what is known of a state by what is on the disk
+  -- ---- its disk is armed
 
--- nothing runs
-pub none_runs : (t : Nodes) (r : Option Transaction) (o : Option clients.Running) → o ≡ None → RunningKeptIfAny t r o → r ≡ None
-none_runs t None o none kept = refl
-none_runs t (Some running) None none kept = absurd kept
-none_runs t (Some running) (Some it) none kept = absurd cc
+  module _ (calls : ℕ) (pick : Pick) (live : live_by post ≡ live_by laptop.post) where
+    arms_by : (scripts : List Declared) (m : machine.Client) → ClientStands medium scripts laptop m
+        → Posted post (armed calls pick m.node) → ClientStands medium scripts next (record m { node = armed calls pick m.node })
+    arms_by scripts m (awake here) stands =
+        awake
+        (awake_at medium scripts laptop m here.name here.link post (armed calls pick m.node) stands here.alive m.first
+        (subst (λ (l : Option Live). LiveStands l m.first m.node.durable.running) (sym live)
+        (live_then _ (live_by laptop.post) m.first m.node.durable.running here.state.running))
+        here.named)
+    arms_by scripts m (fallen here) stands =
+        fallen_at medium scripts laptop m here.name here.link post (armed calls pick m.node) stands here.alive
+        (record { is = here.named.is; may_be = here.named.may_be })
 
--- what is kept of one that is alive
-pub kept_up : {D : Type 0} (medium : Medium D) (place : ℕ) (post : Post (Seated D) D) (node : Node ClientState)
-    → PostStands (seating medium place) medium no_text post node → node.alive ≡ true → StateKept (state_by post) node.durable
-kept_up medium place (Up seated) node here up = here.stands.kept
-kept_up medium place (Down down) node here up = absurd (not_both (sym up ∙ here.alive))
-kept_up medium place Between node here up = absurd here
-
--- ---- its disk is armed
-
-module _ {D : Type 0} (medium : Medium D) (laptop : Laptop D) (post : Post (Seated D) D) (calls : ℕ) (pick : Pick)
-    (called x y : List ℕ) (same : called ≡ laptop.name)
-    (it : Refines (PostStands (seating medium laptop.place) medium no_text) (ArmsDisk called calls pick) laptop.post post x y tt)
-    (live : live_by post ≡ live_by laptop.post) where
-  arms_up : (scripts : List Declared) (m : machine.Client) → LaptopStands medium scripts laptop m
-      → PostStands (seating medium laptop.place) medium no_text post (armed calls pick m.node)
-      → ClientStands medium scripts (record laptop { post = post }) (record m { node = armed calls pick m.node })
-  arms_up scripts m here stands = awake (record {
-    name = here.name;
-    link = here.link;
-    alive = here.alive;
-    node = stands;
-    state =
-        subst (λ (l : Option Live). StateStands (state_by post) l m.first m.node.durable) (sym live)
-        (stands_with (state_by post) (live_by laptop.post) m.first m.node.durable
-        (kept_live (state_by laptop.post) (state_by post) (live_by laptop.post) m.first m.node.durable here.state
-        (kept_up medium laptop.place post (armed calls pick m.node) stands here.alive)));
-    named = here.named;
-  })
-
-  arms_by : (scripts : List Declared) (m : machine.Client) → ClientStands medium scripts laptop m
-      → PostStands (seating medium laptop.place) medium no_text post (armed calls pick m.node)
-      → ClientStands medium scripts (record laptop { post = post }) (record m { node = armed calls pick m.node })
-  arms_by scripts m (awake here) stands = arms_up scripts m here stands
-  arms_by scripts m (fallen here) stands = fallen (record {
-    name = here.name;
-    link = here.link;
-    alive = here.alive;
-    node = stands;
-    named = record { is = here.named.is; may_be = here.named.may_be };
-  })
-
-  pub arms : (scripts : List Declared)
-      → Refines (ClientStands medium scripts) (ArmsClient calls pick) laptop (record laptop { post = post }) x y tt
-  arms scripts = record {
-    step = λ m here.
-        let s = it.step m.node (node_stands medium scripts laptop m here) in
-        let name : laptop.name ≡ m.name = same_name medium scripts laptop m here in (
-          s.0,
-          record m { node = armed calls pick m.node },
-          s.2,
-          record {
-            mid = m;
-            front = [];
-            rest = s.0;
-            answer = m.name;
-            first = (refl, refl, refl);
-            second = record {
-              inner = armed calls pick m.node;
-              step = (s.3.0 ∙ ap (λ (n : List ℕ). stop_line n calls pick) (same ∙ name), refl);
-              is = refl;
-            };
-            whole = refl;
-          },
-          arms_by scripts m here (subst (PostStands (seating medium laptop.place) medium no_text post) s.3.1 s.4),
-        );
-  }
+    pub arms : (called x y : List ℕ) → called ≡ laptop.name → Refines Posted (ArmsDisk called calls pick) laptop.post post x y tt
+        → (scripts : List Declared) → Refines (ClientStands medium scripts) (ArmsClient calls pick) laptop next x y tt
+    arms called x y same it scripts =
+        refines
+        (bind laptop laptop next x x y laptop.name tt (asks laptop x laptop.name (same_name medium scripts laptop))
+        (at_node medium laptop post (λ name. ArmsDisk name calls pick) (λ _. laptop.name) called x y tt it
+        (λ m here. (same, node_stands medium scripts laptop m here))
+        (λ m here n text step stands.
+        subst (λ (n : Node ClientState). ClientStands medium scripts next (record m { node = n })) (sym step.1)
+        (arms_by scripts m here (subst (Posted post) step.1 stands)))))
 
 -- ---- a new laptop
 
@@ -187,18 +238,15 @@ far_root_is_tree = subst IsTree (root_map FarDir) (root_rows FarDir refl).tree
 new_kept : StateKept opening new_client
 new_kept = record { held = refl; items = tt; running = tt; last = refl; tree = far_root_is_tree; spelled = far_root_spelled }
 
-empty_stands : (bytes : List ℕ) → bytes ≡ [] → StandFor bytes opening
-unfolding decoded
-empty_stands bytes none = record { bodies = []; read = ap decoded none; leads = refl }
-
 -- an empty disk is that of a client that knows nothing
 empty_image : (bytes : List ℕ) → bytes ≡ [] → IsClientImage bytes 0 new_client
-unfolding empty_stands
-empty_image bytes none = record { state = opening; stands = empty_stands bytes none; counted = refl; kept = new_kept }
-
-empty_each : {D : Type 0} (medium : Medium D) (disk : D) → IsEmpty medium disk
-    → EachIs (medium.may_leave disk) (λ bytes. IsClientImage bytes 0 new_client)
-empty_each medium disk empty = record { each = λ image left. empty_image image (empty.synced.is image left ∙ empty.empty) }
+unfolding decoded
+empty_image bytes none = record {
+  state = opening;
+  stands = record { bodies = []; read = ap decoded none; leads = refl };
+  counted = refl;
+  kept = new_kept;
+}
 
 module _ {D : Type 0} (medium : Medium D) (disk : D) (empty : IsEmpty medium disk) (place : ℕ) where
   new_node : PostStands (seating medium place) medium no_text (Down (record { disk = disk; doubt = None }))
@@ -207,7 +255,10 @@ module _ {D : Type 0} (medium : Medium D) (disk : D) (empty : IsEmpty medium dis
     alive = refl;
     counts = refl;
     count = 0;
-    holds = record { sure = refl; each = empty_each medium disk empty };
+    holds = record {
+      sure = refl;
+      each = record { each = λ image left. empty_image image (empty.synced.is image left ∙ empty.empty) };
+    };
   }
 
   pub new_stands : (name : List ℕ) (laptop : Laptop D) → laptop.name ≡ name → laptop.place ≡ place → laptop.link ≡ links.opened
@@ -223,6 +274,12 @@ module _ {D : Type 0} (medium : Medium D) (disk : D) (empty : IsEmpty medium dis
 
 -- ---- it starts for the first time
 
+-- nothing runs
+none_runs : (t : Nodes) (r : Option Transaction) (o : Option clients.Running) → o ≡ None → RunningKeptIfAny t r o → r ≡ None
+none_runs t None o none kept = refl
+none_runs t (Some running) None none kept = absurd kept
+none_runs t (Some running) (Some it) none kept = absurd cc
+
 module _ {D : Type 0} (medium : Medium D) (laptop : Laptop D) (new : IsUnopened medium laptop) where
   pub opens_ready : Ready medium laptop.post
   opens_ready = rw new.down (refl, new.empty.synced)
@@ -235,88 +292,54 @@ module _ {D : Type 0} (medium : Medium D) (laptop : Laptop D) (new : IsUnopened 
   }
 
   module _ (post : Post (Seated D) D) (called x y : List ℕ) (on : Bool) (same : called ≡ laptop.name)
-      (it : Refines (PostStands (seating medium laptop.place) medium no_text) (OpensNode called) laptop.post post x y on) (live :
-      live_by post ≡ None) where
+      (it : Refines (PostStands (seating medium laptop.place) medium no_text) (OpensNode called) laptop.post post x y on)
+      (live : live_by post ≡ None) where
     -- what was started knows nothing
     started_idle : is_on post ≡ true → (state_by post).running ≡ None
     unfolding opens_standing
     started_idle up =
         let s = it.step opens_standing.node opens_standing.stands in
         let kept = kept_up medium laptop.place post s.1 s.4 (on_is (seating medium laptop.place) medium no_text post s.1 s.4 ∙ up) in
-        none_runs (base s.1.durable) (state_by post).running s.1.durable.running (by s.3) kept.running
-      where
-        by : {text : List ℕ} {n : Node ClientState} → OpensNode called opens_standing.node text on n → n.durable.running ≡ None
-        by (inl done) = ap (λ (n : Node ClientState). n.durable.running) done.2
-        by (inr stop) = ap (λ (n : Node ClientState). n.durable.running) stop.2.is
+        none_runs (base s.1.durable) (state_by post).running s.1.durable.running
+        (ap (λ (state : ClientState). state.running) (opens_states called opens_standing.node s.1 s.0 on s.3).durable) kept.running
 
     opens_at : (scripts : List Declared) (m : machine.Client) (n : Node ClientState) → FallenStands medium scripts laptop m
-        → PostStands (seating medium laptop.place) medium no_text post n → (b : Bool) → is_on post ≡ b → n.durable ≡ m.node.durable
+        → PostStands (seating medium laptop.place) medium no_text post n → (b : Bool) → is_on post ≡ b
         → Possibly (AreNamed scripts) n → ClientStands medium scripts (record laptop { post = post }) (record m { node = n })
-    opens_at scripts m n here stands true up durable named = awake (record {
-      name = here.name;
-      link = here.link;
-      alive = on_is (seating medium laptop.place) medium no_text post n stands ∙ up;
-      node = stands;
-      state =
-          stands_with (state_by post) (live_by post) m.first n.durable
-          (idle_live (state_by post) (live_by post) m.first n.durable live (started_idle up)
-          (kept_up medium laptop.place post n stands (on_is (seating medium laptop.place) medium no_text post n stands ∙ up)));
-      named = named.is;
-    })
-    opens_at scripts m n here stands false off durable named = fallen (record {
-      name = here.name;
-      link = here.link;
-      alive = on_is (seating medium laptop.place) medium no_text post n stands ∙ off;
-      node = stands;
-      named = named;
-    })
-
-    open_keeps : (P : ClientState → Type 0) (node n : Node ClientState) (text : List ℕ) → OpensNode called node text on n
-        → Possibly P node → Possibly P n
-    open_keeps P node n text (inl done) may = subst (Possibly P) (sym done.2) (record { is = may.is; may_be = may.may_be })
-    open_keeps P node n text (inr stop) may = subst (Possibly P) (sym stop.2.is) (record { is = may.is; may_be = may.may_be })
-
-    open_durable : (node n : Node ClientState) (text : List ℕ) → OpensNode called node text on n → n.durable ≡ node.durable
-    open_durable node n text (inl done) = ap (λ (n : Node ClientState). n.durable) done.2
-    open_durable node n text (inr stop) = ap (λ (n : Node ClientState). n.durable) stop.2.is
+    opens_at scripts m n here stands true up named =
+        let alive = on_is (seating medium laptop.place) medium no_text post n stands ∙ up in
+        awake
+        (awake_at medium scripts laptop m here.name here.link post n stands alive m.first
+        (idle_runs (state_by post) (live_by post) m.first n.durable live (started_idle up)
+        (kept_up medium laptop.place post n stands alive))
+        named.is)
+    opens_at scripts m n here stands false off named =
+        fallen_at medium scripts laptop m here.name here.link post n stands
+        (on_is (seating medium laptop.place) medium no_text post n stands ∙ off) named
 
     pub opens : (scripts : List Declared)
         → Refines (ClientStands medium scripts) OpensClient laptop (record laptop { post = post }) x y on
-    opens scripts = record {
-      step = λ m here.
-          let down : FallenStands medium scripts laptop m =
-          fallen_stands medium scripts laptop m (ap (λ (p : Post (Seated D) D). is_on p) new.down) here in
-          let s = it.step m.node down.node in (
-            s.0,
-            record m { node = s.1 },
-            s.2,
-            record {
-              inner = s.1;
-              step = subst (λ (n : List ℕ). OpensNode n m.node s.0 on s.1) (same ∙ down.name) s.3;
-              is = refl;
-            },
-            opens_at scripts m s.1 down s.4 (is_on post) refl (open_durable m.node s.1 s.0 s.3)
-                (open_keeps (AreNamed scripts) m.node s.1 s.0 s.3 down.named),
-          );
-    }
+    opens scripts =
+        refines
+        (at_node medium laptop post OpensNode (λ m. m.name) called x y on it
+        (λ m here. (same ∙ same_name medium scripts laptop m here, node_stands medium scripts laptop m here))
+        (λ m here n text step stands.
+        let down : FallenStands medium scripts laptop m =
+        fallen_stands medium scripts laptop m (ap (λ (p : Post (Seated D) D). is_on p) new.down) here in
+        opens_at scripts m n down stands (is_on post) refl
+        (possibly_same m.node n (opens_states called m.node n text on step) down.named)))
 
 -- ---- what is known besides
 
 pub live_again : {D : Type 0} (old new : Post (Seated D) D) → posts.live_of besides new ≡ posts.live_of besides old → live_by new ≡
     live_by old
 live_again (Up a) (Up b) same = same_Some _ _ same
-live_again (Up a) (Down b) same = absurd cc
-live_again (Up a) Between same = absurd cc
-live_again (Down a) (Up b) same = absurd cc
-live_again (Down a) (Down b) same = refl
-live_again (Down a) Between same = refl
-live_again Between (Up b) same = absurd cc
-live_again Between (Down b) same = refl
-live_again Between Between same = refl
+live_again (Up a) new same = absurd cc
+live_again old (Up b) same = absurd cc
+live_again old new same = refl
 
 pub live_fresh : {D : Type 0} (new : Post (Seated D) D) (on : Bool) → posts.live_of besides new ≡ (if on then Some None else None)
     → live_by new ≡ None
 live_fresh (Up b) true same = same_Some _ _ same
 live_fresh (Up b) false same = absurd cc
-live_fresh (Down b) on same = refl
-live_fresh Between on same = refl
+live_fresh new on same = refl

@@ -1,14 +1,17 @@
 -- What a client keeps, as it is on a disk, and what is known besides of what runs, before and after each of its changes.
 use Rattle.std.proofs.Common.{◌≡◌, ◌+◌, ◌<◌, ◌≤◌, ℕ, Bool, true, false, List, [], ◌∷◌, ◌++◌, drop, Option, Some, None, option_map}
-use Rattle.std.proofs.Common.{refl, sym, ap, subst, ◌∙◌, arith, length-append}
+use Rattle.std.proofs.Common.{length, refl, sym, ap, subst, ◌∙◌, arith, length-append}
 use Rattle.std.proofs.Math.Seq.{drop-append_seam}
 use Rattle.std.proofs.lemmas.List.{append-nil}
 use Rattle.std.proofs.lemmas.Option.{same_Some}
+use Rattle.std.specs.Prelude.{IsSome}
 use Rattle.std.specs.FinMap.{empty}
+use Rattle.std.specs.List.{AllByRecursion}
 use Rattle.iot_tree.specs.Tree.{Nodes, IsTree}
 use Rattle.iot_tree.specs.declared.acts.Act.{Act}
 use Rattle.iot_tree.specs.declared.labels.OnConflict.{OnConflict as OnConflictNamed}
 use Rattle.iot_tree.specs.declared.limits.TheConstants.{ACT_LIMIT}
+use Rattle.iot_tree.specs.declared.questions.Question.{Question}
 use Rattle.iot_tree.specs.declared.labels.OnConflict.TheVariants as on
 use Rattle.iot_lang.specs.Scripts.{IsScript}
 use Rattle.iot_limits.specs.Spelled.{IsSpelledTree}
@@ -19,27 +22,32 @@ use Rattle.iot_queue.specs.Queues.{with_head, staged}
 use Rattle.iot_queue.specs.declared.items.Item.{Item}
 use Rattle.iot_queue.specs.declared.items.Stage.{Stage}
 use Rattle.iot_queue.specs.declared.items.Stage.TheVariants as stages
+use Rattle.iot_changes.specs.declared.changes.Change.{Change}
 use Rattle.iot_changes.specs.declared.changes.Change.TheVariants as changes
-use Rattle.iot_kept.specs.States.{Transaction, State, after_items}
-use Rattle.iot_kept.specs.Changes.{CanFollow, HeadIs, MayLeave, after, waiting, ended, left, stays_in, stage_by, conflicted, repaired}
+use Rattle.iot_kept.specs.States.{Transaction, State, after_each, after_items}
+use Rattle.iot_kept.specs.Changes as records
+use Rattle.iot_kept.specs.Changes.{CanFollow, HeadIs, MayLeave, after, ended, left, stays_in, stage_by, conflicted, repaired}
 use Rattle.iot_kept.specs.Changes.{with_acts}
 use Rattle.iot_client.specs.Ties.{Live, count}
 use Rattle.iot_client.specs.Calls.{CanAct, next_acts, has_ended, may_end, second_class}
 use Rattle.iot_machine.specs.Clients as clients
-use Rattle.iot_machine.specs.Clients.{Declared, ClientState, base, so_far, plain_run, begin, fetch, anew, act_once, one_more}
+use Rattle.iot_machine.specs.Clients.{Declared, ClientState, base, so_far, plain_run, begin, fetch, anew, act_once, one_more, cut_by, cut}
 use Rattle.iot_machine.specs.Clients.{leave, leave_by, change_first, with_first, local_run, item_of, joined, end, hold, reach}
 use Rattle.iot_machine.specs.Clients.{at_stage, resolved_by, repair}
+use Rattle.iot_machine.specs.Options as options
 use Rattle.iot_machine.specs.Options.{OnConflict}
+use Rattle.iot_machine.specs.Serving as serving
+use Rattle.iot_machine.specs.Sound.{CanResolve, IsPlanned}
 use Rattle.iot_judging.proofs.BudgetLaws.{HasOneMore, has_one_more, nothing_done}
 use Rattle.iot_judging.proofs.JudgingLaws.{run_tree}
 use Rattle.iot_judging.proofs.NextLaws.{base_stays}
 use Rattle.iot_judging.proofs.SpelledTreesLaws.{run_spelled}
 use Rattle.iot_laptop.specs.Calls.{head_option}
 use Rattle.iot_laptop.specs.Laptops.{ItemStands, ItemsStand, StageStands, RunningStandsIfAny, StateStands, RunningKept, RunningKeptIfAny}
-use Rattle.iot_laptop.specs.Laptops.{StateKept}
-use Rattle.iot_laptop.specs.Scripts.{option_named}
-use Rattle.iot_laptop.proofs.LaptopsLaws.{Running, HeadStands, head_by, items_are, running_is, run_is, counted, ended_is, over_waits}
-use Rattle.iot_laptop.proofs.LaptopStepsLaws.{StaysIn, more_stand, none_stand, head_stays, staged_item, stays_planned}
+use Rattle.iot_laptop.specs.Laptops.{StateKept, waits_of}
+use Rattle.iot_laptop.specs.Messages.{told_change}
+use Rattle.iot_laptop.specs.Scripts.{ItemIsNamed, RunIsNamedIfAny, AreNamed, IsNamed, HasNamed, option_named}
+use Rattle.iot_laptop.proofs.LaptopsLaws.{Running, HeadStands, head_by, base_of, running_is, run_is, counted, ended_is, over_waits}
 
 -- ---- what is known besides of what runs
 
@@ -57,17 +65,13 @@ pub record KeptLive (s : State) (live : Option Live) (first : Bool) (m : ClientS
 pub live_then : (r : Option Transaction) (live : Option Live) (first : Bool) (o : Option clients.Running)
     → RunningStandsIfAny r live first o → LiveStands live first o
 live_then None live first None stands = stands
-live_then None live first (Some it) stands = absurd stands
-live_then (Some running) live first None stands = absurd stands
-live_then (Some running) None first (Some it) stands = absurd stands
 live_then (Some running) (Some own) first (Some it) stands = (stands.code, stands.class)
+live_then (Some running) None first (Some it) stands = absurd stands
+live_then r live first o stands = absurd stands
 
 runs_with : (t : Nodes) (r : Option Transaction) (live : Option Live) (first : Bool) (o : Option clients.Running)
     → RunningKeptIfAny t r o → LiveStands live first o → RunningStandsIfAny r live first o
 runs_with t None live first None kept runs = runs
-runs_with t None live first (Some it) kept runs = absurd kept
-runs_with t (Some running) live first None kept runs = absurd kept
-runs_with t (Some running) None first (Some it) kept runs = absurd runs
 runs_with t (Some running) (Some own) first (Some it) kept runs = record {
   number = kept.number;
   name = kept.name;
@@ -77,6 +81,8 @@ runs_with t (Some running) (Some own) first (Some it) kept runs = record {
   option = kept.option;
   class = runs.1;
 }
+runs_with t (Some running) None first (Some it) kept runs = absurd runs
+runs_with t r live first o kept runs = absurd kept
 
 -- so it stands for one that is alive
 pub stands_with : (s : State) (live : Option Live) (first : Bool) (m : ClientState) → KeptLive s live first m → StateStands s live first m
@@ -89,12 +95,6 @@ stands_with s live first m here = record {
   spelled = here.kept.spelled;
 }
 
--- a state on the disk, with what was known before of what runs
-pub kept_live : (old s : State) (live : Option Live) (first : Bool) (m : ClientState) → StateStands old live first m → StateKept s m
-    → KeptLive s live first m
-kept_live old s live first m stands kept =
-    record { kept = kept; runs = live_then old.running live first m.running stands.running }
-
 -- nothing runs
 idle_is : (t : Nodes) (r : Option Transaction) (o : Option clients.Running) → r ≡ None → RunningKeptIfAny t r o → o ≡ None
 idle_is t None None none kept = refl
@@ -104,12 +104,10 @@ idle_is t (Some running) o none kept = absurd cc
 pub idle_in : (s : State) (m : ClientState) → s.running ≡ None → StateKept s m → m.running ≡ None
 idle_in s m none kept = idle_is (base m) s.running m.running none kept.running
 
-pub idle_live : (s : State) (live : Option Live) (first : Bool) (m : ClientState) → live ≡ None → s.running ≡ None → StateKept s m
-    → KeptLive s live first m
-idle_live s live first m lives none kept = record {
-  kept = kept;
-  runs = subst (λ (o : Option clients.Running). LiveStands live first o) (sym (idle_in s m none kept)) lives;
-}
+pub idle_runs : (s : State) (live : Option Live) (first : Bool) (m : ClientState) → live ≡ None → s.running ≡ None → StateKept s m
+    → LiveStands live first m.running
+idle_runs s live first m lives none kept =
+    subst (λ (o : Option clients.Running). LiveStands live first o) (sym (idle_in s m none kept)) lives
 
 -- what runs is another one now, with the same script
 live_mapped : (change : clients.Running → clients.Running) → ((it : clients.Running) → (change it).script ≡ it.script)
@@ -126,7 +124,63 @@ second_live live first None runs = ap second_class runs
 second_live None first (Some it) runs = absurd runs
 second_live (Some own) first (Some it) runs = (runs.0, refl)
 
--- ---- a change of the first that waits
+-- ---- the transactions that wait
+
+-- if none waits, that is so on each tree
+none_stand : (items : List Item) (t u : Nodes) (ms : List clients.Item) → items ≡ [] → ItemsStand items t ms → ItemsStand items u ms
+none_stand [] t u [] none stand = tt
+none_stand [] t u (m ∷ ms) none stand = absurd stand
+none_stand (item ∷ items) t u ms none stand = absurd cc
+
+more_stand : (items : List Item) (t : Nodes) (ms : List clients.Item) (item : Item) (m : clients.Item) → ItemsStand items t ms
+    → ItemStands (after_each t items) item m → ItemsStand (items ++ item ∷ []) t (ms ++ m ∷ [])
+more_stand [] t [] item m all it = (it, tt)
+more_stand (head ∷ items) t (other ∷ ms) item m all it = (all.0, more_stand items (after_acts t head.acts) ms item m all.1 it)
+more_stand items t ms item m all it = absurd all
+
+-- then one waits
+pub joined_waits : (items : List Item) (r : Option Transaction) → IsSome r → waits_of (items ++ ended r) ≡ true
+joined_waits [] None some = absurd cc
+joined_waits items r some = refl
+
+-- ---- the first that waits
+
+-- the first is another one now, with the same acts of its own
+head_stays : (change : Item → Item) (other : clients.Item → clients.Item) (items : List Item) (t : Nodes) (ms : List clients.Item)
+    → ((item : Item) → (change item).acts ≡ item.acts)
+    → ((item : Item) (later : List Item) (m : clients.Item) (after : List clients.Item) → items ≡ item ∷ later → ms ≡ m ∷ after
+    → ItemStands t item m → ItemStands t (change item) (other m))
+    → ItemsStand items t ms → ItemsStand (with_head change items) t (with_first other ms)
+head_stays change other [] t [] same each stand = tt
+head_stays change other (item ∷ items) t (m ∷ ms) same each stand = (
+  each item items m ms refl refl stand.0,
+  subst (λ (acts : List Act). ItemsStand items (after_acts t acts) ms) (sym (same item)) stand.1,
+)
+head_stays change other items t ms same each stand = absurd stand
+
+-- it has this option, and is at this stage
+changed_item : (t : Nodes) (item : Item) (m : clients.Item) → ItemStands t item m → (option : OnConflictNamed) (o : OnConflict Declared)
+    → option ≡ option_named o → (stage : Stage) (other : clients.Stage) → StageStands stage other → IsPlanned o other
+    → ItemStands t (record item { option = option; stage = stage }) (record m { option = o; stage = other })
+changed_item t item m stands option o is stage other same planned = record {
+  number = stands.number;
+  name = stands.name;
+  budget = stands.budget;
+  few = stands.few;
+  script = stands.script;
+  acts = stands.acts;
+  tree = stands.tree;
+  option = is;
+  stage = same;
+  planned = planned;
+}
+
+-- if one conflicts with such an option, it can be resolved
+can_resolve : (o : OnConflict Declared) → stage_by (option_named o) ≡ Some stages.Conflict → CanResolve o
+can_resolve options.Reexec is = tt
+can_resolve (options.Resolver script) is = tt
+can_resolve options.Abort is = absurd cc
+can_resolve options.Manual is = absurd cc
 
 first_base : (change : clients.Item → clients.Item) (m : ClientState)
     → ((t : Nodes) (item : clients.Item) → local_run t (change item) ≡ local_run t item) → base (change_first change m) ≡ base m
@@ -136,23 +190,97 @@ first_base change m same = by m.items
     by [] = refl
     by (item ∷ items) = ap (λ (ran : Ran). clients.after_items ran.tree items) (same m.held item)
 
--- ---- one that begins
+-- ---- the scripts of a client's transactions
 
--- without acts it is as its tree is
-new_kept : (t : Nodes) (number : ℕ) (name : List ℕ) (option : OnConflictNamed) (it : clients.Running) → number ≡ it.number
-    → name ≡ it.script.name → IsScript it.script.code → option ≡ option_named it.option → it.acts ≡ 0
-    → RunningKept t (record { number = number; script = name; option = option; acts = [] }) it
-new_kept t number name option it same named script option_is none = record {
+-- a change keeps that each is the one that its name names
+abbrev pub KeepsNamed : List Declared → (ClientState → ClientState) → Type 0
+KeepsNamed scripts change = (s : ClientState) → AreNamed scripts s → AreNamed scripts (change s)
+
+module _ (scripts : List Declared) where
+  abbrev AllNamed : List clients.Item → Type 0
+  AllNamed items = AllByRecursion (ItemIsNamed scripts) items
+
+  all_named : (items : List clients.Item) (item : clients.Item) → AllNamed items → ItemIsNamed scripts item → AllNamed (items ++ item ∷ [])
+  all_named [] item all one = (one, tt)
+  all_named (head ∷ items) item all one = (all.0, all_named items item all.1 one)
+
+  joined_named : (items : List clients.Item) (o : Option clients.Running) → AllNamed items → RunIsNamedIfAny scripts o
+      → AllNamed (joined items o)
+  joined_named items None all run = all
+  joined_named items (Some it) all run = all_named items (item_of it) all (record { script = run.script; resolver = run.resolver })
+
+  cut_off_named : (items : List clients.Item) (o : Option clients.Running) → AllNamed items → RunIsNamedIfAny scripts o
+      → AllNamed (cut_by items o)
+  cut_off_named items None all run = all
+  cut_off_named items (Some it) all run =
+      all_named items (clients.waiting it.acts it) all (record { script = run.script; resolver = run.resolver })
+
+  more_named : (o : Option clients.Running) → RunIsNamedIfAny scripts o → RunIsNamedIfAny scripts (option_map one_more o)
+  more_named None run = tt
+  more_named (Some it) run = record { script = run.script; resolver = run.resolver }
+
+  anew_named : (o : Option clients.Running) → RunIsNamedIfAny scripts o → RunIsNamedIfAny scripts (option_map anew o)
+  anew_named None run = tt
+  anew_named (Some it) run = record { script = run.script; resolver = run.resolver }
+
+  first_named : (change : clients.Item → clients.Item) (items : List clients.Item)
+      → ((item : clients.Item) → ItemIsNamed scripts item → ItemIsNamed scripts (change item))
+      → AllNamed items → AllNamed (with_first change items)
+  first_named change [] each all = tt
+  first_named change (item ∷ items) each all = (each item all.0, all.1)
+
+  pub begin_named : (script : Declared) (option : OnConflict Declared) → IsNamed scripts script → HasNamed scripts option
+      → KeepsNamed scripts (begin script option)
+  begin_named script option is has s named = record { items = named.items; running = record { script = is; resolver = has } }
+
+  pub hold_named : (t : Nodes) → KeepsNamed scripts (hold t)
+  hold_named t s named = record { items = named.items; running = named.running }
+
+  pub fetch_named : (t : Nodes) → KeepsNamed scripts (fetch t)
+  fetch_named t s named = record { items = named.items; running = anew_named s.running named.running }
+
+  pub act_named : KeepsNamed scripts act_once
+  act_named s named = record { items = named.items; running = more_named s.running named.running }
+
+  pub end_named : KeepsNamed scripts end
+  end_named s named = record { items = joined_named s.items s.running named.items named.running; running = tt }
+
+  pub cut_named : KeepsNamed scripts cut
+  cut_named s named = record { items = cut_off_named s.items s.running named.items named.running; running = tt }
+
+  pub leave_named : KeepsNamed scripts leave
+  leave_named s named = by s.items named.items
+    where
+      by : (items : List clients.Item) → AllNamed items → AreNamed scripts (leave_by items s)
+      by [] all = named
+      by (item ∷ items) all = record { items = all.1; running = named.running }
+
+  pub reach_named : (stage : clients.Stage) → KeepsNamed scripts (reach stage)
+  reach_named stage s named = record {
+    items = first_named (at_stage stage) s.items (λ item is. record { script = is.script; resolver = is.resolver }) named.items;
+    running = named.running;
+  }
+
+  pub repair_named : (script : Declared) → IsNamed scripts script → KeepsNamed scripts (repair script)
+  repair_named script by s named = record {
+    items = first_named (resolved_by script) s.items (λ item is. record { script = is.script; resolver = by }) named.items;
+    running = named.running;
+  }
+
+-- ---- the transaction that runs
+
+-- one that begins is as its tree is, without acts
+new_kept : (t : Nodes) (running : Transaction) (it : clients.Running) → running.number ≡ it.number → running.script ≡ it.script.name
+    → IsScript it.script.code → running.option ≡ option_named it.option → RunningKept t (record running { acts = [] }) (anew it)
+new_kept t running it same named script option = record {
   number = same;
   name = named;
   script = script;
-  few = omega (arith, none);
-  count = sym none;
-  acts =
-      ap (λ (ran : Ran). ran.acts) (exec_from_start empty it.script.code t 0)
-      ∙ ap (λ (n : ℕ). (plain_run it.script t n).acts) (sym none);
-  tree = sym (nothing_done it.script.code empty t) ∙ ap (λ (n : ℕ). (plain_run it.script t n).tree) (sym none);
-  option = option_is;
+  few = omega arith;
+  count = refl;
+  acts = ap (λ (ran : Ran). ran.acts) (exec_from_start empty it.script.code t 0);
+  tree = sym (nothing_done it.script.code empty t);
+  option = option;
 }
 
 idle_kept : (t u : Nodes) (r : Option Transaction) (o : Option clients.Running) → r ≡ None → RunningKeptIfAny t r o → RunningKeptIfAny u r o
@@ -164,12 +292,8 @@ idle_kept t u (Some running) o none kept = absurd cc
 anew_kept : (t u : Nodes) (r : Option Transaction) (o : Option clients.Running) → RunningKeptIfAny t r o
     → RunningKeptIfAny u (with_acts (λ acts. []) r) (option_map anew o)
 anew_kept t u None None kept = tt
-anew_kept t u None (Some it) kept = absurd kept
-anew_kept t u (Some running) None kept = absurd kept
-anew_kept t u (Some running) (Some it) kept =
-    new_kept u running.number running.script running.option (anew it) kept.number kept.name kept.script kept.option refl
-
--- ---- one act more
+anew_kept t u (Some running) (Some it) kept = new_kept u running it kept.number kept.name kept.script kept.option
+anew_kept t u r o kept = absurd kept
 
 acts_more : (acts : List Act) (act : Act) (t : Nodes) → after_acts t (acts ++ act ∷ []) ≡ after_update (after_acts t acts) act.update
 acts_more [] act t = refl
@@ -205,6 +329,82 @@ more_kept t running it act kept within on next =
       option = kept.option;
     }
 
+-- one that does no more than it has done, as one that waits with this budget
+waits_item : (t : Nodes) (running : Transaction) (it : clients.Running) (budget n : ℕ) → RunningKept t running it → budget ≡ n
+    → n ≤ ACT_LIMIT → local_run t (clients.waiting n it) ≡ so_far t it
+    → ItemStands t (records.waiting budget running) (clients.waiting n it)
+waits_item t running it budget n is same few run = record {
+  number = is.number;
+  name = is.name;
+  budget = same;
+  few = few;
+  script = is.script;
+  acts = is.acts ∙ ap (λ (ran : Ran). ran.acts) (sym run);
+  tree = is.tree ∙ ap (λ (ran : Ran). ran.tree) (sym run);
+  option = is.option;
+  stage = tt;
+  planned = tt;
+}
+
+-- ---- a state
+
+module _ (s : State) (m : ClientState) (here : StateKept s m) where
+  -- the same tree is held, with other transactions
+  with_queue : (items : List Item) (ms : List clients.Item) (r : Option Transaction) (o : Option clients.Running)
+      → ItemsStand items s.held ms → RunningKeptIfAny (clients.after_items m.held ms) r o
+      → StateKept (record s { items = items; running = r }) (record m { items = ms; running = o })
+  with_queue items ms r o stand runs = record {
+    held = here.held;
+    items = stand;
+    running = runs;
+    last = here.last;
+    tree = here.tree;
+    spelled = here.spelled;
+  }
+
+  -- another tree is held, and none waits
+  with_tree : (t : Nodes) (r : Option Transaction) (o : Option clients.Running) → s.items ≡ [] → IsTree t → IsSpelledTree t
+      → RunningKeptIfAny (clients.after_items t m.items) r o
+      → StateKept (record s { held = t; running = r }) (record m { held = t; running = o })
+  with_tree t r o none tree spelled runs = record {
+    held = refl;
+    items = none_stand s.items s.held t m.items none here.items;
+    running = runs;
+    last = here.last;
+    tree = tree;
+    spelled = spelled;
+  }
+
+  -- one more waits, and none runs
+  one_waits : (item : Item) (it : clients.Item) → ItemStands (base m) item it
+      → ItemsStand (s.items ++ item ∷ []) s.held (m.items ++ it ∷ [])
+  one_waits item it stands =
+      more_stand s.items s.held m.items item it here.items
+      (subst (λ (t : Nodes). ItemStands t item it) (sym (base_of s m here.held here.items)) stands)
+
+  same_queue : ItemsStand (s.items ++ []) s.held m.items
+  same_queue = subst (λ (items : List Item). ItemsStand items s.held m.items) (sym (append-nil s.items)) here.items
+
+  ended_items : (r : Option Transaction) (o : Option clients.Running) → RunningKeptIfAny (base m) r o
+      → ((it : clients.Running) → o ≡ Some it → it.acts ≤ ACT_LIMIT → local_run (base m) (item_of it) ≡ so_far (base m) it)
+      → ItemsStand (s.items ++ ended r) s.held (joined m.items o)
+  ended_items None None kept same = same_queue
+  ended_items (Some running) (Some it) kept same =
+      one_waits (records.waiting ACT_LIMIT running) (item_of it)
+      (waits_item (base m) running it ACT_LIMIT ACT_LIMIT kept refl (omega arith) (same it refl kept.few))
+  ended_items r o kept same = absurd kept
+
+  cut_items : (r : Option Transaction) (o : Option clients.Running) → RunningKeptIfAny (base m) r o
+      → ItemsStand (s.items ++ records.cut r) s.held (cut_by m.items o)
+  cut_items None None is = same_queue
+  cut_items (Some running) (Some it) is =
+      one_waits (records.waiting (length running.acts) running) (clients.waiting it.acts it)
+      (waits_item (base m) running it (length running.acts) it.acts is is.count is.few refl)
+  cut_items r o is = absurd is
+
+  pub cut_live : (first : Bool) → KeptLive (after s changes.Cut) None first (cut m)
+  cut_live first = record { kept = with_queue _ _ None None (cut_items s.running m.running here.running) tt; runs = refl }
+
 module _ (s : State) (live : Live) (first : Bool) (m : ClientState) (here : StateStands s (Some live) first m) (act : Act)
     (can : CanAct s live) (next : next_acts s live.code ≡ act ∷ []) where
   more_run : (it : clients.Running) (runs : m.running ≡ Some it) (running : Transaction) → RunningKept (base m) running it
@@ -222,120 +422,51 @@ module _ (s : State) (live : Live) (first : Bool) (m : ClientState) (here : Stat
   more_by : (r : Option Transaction) (o : Option clients.Running) → o ≡ m.running → RunningKeptIfAny (base m) r o
       → RunningKeptIfAny (base m) (with_acts (λ acts. acts ++ act ∷ []) r) (option_map one_more o)
   more_by None None is kept = tt
-  more_by None (Some it) is kept = absurd kept
-  more_by (Some running) None is kept = absurd kept
   more_by (Some running) (Some it) is kept = more_run it (sym is) running kept
+  more_by r o is kept = absurd kept
 
-  kept_acted : StateKept s m → StateKept (after s (changes.Acted act)) (act_once m)
-  kept_acted kept = record {
-    held = kept.held;
-    items = kept.items;
-    running = more_by s.running m.running refl kept.running;
-    last = kept.last;
-    tree = kept.tree;
-    spelled = kept.spelled;
-  }
-
--- ---- the end
-
-module _ (s : State) (m : ClientState) (here : StateKept s m) where
-  pub base_kept : after_items s ≡ base m
-  base_kept = items_are s.items s.held m.items here.items ∙ ap (λ (t : Nodes). clients.after_items t m.items) here.held
-
-  -- one that does no more as one that waits
-  abbrev waits_as_it_is : Type 0
-  waits_as_it_is = (it : clients.Running) → m.running ≡ Some it → local_run (base m) (item_of it) ≡ so_far (base m) it
-
-  ended_item : (running : Transaction) (it : clients.Running) → RunningKept (base m) running it
-      → local_run (base m) (item_of it) ≡ so_far (base m) it → ItemStands (base m) (waiting ACT_LIMIT running) (item_of it)
-  ended_item running it is same = record {
-    number = is.number;
-    name = is.name;
-    budget = refl;
-    few = omega arith;
-    script = is.script;
-    acts = is.acts ∙ ap (λ (ran : Ran). ran.acts) (sym same);
-    tree = is.tree ∙ ap (λ (ran : Ran). ran.tree) (sym same);
-    option = is.option;
-    stage = tt;
-    planned = tt;
-  }
-
-  ended_items : (r : Option Transaction) (o : Option clients.Running) → o ≡ m.running → RunningKeptIfAny (base m) r o → waits_as_it_is
-      → ItemsStand (s.items ++ ended r) s.held (joined m.items o)
-  ended_items None None is kept same = subst (λ (items : List Item). ItemsStand items s.held m.items) (sym (append-nil s.items))
-      here.items
-  ended_items None (Some it) is kept same = absurd kept
-  ended_items (Some running) None is kept same = absurd kept
-  ended_items (Some running) (Some it) is kept same =
-      more_stand s.items s.held m.items _ _ here.items
-      (subst (λ (t : Nodes). ItemStands t (waiting ACT_LIMIT running) (item_of it)) (sym base_kept)
-      (ended_item running it kept (same it (sym is))))
-
-  kept_ended : waits_as_it_is → StateKept (after s changes.Ended) (end m)
-  kept_ended same = record {
-    held = here.held;
-    items = ended_items s.running m.running refl here.running same;
-    running = tt;
-    last = here.last;
-    tree = here.tree;
-    spelled = here.spelled;
-  }
-
-  few_by : (r : Option Transaction) (o : Option clients.Running) (it : clients.Running) → o ≡ Some it → RunningKeptIfAny (base m) r o
-      → it.acts ≤ ACT_LIMIT
-  few_by None None it is kept = absurd cc
-  few_by None (Some other) it is kept = absurd kept
-  few_by (Some running) None it is kept = absurd cc
-  few_by (Some running) (Some other) it is kept = subst (λ (o : clients.Running). o.acts ≤ ACT_LIMIT) (same_Some other it is) kept.few
-
-  few_kept : (it : clients.Running) → m.running ≡ Some it → it.acts ≤ ACT_LIMIT
-  few_kept it runs = few_by s.running m.running it runs here.running
+-- what is noted of the first that was submitted
+abbrev pub told_record : serving.Verdict → Change
+told_record (serving.Settled number) = changes.Left
+told_record (serving.Conflict read question) = changes.Conflicted
 
 -- ---- a record each
 
 module _ (s : State) (live : Option Live) (first : Bool) (m : ClientState) (here : KeptLive s live first m) where
   pub held_live : (t : Nodes) → CanFollow s (changes.Held t) → IsTree t → IsSpelledTree t
       → KeptLive (after s (changes.Held t)) None first (hold t m)
-  held_live t can tree spelled = idle_live (after s (changes.Held t)) None first (hold t m) refl can.0 (record {
-    held = refl;
-    items = none_stand s.items s.held t m.items can.1 here.kept.items;
-    running = idle_kept (base m) (base (hold t m)) s.running m.running can.0 here.kept.running;
-    last = here.kept.last;
-    tree = tree;
-    spelled = spelled;
-  })
+  held_live t can tree spelled =
+      let kept : StateKept (after s (changes.Held t)) (hold t m) =
+      with_tree s m here.kept t s.running m.running can.1 tree spelled
+      (idle_kept (base m) (base (hold t m)) s.running m.running can.0 here.kept.running) in
+      record { kept = kept; runs = idle_runs (after s (changes.Held t)) None first (hold t m) refl can.0 kept }
 
   pub begun_live : (number : ℕ) (script : Declared) (option : OnConflictNamed) (class : Bool) (on_conflict : OnConflict Declared)
       → CanFollow s (changes.Begun number script.name option) → IsScript script.code → option ≡ option_named on_conflict
       → KeptLive (after s (changes.Begun number script.name option)) (Some (record { first = class; code = script.code })) class
       (begin script on_conflict m)
-  begun_live number script option class on_conflict can is option_is = record {
-    kept = record {
-      held = here.kept.held;
-      items = here.kept.items;
-      running =
-          new_kept (base m) number script.name option
-          (record { number = m.last + 1; script = script; option = on_conflict; acts = 0 })
-          (can.1 ∙ ap (λ (n : ℕ). n + 1) here.kept.last) refl is option_is refl;
-      last = can.1 ∙ ap (λ (n : ℕ). n + 1) here.kept.last;
-      tree = here.kept.tree;
-      spelled = here.kept.spelled;
-    };
-    runs = (refl, refl);
-  }
+  begun_live number script option class on_conflict can is option_is =
+      let same : number ≡ m.last + 1 = can.1 ∙ ap (λ (n : ℕ). n + 1) here.kept.last in
+      record {
+        kept = record {
+          held = here.kept.held;
+          items = here.kept.items;
+          running =
+              new_kept (base m) (record { number = number; script = script.name; option = option; acts = [] })
+              (record { number = m.last + 1; script = script; option = on_conflict; acts = 0 }) same refl is option_is;
+          last = same;
+          tree = here.kept.tree;
+          spelled = here.kept.spelled;
+        };
+        runs = (refl, refl);
+      }
 
   pub fetched_live : (t : Nodes) → CanFollow s (changes.Fetched t) → IsTree t → IsSpelledTree t
       → KeptLive (after s (changes.Fetched t)) live first (fetch t m)
   fetched_live t can tree spelled = record {
-    kept = record {
-      held = refl;
-      items = none_stand s.items s.held t m.items can.1 here.kept.items;
-      running = anew_kept (base m) (base (fetch t m)) s.running m.running here.kept.running;
-      last = here.kept.last;
-      tree = tree;
-      spelled = spelled;
-    };
+    kept =
+        with_tree s m here.kept t _ _ can.1 tree spelled
+        (anew_kept (base m) (base (fetch t m)) s.running m.running here.kept.running);
     runs = live_mapped anew (λ it. refl) live first m.running here.runs;
   }
 
@@ -343,17 +474,18 @@ module _ (s : State) (live : Option Live) (first : Bool) (m : ClientState) (here
       → KeptLive (after s (changes.Acted act)) live first (act_once m)
   acted_live own lives act can next = record {
     kept =
-        kept_acted s own first m
-        (subst (λ (l : Option Live). StateStands s l first m) lives (stands_with s live first m here)) act can next here.kept;
+        with_queue s m here.kept s.items m.items _ _ here.kept.items
+        (more_by s own first m (subst (λ (l : Option Live). StateStands s l first m) lives (stands_with s live first m here)) act can next
+        s.running m.running refl here.kept.running);
     runs = live_mapped one_more (λ it. refl) live first m.running here.runs;
   }
 
   pub ended_live : may_end s live ≡ true → KeptLive (after s changes.Ended) None first (end m)
   ended_live may = record {
     kept =
-        kept_ended s m here.kept
-        (λ running runs.
-        over_waits s live first m (stands_with s live first m here) running runs may (few_kept s m here.kept running runs));
+        with_queue s m here.kept _ _ None None
+        (ended_items s m here.kept s.running m.running here.kept.running
+        (λ it runs. over_waits s live first m (stands_with s live first m here) it runs may)) tt;
     runs = refl;
   }
 
@@ -364,67 +496,29 @@ module _ (s : State) (live : Option Live) (first : Bool) (m : ClientState) (here
       → m.items ≡ first ∷ after → ItemStands s.held item first → ItemStands s.held (change item) (other first))
       → KeptLive (record s { items = with_head change s.items }) live first (change_first other m)
   changed_live change other same ran each = record {
-    kept = record {
-      held = here.kept.held;
-      items = head_stays change other s.items s.held m.items same each here.kept.items;
-      running = subst (λ (t : Nodes). RunningKeptIfAny t s.running m.running) (sym (first_base other m ran)) here.kept.running;
-      last = here.kept.last;
-      tree = here.kept.tree;
-      spelled = here.kept.spelled;
-    };
+    kept =
+        with_queue s m here.kept _ _ s.running m.running (head_stays change other s.items s.held m.items same each here.kept.items)
+        (subst (λ (t : Nodes). RunningKeptIfAny t s.running m.running) (sym (first_base other m ran)) here.kept.running);
     runs = here.runs;
   }
 
   -- the first is at this stage
-  reached : (stage : Stage) (other : clients.Stage) (option : OnConflictNamed) → head_option s.items ≡ Some option
-      → StageStands stage other → StaysIn option other
+  pub reached_live : (stage : Stage) (other : clients.Stage)
+      → ((item : Item) (later : List Item) (first : clients.Item) (after : List clients.Item) → s.items ≡ item ∷ later
+      → m.items ≡ first ∷ after → ItemStands s.held item first → StageStands stage other × IsPlanned first.option other)
       → KeptLive (record s { items = with_head (staged stage) s.items }) live first (reach other m)
-  reached stage other option is same stays =
-      changed_live (staged stage) (at_stage other) (λ item. refl) (λ t item. refl)
-      (λ item later first after some others stands.
-      staged_item s.held stage other item first same
-      (stays_planned option other first.option (sym (same_Some item.option option (sym (ap head_option some) ∙ is)) ∙
-      stands.option) stays)
-      stands)
-
-  -- what becomes of the first, by its option
-  conflicted_as : (queue : List Item) (option : OnConflictNamed) → head_option queue ≡ Some option
-      → conflicted s queue ≡ stays_in (stage_by option) s
-  conflicted_as [] option is = absurd cc
-  conflicted_as (item ∷ items) option is = ap (λ (o : OnConflictNamed). stays_in (stage_by o) s) (same_Some item.option option is)
-
-  reached_by : (option : OnConflictNamed) (other : clients.Stage) → head_option s.items ≡ Some option → StaysIn option other
-      → KeptLive (stays_in (stage_by option) s) live first (reach other m)
-  reached_by on.Reexec other is stays =
-      reached stages.Conflict other on.Reexec is (subst (StageStands stages.Conflict) (sym stays) tt) stays
-  reached_by (on.Resolver name) other is stays =
-      reached stages.Conflict other (on.Resolver name) is (subst (StageStands stages.Conflict) (sym stays) tt) stays
-  reached_by on.Abort other is stays = absurd stays
-  reached_by on.Manual other is stays = reached stages.Manual other on.Manual is (subst (StageStands stages.Manual) (sym stays) tt) stays
-
-  pub conflicted_live : (option : OnConflictNamed) (other : clients.Stage) → head_option s.items ≡ Some option → StaysIn option other
-      → KeptLive (after s changes.Conflicted) live first (reach other m)
-  conflicted_live option other is stays =
-      subst (λ (next : State). KeptLive next live first (reach other m)) (sym (conflicted_as s.items option is))
-      (reached_by option other is stays)
+  reached_live stage other each =
+      changed_live (staged stage) (at_stage other) (λ item. refl) (λ t item. refl) (λ item later first after some others stands.
+      let is = each item later first after some others stands in
+      changed_item s.held item first stands item.option first.option stands.option stage other is.0 is.1)
 
   -- the first is to be resolved by this script
   pub repaired_live : (name : List ℕ) (script : Declared) → script.name ≡ name
       → KeptLive (after s (changes.Repaired name)) live first (repair script m)
   repaired_live name script is =
-      changed_live (repaired name) (resolved_by script) (λ item. refl) (λ t item. refl)
-      (λ item later first after some others stands. record {
-        number = stands.number;
-        name = stands.name;
-        budget = stands.budget;
-        few = stands.few;
-        script = stands.script;
-        acts = stands.acts;
-        tree = stands.tree;
-        option = ap (λ (n : List ℕ). on.Resolver n) (sym is);
-        stage = tt;
-        planned = tt;
-      })
+      changed_live (repaired name) (resolved_by script) (λ item. refl) (λ t item. refl) (λ item later first after some others stands.
+      changed_item s.held item first stands (on.Resolver name) (options.Resolver script) (ap (λ (n : List ℕ). on.Resolver n) (sym is))
+      stages.Conflict clients.Conflict tt tt)
 
   left_head : (item : Item) (items : List Item) → HeadStands s.held item items m.items
       → KeptLive (record s { held = after_acts s.held item.acts; items = items }) live first (leave m)
@@ -455,8 +549,35 @@ module _ (s : State) (live : Option Live) (first : Bool) (m : ClientState) (here
   pub left_live : CanFollow s changes.Left → KeptLive (after s changes.Left) live first (leave m)
   left_live can = left_by s.items refl (λ none. subst (λ (items : List Item). HeadIs MayLeave items) none can)
 
-  -- one that is given up leaves too
-  pub given_up_live : head_option s.items ≡ Some on.Abort → KeptLive (after s changes.Conflicted) live first (leave m)
-  given_up_live is =
-      subst (λ (next : State). KeptLive next live first (leave m)) (sym (conflicted_as s.items on.Abort is))
-      (left_by s.items refl (λ none. let e : None ≡ Some on.Abort = sym (ap head_option none) ∙ is in cc))
+  -- ---- what is said of the first that was submitted
+
+  -- one that conflicts with such an option is to be resolved
+  in_conflict : (option : OnConflictNamed) → stage_by option ≡ Some stages.Conflict → head_option s.items ≡ Some option
+      → KeptLive (record s { items = with_head (staged stages.Conflict) s.items }) live first (reach clients.Conflict m)
+  in_conflict option resolves is = reached_live stages.Conflict clients.Conflict (λ item later first after some others stands. (
+    tt,
+    can_resolve first.option
+        (ap stage_by (sym stands.option ∙ same_Some item.option option (sym (ap head_option some) ∙ is)) ∙ resolves),
+  ))
+
+  conflicted_by : (read : ℕ) (question : Question) (option : OnConflictNamed) → head_option s.items ≡ Some option
+      → KeptLive (stays_in (stage_by option) s) live first (told_change (serving.Conflict read question) option m)
+  conflicted_by read question on.Reexec is = in_conflict on.Reexec refl is
+  conflicted_by read question (on.Resolver name) is = in_conflict (on.Resolver name) refl is
+  conflicted_by read question on.Abort is =
+      left_by s.items refl (λ none. let e : None ≡ Some on.Abort = sym (ap head_option none) ∙ is in cc)
+  conflicted_by read question on.Manual is =
+      reached_live stages.Manual clients.Manual (λ item later first after some others stands. (tt, tt))
+
+  conflicted_as : (queue : List Item) (option : OnConflictNamed) → head_option queue ≡ Some option
+      → conflicted s queue ≡ stays_in (stage_by option) s
+  conflicted_as [] option is = absurd cc
+  conflicted_as (item ∷ items) option is = ap (λ (o : OnConflictNamed). stays_in (stage_by o) s) (same_Some item.option option is)
+
+  -- what becomes of it, by its option
+  pub told_live : (told : serving.Verdict) (option : OnConflictNamed) → head_option s.items ≡ Some option
+      → CanFollow s (told_record told) → KeptLive (after s (told_record told)) live first (told_change told option m)
+  told_live (serving.Settled number) option is can = left_live can
+  told_live (serving.Conflict read question) option is can =
+      subst (λ (next : State). KeptLive next live first (told_change (serving.Conflict read question) option m))
+      (sym (conflicted_as s.items option is)) (conflicted_by read question option is)

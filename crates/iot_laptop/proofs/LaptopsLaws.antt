@@ -21,22 +21,33 @@ use Rattle.iot_machine.specs.Transactions.{is_queued}
 use Rattle.iot_judging.proofs.NextLaws.{is_at_end, is_at_limit, is_next, ended_waits, full_waits}
 use Rattle.iot_laptop.specs.Laptops.{ItemStands, ItemsStand, RunningStands, RunningStandsIfAny, StateStands, waits_of}
 use Rattle.iot_laptop.specs.Calls.{IsOver, IsUnended}
+use Rattle.std.proofs.Common.{◌+◌, ◌<◌, zero, suc, drop, option_and_then, slice_get}
+use Rattle.iot_tree.specs.declared.acts.Act.{Act}
+use Rattle.iot_exec.specs.Misses.{first_away}
+use Rattle.iot_client.specs.Ties.{state_of, live_of}
+use Rattle.iot_client.specs.Calls.{CanAct, next_acts, missed, StepIs}
+use Rattle.iot_client.specs.declared.client.Client.{Client}
+use Rattle.iot_client.specs.declared.steps.Step.{Step}
+use Rattle.iot_client.specs.declared.steps.Step.TheVariants as steps
+use Rattle.iot_machine.specs.Clients.{Acts}
+use Rattle.iot_laptop.specs.Calls.{next_as}
 
 -- ---- the transactions that wait
 
 pub items_are : (items : List Item) (t : Nodes) (ms : List clients.Item) → ItemsStand items t ms
     → after_each t items ≡ clients.after_items t ms
 items_are [] t [] stand = refl
-items_are [] t (m ∷ ms) stand = absurd stand
-items_are (item ∷ items) t [] stand = absurd stand
 items_are (item ∷ items) t (m ∷ ms) stand =
     items_are items (after_acts t item.acts) ms stand.1 ∙ ap (λ (u : Nodes). clients.after_items u ms) stand.0.tree
+items_are items t ms stand = absurd stand
 
 waits_by : (items : List Item) (t : Nodes) (ms : List clients.Item) → ItemsStand items t ms → waits_of items ≡ is_queued ms
 waits_by [] t [] stand = refl
-waits_by [] t (m ∷ ms) stand = absurd stand
-waits_by (item ∷ items) t [] stand = absurd stand
 waits_by (item ∷ items) t (m ∷ ms) stand = refl
+waits_by items t ms stand = absurd stand
+
+pub base_of : (s : State) (m : ClientState) → s.held ≡ m.held → ItemsStand s.items s.held m.items → after_items s ≡ base m
+base_of s m held stand = items_are s.items s.held m.items stand ∙ ap (λ (t : Nodes). clients.after_items t m.items) held
 
 -- the first item is the first transaction, and the others are the others
 pub record HeadStands (t : Nodes) (item : Item) (items : List Item) (ms : List clients.Item) : Type 0 where
@@ -59,9 +70,8 @@ head_by queue t ms item items is stand = by ms (subst (λ (q : List Item). Items
 runs_by : (r : Option Transaction) (live : Option Live) (first : Bool) (o : Option clients.Running) → RunningStandsIfAny r live first o
     → is_some r ≡ is_some o
 runs_by None live first None stands = refl
-runs_by None live first (Some it) stands = absurd stands
-runs_by (Some running) live first None stands = absurd stands
 runs_by (Some running) live first (Some it) stands = refl
+runs_by r live first o stands = absurd stands
 
 -- there is one, of a class and with a script
 pub record Running (r : Option Transaction) (live : Option Live) (class : Bool) (it : clients.Running) : Type 0 where
@@ -73,10 +83,7 @@ pub record Running (r : Option Transaction) (live : Option Live) (class : Bool) 
 
 pub running_by : (r : Option Transaction) (live : Option Live) (first : Bool) (o : Option clients.Running) (it : clients.Running)
     → o ≡ Some it → RunningStandsIfAny r live first o → Running r live first it
-running_by None live first None it is stands = absurd cc
-running_by None live first (Some other) it is stands = absurd stands
-running_by (Some running) live first None it is stands = absurd stands
-running_by (Some running) None first (Some other) it is stands = absurd stands
+running_by r live first None it is stands = absurd cc
 running_by (Some running) (Some own) first (Some other) it is stands = record {
   own = running;
   besides = own;
@@ -84,6 +91,7 @@ running_by (Some running) (Some own) first (Some other) it is stands = record {
   lives = refl;
   stands = subst (RunningStands running own first) (same_Some _ _ is) stands;
 }
+running_by r live first (Some other) it is stands = absurd stands
 
 -- ---- its next step
 
@@ -94,9 +102,8 @@ over_by first t it true is may = subst IsOver (sym (is_at_end first t it (sym is
 over_by first t it false is may = subst IsOver (sym (is_at_limit first t it (sym is) (leb-true ACT_LIMIT it.acts may))) tt
 
 next_unended : (first : Bool) (away : Option Path) → IsUnended (next_by first away)
-next_unended true None = tt
 next_unended true (Some path) = tt
-next_unended false away = tt
+next_unended first away = tt
 
 unended_by : (first : Bool) (t : Nodes) (it : clients.Running) (ended : Bool) → ended ≡ (so_far t it).ended
     → (ended || leb ACT_LIMIT it.acts) ≡ false → IsUnended (next_step first t it)
@@ -107,8 +114,8 @@ unended_by first t it false is may =
 -- ---- a state
 
 module _ (s : State) (live : Option Live) (first : Bool) (m : ClientState) (here : StateStands s live first m) where
-  pub base_is : after_items s ≡ base m
-  base_is = items_are s.items s.held m.items here.items ∙ ap (λ (t : Nodes). clients.after_items t m.items) here.held
+  base_is : after_items s ≡ base m
+  base_is = base_of s m here.held here.items
 
   pub runs_is : is_some s.running ≡ is_some m.running
   runs_is = runs_by s.running live first m.running here.running
@@ -168,11 +175,75 @@ module _ (s : State) (live : Option Live) (first : Bool) (m : ClientState) (here
       → IsOwnRunIfAny s live → view s ≡ view_by (base m) o
   view_of None None is other stands own =
       ap (λ (r : Option Transaction). after_acts (after_items s) (acts_of r)) (sym is) ∙ base_is
-  view_of None (Some it) is other stands own = absurd stands
-  view_of (Some running) None is other stands own = absurd stands
   view_of (Some running) (Some it) is other stands own =
       let known : Running s.running live first it = running_is it (sym other) in
       sym (subst (IsOwnRunIfAny s) known.lives own).tree ∙ ap (λ (ran : Ran). ran.tree) (so_far_is it (sym other))
+  view_of r o is other stands own = absurd stands
 
   pub view_is : IsOwnRunIfAny s live → view s ≡ clients.view m
   view_is own = view_of s.running m.running refl refl here.running own
+
+-- ---- its next step
+
+missed_is : (acts : List Act) (n : ℕ) → missed (drop n acts) ≡ option_and_then (λ act. first_away act.reads) (slice_get acts n)
+missed_is [] zero = refl
+missed_is [] (suc n) = refl
+missed_is (act ∷ acts) zero = refl
+missed_is (act ∷ acts) (suc n) = missed_is acts n
+
+acts_next : (first : Bool) (away : Option Path) → (first ≡ true → away ≡ None) → next_by first away ≡ Acts
+acts_next true away known = ap (next_by true) (known refl)
+acts_next false away known = refl
+
+no_less : (n : ℕ) → n ≤ n
+no_less n = omega arith
+
+module _ {D : Type 0} (old new : Client D) (first : Bool) (m : ClientState) (here : StateStands (state_of old) (live_of old) first m)
+    (it : clients.Running) (runs : m.running ≡ Some it) where
+  abbrev s : State
+  s = state_of old
+
+  abbrev known : Running s.running (live_of old) first it
+  known = running_is s (live_of old) first m here it runs
+
+  counts : count s ≡ it.acts
+  counts = counted s (live_of old) first m here it runs
+
+  ends : has_ended s known.besides.code ≡ (so_far (base m) it).ended
+  ends = ended_is s (live_of old) first m here it runs
+
+  away : missed (next_acts s known.besides.code) ≡ next_away (base m) it
+  away =
+      ap (λ (ran : Ran). missed (drop (count s) ran.acts)) (run_is s (live_of old) first m here it runs (count s + 1))
+      ∙ ap (λ (n : ℕ). missed (drop n (plain_run it.script (base m) (n + 1)).acts)) counts
+      ∙ missed_is (plain_run it.script (base m) (it.acts + 1)).acts it.acts
+
+  on_to : has_ended s known.besides.code ≡ false → count s < ACT_LIMIT
+      → next_step first (base m) it ≡ next_by first (next_away (base m) it)
+  on_to on within = is_next first (base m) it (sym ends ∙ on) (subst (λ (n : ℕ). n < ACT_LIMIT) counts within)
+
+  acts_by : CanAct s known.besides → next_step first (base m) it ≡ Acts
+  acts_by can =
+      on_to can.goes_on can.within
+      ∙ acts_next first (next_away (base m) it) (λ is. sym away ∙ can.known (known.stands.class ∙ is))
+
+  step_by : (step : Step) → StepIs old known.besides step new → next_step first (base m) it ≡ next_as step
+  step_by (steps.Acted acts over) is = acts_by is.can
+  step_by (steps.Fetch request path) is =
+      on_to is.1.goes_on is.1.within ∙ ap (λ (f : Bool). next_by f (next_away (base m) it)) (sym known.stands.class ∙ is.1.first)
+      ∙ ap (next_by true) (sym away ∙ is.1.miss)
+  step_by (steps.AtEnd acts) is = is_at_end first (base m) it (sym ends ∙ is.0)
+  step_by (steps.AtLimit acts) is =
+      is_at_limit first (base m) it (sym ends ∙ is.0)
+      (subst (λ (n : ℕ). ACT_LIMIT ≤ n) (sym is.2 ∙ counts) (no_less ACT_LIMIT))
+
+  module _ (own : Live) (lives : live_of old ≡ Some own) where
+    same_live : own ≡ known.besides
+    same_live = same_Some own known.besides (sym lives ∙ known.lives)
+
+    pub next_is : (step : Step) → StepIs old own step new → next_step first (base m) it ≡ next_as step
+    next_is step is = step_by step (subst (λ (l : Live). StepIs old l step new) same_live is)
+
+    -- one that can act does so next
+    pub acts_is : CanAct s own → next_step first (base m) it ≡ Acts
+    acts_is can = acts_by (subst (CanAct s) same_live can)

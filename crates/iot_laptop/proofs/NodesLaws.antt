@@ -1,23 +1,28 @@
 -- What is known of a client by its node.
 use Rattle.std.proofs.Common.{◌≡◌, ℕ, Bool, true, false, List}
-use Rattle.std.proofs.Common.{Option, Some, None, sym, ap, subst, ◌∙◌}
-use Rattle.std.specs.Prelude.{IfSome}
+use Rattle.std.proofs.Common.{Option, Some, None, refl, sym, ap, subst, ◌∙◌}
 use Rattle.iot_kept.specs.States.{Transaction}
 use Rattle.iot_client.specs.Ties as client
-use Rattle.iot_client.specs.Ties.{Live, IsBegunIfAny, IsOwnRunIfAny, IsTied, state_of, live_of}
+use Rattle.iot_client.specs.Ties.{Live, IsBegunIfAny, IsOwnRunIfAny, state_of}
 use Rattle.iot_client.proofs.StepsLaws.{own}
 use Rattle.iot_client.specs.declared.client.Client.{Client}
 use Rattle.iot_disk.specs.Disk.{Medium}
 use Rattle.iot_machine.specs.Clients as clients
 use Rattle.iot_machine.specs.Clients.{Declared, ClientState}
 use Rattle.iot_machine.specs.Machine as machine
+use Rattle.iot_machine.specs.Calls.{Call, At}
 use Rattle.iot_machine.specs.Nodes.{Node}
+use Rattle.iot_machine.specs.Refining.{Refines}
 use Rattle.iot_machine.specs.Sound.{Possibly}
+use Rattle.iot_machine.proofs.PossiblyLaws.{possibly_sure}
 use Rattle.iot_node.specs.Keeping.{Keeping}
 use Rattle.iot_node.specs.Posts.{PostStands, UpStands, is_on}
+use Rattle.iot_node.specs.Steps.{StepsTo}
 use Rattle.iot_node.specs.declared.post.Post.{Post}
 use Rattle.iot_node.specs.declared.post.Post.TheVariants.{Up, Down, Between}
+use Rattle.iot_node.proofs.PostsLaws.{on_has}
 use Rattle.iot_machine.specs.Events.{no_text}
+use Rattle.iot_laptop.specs.Kept.{StateKept}
 use Rattle.iot_laptop.specs.Laptops.{LaptopStands, FallenStands, ClientStands, awake}
 use Rattle.iot_laptop.specs.Laptops.{fallen, RunningStandsIfAny, Stands, StandsAnyhow, IsLent}
 use Rattle.iot_laptop.specs.Laptops.{state_by, live_by, is_alive, state_in, live_in, NodeStands}
@@ -25,6 +30,7 @@ use Rattle.iot_laptop.specs.Scripts.{AreNamed}
 use Rattle.iot_laptop.specs.Seats.{seating}
 use Rattle.iot_laptop.specs.declared.laptop.Laptop.{Laptop}
 use Rattle.iot_laptop.specs.declared.seated.Seated.{Seated}
+use Rattle.iot_laptop.proofs.KeptStatesLaws.{LiveStands, stands_with}
 
 pub not_both : true ≡ false → ⊥
 not_both e = cc
@@ -41,16 +47,25 @@ on_is keeping medium says (Down down) node here = here.alive
 on_is keeping medium says Between node here = absurd here
 
 -- what runs was begun since the start, if something runs
-pub begun_by : (r : Option Transaction) (live : Option Live) (first : Bool) (o : Option clients.Running)
+begun_by : (r : Option Transaction) (live : Option Live) (first : Bool) (o : Option clients.Running)
     → RunningStandsIfAny r live first o → IsBegunIfAny r live
-begun_by None None first o stands = tt
-begun_by None (Some own) first o stands = tt
-begun_by (Some running) live first None stands = absurd stands
+begun_by (Some running) None first None stands = absurd stands
 begun_by (Some running) None first (Some it) stands = absurd stands
-begun_by (Some running) (Some own) first (Some it) stands = tt
+begun_by None None first o stands = tt
+begun_by r (Some own) first o stands = tt
+
+-- what is kept of one that is alive
+pub kept_up : {D : Type 0} (medium : Medium D) (place : ℕ) (post : Post (Seated D) D) (node : Node ClientState)
+    → PostStands (seating medium place) medium no_text post node → node.alive ≡ true → StateKept (state_by post) node.durable
+kept_up medium place (Up seated) node here up = here.stands.kept
+kept_up medium place (Down down) node here up = absurd (not_both (sym up ∙ here.alive))
+kept_up medium place Between node here up = absurd here
 
 module _ {D : Type 0} (medium : Medium D) where
   module _ (scripts : List Declared) (laptop : Laptop D) (m : machine.Client) where
+    abbrev Posted : Post (Seated D) D → Node ClientState → Type 0
+    Posted = PostStands (seating medium laptop.place) medium no_text
+
     node_is : NodeStands medium laptop m → m.node.alive ≡ is_alive laptop
     node_is here = on_is (seating medium laptop.place) medium no_text laptop.post m.node here
 
@@ -84,36 +99,61 @@ module _ {D : Type 0} (medium : Medium D) where
     -- it is the keeper of its node
     pub up_stands : (it : Client D) → laptop.post ≡ Up (record { client = it }) → LaptopStands medium scripts laptop m
         → UpStands (seating medium laptop.place) medium no_text (record { client = it }) m.node
-    up_stands it is here =
-        subst (λ (p : Post (Seated D) D). PostStands (seating medium laptop.place) medium no_text p m.node) is here.node
+    up_stands it is here = subst (λ (p : Post (Seated D) D). Posted p m.node) is here.node
 
-    pub sure_by : (post : Post (Seated D) D) → PostStands (seating medium laptop.place) medium no_text post m.node → m.node.alive ≡ true
-        → m.node.doubt ≡ None
-    sure_by (Up seated) here up = here.sure
-    sure_by (Down down) here up = absurd (not_both (sym up ∙ here.alive))
-    sure_by Between here up = absurd here
+    up_at : LaptopStands medium scripts laptop m → (seated : Seated D) × (laptop.post ≡ Up seated)
+    up_at here = on_has laptop.post (is_awake here)
 
     pub may_be_named : ClientStands medium scripts laptop m → Possibly (AreNamed scripts) m.node
-    may_be_named (awake here) = record {
-      is = here.named;
-      may_be =
-          subst (λ (o : Option ClientState). IfSome o (AreNamed scripts)) (sym (sure_by laptop.post here.node here.alive)) tt;
-    }
+    may_be_named (awake here) =
+        let up = up_at here in possibly_sure m.node (up_stands up.0.client up.1 here).sure here.named
     may_be_named (fallen here) = here.named
 
-    pub begun_in : LaptopStands medium scripts laptop m → IsBegunIfAny (state_in laptop).running (live_in laptop)
+    begun_in : LaptopStands medium scripts laptop m → IsBegunIfAny (state_in laptop).running (live_in laptop)
     begun_in here = begun_by (state_in laptop).running (live_in laptop) m.first m.node.durable.running here.state.running
 
-    own_of : (post : Post (Seated D) D) → PostStands (seating medium laptop.place) medium no_text post m.node → m.node.alive ≡ true
-        → IsBegunIfAny (state_by post).running (live_by post) → IsOwnRunIfAny (state_by post) (live_by post)
-    own_of (Up seated) here up begun =
-        own (state_of seated.client) (client.class_in seated.client) seated.client.interpreter here.stands.tied.runs begun
-    own_of (Down down) here up begun = absurd (not_both (sym up ∙ here.alive))
-    own_of Between here up begun = absurd here
+    lent_stands : (it : Client D) → laptop.post ≡ Up (record { client = it }) → LaptopStands medium scripts laptop m
+        → IsLent medium laptop it
+    lent_stands it is here =
+        let up = up_stands it is here in
+        record {
+          post = is;
+          state = sym (ap state_by is);
+          live = sym (ap live_by is);
+          place = up.stands.place_is;
+          tied = up.stands.tied;
+          begun = subst (λ (p : Post (Seated D) D). IsBegunIfAny (state_by p).running (live_by p)) is (begun_in here);
+        }
 
     -- its acts are those of its script's run
     pub own_in : LaptopStands medium scripts laptop m → IsOwnRunIfAny (state_in laptop) (live_in laptop)
-    own_in here = own_of laptop.post here.node here.alive (begun_in here)
+    own_in here =
+        let up = up_at here in
+        let it = up.0.client in
+        let lent = lent_stands it up.1 here in
+        subst (λ (p : Post (Seated D) D). IsOwnRunIfAny (state_by p) (live_by p)) (sym up.1)
+        (own (state_of it) (client.class_in it) it.interpreter lent.tied.runs lent.begun)
+
+    -- ---- over another post
+
+    module _ (name : laptop.name ≡ m.name) (link : laptop.link ≡ m.link) (post : Post (Seated D) D) (n : Node ClientState)
+        (stands : Posted post n) where
+      pub awake_at : n.alive ≡ true → (first : Bool) → LiveStands (live_by post) first n.durable.running → AreNamed scripts n.durable
+          → LaptopStands medium scripts (record laptop { post = post }) (record m { node = n; first = first })
+      awake_at up first runs named = record {
+        name = name;
+        link = link;
+        alive = up;
+        node = stands;
+        state =
+            stands_with (state_by post) (live_by post) first n.durable
+            (record { kept = kept_up medium laptop.place post n stands up; runs = runs });
+        named = named;
+      }
+
+      pub fallen_at : n.alive ≡ false → Possibly (AreNamed scripts) n
+          → ClientStands medium scripts (record laptop { post = post }) (record m { node = n })
+      fallen_at down named = fallen (record { name = name; link = link; alive = down; node = stands; named = named })
 
   pub some_awake : (laptop : Laptop D) → StandsAnyhow medium laptop → is_alive laptop ≡ true → Stands medium laptop
   some_awake laptop some up = record {
@@ -125,24 +165,30 @@ module _ {D : Type 0} (medium : Medium D) where
   -- what is known of the client of one that stands
   pub lent_at : (laptop : Laptop D) (it : Client D) → laptop.post ≡ Up (record { client = it }) → Stands medium laptop
       → IsLent medium laptop it
-  lent_at laptop it is stands =
-      let here : LaptopStands medium stands.scripts laptop stands.machine = stands.stands in
-      let up = up_stands stands.scripts laptop stands.machine it is here in
-      record {
-        post = is;
-        state = sym (ap state_by is);
-        live = sym (ap live_by is);
-        place = up.stands.place_is;
-        tied = up.stands.tied;
-        begun =
-            subst (λ (p : Post (Seated D) D). IsBegunIfAny (state_by p).running (live_by p)) is
-            (begun_in stands.scripts laptop stands.machine here);
-      }
+  lent_at laptop it is stands = lent_stands stands.scripts laptop stands.machine it is stands.stands
 
-  pub lent_some : (laptop : Laptop D) (it : Client D) → laptop.post ≡ Up (record { client = it })
-      → Stands medium laptop → IfSome (Some it) (IsLent medium laptop)
-  lent_some laptop it is stands = lent_at laptop it is stands
+-- ---- a call of a laptop's node
 
-  -- one that stands is neither down nor in between
-  pub not_off : (laptop : Laptop D) → Stands medium laptop → is_alive laptop ≡ false → ⊥
-  not_off laptop stands off = not_both (sym (is_awake stands.scripts laptop stands.machine stands.stands) ∙ off)
+pub refines : {W M A : Type 0} {stands : W → M → Type 0} {call : Call M A} {u w : W} {x z : List ℕ} {a : A}
+    → StepsTo stands stands call u w x z a → Refines stands call u w x z a
+refines steps = record { step = steps.step }
+
+-- by its name it is one of the machine's
+pub at_node : {D A : Type 0} (medium : Medium D) (laptop : Laptop D) (post : Post (Seated D) D)
+    {before after : Laptop D → machine.Client → Type 0} (call : List ℕ → Call (Node ClientState) A)
+    (names : machine.Client → List ℕ) (called x y : List ℕ) (a : A)
+    → Refines (PostStands (seating medium laptop.place) medium no_text) (call called) laptop.post post x y a
+    → ((m : machine.Client) → before laptop m → (called ≡ names m) × NodeStands medium laptop m)
+    → ((m : machine.Client) → before laptop m → (n : Node ClientState) (text : List ℕ) → call called m.node text a n
+    → PostStands (seating medium laptop.place) medium no_text post n → after (record laptop { post = post }) (record m { node = n }))
+    → StepsTo before after (λ m. At machine.node (call (names m)) m) laptop (record laptop { post = post }) x y a
+at_node medium laptop post call names called x y a it here each = record {
+  step = λ m known.
+      let s = it.step m.node (here m known).1 in (
+        s.0,
+        record m { node = s.1 },
+        s.2,
+        record { inner = s.1; step = subst (λ (name : List ℕ). call name m.node s.0 a s.1) (here m known).0 s.3; is = refl },
+        each m known s.1 s.0 s.3 s.4,
+      );
+}

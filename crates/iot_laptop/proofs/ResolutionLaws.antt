@@ -50,8 +50,7 @@ use Rattle.iot_machine.specs.Sound.{CanResolve}
 use Rattle.iot_laptop.specs.Laptops.{ResolutionStands, ItemStands}
 use Rattle.iot_laptop.specs.Calls.{head_plan}
 use Rattle.iot_laptop.specs.Scripts.{option_named}
-use Rattle.iot_laptop.proofs.KeptStatesLaws.{KeptLive, changed_live}
-use Rattle.iot_laptop.proofs.LaptopStepsLaws.{staged_item}
+use Rattle.iot_laptop.proofs.KeptStatesLaws.{KeptLive, reached_live}
 
 abbrev pub OneFile : Type 0
 OneFile = Path × List ℕ
@@ -220,25 +219,17 @@ module _ (held : Nodes) (item : Item) (first : clients.Item) (stands : ItemStand
       subst (λ (done : Resolution). ResolutionStands done (resolution_of plan t)) (sym (ran ∙ shape))
       (shaped_stands plan t agree.good (subst IsScript (sym same) script) tree)
 
-  -- it is resolved as the machine resolves it
-  pub resolved_item : IsPlannedRun (resolves.plan_of item) code (after_acts held item.acts) t done
-      → ItemStands held (staged (stages.Resolved done) item) (at_stage (clients.Resolved (resolution_of plan t)) first)
-  resolved_item ran =
-      staged_item held (stages.Resolved done) (clients.Resolved (resolution_of plan t)) item first (run_by _ refl ran)
-      (can_if_planned held first plan first.option ours) stands
-
 module _ (s : State) (live : Option Live) (class : Bool) (m : ClientState) (here : KeptLive s live class m) (plan : Plan)
     (planned : head_plan m.held m.items ≡ Some plan) (code : Code) (same : plan.script.code ≡ code) (script : IsScript code) (t : Nodes)
     (tree : IsTree t) (done : Resolution) (ran : IsHeadsRun s.held s.items code t done) where
-  resolves_first : (item : Item) (later : List Item) (first : clients.Item) (others : List clients.Item) → s.items ≡ item ∷ later
-      → m.items ≡ first ∷ others → ItemStands s.held item first
-      → ItemStands s.held (staged (stages.Resolved done) item) (at_stage (clients.Resolved (resolution_of plan t)) first)
-  resolves_first item later first others some all stands =
-      resolved_item s.held item first stands here.kept.spelled plan
-      (ap (λ (held : Nodes). clients.plan_of held first) here.kept.held ∙ ap (head_plan m.held) (sym all) ∙ planned)
-      code same script t tree done (subst (λ (items : List Item). IsHeadsRun s.held items code t done) some ran)
-
+  -- it is resolved as the machine resolves it
   pub resolved_live : KeptLive (after s (Resolved done)) live class (reach (clients.Resolved (resolution_of plan t)) m)
   resolved_live =
-      changed_live s live class m here (staged (stages.Resolved done)) (at_stage (clients.Resolved (resolution_of plan t)))
-      (λ item. refl) (λ u item. refl) resolves_first
+      reached_live s live class m here (stages.Resolved done) (clients.Resolved (resolution_of plan t))
+      (λ item later first others some all stands.
+      let ours : clients.plan_of s.held first ≡ Some plan =
+      ap (λ (held : Nodes). clients.plan_of held first) here.kept.held ∙ ap (head_plan m.held) (sym all) ∙ planned in (
+        run_by s.held item first stands here.kept.spelled plan ours code same script t tree done _ refl
+            (subst (λ (items : List Item). IsHeadsRun s.held items code t done) some ran),
+        can_if_planned s.held first plan first.option ours,
+      ))

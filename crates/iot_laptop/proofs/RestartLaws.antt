@@ -1,59 +1,57 @@
--- A restart of a laptop is a restart of the client of the machine.
-use Rattle.std.proofs.Common.{◌≡◌, ◌⊎◌, ℕ, Bool, true, false, List, [], ◌++◌}
+-- A restart of a laptop, which cuts off what ran, is a restart of the client of the machine.
+use Rattle.std.proofs.Common.{◌≡◌, ◌⊎◌, ℕ, Bool, true, false, List, [], ◌++◌, length}
 use Rattle.std.proofs.Common.{Option, Some, None, Result, Ok, Err, inl, inr}
-use Rattle.std.proofs.Common.{refl, sym, ap, subst, ◌∙◌, codes, append_assoc, if◌then◌else◌, arith}
-use Rattle.std.specs.Prelude.{IfSome}
+use Rattle.std.proofs.Common.{refl, sym, ap, subst, ◌∙◌, codes, if◌then◌else◌, arith}
+use Rattle.std.specs.Prelude.{IfOk, OnOk, IsErrOf}
 use Rattle.std.proofs.lemmas.List.{append-nil}
 use Rattle.std.proofs.lemmas.Option.{same_Some}
+use Rattle.std.proofs.lemmas.Result.{IfOk-at_ok}
 use Rattle.iot_count.specs.Counts.{Rose}
+use Rattle.iot_tree.specs.Tree.{Nodes}
+use Rattle.iot_changes.specs.declared.changes.Change.TheVariants.{Cut}
+use Rattle.iot_kept.specs.States.{Transaction}
+use Rattle.iot_client.specs.Calls.{Notes, CutsIfAny}
+use Rattle.iot_client.specs.Calls as client
+use Rattle.iot_client.specs.Ties.{state_of, live_of, disk_of, bodies_on}
+use Rattle.iot_client.specs.declared.client.Client.{Client}
+use Rattle.iot_client.specs.declared.fault.ClientFault.{ClientFault}
+use Rattle.iot_client.specs.declared.fault.ClientFault.TheVariants.{Stopped}
 use Rattle.iot_disk.specs.Disk.{Medium}
-use Rattle.iot_machine.specs.Clients.{Declared, ClientState}
+use Rattle.iot_machine.specs.Calls.{goes_on}
+use Rattle.iot_machine.specs.Clients as clients
+use Rattle.iot_machine.specs.Clients.{Declared, ClientState, base, cut}
 use Rattle.iot_machine.specs.Machine as machine
-use Rattle.iot_machine.specs.Nodes.{Node, back}
+use Rattle.iot_machine.specs.Nodes.{Node}
 use Rattle.iot_machine.specs.Refining.{Refines}
 use Rattle.iot_machine.specs.Sound.{Possibly}
-use Rattle.iot_machine.specs.Stops.{ComesBack, Settles}
-use Rattle.iot_machine.specs.Texts.{line, stopped_line, kept_line, lost_line}
+use Rattle.iot_machine.specs.Stops.{ComesBack}
+use Rattle.iot_machine.specs.Texts.{line, stopped_line, cut_line, transaction_name}
+use Rattle.iot_machine.proofs.PossiblyLaws.{comes_within}
 use Rattle.iot_node.specs.Disks.{KeepsDisk}
 use Rattle.iot_node.specs.Posts as posts
-use Rattle.iot_node.specs.Posts.{is_on, is_fallen, PostStands, IsStanding, CameIf}
+use Rattle.iot_node.specs.Posts.{is_on, PostStands, UpStands, StepsFrom, IsStanding, CameIf}
 use Rattle.iot_node.specs.Steps.{StepsTo}
 use Rattle.iot_node.specs.declared.halt.Halt.{Halt}
-use Rattle.iot_node.specs.declared.halt.Halt.TheVariants.{NoMemory, Over}
+use Rattle.iot_node.specs.declared.halt.Halt.TheVariants.{Over}
+use Rattle.iot_node.specs.declared.lines.Transaction as names
 use Rattle.iot_node.specs.declared.post.Post.{Post}
 use Rattle.iot_node.specs.declared.post.Post.TheVariants.{Up, Down, Between}
-use Rattle.iot_machine.specs.Events.{no_text, CutsOff, RestartsClient, comes_back}
-use Rattle.iot_laptop.specs.Calls.{ReturnedStands, Returned, Came, UnlessNoMemory}
-use Rattle.iot_laptop.specs.Laptops.{FallenStands, ClientStands, fallen, StandsAnyhow, is_alive, disk_by}
+use Rattle.iot_node.proofs.StepsToLaws.{bind, asks, says, says_this, nothing}
+use Rattle.iot_machine.specs.Events.{no_text, CutsOff, RestartsClient, cuts_off}
+use Rattle.iot_laptop.specs.Calls.{ReturnedStands, Returned, Came, running_name}
+use Rattle.iot_laptop.specs.Kept.{RunningKeptIfAny}
+use Rattle.iot_laptop.specs.Laptops.{LaptopStands, FallenStands, ClientStands, awake, fallen, StandsAnyhow, is_alive, disk_by}
+use Rattle.iot_laptop.specs.Laptops.{state_in, live_in, state_by}
+use Rattle.iot_laptop.specs.Messages.{name_of}
 use Rattle.iot_laptop.specs.Scripts.{AreNamed}
 use Rattle.iot_laptop.specs.Seats.{seating, besides}
 use Rattle.iot_laptop.specs.declared.laptop.Laptop.{Laptop}
 use Rattle.iot_laptop.specs.declared.seated.Seated.{Seated}
+use Rattle.iot_laptop.proofs.CallsLaws.{Called, Before, Fits, each_ok, goes_at, halts_at, fits_with}
 use Rattle.iot_laptop.proofs.EventsLaws.{live_fresh}
-use Rattle.iot_laptop.proofs.NodesLaws.{not_both, on_is, node_stands, fallen_stands, awake_stands}
-
--- ---- what is so of the state with which a node comes back
-
-module _ (P : ClientState → Type 0) (name : List ℕ) where
-  settles_by : (o : Option ClientState) (node n : Node ClientState) (text : List ℕ) → node.doubt ≡ o → Settles name no_text o node text n
-      → Possibly P node → P n.durable
-  settles_by None node n text is settles may = subst P (sym (ap (λ (n : Node ClientState). n.durable) settles.1)) may.is
-  settles_by (Some later) node n text is settles may = by settles
-    where
-      by : ((text ≡ kept_line name ++ no_text node.durable later) × (n ≡ back later node))
-          ⊎ ((text ≡ lost_line name) × (n ≡ back node.durable node)) → P n.durable
-      by (inl kept) =
-          subst P (sym (ap (λ (n : Node ClientState). n.durable) kept.1))
-          (subst (λ (o : Option ClientState). IfSome o P) is may.may_be)
-      by (inr lost) = subst P (sym (ap (λ (n : Node ClientState). n.durable) lost.1)) may.is
-
-  back_is : (node n : Node ClientState) (text : List ℕ) → ComesBack name no_text node text true n → Possibly P node → P n.durable
-  back_is node n text (inl it) may = settles_by node.doubt node n text refl it.1 may
-  back_is node n text (inr stop) may = absurd (not_both stop.1)
-
-  stop_is : (node n : Node ClientState) (text : List ℕ) → ComesBack name no_text node text false n → Possibly P node → Possibly P n
-  stop_is node n text (inl it) may = absurd (not_both (sym it.0))
-  stop_is node n text (inr stop) may = subst (Possibly P) (sym stop.2.is) (record { is = may.is; may_be = may.may_be })
+use Rattle.iot_laptop.proofs.KeptStatesLaws.{idle_runs, cut_live, cut_named}
+use Rattle.iot_laptop.proofs.NodesLaws.{not_both, on_is, kept_up, node_stands, fallen_stands, awake_stands, awake_at, fallen_at, refines}
+use Rattle.iot_laptop.proofs.NodesLaws.{at_node}
 
 stop_said : (name : List ℕ) (node n : Node ClientState) (text : List ℕ) → ComesBack name no_text node text false n
     → text ≡ stopped_line name
@@ -64,24 +62,10 @@ module _ {D : Type 0} (medium : Medium D) (old : Laptop D) where
   -- one that is alive is left as it is
   pub says_up : (x z : List ℕ) → is_alive old ≡ true → z ≡ x ++ line (codes "up") → (scripts : List Declared)
       → Refines (ClientStands medium scripts) RestartsClient old old x z tt
-  says_up x z up wrote scripts = record {
-    step = λ m here.
-        let alive : m.node.alive ≡ true = (awake_stands medium scripts old m up here).alive in (
-          line (codes "up"),
-          m,
-          wrote,
-          record {
-            mid = m;
-            front = [];
-            rest = line (codes "up");
-            answer = m.node.alive;
-            first = (refl, refl, refl);
-            second = subst (λ (b : Bool). comes_back b m (line (codes "up")) tt m) (sym alive) (refl, refl);
-            whole = refl;
-          },
-          here,
-        );
-  }
+  says_up x z up wrote scripts =
+      refines
+      (bind old old old x x z true tt (asks old x true (λ m here. sym (awake_stands medium scripts old m up here).alive))
+      (says_this (line (codes "up")) old x z wrote))
 
   pub is_standing : StandsAnyhow medium old → IsStanding (seating medium old.place) medium old.post
   is_standing stands = record {
@@ -90,91 +74,53 @@ module _ {D : Type 0} (medium : Medium D) (old : Laptop D) where
     stands = node_stands medium stands.scripts old stands.machine stands.stands;
   }
 
-  fallen_by : (post : Post (Seated D) D) (node : Node ClientState) → PostStands (seating medium old.place) medium no_text post node
-      → is_on post ≡ false → is_fallen post ≡ true
-  fallen_by (Up seated) node stands off = absurd (not_both off)
-  fallen_by (Down down) node stands off = refl
-  fallen_by Between node stands off = absurd stands
-
-  pub is_off : StandsAnyhow medium old → is_alive old ≡ false → is_fallen old.post ≡ true
-  is_off stands off =
-      fallen_by old.post stands.machine.node (node_stands medium stands.scripts old stands.machine stands.stands) off
-
-  -- one that has fallen is not alive
-  pub not_up : is_fallen old.post ≡ true → is_alive old ≡ true → ⊥
-  not_up down up = by old.post down up
-    where
-      by : (post : Post (Seated D) D) → is_fallen post ≡ true → is_on post ≡ true → ⊥
-      by (Up seated) down up = not_both (sym down)
-      by (Down it) down up = not_both (sym up)
-      by Between down up = not_both (sym up)
-
   module _ (post : Post (Seated D) D) (called x y : List ℕ) (same : called ≡ old.name) (off : is_alive old ≡ false) (on : Bool)
       (came_back : Refines (PostStands (seating medium old.place) medium no_text) (ComesBack called no_text) old.post post x y on)
       (is : is_on post ≡ on) (live : posts.live_of besides post ≡ (if on then Some None else None)) where
     abbrev mid : Laptop D
     mid = record old { post = post }
 
-    abbrev Back : Bool → Type 0
-    Back on = Refines (PostStands (seating medium old.place) medium no_text) (ComesBack called no_text) old.post post x y on
+    abbrev Posted : Post (Seated D) D → Node ClientState → Type 0
+    Posted = PostStands (seating medium old.place) medium no_text
+
+    abbrev after_on : Bool → Post (Seated D) D → List ℕ → Type 0
+    after_on on post y = Refines Posted (ComesBack called no_text) old.post post x y on
+
+    -- what it does when its node is back, or has stopped again, makes the whole of its restart
+    comes : (scripts : List Declared) (stands : Laptop D → machine.Client → Type 0)
+        → ((m : machine.Client) → FallenStands medium scripts old m → (n : Node ClientState) → Posted post n
+        → Possibly (AreNamed scripts) n → stands mid (record m { node = n }))
+        → (new : Laptop D) (z : List ℕ) → StepsTo stands (ClientStands medium scripts) (goes_on CutsOff on) mid new y z tt
+        → Refines (ClientStands medium scripts) RestartsClient old new x z tt
+    comes scripts stands each new z rest =
+        let whole : StepsTo (FallenStands medium scripts) (ClientStands medium scripts) RestartsClient old new x z tt =
+        bind old old new x x z false tt (asks old x false (λ m down. sym down.alive))
+        (bind old old new x x z old.name tt (asks old x old.name (λ m down. down.name))
+        (bind {mid = stands} old mid new x y z on tt
+        (at_node medium old post (λ name. ComesBack name no_text) (λ _. old.name) called x y on came_back (λ m down. (same, down.node))
+        (λ m down n text step there.
+        each m down n there ((comes_within called no_text m.node n text on step).each (AreNamed scripts) down.named)))
+        rest)) in
+        record { step = λ m here. whole.step m (fallen_stands medium scripts old m off here) }
 
     -- ---- it has stopped again
 
     pub stops_if : on ≡ false → (scripts : List Declared)
         → Refines (ClientStands medium scripts) RestartsClient old mid x y tt
-    stops_if none scripts = record {
-      step = λ m here.
-          let it = subst Back none came_back in
-          let down : FallenStands medium scripts old m = fallen_stands medium scripts old m off here in
-          let s = it.step m.node down.node in (
-            s.0,
-            record m { node = s.1 },
-            s.2,
-            record {
-              mid = m;
-              front = [];
-              rest = s.0;
-              answer = m.node.alive;
-              first = (refl, refl, refl);
-              second = subst (λ (b : Bool). comes_back b m s.0 tt (record m { node = s.1 })) (sym down.alive) (record {
-                mid = m;
-                front = [];
-                rest = s.0;
-                answer = m.name;
-                first = (refl, refl, refl);
-                second = record {
-                  mid = record m { node = s.1 };
-                  front = s.0;
-                  rest = [];
-                  answer = false;
-                  first = record {
-                    inner = s.1;
-                    step = subst (λ (n : List ℕ). ComesBack n no_text m.node s.0 false s.1) (same ∙ down.name) s.3;
-                    is = refl;
-                  };
-                  second = (refl, refl);
-                  whole = sym (append-nil s.0);
-                };
-                whole = refl;
-              });
-              whole = refl;
-            },
-            fallen (record {
-              name = down.name;
-              link = down.link;
-              alive = on_is (seating medium old.place) medium no_text post s.1 s.4 ∙ is ∙ none;
-              node = s.4;
-              named = stop_is (AreNamed scripts) called m.node s.1 s.0 s.3 down.named;
-            }),
-          );
-    }
+    stops_if none scripts =
+        comes scripts (ClientStands medium scripts)
+        (λ m down n stands named.
+        fallen_at medium scripts old m down.name down.link post n stands
+        (on_is (seating medium old.place) medium no_text post n stands ∙ is ∙ none) named)
+        mid y
+        (subst (λ (b : Bool). StepsTo (ClientStands medium scripts) (ClientStands medium scripts) (goes_on CutsOff b) mid mid y y tt)
+        (sym none) (nothing mid y))
 
     pub came_again_if : on ≡ false → (scripts : List Declared) (m : machine.Client) → ClientStands medium scripts old m
         → Came medium old x y m
     came_again_if none scripts m here =
-        let it = subst Back none came_back in
-        let down : FallenStands medium scripts old m = fallen_stands medium scripts old m off here in
-        let s = it.step m.node down.node in
+        let it = subst (λ (b : Bool). after_on b post y) none came_back in
+        let s = it.step m.node (fallen_stands medium scripts old m off here).node in
         record {
           on = false;
           mid = y;
@@ -188,78 +134,45 @@ module _ {D : Type 0} (medium : Medium D) (old : Laptop D) where
     -- ---- it is back
 
     module _ (back_on : on ≡ true) where
-      started : Back true
-      started = subst Back back_on came_back
+      returned : (scripts : List Declared) (m : machine.Client) → FallenStands medium scripts old m → (n : Node ClientState)
+          → Posted post n → Possibly (AreNamed scripts) n → ReturnedStands medium scripts mid (record m { node = n })
+      returned scripts m down n stands named = record {
+        name = down.name;
+        link = down.link;
+        alive = on_is (seating medium old.place) medium no_text post n stands ∙ is ∙ back_on;
+        node = stands;
+        live = live_fresh post on live;
+        named = named.is;
+      }
 
-      returned : (scripts : List Declared) (m : machine.Client) (down : FallenStands medium scripts old m)
-          → ReturnedStands medium scripts mid (record m { node = (started.step m.node down.node).1 })
-      returned scripts m down =
-          let s = started.step m.node down.node in
-          record {
-            name = down.name;
-            link = down.link;
-            alive = on_is (seating medium old.place) medium no_text post s.1 s.4 ∙ is ∙ back_on;
-            node = s.4;
-            live = live_fresh post on live;
-            named = back_is (AreNamed scripts) called m.node s.1 s.0 s.3 down.named;
-          }
+      returned_at : (scripts : List Declared) (m : machine.Client) → FallenStands medium scripts old m
+          → (n : Node ClientState) × ReturnedStands medium scripts mid (record m { node = n })
+      returned_at scripts m down =
+          let s = came_back.step m.node down.node in (
+            s.1,
+            returned scripts m down s.1 s.4 ((comes_within called no_text m.node s.1 s.0 on s.3).each (AreNamed scripts) down.named),
+          )
 
       pub returned_if : StandsAnyhow medium old → Returned medium mid
       returned_if stands =
           let down = fallen_stands medium stands.scripts old stands.machine off stands.stands in
-          record { scripts = stands.scripts; machine = _; stands = returned stands.scripts stands.machine down }
+          record { scripts = stands.scripts; machine = _; stands = (returned_at stands.scripts stands.machine down).1 }
 
       module _ (new : Laptop D) (z : List ℕ)
           (cut : (scripts : List Declared)
           → StepsTo (ReturnedStands medium scripts) (ClientStands medium scripts) CutsOff mid new y z tt) where
         pub comes_if : (scripts : List Declared) → Refines (ClientStands medium scripts) RestartsClient old new x z tt
-        comes_if scripts = record {
-          step = λ m here.
-              let down : FallenStands medium scripts old m = fallen_stands medium scripts old m off here in
-              let s = started.step m.node down.node in
-              let t = (cut scripts).step (record m { node = s.1 }) (returned scripts m down) in (
-                s.0 ++ t.0,
-                t.1,
-                t.2 ∙ ap (λ (l : List ℕ). l ++ t.0) s.2 ∙ append_assoc x s.0 t.0,
-                record {
-                  mid = m;
-                  front = [];
-                  rest = s.0 ++ t.0;
-                  answer = m.node.alive;
-                  first = (refl, refl, refl);
-                  second = subst (λ (b : Bool). comes_back b m (s.0 ++ t.0) tt t.1) (sym down.alive) (record {
-                    mid = m;
-                    front = [];
-                    rest = s.0 ++ t.0;
-                    answer = m.name;
-                    first = (refl, refl, refl);
-                    second = record {
-                      mid = record m { node = s.1 };
-                      front = s.0;
-                      rest = t.0;
-                      answer = true;
-                      first = record {
-                        inner = s.1;
-                        step = subst (λ (n : List ℕ). ComesBack n no_text m.node s.0 true s.1) (same ∙ down.name) s.3;
-                        is = refl;
-                      };
-                      second = t.3;
-                      whole = refl;
-                    };
-                    whole = refl;
-                  });
-                  whole = refl;
-                },
-                t.4,
-              );
-        }
+        comes_if scripts =
+            comes scripts (ReturnedStands medium scripts) (returned scripts) new z
+            (subst (λ (b : Bool). StepsTo (ReturnedStands medium scripts) (ClientStands medium scripts) (goes_on CutsOff b) mid new y z tt)
+            (sym back_on) (cut scripts))
 
-        pub came_if : ((node : Node ClientState) → PostStands (seating medium old.place) medium no_text old.post node
+        pub came_if : ((node : Node ClientState) → Posted old.post node
             → CameIf (seating medium old.place) medium on old.post called x y node)
             → (scripts : List Declared) (m : machine.Client) → ClientStands medium scripts old m → Came medium old x z m
         came_if came scripts m here =
             let down : FallenStands medium scripts old m = fallen_stands medium scripts old m off here in
-            let t = (cut scripts).step _ (returned scripts m down) in
+            let t = (cut scripts).step _ (returned_at scripts m down).1 in
             record {
               on = true;
               mid = y;
@@ -272,17 +185,141 @@ module _ {D : Type 0} (medium : Medium D) (old : Laptop D) where
               stopped = λ never. absurd (not_both never);
             }
 
--- what was cut off, unless memory ran out
-module _ {D : Type 0} (medium : Medium D) (mid new : Laptop D) (y z : List ℕ) (result : Result (Unit {0}) Halt) where
-  abbrev Cuts : Type 0
-  Cuts =
-      (scripts : List Declared) → StepsTo (ReturnedStands medium scripts) (ClientStands medium scripts) CutsOff mid new y z tt
+-- ---- what ran is cut off
 
-  pub cut_ok : (it : Unit {0}) → result ≡ Ok it → UnlessNoMemory result Cuts → Cuts
-  cut_ok it is cuts = subst (λ (r : Result (Unit {0}) Halt). UnlessNoMemory r Cuts) is cuts
+-- the transaction that was found running is the machine's
+record Found (laptop_name : List ℕ) (transaction : names.Transaction) (r : Option Transaction) (o : Option clients.Running) : Type
+    0 where
+  own : Transaction
+  is : r ≡ Some own
+  it : clients.Running
+  runs : o ≡ Some it
+  name : transaction ≡ record { client = laptop_name; number = it.number }
+  acts : length own.acts ≡ it.acts
 
-  pub cut_over : result ≡ Err Over → UnlessNoMemory result Cuts → Cuts
-  cut_over is cuts = subst (λ (r : Result (Unit {0}) Halt). UnlessNoMemory r Cuts) is cuts
+module _ {D : Type 0} (medium : Medium D) (laptop : Laptop D) where
+  found_by : (transaction : names.Transaction) (t : Nodes) (r : Option Transaction) (o : Option clients.Running)
+      → running_name laptop r ≡ Some transaction → RunningKeptIfAny t r o → Found laptop.name transaction r o
+  found_by transaction t None o name kept = absurd cc
+  found_by transaction t (Some own) None name kept = absurd kept
+  found_by transaction t (Some own) (Some it) name kept = record {
+    own = own;
+    is = refl;
+    it = it;
+    runs = refl;
+    name = sym (same_Some _ _ name) ∙ ap (λ (n : ℕ). record { client = laptop.name; number = n }) kept.number;
+    acts = kept.count;
+  }
+
+  none_found : (t : Nodes) (r : Option Transaction) (o : Option clients.Running) → running_name laptop r ≡ None → RunningKeptIfAny t r o
+      → (r ≡ None) × (o ≡ None)
+  none_found t None None none kept = (refl, refl)
+  none_found t None (Some it) none kept = absurd kept
+  none_found t (Some running) o none kept = absurd cc
+
+  -- by what runs in the client of the machine
+  cuts_by : (scripts : List Declared) (m : machine.Client) (new : Laptop D) (x z : List ℕ) (o : Option clients.Running)
+      → m.node.durable.running ≡ o → StepsFrom (ClientStands medium scripts) (cuts_off o) m new x z tt
+      → StepsFrom (ClientStands medium scripts) CutsOff m new x z tt
+  cuts_by scripts m new x z o is s = (
+    s.0,
+    s.1,
+    s.2,
+    record {
+      mid = m;
+      front = [];
+      rest = s.0;
+      answer = m.node.durable.running;
+      first = (refl, refl, refl);
+      second = subst (λ (o : Option clients.Running). cuts_off o m s.0 tt s.1) (sym is) s.3;
+      whole = refl;
+    },
+    s.4,
+  )
+
+  -- it found nothing running
+  pub cuts_nothing : (x : List ℕ) → running_name laptop (state_in laptop).running ≡ None → (scripts : List Declared)
+      → StepsTo (ReturnedStands medium scripts) (ClientStands medium scripts) CutsOff laptop laptop x x tt
+  cuts_nothing x found scripts = record {
+    step = λ m here.
+        let kept = kept_up medium laptop.place laptop.post m.node here.node here.alive in
+        let none = none_found (base m.node.durable) (state_in laptop).running m.node.durable.running found kept.running in
+        cuts_by scripts m laptop x x None none.1 (
+          [],
+          m,
+          sym (append-nil x),
+          (refl, refl),
+          awake (awake_at medium scripts laptop m here.name here.link laptop.post m.node here.node here.alive m.first
+              (idle_runs (state_in laptop) (live_in laptop) m.first m.node.durable here.live none.0 kept) here.named),
+        );
+  }
+
+  module _ {was now : Client D} {answer : Result (Option ℕ) ClientFault} {new : Laptop D} {x y : List ℕ}
+      {result : Result (Option ℕ) Halt} (call : Called medium laptop was now answer new x y result)
+      (transaction : names.Transaction) (found : running_name laptop (state_in laptop).running ≡ Some transaction)
+      (cuts : IfOk answer (λ told. CutsIfAny (state_of was).running told was now)) (lives : OnOk answer (live_of now ≡ None))
+      (stops : IsErrOf answer Stopped → client.CutsOff Cut (state_of was) (bodies_on medium was) (medium.may_leave (disk_of now))) where
+    up_in : (scripts : List Declared) (m : machine.Client) → ReturnedStands medium scripts laptop m
+        → UpStands (seating medium laptop.place) medium no_text (record { client = was }) m.node
+    up_in scripts m here =
+        subst (λ (p : Post (Seated D) D). PostStands (seating medium laptop.place) medium no_text p m.node) call.is here.node
+
+    found_in : (scripts : List Declared) (m : machine.Client) → ReturnedStands medium scripts laptop m
+        → Found laptop.name transaction (state_of was).running m.node.durable.running
+    found_in scripts m here =
+        found_by transaction (base m.node.durable) (state_of was).running m.node.durable.running
+        (subst (λ (p : Post (Seated D) D). running_name laptop (state_by p).running ≡ Some transaction) call.is found)
+        (up_in scripts m here).stands.kept.running
+
+    cut_so : (running : Transaction) → (state_of was).running ≡ Some running → (told : Option ℕ) → answer ≡ Ok told
+        → (told ≡ Some (length running.acts)) × Notes Cut was now
+    cut_so running is told ok =
+        subst (λ (r : Option Transaction). CutsIfAny r told was now) is
+        (IfOk-at_ok (λ told. CutsIfAny (state_of was).running told was now) ok cuts)
+
+    fits : (scripts : List Declared) (m : machine.Client) → ReturnedStands medium scripts laptop m
+        → Before medium laptop was scripts m × Fits medium was now answer scripts (cut m.node.durable) m.first
+    fits scripts m here =
+        let up = up_in scripts m here in
+        let it = found_in scripts m here in (
+          record { name = here.name; link = here.link; alive = here.alive; up = up; named = here.named },
+          fits_with call scripts (cut m.node.durable) m.first Cut None (each_ok answer (λ told ok. (cut_so it.own it.is told ok).1)) lives
+              stops (λ follows. cut_live (state_of was) m.node.durable up.stands.kept m.first)
+              (cut_named scripts m.node.durable here.named),
+        )
+
+    -- what was found waits now, which is said
+    pub cuts_off_now : (acts : ℕ) → result ≡ Ok (Some acts) → (z : List ℕ)
+        → z ≡ y ++ cut_line (name_of transaction) acts → (scripts : List Declared)
+        → StepsTo (ReturnedStands medium scripts) (ClientStands medium scripts) CutsOff laptop new x z tt
+    cuts_off_now acts same z wrote scripts = record {
+      step = λ m here.
+          let it = found_in scripts m here in
+          let many : acts ≡ it.it.acts =
+          same_Some _ _ (cut_so it.own it.is (Some acts) (IfOk-at_ok _ same call.goes.answers)).0 ∙ it.acts in
+          let steps : StepsTo (ReturnedStands medium scripts) (LaptopStands medium scripts) (cuts_off (Some it.it)) laptop new x z tt =
+          bind laptop new new x y z true tt (goes_at call scripts (ReturnedStands medium scripts) cut (λ b. b) (fits scripts) (Some acts)
+          same)
+          (says new y z (λ k there.
+          wrote ∙ ap (λ (w : List ℕ). y ++ w)
+          ((λ i. cut_line (name_of (it.name i)) (many i))
+          ∙ ap (λ (n : List ℕ). cut_line (transaction_name n it.it.number) it.it.acts)
+          (ap (λ (l : Laptop D). l.name) (sym call.goes.rest) ∙ there.name)))) in
+          let s = steps.step m here in
+          cuts_by scripts m new x z (Some it.it) it.runs (s.0, s.1, s.2, s.3, awake s.4);
+    }
+
+    -- it has stopped in the cut
+    pub cut_halts : result ≡ Err Over → (scripts : List Declared)
+        → StepsTo (ReturnedStands medium scripts) (ClientStands medium scripts) CutsOff laptop new x y tt
+    cut_halts same scripts = record {
+      step = λ m here.
+          let it = found_in scripts m here in
+          let steps : StepsTo (ReturnedStands medium scripts) (ClientStands medium scripts) (cuts_off (Some it.it)) laptop new x y tt =
+          bind laptop new new x y y false tt (halts_at call scripts (ReturnedStands medium scripts) cut (λ b. b) (fits scripts) same)
+          (nothing new y) in
+          cuts_by scripts m new x y (Some it.it) it.runs (steps.step m here);
+    }
 
 -- ---- its disk
 
@@ -325,12 +362,3 @@ pub keeps_any : {D : Type 0} (medium : Medium D) (old : Laptop D) → StandsAnyh
     (disk_by old.post)
 keeps_any medium old stands =
     keeps_node medium old.place old.post stands.machine.node (node_stands medium stands.scripts old stands.machine stands.stands)
-
-pub keeps_back : {D : Type 0} (medium : Medium D) (laptop : Laptop D) → Returned medium laptop
-    → KeepsDisk medium (disk_by laptop.post) (disk_by laptop.post)
-keeps_back medium laptop stands = keeps_node medium laptop.place laptop.post stands.machine.node stands.stands.node
-
--- what is so unless memory ran out
-pub unless_by : (A : Type 0) {P : Type 0} (halt : Halt) → (halt ≡ Over → P) → UnlessNoMemory {A = A} (Err halt) P
-unless_by A NoMemory is = tt
-unless_by A Over is = is refl

@@ -11,8 +11,8 @@ use Rattle.iot_kept.specs.States.{State}
 use Rattle.iot_client.specs.Ties.{IsTied, state_of, place_of, disk_of, bodies_on}
 use Rattle.iot_client.specs.declared.client.Client.{Client}
 use Rattle.iot_machine.specs.Clients.{ClientState}
-use Rattle.iot_machine.specs.Nodes.{Counts}
 use Rattle.iot_node.specs.Disks.{counts_on}
+use Rattle.iot_node.proofs.PostsLaws.{same_counts}
 use Rattle.iot_node.specs.Keeping.{EachIs, Comes, Fails, CountsStart}
 use Rattle.iot_laptop.specs.Kept.{StateKept}
 use Rattle.iot_laptop.specs.Seats.{IsSeated, IsClientImage, seating}
@@ -32,9 +32,6 @@ same_images images bytes count m decodes is = record {
     kept = is.kept;
   };
 }
-
-pub same_counts : (one other : Counts) → one.faults ≡ other.faults → one.arms ≡ other.arms → one ≡ other
-same_counts one other faults arms = λ i. record { faults = faults i; arms = arms i }
 
 module _ {D : Type 0} (medium : Medium D) where
   -- each image of its disk is what it keeps
@@ -73,13 +70,13 @@ module _ {D : Type 0} (medium : Medium D) where
         kept = subst (λ (state : State). StateKept state m) (sym (only is.state is.stands)) is.kept;
       };
       images = λ count m is. same_images (medium.may_leave (disk_of it)) (medium.reads disk) count m decodes is;
-      counts = same_counts (counts_on medium (disk_of it)) (counts_on medium disk) steady arms;
+      counts = same_counts medium disk (disk_of it) steady arms;
     }
 
     counts_by : (fault : StartFault) (left : D) → kept_causes.TakesBytes fault
         → kept_causes.HasCause fault (medium.reads disk) (medium.faults disk) (medium.faults left)
         → medium.arms left ≡ medium.arms disk → CountsStart fault (counts_on medium disk) (counts_on medium left)
-    counts_by faults.NoMemory left takes cause arms = same_counts (counts_on medium left) (counts_on medium disk) cause arms
+    counts_by faults.NoMemory left takes cause arms = same_counts medium disk left cause arms
     counts_by faults.Stopped left takes cause arms = record { faults = cause; arms = arms }
     counts_by faults.Foreign left takes cause arms = absurd takes
     counts_by (faults.Damaged at) left takes cause arms = absurd takes

@@ -1,57 +1,59 @@
 -- What the steps, the end, the verdict and the resolution of a transaction make of the client of the machine.
-use Rattle.std.proofs.Common.{◌≡◌, ℕ, Bool, true, List}
-use Rattle.std.proofs.Common.{Option, Some, None, Result, Ok, refl, sym, ap, subst, ◌∙◌}
-use Rattle.std.proofs.Common.{inl, inr}
+use Rattle.std.proofs.Common.{◌≡◌, ℕ, Bool, true, List, Option, Some, None, Result, Ok, refl, sym, ap, subst, ◌∙◌, inl, inr, [], ◌∷◌, Err}
 use Rattle.std.specs.Prelude.{IfOk, OnOk, IsErrOf}
+use Rattle.std.proofs.lemmas.Result.{IfOk-at_ok}
 use Rattle.iot_tree.specs.Tree.{Nodes}
 use Rattle.iot_tree.specs.declared.acts.Read.{Read}
+use Rattle.iot_queue.specs.declared.items.Resolution.{Resolution}
 use Rattle.iot_tree.specs.declared.labels.OnConflict.{OnConflict as OnConflictNamed}
-use Rattle.iot_tree.specs.declared.labels.OnConflict.TheVariants as on
 use Rattle.iot_lang.specs.Code.{Code}
 use Rattle.iot_lang.specs.Scripts.{IsScript}
 use Rattle.iot_exec.specs.declared.ran.Ran.{Ran}
-use Rattle.iot_wire.specs.declared.replies.Reply.TheVariants as replies
 use Rattle.iot_changes.specs.declared.changes.Change.{Change}
-use Rattle.iot_changes.specs.declared.changes.Change.TheVariants.{Ended, Conflicted, Resolved, Left}
+use Rattle.iot_changes.specs.declared.changes.Change.TheVariants.{Ended, Conflicted, Resolved, Left, Acted}
 use Rattle.iot_kept.specs.States.{State, acts_of}
 use Rattle.iot_kept.specs.Changes.{CanFollow, after}
-use Rattle.iot_client.specs.Calls.{Notes, CutsOff, CutsOffByVerdict, CutsOffRerun}
-use Rattle.iot_client.specs.Calls.{CutsOffByRun, Reruns, Resolves}
-use Rattle.iot_client.specs.Calls.{may_end, verdict_change, Ends, EndsIfAny}
-use Rattle.iot_client.specs.Messages.{ReadsObjects, ReadsNoted, noted_in}
-use Rattle.iot_client.specs.Ties.{Live, IsOwnRunIfAny, state_of, live_of, disk_of, bodies_on}
+use Rattle.iot_client.specs.Calls.{Notes, CutsOff, CutsOffByVerdict, CutsOffRerun, CutsOffByRun, Reruns, Resolves, IsHeadsRun, may_end}
+use Rattle.iot_client.specs.Calls.{verdict_change, Ends, EndsIfAny, CutsOffNextIfAny, CanAct, next_acts, StepIsIfAny}
+use Rattle.iot_client.specs.Messages.{ReadsObjects, ReadsNoted, noted_in, IsRefresh}
+use Rattle.iot_client.specs.Ties.{Live, IsOwnRunIfAny, state_of, live_of, disk_of, bodies_on, place_of}
 use Rattle.iot_client.specs.declared.client.Client.{Client}
-use Rattle.iot_client.specs.declared.ended.Ended as client
 use Rattle.iot_client.specs.declared.fault.ClientFault.{ClientFault}
 use Rattle.iot_client.specs.declared.fault.ClientFault.TheVariants.{Stopped}
 use Rattle.iot_client.specs.declared.noted.Noted.{Noted as NotedIn}
-use Rattle.iot_client.specs.declared.noted.Noted.TheVariants as noteds
 use Rattle.iot_disk.specs.Disk.{Medium}
-use Rattle.iot_machine.specs.Clients as clients
-use Rattle.iot_machine.specs.Clients.{Declared, ClientState, Plan, base, act_once, leave, reach, at_stage, resolution_of, next_step}
-use Rattle.iot_machine.specs.Serving as serving
+use Rattle.iot_machine.specs.Clients.{Declared, ClientState, Plan, base, act_once, leave, reach, at_stage, resolution_of, next_step, Acts}
 use Rattle.iot_machine.specs.Texts.{transaction_name, acts_output}
 use Rattle.iot_node.specs.declared.halt.Halt.{Halt}
 use Rattle.iot_node.specs.declared.post.Post.{Post}
 use Rattle.iot_laptop.specs.Alone.{NotesAlone}
-use Rattle.iot_laptop.specs.Calls as calls
-use Rattle.iot_laptop.specs.Calls.{done, EndsAlone, Changes, Plans, Steps, NextIs}
-use Rattle.iot_laptop.specs.Calls.{IsNext, next_as, IsOver, IsDoneIn, IsEndOf, IsGone, waits_after}
-use Rattle.iot_laptop.specs.Calls.{Settles, head_option, head_reads}
-use Rattle.iot_laptop.specs.Laptops.{state_by, live_by}
-use Rattle.iot_laptop.specs.Laptops.{state_in, live_in, waits_of}
+use Rattle.iot_laptop.specs.Calls.{done, EndsAlone, Changes, Plans, Steps, NextIs, IsNext, next_as, IsOver, IsDoneIn, IsEndOf, IsGone}
+use Rattle.iot_laptop.specs.Calls.{waits_after, Settles, head_option, head_reads}
+use Rattle.iot_laptop.specs.Laptops.{state_by, live_by, state_in, live_in, waits_of, IsFirst, IsFirstOf}
 use Rattle.iot_laptop.specs.Messages.{name_of, SpellsTree, SpellsVerdict, told_change}
 use Rattle.iot_laptop.specs.declared.laptop.Laptop.{Laptop}
 use Rattle.iot_laptop.specs.declared.needs.Gone.{Gone}
 use Rattle.iot_laptop.specs.declared.seated.Seated.{Seated}
-use Rattle.iot_laptop.proofs.BroughtLaws.{brought_tree}
-use Rattle.iot_laptop.proofs.CallsLaws.{Called, each_ok, on_ok, if_ok, notes_alone}
-use Rattle.iot_laptop.proofs.KeptStatesLaws.{KeptLive, ended_live, left_live, conflicted_live, given_up_live}
-use Rattle.iot_laptop.proofs.LaptopsLaws.{Running, running_is, so_far_is, may_end_is}
-use Rattle.iot_laptop.proofs.LaptopStepsLaws.{KeepsNamed, end_named, leave_named, reach_named, joined_waits}
-use Rattle.iot_laptop.proofs.NodesLaws.{own_in}
-use Rattle.iot_laptop.proofs.RecordsLaws.{carried, known_was, alone}
+use Rattle.iot_laptop.proofs.RepliesLaws.{brought_tree}
+use Rattle.iot_laptop.proofs.CallsLaws.{Called, each_ok, notes_alone, alone, answer_stopped, stands_was}
+use Rattle.iot_laptop.proofs.KeptStatesLaws.{KeptLive, ended_live, told_record, told_live, KeepsNamed, end_named, leave_named, reach_named}
+use Rattle.iot_laptop.proofs.KeptStatesLaws.{joined_waits, acted_live, act_named}
+use Rattle.iot_laptop.proofs.LaptopsLaws.{Running, running_is, so_far_is, may_end_is, next_is, acts_is}
+use Rattle.iot_laptop.proofs.NodesLaws.{own_in, at_post}
 use Rattle.iot_laptop.proofs.ResolutionLaws.{resolved_live}
+use Rattle.iot_tree.specs.declared.acts.Act.{Act}
+use Rattle.iot_client.specs.declared.steps.Step.{Step}
+use Rattle.iot_node.specs.declared.halt.Halt.TheVariants.{NoMemory, Over}
+use Rattle.iot_node.specs.declared.post.Post.TheVariants.{Up}
+use Rattle.iot_client.specs.declared.ended.Ended as client
+use Rattle.iot_client.specs.declared.noted.Noted.TheVariants as noteds
+use Rattle.iot_client.specs.declared.steps.Step.TheVariants as steps
+use Rattle.iot_laptop.specs.Calls as calls
+use Rattle.iot_machine.specs.Clients as clients
+use Rattle.iot_machine.specs.Serving as serving
+use Rattle.iot_tree.specs.declared.labels.OnConflict.TheVariants as on
+use Rattle.iot_tree.specs.declared.want.Want.TheVariants as wants
+use Rattle.iot_wire.specs.declared.replies.Reply.TheVariants as replies
 
 -- ---- what is said of the first that waits
 
@@ -70,10 +72,6 @@ said_as reads reply (serving.Conflict place question) said spells only read =
     let is : noted_in reply ≡ Ok (noteds.Conflict place) = only (replies.Conflict place spells.1.answer) spells.1.spelled in cc
 
 -- the change that is noted of it
-abbrev told_record : serving.Verdict → Change
-told_record (serving.Settled number) = Left
-told_record (serving.Conflict read question) = Conflicted
-
 record_as : (told : serving.Verdict) → verdict_change (noted_as told) ≡ told_record told
 record_as (serving.Settled number) = refl
 record_as (serving.Conflict read question) = refl
@@ -81,20 +79,9 @@ record_as (serving.Conflict read question) = refl
 -- what becomes of it then, by its option
 told_named : (scripts : List Declared) (told : serving.Verdict) (option : OnConflictNamed) → KeepsNamed scripts (told_change told option)
 told_named scripts (serving.Settled number) option = leave_named scripts
-told_named scripts (serving.Conflict read question) on.Reexec = reach_named scripts clients.Conflict
-told_named scripts (serving.Conflict read question) (on.Resolver name) = reach_named scripts clients.Conflict
 told_named scripts (serving.Conflict read question) on.Abort = leave_named scripts
 told_named scripts (serving.Conflict read question) on.Manual = reach_named scripts clients.Manual
-
-module _ (s : State) (live : Option Live) (class : Bool) (m : ClientState) (here : KeptLive s live class m) where
-  told_live : (told : serving.Verdict) (option : OnConflictNamed) → head_option s.items ≡ Some option → CanFollow s (told_record told)
-      → KeptLive (after s (told_record told)) live class (told_change told option m)
-  told_live (serving.Settled number) option first can = left_live s live class m here can
-  told_live (serving.Conflict read question) on.Reexec first can = conflicted_live s live class m here on.Reexec clients.Conflict first refl
-  told_live (serving.Conflict read question) (on.Resolver name) first can =
-      conflicted_live s live class m here (on.Resolver name) clients.Conflict first refl
-  told_live (serving.Conflict read question) on.Abort first can = given_up_live s live class m here first
-  told_live (serving.Conflict read question) on.Manual first can = conflicted_live s live class m here on.Manual clients.Manual first refl
+told_named scripts (serving.Conflict read question) option = reach_named scripts clients.Conflict
 
 module _ {D T : Type 0} {medium : Medium D} {laptop : Laptop D} {was now : Client D} {answer : Result T ClientFault} {new : Laptop D}
     {x y : List ℕ} {result : Result T Halt} (call : Called medium laptop was now answer new x y result) where
@@ -116,9 +103,9 @@ module _ {D T : Type 0} {medium : Medium D} {laptop : Laptop D} {was now : Clien
       (each_ok answer (λ t ok.
       subst (λ (change : Change). Notes change was now)
       (ap verdict_change
-      (said_as (head_reads s.items) reply told (noted t) spelled only (if_ok answer t (λ u. noted_in reply ≡ Ok (noted u)) ok reads))
+      (said_as (head_reads s.items) reply told (noted t) spelled only (IfOk-at_ok (λ u. noted_in reply ≡ Ok (noted u)) ok reads))
       ∙ record_as told)
-      (if_ok answer t (λ u. Notes (verdict_change (noted u)) was now) ok notes)))
+      (IfOk-at_ok (λ u. Notes (verdict_change (noted u)) was now) ok notes)))
       lives
       (λ stopped.
       let cut = stops stopped in
@@ -135,31 +122,28 @@ module _ {D T : Type 0} {medium : Medium D} {laptop : Laptop D} {was now : Clien
       → plan.script.code ≡ code → calls.Resolves medium scripts plan t laptop new x y (done result)
   resolves reply code script only ran lives stops t spells scripts plan plans same =
       let stage : clients.Stage = clients.Resolved (resolution_of plan t) in
-      notes_alone call scripts (reach stage) (λ m here.
-      let known = known_was call scripts m here in
+      notes_alone call scripts (reach stage) (λ m here known.
+      let live : (done : Resolution) → IsHeadsRun s.held s.items code t done
+      → KeptLive (after s (Resolved done)) (live_of was) m.first (reach stage m.node.durable) =
+      resolved_live s (live_of was) m.first m.node.durable known plan (plans m here) code same script t spells.value.tree in
       record {
-        place = each_ok answer (λ u ok. (on_ok answer u ok ran).reruns.notes.place);
-        records = each_ok answer (λ u ok. (on_ok answer u ok ran).reruns.notes.records);
         ok = each_ok answer (λ u ok.
-            let it = on_ok answer u ok ran in
+            let it = IfOk-at_ok _ ok ran in
             let reruns : Reruns code t was now =
             subst (λ (tree : Nodes). Reruns code tree was now) (brought_tree reply it.tree t only (only it.tree it.spelled) spells)
             it.reruns
-            in
-            carried (after s (Resolved reruns.done)) (state_of now) (live_of was) (live_of now) m.first (reach stage m.node.durable)
-            reruns.notes.state (on_ok answer u ok lives)
-            (resolved_live s (live_of was) m.first m.node.durable known plan (plans m here) code same script t spells.value.tree
-            reruns.done reruns.run));
+            in (
+              Resolved reruns.done,
+              reruns.notes,
+              subst (λ (l : Option Live). KeptLive (after s (Resolved reruns.done)) l m.first (reach stage m.node.durable))
+                  (sym (IfOk-at_ok _ ok lives)) (live reruns.done reruns.run),
+            ));
         cut = λ stopped.
             let it = stops stopped in
             let rerun : CutsOffRerun code t s (bodies_on medium was) (medium.may_leave (disk_of now)) =
             subst (λ (tree : Nodes). CutsOffRerun code tree s (bodies_on medium was) (medium.may_leave (disk_of now)))
-            (brought_tree reply it.tree t only (only it.tree it.spelled) spells) it.reruns in (
-              Resolved rerun.done,
-              rerun.cuts_off,
-              (resolved_live s (live_of was) m.first m.node.durable known plan (plans m here) code same script t spells.value.tree
-                  rerun.done rerun.run).kept,
-            );
+            (brought_tree reply it.tree t only (only it.tree it.spelled) spells) it.reruns in
+            (Resolved rerun.done, rerun.cuts_off, (live rerun.done rerun.run).kept);
         named = reach_named scripts stage m.node.durable here.named;
       })
 
@@ -175,30 +159,31 @@ module _ {D T : Type 0} {medium : Medium D} {laptop : Laptop D} {was now : Clien
       (alone call scripts clients.end Ended None notes lives stops
       (λ m here follows. ended_live s (live_of was) m.first m.node.durable here may_was) (end_named scripts))
 
-  -- what is told of it
-  pub is_gone : (ended : client.Ended) (gone : Gone) → gone.printed.transaction ≡ record { client = laptop.name; number = ended.tid }
-      → gone.first ≡ ended.first → gone.printed.output ≡ acts_output (acts_of (state_in laptop).running)
-      → EndsIfAny s s.running (live_of was) ended → IsGone medium laptop gone
-  is_gone ended gone named class printed over scripts m it here runs =
-      let stands = here.state in
-      let known : Running (state_in laptop).running (live_in laptop) m.first it =
-      running_is (state_in laptop) (live_in laptop) m.first m.node.durable stands it runs in
-      let those : EndsIfAny (state_in laptop) (state_in laptop).running (live_in laptop) ended =
-      subst (λ (p : Post (Seated D) D). EndsIfAny (state_by p) (state_by p).running (live_by p) ended) (sym call.is) over in
-      let its : Ends (state_in laptop) known.own known.besides ended =
-      subst (λ (l : Option Live). EndsIfAny (state_in laptop) (Some known.own) l ended) known.lives
-      (subst (λ r. EndsIfAny (state_in laptop) r (live_in laptop) ended) known.is those) in
-      record {
-        name =
-            ap name_of named ∙ ap (λ (name : List ℕ). transaction_name name ended.tid) here.name
-            ∙ ap (transaction_name m.name) (its.number ∙ known.stands.number);
-        class = class ∙ its.class ∙ known.stands.class;
-        did =
-            printed
-            ∙ ap acts_output
-            (sym (subst (IsOwnRunIfAny (state_in laptop)) known.lives (own_in medium scripts laptop m here)).acts
-            ∙ ap (λ (ran : Ran). ran.acts) (so_far_is (state_in laptop) (live_in laptop) m.first m.node.durable stands it runs));
-      }
+-- what is told of it
+pub is_gone : {D : Type 0} {medium : Medium D} {laptop : Laptop D} {was : Client D} → laptop.post ≡ Up (record { client = was })
+    → (ended : client.Ended) (gone : Gone) → gone.printed.transaction ≡ record { client = laptop.name; number = ended.tid }
+    → gone.first ≡ ended.first → gone.printed.output ≡ acts_output (acts_of (state_in laptop).running)
+    → EndsIfAny (state_of was) (state_of was).running (live_of was) ended → IsGone medium laptop gone
+is_gone {D} {medium} {laptop} is ended gone named class printed over scripts m it here runs =
+    let stands = here.state in
+    let known : Running (state_in laptop).running (live_in laptop) m.first it =
+    running_is (state_in laptop) (live_in laptop) m.first m.node.durable stands it runs in
+    let those : EndsIfAny (state_in laptop) (state_in laptop).running (live_in laptop) ended =
+    subst (λ (p : Post (Seated D) D). EndsIfAny (state_by p) (state_by p).running (live_by p) ended) (sym is) over in
+    let its : Ends (state_in laptop) known.own known.besides ended =
+    subst (λ (l : Option Live). EndsIfAny (state_in laptop) (Some known.own) l ended) known.lives
+    (subst (λ r. EndsIfAny (state_in laptop) r (live_in laptop) ended) known.is those) in
+    record {
+      name =
+          ap name_of named ∙ ap (λ (name : List ℕ). transaction_name name ended.tid) here.name
+          ∙ ap (transaction_name m.name) (its.number ∙ known.stands.number);
+      class = class ∙ its.class ∙ known.stands.class;
+      did =
+          printed
+          ∙ ap acts_output
+          (sym (subst (IsOwnRunIfAny (state_in laptop)) known.lives (own_in medium scripts laptop m here)).acts
+          ∙ ap (λ (ran : Ran). ran.acts) (so_far_is (state_in laptop) (live_in laptop) m.first m.node.durable stands it runs));
+    }
 
 -- it has done all that its transaction may do
 pub is_done : {D : Type 0} (medium : Medium D) (laptop : Laptop D) → may_end (state_in laptop) (live_in laptop) ≡ true
@@ -210,3 +195,107 @@ is_done medium laptop may scripts m it here runs =
 pub waits_now : {D : Type 0} (was now : Client D) → Notes Ended was now → waits_of (state_of now).items ≡ true
 waits_now was now notes =
     ap (λ (s : State). waits_of s.items) notes.state ∙ joined_waits (state_of was).items (state_of was).running notes.follows
+
+-- ---- single steps
+
+not_stopped : {T : Type 0} (answer : Result T ClientFault) (t : T) → answer ≡ Ok t → IsErrOf answer Stopped → ⊥
+not_stopped answer t is stopped =
+    let bad : IsErrOf (Ok t) Stopped = subst (λ (r : Result _ ClientFault). IsErrOf r Stopped) is stopped in
+    cc
+
+module _ {D : Type 0} {medium : Medium D} {laptop : Laptop D} {was now : Client D} {answer : Result Step ClientFault} {new : Laptop D}
+    {x y : List ℕ} {result : Result Step Halt} (call : Called medium laptop was now answer new x y result)
+    (placed : place_of was ≡ laptop.place) (does : IfOk answer (λ step. StepIsIfAny was (live_of was) step now))
+    (lives : OnOk answer (live_of now ≡ live_of was))
+    (stops : IsErrOf answer Stopped
+    → CutsOffNextIfAny (live_of was) (state_of was) (bodies_on medium was) (medium.may_leave (disk_of now))) where
+  -- an act of what runs
+  acted_by : (live : Live) → live_of was ≡ Some live → (act : Act) → CanAct (state_of was) live
+      → next_acts (state_of was) live.code ≡ act ∷ [] → OnOk answer (Notes (Acted act) was now)
+      → (IsErrOf answer Stopped → CutsOff (Acted act) (state_of was) (bodies_on medium was) (medium.may_leave (disk_of now)))
+      → Changes medium act_once laptop new x y (done result)
+  acted_by live has act can next notes cuts scripts =
+      alone call scripts act_once (Acted act) (live_of was) notes lives cuts
+      (λ m here follows. acted_live (state_of was) (live_of was) m.first m.node.durable here live has act can next) (act_named scripts)
+
+  -- it was done
+  acted : (live : Option Live) → live_of was ≡ live → (acts : ℕ) (ended : Bool) → answer ≡ Ok (steps.Acted acts ended)
+      → StepIsIfAny was live (steps.Acted acts ended) now → Changes medium act_once laptop new x y (done result)
+  acted None has acts ended ok it = absurd it
+  acted (Some live) has acts ended ok it =
+      acted_by live has it.act it.can it.next (each_ok answer (λ t other. it.notes))
+      (λ stopped. absurd (not_stopped answer (steps.Acted acts ended) ok stopped))
+
+  -- it stopped in it
+  halted_act : (live : Option Live) → live_of was ≡ live → IsErrOf answer Stopped
+      → CutsOffNextIfAny live (state_of was) (bodies_on medium was) (medium.may_leave (disk_of now))
+      → Changes medium act_once laptop new x y (done result)
+  halted_act None has stopped cut = absurd cut
+  halted_act (Some live) has stopped cut =
+      acted_by live has cut.act cut.can cut.next (each_ok answer (λ t ok. absurd (not_stopped answer t ok stopped)))
+      (λ again. cut.cuts_off)
+
+  stays : (step : Step) → result ≡ Ok step → now ≡ was → (new ≡ laptop) × (y ≡ x)
+  stays step ok same = (
+    IfOk-at_ok _ ok call.goes.same ∙ ap (λ (it : Client D). record laptop { post = Up (record { client = it }) }) same
+        ∙ at_post laptop (Up (record { client = was })) call.is,
+    IfOk-at_ok _ ok call.goes.silent,
+  )
+
+  fetch_is : (live : Option Live) → live ≡ live_of was → (request : List ℕ) (path : List (List ℕ)) → result ≡ Ok (steps.Fetch
+      request path)
+      → StepIsIfAny was live (steps.Fetch request path) now
+      → (new ≡ laptop) × (y ≡ x) × IsRefresh laptop.place (state_in laptop).held (wants.Path path) request × IsFirst laptop
+  fetch_is None has request path ok it = absurd it
+  fetch_is (Some live) has request path ok it =
+      let same = stays (steps.Fetch request path) ok it.1.stays in (
+        same.0,
+        same.1,
+        subst (λ (p : Post (Seated D) D). IsRefresh laptop.place (state_by p).held (wants.Path path) request) (sym call.is)
+            (subst (λ (p : ℕ). IsRefresh p (state_of was).held (wants.Path path) request) placed it.0),
+        subst (λ (p : Post (Seated D) D). IsFirstOf (live_by p)) (sym call.is) (subst IsFirstOf has it.1.first),
+      )
+
+  ended_same : (live : Option Live) (acts : ℕ) → StepIsIfAny was live (steps.AtEnd acts) now → now ≡ was
+  ended_same None acts it = absurd it
+  ended_same (Some live) acts it = it.2
+
+  limit_same : (live : Option Live) (acts : ℕ) → StepIsIfAny was live (steps.AtLimit acts) now → now ≡ was
+  limit_same None acts it = absurd it
+  limit_same (Some live) acts it = it.3
+
+  did : (step : Step) → result ≡ Ok step → StepIsIfAny was (live_of was) step now
+  did step ok = IfOk-at_ok (λ step. StepIsIfAny was (live_of was) step now) (IfOk-at_ok _ ok call.goes.answers) does
+
+  pub steps_by : (r : Result Step Halt) → result ≡ r → Steps medium laptop new x y r
+  steps_by (Ok (steps.Acted acts ended)) same =
+      subst (λ (r : Result Step Halt). Changes medium act_once laptop new x y (done r)) same
+      (acted (live_of was) refl acts ended (IfOk-at_ok _ same call.goes.answers) (did (steps.Acted acts ended) same))
+  steps_by (Ok (steps.Fetch request path)) same = fetch_is (live_of was) refl request path same (did (steps.Fetch request path) same)
+  steps_by (Ok (steps.AtEnd acts)) same =
+      stays (steps.AtEnd acts) same (ended_same (live_of was) acts (did (steps.AtEnd acts) same))
+  steps_by (Ok (steps.AtLimit acts)) same =
+      stays (steps.AtLimit acts) same (limit_same (live_of was) acts (did (steps.AtLimit acts) same))
+  steps_by (Err NoMemory) same = λ scripts. record { is = tt }
+  steps_by (Err Over) same =
+      let stopped = answer_stopped call same in
+      subst (λ (r : Result Step Halt). Changes medium act_once laptop new x y (done r)) same
+      (halted_act (live_of was) refl stopped (stops stopped))
+
+  -- so is what the machine does next
+  next_did : (live : Option Live) → live_of was ≡ live → (step : Step) → StepIsIfAny was live step now
+      → IsNext medium laptop (next_as step)
+  next_did None has step it = absurd it
+  next_did (Some live) has step it = λ scripts m running here runs.
+      next_is was now m.first m.node.durable (stands_was call scripts m here) running runs live has step it
+
+  next_halted : (live : Option Live) → live_of was ≡ live
+      → CutsOffNextIfAny live (state_of was) (bodies_on medium was) (medium.may_leave (disk_of now)) → IsNext medium laptop Acts
+  next_halted None has cut = absurd cut
+  next_halted (Some live) has cut = λ scripts m running here runs.
+      acts_is was now m.first m.node.durable (stands_was call scripts m here) running runs live has cut.can
+
+  pub next_by : (r : Result Step Halt) → result ≡ r → NextIs medium laptop r
+  next_by (Ok step) same = next_did (live_of was) refl step (did step same)
+  next_by (Err NoMemory) same = tt
+  next_by (Err Over) same = next_halted (live_of was) refl (stops (answer_stopped call same))

@@ -81,10 +81,10 @@ pub record GoesOn {D T : Type 0} (medium : Medium D) (old new : Laptop D) (count
       → Appended (seating medium old.place) medium change node.durable was now (appended answer) → count ≡ records_of was.client
       → Answered (StepsFrom (PostStands (seating medium old.place) medium no_text) (Appends old.name change) node new.post x y)
       (appended answer) result
-  pub answers : IfOk result (λ t. appended answer ≡ Ok t)
+  pub answers : IfOk result (λ t. answer ≡ Ok t)
   pub same : OnOk result (new ≡ old)
   pub silent : OnOk result (y ≡ x)
-  pub stopped : IsErrOf result Over → appended answer ≡ Err append.Stopped
+  pub stopped : IsErrOf result Over → IsErrOf answer faults.Stopped
   pub rest : new ≡ record old { post = new.post }
 
 -- that it was done, or why not
@@ -283,12 +283,6 @@ Settles medium reply old new x y result =
     → Changes medium (told_change told option) old new x y result
 
 -- ---- a restart
-
--- what is so of a call that did not fail for want of memory
-abbrev pub UnlessNoMemory : {A : Type 0} → Result A Halt → Type 0 → Type 0
-UnlessNoMemory (Ok a) P = P
-UnlessNoMemory (Err NoMemory) P = Unit {0}
-UnlessNoMemory (Err Over) P = P
 
 -- one that has just come back: what it found running has no script yet, and is only to be cut off
 pub record ReturnedStands {D : Type 0} (medium : Medium D) (scripts : List Declared) (laptop : Laptop D) (m : machine.Client) : Type

@@ -21,7 +21,7 @@ impl<D: Disk> Laptop<D> {
     ghost use Rattle.iot_laptop.specs.Alone.{OpensClient};
     ghost use Rattle.iot_laptop.specs.Laptops.{ClientStands, LaptopStands, StandsAnyhow, IsUnopened, SamePlace, is_alive, state_in};
     ghost use Rattle.iot_laptop.specs.Laptops.{disk_in};
-    ghost use Rattle.iot_laptop.specs.Calls.{UnlessNoMemory, ReturnedStands, Returned, running_name, Came};
+    ghost use Rattle.iot_laptop.specs.Calls.{ReturnedStands, Returned, running_name, Came};
 
     // ---- its link
 
@@ -109,17 +109,13 @@ impl<D: Disk> Laptop<D> {
         {
             return Ok(());
         }
-        match self.cut_off(alloc, out) {
-            Ok(()) => Ok(()),
-            Err(Halt::Over) => Ok(()),
-            Err(Halt::NoMemory) => Err(NoMemory),
-        }
+        self.cut_off(alloc, out)
     }
 
-    /// Cuts off what ran when it lost its memory, if something did.
-    fn cut_off(&mut self, alloc: Global, out: &mut Text) -> Result<(), Halt>
+    /// Cuts off what ran when it lost its memory, if something did. Or it stops in that, which is said.
+    fn cut_off(&mut self, alloc: Global, out: &mut Text) -> Result<(), NoMemory>
         requires { Returned D.medium self.old }
-        ensures cuts { UnlessNoMemory result ((scripts : List Declared)
+        ensures cuts { OnOk result ((scripts : List Declared)
             → StepsTo (ReturnedStands D.medium scripts) (ClientStands D.medium scripts) CutsOff self.old self.new out.old out.new tt) }
         ensures place { SamePlace self.old self.new }
         ensures disk { KeepsDisk D.medium (disk_in self.old) (disk_in self.new) }
@@ -138,7 +134,8 @@ impl<D: Disk> Laptop<D> {
                 Ok(())
             }
             Ok(None) => unreachable!(),
-            Err(halt) => Err(halt),
+            Err(Halt::Over) => Ok(()),
+            Err(Halt::NoMemory) => Err(NoMemory),
         }
     }
 

@@ -4,7 +4,7 @@ use Rattle.std.proofs.lemmas.Result.{IfOk-weaker}
 use Rattle.iot_tree.specs.declared.acts.Read.{Read}
 use Rattle.iot_acts.specs.Turns.{reads_of}
 use Rattle.iot_judging.proofs.ReadPlaceLaws.{read_here, read_later, no_read}
-use Rattle.iot_laptop.proofs.VerdictLaws.{is_there}
+use Rattle.iot_laptop.proofs.RepliesLaws.{is_there}
 use Rattle.iot_laptop.proofs.verdict.question_at.Goals as goal
 
 pub returns-then-left-reads : goal.returns-then-left-reads

@@ -2,7 +2,7 @@ use Rattle.std.proofs.Common.{subst}
 use Rattle.iot_acts.specs.Turns.{reads_of}
 use Rattle.iot_wire.specs.declared.replies.Reply.{Reply}
 use Rattle.iot_laptop.specs.Messages.{Spells}
-use Rattle.iot_laptop.proofs.VerdictLaws.{place_within}
+use Rattle.iot_laptop.proofs.RepliesLaws.{place_within}
 use Rattle.iot_laptop.proofs.verdict.verdict_in.Goals as goal
 
 pub question_at-requires-clause-within : goal.question_at-requires-clause-within

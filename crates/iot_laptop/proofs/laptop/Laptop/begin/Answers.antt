@@ -1,5 +1,5 @@
 use Rattle.iot_laptop.proofs.CallsLaws.{called}
-use Rattle.iot_laptop.proofs.RecordsLaws.{begins}
+use Rattle.iot_laptop.proofs.CallsLaws.{begins}
 use Rattle.iot_laptop.proofs.laptop.Laptop.begin.Goals as goal
 
 pub returns-clause-does : goal.returns-clause-does

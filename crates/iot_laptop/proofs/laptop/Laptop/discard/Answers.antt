@@ -1,6 +1,6 @@
 use Rattle.std.proofs.Common.{sym}
 use Rattle.iot_laptop.proofs.CallsLaws.{called, as_is}
-use Rattle.iot_laptop.proofs.RecordsLaws.{leaves}
+use Rattle.iot_laptop.proofs.CallsLaws.{leaves}
 use Rattle.iot_laptop.proofs.laptop.Laptop.discard.Goals as goal
 
 pub returns-clause-does : goal.returns-clause-does

@@ -1,9 +1,10 @@
 use Rattle.std.proofs.Common.{refl, ap, ◌∙◌}
+use Rattle.std.proofs.lemmas.Result.{IfOk-at_ok}
 use Rattle.iot_client.specs.Calls.{EndsIfAny}
 use Rattle.iot_client.specs.Ties.{state_of, live_of}
 use Rattle.iot_laptop.specs.Laptops.{state_in, waits_of}
 use Rattle.iot_laptop.specs.declared.laptop.Laptop.{Laptop}
-use Rattle.iot_laptop.proofs.CallsLaws.{called, answer_is, on_ok, if_ok}
+use Rattle.iot_laptop.proofs.CallsLaws.{called}
 use Rattle.iot_laptop.proofs.TransactionsLaws.{ends, is_gone, is_done, waits_now}
 use Rattle.iot_laptop.proofs.laptop.Laptop.end.Goals as goal
 
@@ -21,24 +22,18 @@ returns-in-Err-clause-does g c =
 
 pub returns-in-Ok-clause-gone : goal.returns-in-Ok-clause-gone
 returns-in-Ok-clause-gone g c =
-    let call = called c.args.self.now c.in-Up.seated.client c.end-answer.new.self c.goes_on.ensures.goes
-    c.in-Up.is c.records-count.ensures c.end-answer.ensures.tied c.end-answer.ensures.counts c.end-answer.ensures.arms in
-    is_gone call c.in-Ok.ended _
+    is_gone c.in-Up.is c.in-Ok.ended _
     (c.transaction.ensures
     ∙ ap (λ (l : Laptop g.row.D.Denot). record { client = l.name; number = c.in-Ok.ended.tid }) c.goes_on.ensures.goes.rest)
     refl c.in_ok-output.ensures
-    (if_ok c.end-answer.result c.in-Ok.ended
-    (EndsIfAny (state_of c.in-Up.seated.client) (state_of c.in-Up.seated.client).running (live_of c.in-Up.seated.client))
-    (answer_is call c.in-Ok.ended c.in-Ok.is) c.end-answer.ensures.ends)
+    (IfOk-at_ok (EndsIfAny (state_of c.in-Up.seated.client) (state_of c.in-Up.seated.client).running (live_of c.in-Up.seated.client))
+    (IfOk-at_ok _ c.in-Ok.is c.goes_on.ensures.goes.answers) c.end-answer.ensures.ends)
 
 pub returns-in-Ok-clause-waits : goal.returns-in-Ok-clause-waits
 returns-in-Ok-clause-waits g c =
-    let call = called c.args.self.now c.in-Up.seated.client c.end-answer.new.self c.goes_on.ensures.goes
-    c.in-Up.is c.records-count.ensures c.end-answer.ensures.tied c.end-answer.ensures.counts c.end-answer.ensures.arms in
-    ap (λ (l : Laptop g.row.D.Denot). waits_of (state_in l).items)
-    (on_ok c.goes_on.result c.in-Ok.ended c.in-Ok.is c.goes_on.ensures.goes.same)
+    ap (λ (l : Laptop g.row.D.Denot). waits_of (state_in l).items) (IfOk-at_ok _ c.in-Ok.is c.goes_on.ensures.goes.same)
     ∙ waits_now c.in-Up.seated.client c.end-answer.new.self
-    (on_ok c.end-answer.result c.in-Ok.ended (answer_is call c.in-Ok.ended c.in-Ok.is) c.end-answer.ensures.notes)
+    (IfOk-at_ok _ (IfOk-at_ok _ c.in-Ok.is c.goes_on.ensures.goes.answers) c.end-answer.ensures.notes)
 
 pub returns-in-Ok-clause-over : goal.returns-in-Ok-clause-over
 returns-in-Ok-clause-over g c = is_done g.D.Disk.medium c.args.self.now c.requires.over

@@ -1,6 +1,6 @@
 use Rattle.std.proofs.Common.{sym}
 use Rattle.iot_laptop.proofs.CallsLaws.{called, as_is}
-use Rattle.iot_laptop.proofs.RecordsLaws.{fetches}
+use Rattle.iot_laptop.proofs.CallsLaws.{fetches}
 use Rattle.iot_laptop.proofs.laptop.Laptop.fetched.Goals as goal
 
 pub returns-clause-does : goal.returns-clause-does

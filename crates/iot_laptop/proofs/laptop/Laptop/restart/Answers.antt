@@ -1,7 +1,7 @@
-use Rattle.std.proofs.Common.{Err, ap, sym, ◌∙◌}
+use Rattle.std.proofs.Common.{sym, ◌∙◌}
+use Rattle.std.proofs.lemmas.Result.{IfOk-weaker}
 use Rattle.iot_machine.specs.Events.{no_text}
-use Rattle.iot_laptop.proofs.RestartLaws.{says_up, is_standing, stops_if, came_again_if, returned_if, comes_if, came_if, cut_ok, cut_over}
-use Rattle.iot_laptop.proofs.RestartLaws.{keeps_then}
+use Rattle.iot_laptop.proofs.RestartLaws.{says_up, is_standing, stops_if, came_again_if, returned_if, comes_if, came_if, keeps_then}
 use Rattle.iot_laptop.proofs.laptop.Laptop.restart.Goals as goal
 
 pub returns-then-is_alive-clause-step : goal.returns-then-is_alive-clause-step
@@ -32,52 +32,26 @@ cut_off-requires g c =
     (c.in_ok-come_back.ensures.step no_text) c.in_ok-come_back.ensures.on c.in_ok-come_back.ensures.live
     c.if-not-branch.false c.requires
 
-pub returns-in-Ok-clause-step : goal.returns-in-Ok-clause-step
-returns-in-Ok-clause-step g c =
+pub returns-clause-step : goal.returns-clause-step
+returns-clause-step g c =
+    IfOk-weaker c.cut_off.result _ _
+    (λ _.
     comes_if g.D.Disk.medium c.args.self.now c.come_back.new.self c.as_bytes.result.now c.args.out.now c.come_back.new.out
     c.as_bytes.ensures.value (sym c.is_alive.ensures ∙ c.if-is_alive.false) c.in_ok-come_back.field-0
     (c.in_ok-come_back.ensures.step no_text) c.in_ok-come_back.ensures.on c.in_ok-come_back.ensures.live
-    c.if-not-branch.false c.cut_off.new.self c.cut_off.new.out
-    (cut_ok g.D.Disk.medium _ c.cut_off.new.self c.come_back.new.out c.cut_off.new.out c.cut_off.result c.in-Ok.field-0 c.in-Ok.is
-    c.cut_off.ensures.cuts)
+    c.if-not-branch.false c.cut_off.new.self c.cut_off.new.out)
+    c.cut_off.ensures.cuts
 
-pub returns-in-Ok-clause-came : goal.returns-in-Ok-clause-came
-returns-in-Ok-clause-came g c = λ down.
+pub returns-clause-came : goal.returns-clause-came
+returns-clause-came g c = λ down.
+    IfOk-weaker c.cut_off.result _ _
+    (λ _ cuts.
     came_if g.D.Disk.medium c.args.self.now c.come_back.new.self c.as_bytes.result.now c.args.out.now c.come_back.new.out
     c.as_bytes.ensures.value (sym c.is_alive.ensures ∙ c.if-is_alive.false) c.in_ok-come_back.field-0
     (c.in_ok-come_back.ensures.step no_text) c.in_ok-come_back.ensures.on c.in_ok-come_back.ensures.live
-    c.if-not-branch.false c.cut_off.new.self c.cut_off.new.out
-    (cut_ok g.D.Disk.medium _ c.cut_off.new.self c.come_back.new.out c.cut_off.new.out c.cut_off.result c.in-Ok.field-0 c.in-Ok.is
-    c.cut_off.ensures.cuts)
-    (c.in_ok-come_back.ensures.came no_text)
+    c.if-not-branch.false c.cut_off.new.self c.cut_off.new.out cuts
+    (c.in_ok-come_back.ensures.came no_text))
+    c.cut_off.ensures.cuts
 
-pub returns-in-Ok-clause-disk : goal.returns-in-Ok-clause-disk
-returns-in-Ok-clause-disk g c =
-    keeps_then g.D.Disk.medium _ _ _ c.come_back.ensures.disk c.cut_off.ensures.disk
-
-pub returns-in-Err-Over-clause-step : goal.returns-in-Err-Over-clause-step
-returns-in-Err-Over-clause-step g c =
-    comes_if g.D.Disk.medium c.args.self.now c.come_back.new.self c.as_bytes.result.now c.args.out.now c.come_back.new.out
-    c.as_bytes.ensures.value (sym c.is_alive.ensures ∙ c.if-is_alive.false) c.in_ok-come_back.field-0
-    (c.in_ok-come_back.ensures.step no_text) c.in_ok-come_back.ensures.on c.in_ok-come_back.ensures.live
-    c.if-not-branch.false c.cut_off.new.self c.cut_off.new.out
-    (cut_over g.D.Disk.medium _ c.cut_off.new.self c.come_back.new.out c.cut_off.new.out c.cut_off.result
-    (c.in-Err-Over.is ∙ ap Err c.in-Err-Over.field-0-is) c.cut_off.ensures.cuts)
-
-pub returns-in-Err-Over-clause-came : goal.returns-in-Err-Over-clause-came
-returns-in-Err-Over-clause-came g c = λ down.
-    came_if g.D.Disk.medium c.args.self.now c.come_back.new.self c.as_bytes.result.now c.args.out.now c.come_back.new.out
-    c.as_bytes.ensures.value (sym c.is_alive.ensures ∙ c.if-is_alive.false) c.in_ok-come_back.field-0
-    (c.in_ok-come_back.ensures.step no_text) c.in_ok-come_back.ensures.on c.in_ok-come_back.ensures.live
-    c.if-not-branch.false c.cut_off.new.self c.cut_off.new.out
-    (cut_over g.D.Disk.medium _ c.cut_off.new.self c.come_back.new.out c.cut_off.new.out c.cut_off.result
-    (c.in-Err-Over.is ∙ ap Err c.in-Err-Over.field-0-is) c.cut_off.ensures.cuts)
-    (c.in_ok-come_back.ensures.came no_text)
-
-pub returns-in-Err-Over-clause-disk : goal.returns-in-Err-Over-clause-disk
-returns-in-Err-Over-clause-disk g c =
-    keeps_then g.D.Disk.medium _ _ _ c.come_back.ensures.disk c.cut_off.ensures.disk
-
-pub returns-in-Err-NoMemory-clause-disk : goal.returns-in-Err-NoMemory-clause-disk
-returns-in-Err-NoMemory-clause-disk g c =
-    keeps_then g.D.Disk.medium _ _ _ c.come_back.ensures.disk c.cut_off.ensures.disk
+pub returns-clause-disk : goal.returns-clause-disk
+returns-clause-disk g c = keeps_then g.D.Disk.medium _ _ _ c.come_back.ensures.disk c.cut_off.ensures.disk

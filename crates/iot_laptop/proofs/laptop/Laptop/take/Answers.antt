@@ -1,6 +1,6 @@
 use Rattle.std.proofs.Common.{sym}
 use Rattle.iot_laptop.proofs.CallsLaws.{called, as_is}
-use Rattle.iot_laptop.proofs.RecordsLaws.{holds}
+use Rattle.iot_laptop.proofs.CallsLaws.{holds}
 use Rattle.iot_laptop.proofs.laptop.Laptop.take.Goals as goal
 
 pub returns-clause-does : goal.returns-clause-does

@@ -7,7 +7,7 @@ use Rattle.iot_queue.specs.Queues.{head_of}
 use Rattle.iot_laptop.specs.Calls.{head_reads}
 use Rattle.iot_laptop.specs.Messages.{SpellsVerdict}
 use Rattle.iot_laptop.specs.Laptops.{state_in}
-use Rattle.iot_laptop.proofs.HeadsLaws.{reads_by, option_by}
+use Rattle.iot_laptop.proofs.RepliesLaws.{reads_by, option_by}
 use Rattle.iot_laptop.proofs.laptop.Laptop.told.Goals as goal
 
 pub returns : goal.returns
