@@ -213,7 +213,7 @@ module _ {D T : Type 0} {medium : Medium D} {laptop : Laptop D} {was now : Clien
           let known = each m here in
           let s = (answered m here (Ok t) same).1 in
           let n : Node ClientState = changed change m.node in
-          let went : s.1 ≡ n = elim s.3 [ | inl it ↦ it.2 | inr stop ↦ absurd (not_both stop.1) ] in
+          let went : s.1 ≡ n = elim s.3 [ inl it ↦ it.2 | inr stop ↦ absurd (not_both stop.1) ] in
           let is : new ≡ record laptop { post = Up (record { client = now }) } = IfOk-at_ok _ same call.goes.same in (
             [],
             record m { node = n },
