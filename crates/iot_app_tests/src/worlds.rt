@@ -13,12 +13,15 @@ use iot_world::World;
 use std::alloc::Global;
 use std::test::Fail;
 
-/// Nine empty disks: the server's, and one for each client that there may be.
+/// How many disks a world takes: one for the server, and one for each client that there may be.
+const COUNT: usize = 9;
+
+/// So many empty disks.
 fn fresh_disks(alloc: Global) -> Result<Vec<MemDisk>, NoMemory>
     ensures { IfOk result (λ disks. AreFresh in_memory disks.items) }
 {
-    let mut disks = Vec::with_capacity(alloc, 9)?;
-    'disks: for _ in 0..9 {
+    let mut disks = Vec::with_capacity(alloc, COUNT)?;
+    'disks: for _ in 0..COUNT {
         disks.push(MemDisk::new(alloc))?;
     }
     Ok(disks)
@@ -127,6 +130,6 @@ fn a_world_is_looked_at(rt: HostRuntime) -> Result<(), Fail> {
     }
     assert!(rt; waiting(&world, 0) == 1 && running(&world, 0) == Some(3));
     assert!(rt; waiting(&world, 1) == 0 && running(&world, 1).is_none());
-    assert_eq!(rt; world.into_disks().len(), 9);
+    assert_eq!(rt; world.into_disks().len(), COUNT);
     Ok(())
 }
