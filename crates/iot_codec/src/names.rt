@@ -1,5 +1,5 @@
 //! Names.
-ghost use Rattle.std.specs.Prelude.{◌≡◌, ◌++◌, length, OnOk, OnErr, IfOk};
+ghost use Rattle.std.specs.Prelude.{◌≡◌, ◌++◌, length, OnOk, OnErr, IfOk, IfSome, Ok};
 ghost use Rattle.iot_text.specs.Names.{IsName};
 ghost use Rattle.iot_text.specs.Texts.{AppendsPart};
 ghost use Rattle.iot_codec.specs.Outcomes.{IsOutcome, DecodesWhatIsSpelled};
@@ -43,6 +43,24 @@ impl Spelled for Name {
     }
 
     ghost laws = { name_laws };
+}
+
+/// The offset after the spelling of the name, if that is what lies at the offset.
+#[inline]
+#[tactic(auto, unfolding(crate::specs::Decoding::name_at))]
+pub(crate) fn after_name(name: &Name, bytes: &[u8], at: usize) -> Option<usize>
+    ensures { IfSome result (λ end. name_at bytes.now at ≡ Ok (name.now, end)) }
+{
+    let Ok((len, at)) = number_at(bytes, at) else {
+        return None;
+    };
+    let Ok((text, end)) = bytes_at(bytes, at, len) else {
+        return None;
+    };
+    if text != name.as_bytes() {
+        return None;
+    }
+    Some(end)
 }
 
 /// Appends the spelling of the name: the number of its bytes, and then the bytes.

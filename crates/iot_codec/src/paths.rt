@@ -1,5 +1,5 @@
 //! Paths.
-ghost use Rattle.std.specs.Prelude.{◌≡◌, ◌++◌, length, OnOk, OnErr, IfOk, None};
+ghost use Rattle.std.specs.Prelude.{◌≡◌, ◌++◌, length, OnOk, OnErr, IfOk, IfSome, None, Ok};
 ghost use Rattle.iot_text.specs.Names.{IsName};
 ghost use Rattle.iot_text.specs.Paths.{IsPath};
 ghost use Rattle.iot_text.specs.Texts.{AppendsPart};
@@ -12,6 +12,7 @@ ghost use Rattle.iot_codec.specs.Laws.Values.{path_laws};
 
 use crate::CodecFault;
 use crate::lists::{put_list, read_list};
+use crate::names::after_name;
 use crate::numbers::number_at;
 use crate::spelled::{Spelled, read};
 use iot_text::{Name, NoMemory, Path, Text};
@@ -29,15 +30,13 @@ impl Spelled for Path {
     }
 
     fn read(alloc: Global, bytes: &[u8], at: usize) -> Result<(Path, usize), CodecFault> {
-        read_path_on(alloc, None, bytes, at)
+        read_new(alloc, bytes, at)
     }
 
     ghost laws = { path_laws };
 }
 
-/// Reads a path, which shares the names of the one that is given, if it is equal to that. Up to three names are
-/// read without a list of them.
-#[tactic(auto, unfolding(crate::specs::Decoding::path_at))]
+/// Reads a path, which shares the names of the one that is given, if it is equal to that.
 pub(crate) fn read_path_on(
     alloc: Global,
     known: Option<&Path>,
@@ -46,24 +45,51 @@ pub(crate) fn read_path_on(
 ) -> Result<(Path, usize), CodecFault>
     ensures { IsOutcome result (path_at bytes.now at) }
 {
-    let (count, after) = number_at(bytes, at)?;
-    match count {
-        1 => read_one(alloc, known, bytes, after),
-        2 => read_two(alloc, known, bytes, after),
-        3 => read_three(alloc, known, bytes, after),
-        _ => read_any(alloc, bytes, at),
+    if let Some(path) = known {
+        if let Some(end) = after_path(path, bytes, at) {
+            return Ok((path.copy(alloc)?, end));
+        }
     }
+    read_new(alloc, bytes, at)
 }
 
-/// The path of these names: the one that is given, if it is equal, or else a new one.
-#[inline]
-fn path_of(alloc: Global, known: Option<&Path>, names: &[Name]) -> Result<Path, NoMemory>
-    requires { IsPath names.now }
-    ensures { IfOk result (λ path. path ≡ names.now) }
+/// The offset after the spelling of the path, if that is what lies at the offset.
+#[tactic(auto, unfolding(crate::specs::Decoding::path_at))]
+fn after_path(path: &Path, bytes: &[u8], at: usize) -> Option<usize>
+    ensures { IfSome result (λ end. path_at bytes.now at ≡ Ok (path.now, end)) }
 {
-    match known {
-        Some(path) if path.names() == names => path.copy(alloc),
-        _ => Path::from_slice(alloc, names),
+    let names = path.names();
+    let Ok((count, after)) = number_at(bytes, at) else {
+        return None;
+    };
+    if count != names.len() as u64 {
+        return None;
+    }
+    after_names(names, bytes, after)
+}
+
+/// The offset after the spellings of the names, if that is what lies at the offset.
+fn after_names(names: &[Name], bytes: &[u8], at: usize) -> Option<usize>
+    ensures { IfSome result (λ end. items_at (λ _. name_at) (length names.now) None bytes.now at ≡ Ok (names.now, end)) }
+{
+    let mut end = at;
+    'names: for name in names {
+        end = after_name(name, bytes, end)?;
+    }
+    Some(end)
+}
+
+/// Reads a path into a block of its own. Up to three names are read without a list of them.
+#[tactic(auto, unfolding(crate::specs::Decoding::path_at))]
+fn read_new(alloc: Global, bytes: &[u8], at: usize) -> Result<(Path, usize), CodecFault>
+    ensures { IsOutcome result (path_at bytes.now at) }
+{
+    let (count, after) = number_at(bytes, at)?;
+    match count {
+        1 => read_one(alloc, bytes, after),
+        2 => read_two(alloc, bytes, after),
+        3 => read_three(alloc, bytes, after),
+        _ => read_any(alloc, bytes, at),
     }
 }
 
@@ -79,49 +105,34 @@ fn read_any(alloc: Global, bytes: &[u8], at: usize) -> Result<(Path, usize), Cod
 
 /// Reads a path of one name.
 #[inline]
-fn read_one(
-    alloc: Global,
-    known: Option<&Path>,
-    bytes: &[u8],
-    at: usize,
-) -> Result<(Path, usize), CodecFault>
+fn read_one(alloc: Global, bytes: &[u8], at: usize) -> Result<(Path, usize), CodecFault>
     ensures { IsOutcome result (items_at (λ _. name_at) 1 None bytes.now at) }
 {
     let (first, end) = name_at(alloc, bytes, at)?;
-    let path = path_of(alloc, known, &[first])?;
+    let path = Path::from_slice(alloc, &[first])?;
     Ok((path, end))
 }
 
 /// Reads a path of two names.
 #[inline]
-fn read_two(
-    alloc: Global,
-    known: Option<&Path>,
-    bytes: &[u8],
-    at: usize,
-) -> Result<(Path, usize), CodecFault>
+fn read_two(alloc: Global, bytes: &[u8], at: usize) -> Result<(Path, usize), CodecFault>
     ensures { IsOutcome result (items_at (λ _. name_at) 2 None bytes.now at) }
 {
     let (first, at) = name_at(alloc, bytes, at)?;
     let (second, end) = name_at(alloc, bytes, at)?;
-    let path = path_of(alloc, known, &[first, second])?;
+    let path = Path::from_slice(alloc, &[first, second])?;
     Ok((path, end))
 }
 
 /// Reads a path of three names.
 #[inline]
-fn read_three(
-    alloc: Global,
-    known: Option<&Path>,
-    bytes: &[u8],
-    at: usize,
-) -> Result<(Path, usize), CodecFault>
+fn read_three(alloc: Global, bytes: &[u8], at: usize) -> Result<(Path, usize), CodecFault>
     ensures { IsOutcome result (items_at (λ _. name_at) 3 None bytes.now at) }
 {
     let (first, at) = name_at(alloc, bytes, at)?;
     let (second, at) = name_at(alloc, bytes, at)?;
     let (third, end) = name_at(alloc, bytes, at)?;
-    let path = path_of(alloc, known, &[first, second, third])?;
+    let path = Path::from_slice(alloc, &[first, second, third])?;
     Ok((path, end))
 }
 
