@@ -1,289 +1,394 @@
--- How what a client does with the server goes together.
-use Rattle.std.proofs.Common.{◌≡◌, ℕ, suc, ◌+◌, ◌-◌, ◌<◌, ◌≤◌, Bool, true, false, List, ◌++◌, Option, Some, None, Result, Ok, Err, IsErrAnd}
-use Rattle.std.proofs.Common.{refl, sym, ap, subst, ◌∙◌, arith}
+-- A client with the server: what they are that are ready, what is known of their disks, and how what they do goes together.
+use Rattle.std.proofs.Common.{◌≡◌, ◌≤◌, ℕ, List, Option, Some, inl, refl, sym, ap, subst, ◌∙◌, suc, ◌+◌, ◌-◌, ◌<◌, Bool, true}
+use Rattle.std.proofs.Common.{false, ◌++◌, None, Result, Ok, Err, IsErrAnd, arith}
 use Rattle.iot_disk.specs.Disk.{Medium}
-use Rattle.iot_machine.specs.Calls.{Call, Try, Asks, Answers, Tells, Then, Goes, either, Repeats}
+use Rattle.iot_machine.specs.Calls.{Call, Try, Gets, Asks, Answers, Tells, Then, Goes, unless_over, either, Repeats}
 use Rattle.iot_machine.specs.Clients.{Declared, ClientState, begin}
 use Rattle.iot_machine.specs.Machine.{Client, Pair}
 use Rattle.iot_machine.specs.Options.{OnConflict}
-use Rattle.iot_machine.specs.Transactions.{Writes, unless_stopped, Notes, Starts}
+use Rattle.iot_machine.specs.Transactions.{unless_stopped, Notes, Starts}
 use Rattle.iot_node.specs.Disks.{KeepsDisk}
 use Rattle.iot_node.specs.Steps.{StepsTo, Ends}
 use Rattle.iot_node.specs.declared.halt.Halt.{Halt}
 use Rattle.iot_node.specs.declared.halt.Halt.TheVariants.{NoMemory, Over}
-use Rattle.iot_server_node.specs.Servers.{ServerStands, HasDisk}
+use Rattle.iot_server_node.specs.Servers.{ServerIsSound, disk_of, ServerStands}
 use Rattle.iot_server_node.specs.declared.server.ServerNode.{ServerNode}
-use Rattle.iot_laptop.specs.Alone.{NotesAlone, StartsAlone}
-use Rattle.iot_laptop.specs.Calls.{EndsAlone, Changes}
-use Rattle.iot_laptop.specs.Laptops.{LaptopStands, ClientStands, awake, SamePlace, disk_in}
+use Rattle.iot_server_node.specs.Records.{KeepsRecords}
+use Rattle.iot_server_node.proofs.BeginningLaws.{records_same, records_then}
+use Rattle.iot_server_node.proofs.ServersLaws as servers
+use Rattle.iot_laptop.specs.Laptops.{Stands, StandsAnyhow, awake, disk_in, SamePlace}
 use Rattle.iot_laptop.specs.declared.laptop.Laptop.{Laptop}
-use Rattle.iot_exchange.specs.Pairs.{Two, two, PairStands, IsAt, UpStands, AnyStands, IsReadyWith, IsReady, KeepsDisks, Does}
-use Rattle.iot_exchange.proofs.ReadyLaws.{keeps_then, client_keeps, any_ready, ready_with}
-use Rattle.iot_exchange.proofs.StepsLaws as steps
+use Rattle.iot_laptop.proofs.NodesLaws.{is_awake}
+use Rattle.iot_laptop.specs.Alone.{NotesAlone, StartsAlone}
+use Rattle.iot_laptop.specs.Alone as alone
+use Rattle.iot_laptop.specs.Calls.{EndsAlone}
+use Rattle.iot_laptop.proofs.CallsLaws as laptops
+use Rattle.iot_laptop.proofs.RestartLaws as restarts
+use Rattle.iot_exchange.specs.Pairs.{Both, two, IsAt, UpStands, AnyStands, IsReadyWith, IsReady, IsStandingWith, KeepsDisks, PairStands}
+use Rattle.iot_exchange.specs.Pairs.{Does}
 use Rattle.iot_exchange.proofs.StepsLaws.{From}
+use Rattle.iot_exchange.proofs.StepsLaws as steps
 
--- a call of the client is one of the pair, and leaves its name
-pub record Lifts (one : Try Client (Unit {0})) (call : Try Pair (Unit {0})) : Type 0 where
-  pub lift : (pair : Pair) (text : List ℕ) (a : Option (Unit {0})) (n : Client) → one pair.client text a n
-      → call pair text a (record pair { client = n })
-  pub name : (m n : Client) (text : List ℕ) (a : Option (Unit {0})) → one m text a n → n.name ≡ m.name
+-- a call that leaves the client alive
+abbrev pub StepsOn : {D A : Type 0} → Medium D → List Declared → (names : List (List ℕ)) → (c : ℕ) → Call Pair A → (u v : Both D)
+    → (x y : List ℕ) → A → Type 0
+StepsOn medium scripts names c call u v x y a = StepsTo (UpStands medium scripts names c) (UpStands medium scripts names c) call u v x y a
 
-pub notes_lift : (change : ClientState → ClientState) → Lifts (NotesAlone change) (Notes change)
-notes_lift change = record {
-  lift = λ pair text a n it. record {
-    mid = record pair { client = it.mid };
-    front = it.front;
-    rest = it.rest;
-    answer = it.answer;
-    first = record { inner = it.mid; step = it.first; is = refl };
-    second = (it.second.0, it.second.1, ap (λ (client : Client). record pair { client = client }) it.second.2);
-    whole = it.whole;
-  };
-  name = λ m n text a it. ap (λ (k : Client). k.name) it.second.2 ∙ ap (λ (k : Client). k.name) it.first.is;
+-- at the same place, under the same name
+pub at_as : {D : Type 0} {P Q : Laptop D → Client → Type 0} {names : List (List ℕ)} {c : ℕ} {old new : Laptop D} {m n : Client}
+    → IsAt P names c old m → Q new n → new.place ≡ old.place → n.name ≡ m.name → IsAt Q names c new n
+at_as here is place name = record {
+  is = is;
+  place = place ∙ here.place;
+  named = here.named ∙ ap (λ (name : List ℕ). Some name) (sym name);
+  few = here.few;
 }
 
-module _ {D : Type 0} (medium : Medium D) (scripts : List Declared) where
-  abbrev pub Both : Type 0
-  Both = Two (Laptop D) (ServerNode D)
+-- ---- disks
 
-  -- a fact of each pair for which the two stand
-  abbrev pub OfEach : Both → (Pair → Type 0) → Type 0
-  OfEach u P = (names : List (List ℕ)) (c : ℕ) (pair : Pair) → UpStands medium scripts names c u pair → P pair
+module _ {D : Type 0} {medium : Medium D} where
+  pub keeps_then : {u v w : Both D} → KeepsDisks medium u v → KeepsDisks medium v w → KeepsDisks medium u w
+  keeps_then one other = record {
+    client = restarts.keeps_then medium _ _ _ one.client other.client;
+    server = restarts.keeps_then medium _ _ _ one.server other.server;
+    records = records_then medium _ _ _ one.records other.records;
+  }
+
+  -- so has each its disk afterwards
+  keeps_new : {old new : Option D} → KeepsDisk medium old new → KeepsDisk medium new new
+  keeps_new keeps = record {
+    was = keeps.now;
+    now = keeps.now;
+    old_has = keeps.new_has;
+    new_has = keeps.new_has;
+    arms = refl;
+    faults = inl refl;
+  }
+
+  pub keeps_now : {u v : Both D} → KeepsDisks medium u v → KeepsDisks medium v v
+  keeps_now keeps =
+      record { client = keeps_new keeps.client; server = keeps_new keeps.server; records = records_same medium _ _ refl }
+
+  -- and after one more call of the client alone
+  pub keeps_more : {u v : Both D} {laptop : Laptop D} → KeepsDisks medium u v → KeepsDisk medium (disk_in v.laptop) (disk_in laptop)
+      → KeepsDisks medium u (two laptop v.server)
+  keeps_more keeps more =
+      keeps_then keeps (record { client = more; server = keeps_new keeps.server; records = records_same medium _ _ refl })
+
+  -- the client's is the same
+  pub keeps_served : {u : Both D} {laptop : Laptop D} {server : ServerNode D} → KeepsDisks medium u u → disk_in laptop ≡ disk_in u.laptop
+      → KeepsDisk medium (disk_of u.server) (disk_of server) → KeepsRecords medium (disk_of u.server) (disk_of server)
+      → KeepsDisks medium u (two laptop server)
+  keeps_served {u} keeps same served records = record {
+    client = subst (λ (disk : Option D). KeepsDisk medium (disk_in u.laptop) disk) (sym same) keeps.client;
+    server = served;
+    records = records;
+  }
+
+  pub laptop_keeps : {laptop : Laptop D} → Stands medium laptop → KeepsDisk medium (disk_in laptop) (disk_in laptop)
+  laptop_keeps {laptop} here = laptops.keeps_same medium laptop.post (is_awake medium here.scripts laptop here.machine here.stands)
+
+  -- ---- alive or down
 
   -- one that is alive stands for its pair anyhow
-  pub still : (names : List (List ℕ)) (c : ℕ) (u : Both) (pair : Pair) → UpStands medium scripts names c u pair
+  pub still : {scripts : List Declared} {names : List (List ℕ)} {c : ℕ} {u : Both D} {pair : Pair} → UpStands medium scripts names c u pair
       → AnyStands medium scripts names c u pair
-  still names c u pair here = record {
-    place = here.place;
-    client = record {
-      is = awake here.client.is;
-      place = here.client.place;
-      named = here.client.named;
-      few = here.client.few;
-    };
-    server = here.server;
+  still here = record { place = here.place; client = at_as here.client (awake here.client.is) refl refl; server = here.server }
+
+  pub anyhow : {scripts : List Declared} {u : Both D} → IsStandingWith medium scripts u → StandsAnyhow medium u.laptop
+  anyhow {scripts} it = record { scripts = scripts; machine = it.pair.client; stands = it.stands.client.is }
+
+  pub standing : {scripts : List Declared} {u : Both D} → IsReadyWith medium scripts u → IsStandingWith medium scripts u
+  standing it = record { names = it.names; c = it.c; pair = it.pair; stands = still it.stands }
+
+  pub keeps_standing : {scripts : List Declared} {u : Both D} → IsStandingWith medium scripts u → KeepsDisks medium u u
+  keeps_standing {u = u} it = record {
+    client = restarts.keeps_any medium u.laptop (anyhow it);
+    server =
+        servers.keeps_same medium (disk_of u.server) (disk_of u.server)
+        (servers.has_disk medium it.names u.server.post it.pair.server it.stands.server.post) refl;
+    records = records_same medium (disk_of u.server) (disk_of u.server) refl;
   }
 
+  -- ---- a client that is alive
+
+  pub any_ready : {scripts : List Declared} {u : Both D} → IsReadyWith medium scripts u → IsReady medium u
+  any_ready {scripts} ready = record { scripts = scripts; is = ready }
+
+  module _ {u : Both D} (ready : IsReady medium u) where
+    pub stands : Stands medium u.laptop
+    stands = record { scripts = ready.scripts; machine = ready.is.pair.client; stands = ready.is.stands.client.is }
+
+    pub low : u.laptop.place ≤ 7
+    low = subst (λ (c : ℕ). c ≤ 7) (sym ready.is.stands.client.place) ready.is.stands.client.few
+
+    pub sound : ServerIsSound medium u.server
+    sound = record {
+      names = ready.is.names;
+      node = ready.is.pair.server;
+      requests = ready.is.pair.requests;
+      stands = ready.is.stands.server;
+    }
+
+    pub keeps_same : KeepsDisks medium u u
+    keeps_same = keeps_standing (standing ready.is)
+
+-- a fact of each pair for which the two stand
+abbrev pub OfEach : {D : Type 0} → Medium D → List Declared → Both D → (Pair → Type 0) → Type 0
+OfEach medium scripts u P = (names : List (List ℕ)) (c : ℕ) (pair : Pair) → UpStands medium scripts names c u pair → P pair
+
+-- what is done from this pair
+abbrev pub DoesFrom : {D A : Type 0} → Medium D → List Declared → (names : List (List ℕ)) → (c : ℕ) → Try Pair A → Pair → Both D
+    → (x y : List ℕ) → Result A Halt → Type 0
+DoesFrom medium scripts names c call pair v x y result =
+    From (UpStands medium scripts names c) (AnyStands medium scripts names c) call pair v x y result
+
+module _ {D : Type 0} {medium : Medium D} {scripts : List Declared} where
   -- ---- one call, and then another
 
-  pub goes : {A B : Type 0} {one : Try Pair A} {next : A → Try Pair B} (u v w : Both) (x y z : List ℕ) (a : A) (result : Result B Halt)
-      → Does medium scripts one u v x y (Ok a) → Does medium scripts (next a) v w y z result
-      → Does medium scripts (Goes one next) u w x z result
-  goes u v w x y z a result it two = record {
-    step = λ names c. steps.goes u v w x y z a result (it.step names c) (two.step names c);
-    disks = keeps_then medium u v w it.disks two.disks;
-  }
-
-  pub goes_then : {A B : Type 0} {one : Try Pair A} {next : A → Try Pair B} (u v w : Both) (x y z : List ℕ) (a : A)
-      (inner : Result A Halt) (result : Result B Halt) → inner ≡ Ok a → Does medium scripts one u v x y inner
+  pub goes_then : {A B : Type 0} {one : Try Pair A} {next : A → Try Pair B} {u v w : Both D} {x y z : List ℕ} {a : A}
+      {inner : Result A Halt} {result : Result B Halt} → inner ≡ Ok a → Does medium scripts one u v x y inner
       → Does medium scripts (next a) v w y z result → Does medium scripts (Goes one next) u w x z result
-  goes_then {one = one} u v w x y z a inner result was it two =
-      goes u v w x y z a result (subst (λ (r : Result _ Halt). Does medium scripts one u v x y r) was it) two
-
-  -- it has not gone on, so nor does what it begins
-  pub ends : {A B : Type 0} {one : Try Pair A} {next : A → Try Pair B} (u v : Both) (x y : List ℕ) (halt : Halt)
-      → Does medium scripts one u v x y (Err halt) → Does medium scripts (Goes one next) u v x y (Err halt)
-  ends u v x y halt it = record { step = λ names c. steps.ends u v x y halt (it.step names c); disks = it.disks }
+  goes_then was it more = record {
+    step = λ names c. steps.goes_then was (it.step names c) (more.step names c);
+    disks = keeps_then it.disks more.disks;
+  }
 
   -- what a `?` hands on
-  pub hands_on : {A B : Type 0} {one : Try Pair A} {next : A → Try Pair B} (u v : Both) (x y : List ℕ) (inner : Result A Halt)
-      (outer : Result B Halt) (fault : Halt) → inner ≡ Err fault → IsErrAnd outer (λ other. other ≡ fault)
+  pub hands_on : {A B : Type 0} {one : Try Pair A} {next : A → Try Pair B} {u v : Both D} {x y : List ℕ} {inner : Result A Halt}
+      {outer : Result B Halt} {fault : Halt} → inner ≡ Err fault → IsErrAnd outer (λ other. other ≡ fault)
       → Does medium scripts one u v x y inner → Does medium scripts (Goes one next) u v x y outer
-  hands_on u v x y inner outer fault was is it =
-      record { step = λ names c. steps.hands_on u v x y inner outer fault was is (it.step names c); disks = it.disks }
-
-  -- a look at the pair, or a test, whose answer is known
-  pub asks_then : {A B : Type 0} {ask : Pair → A} {next : A → Try Pair B} (u v : Both) (x y : List ℕ) (a : A) (result : Result B Halt)
-      → OfEach u (λ pair. a ≡ ask pair) → Does medium scripts (next a) u v x y result
-      → Does medium scripts (Then (Asks ask) next) u v x y result
-  asks_then u v x y a result is it = record {
-    step = λ names c. steps.asks_then u v x y a result (is names c) (it.step names c);
-    disks = it.disks;
-  }
+  hands_on was is it = record { step = λ names c. steps.hands_on was is (it.step names c); disks = it.disks }
 
   -- a call that always goes on
-  pub then_does : {A B : Type 0} {one : Call Pair A} {next : A → Try Pair B} (u v w : Both) (x y z : List ℕ) (a : A)
-      (result : Result B Halt)
-      → ((names : List (List ℕ)) (c : ℕ) → StepsTo (UpStands medium scripts names c) (UpStands medium scripts names c) one u v x y a)
+  pub then_does : {A B : Type 0} {one : Call Pair A} {next : A → Try Pair B} {u v w : Both D} {x y z : List ℕ} {a : A}
+      {result : Result B Halt} → ((names : List (List ℕ)) (c : ℕ) → StepsOn medium scripts names c one u v x y a)
       → KeepsDisks medium u v → Does medium scripts (next a) v w y z result → Does medium scripts (Then one next) u w x z result
-  then_does u v w x y z a result it keeps two = record {
-    step = λ names c. steps.then_ends u v w x y z a result (it names c) (two.step names c);
-    disks = keeps_then medium u v w keeps two.disks;
+  then_does it keeps more = record {
+    step = λ names c. steps.then_ends (it names c) (more.step names c);
+    disks = keeps_then keeps more.disks;
+  }
+
+  -- a look at the pair, or a test, whose answer is known
+  pub asks_then : {A B : Type 0} {ask : Pair → A} {next : A → Try Pair B} {u v : Both D} {x y : List ℕ} {a : A} {result : Result B Halt}
+      → OfEach medium scripts u (λ pair. a ≡ ask pair) → Does medium scripts (next a) u v x y result
+      → Does medium scripts (Then (Asks ask) next) u v x y result
+  asks_then is it = record {
+    step = λ names c. steps.then_ends (steps.asks (is names c)) (it.step names c);
+    disks = it.disks;
   }
 
   -- ---- from one pair
 
-  -- what it does from each pair for which the two stand
-  pub each_from : {A : Type 0} {call : Try Pair A} (u v : Both) (x y : List ℕ) (result : Result A Halt) → KeepsDisks medium u v
+  pub each_from : {A : Type 0} {call : Try Pair A} {u v : Both D} {x y : List ℕ} {result : Result A Halt} → KeepsDisks medium u v
       → ((names : List (List ℕ)) (c : ℕ) (pair : Pair) → UpStands medium scripts names c u pair
-      → From (UpStands medium scripts names c) (AnyStands medium scripts names c) call pair v x y result)
+      → DoesFrom medium scripts names c call pair v x y result)
       → Does medium scripts call u v x y result
-  each_from u v x y result keeps each =
-      record { step = λ names c. steps.each_from u v x y result (each names c); disks = keeps }
+  each_from keeps each = record { step = λ names c. steps.each_from (each names c); disks = keeps }
 
-  pub from : {A : Type 0} {call : Try Pair A} (u v : Both) (x y : List ℕ) (result : Result A Halt) → Does medium scripts call u v x y result
-      → (names : List (List ℕ)) (c : ℕ) (pair : Pair) → UpStands medium scripts names c u pair
-      → From (UpStands medium scripts names c) (AnyStands medium scripts names c) call pair v x y result
-  from u v x y result it names c pair here = steps.from u v x y result (it.step names c) pair here
+  pub from : {A : Type 0} {call : Try Pair A} {u v : Both D} {x y : List ℕ} {result : Result A Halt}
+      → Does medium scripts call u v x y result → {names : List (List ℕ)} {c : ℕ} {pair : Pair} → UpStands medium scripts names c u pair
+      → DoesFrom medium scripts names c call pair v x y result
+  from it {names} {c} here = steps.from (it.step names c) here
 
-  -- ---- refusals, and what is said
+  -- ---- answers, refusals, and what is said
 
-  -- a test with a refusal
-  pub passes : {A : Type 0} {ask : Pair → Bool} {text : Pair → List ℕ} {call : Try Pair A} (u v : Both) (x y : List ℕ) (b : Bool)
-      (result : Result A Halt) → OfEach u (λ pair. b ≡ ask pair) → b ≡ false → Does medium scripts call u v x y result
-      → Does medium scripts (Then (Asks ask) (either (Tells text None) call)) u v x y result
-  passes u v x y b result is no_ it = record {
-    step = λ names c. steps.passes u v x y b result (is names c) no_ (it.step names c);
-    disks = it.disks;
-  }
+  pub answers : {A : Type 0} {u v : Both D} {x : List ℕ} {a : A} → KeepsDisks medium u v
+      → Does medium scripts (Answers (Some a)) v v x x (Ok a)
+  answers keeps = record { step = λ names c. record { is = steps.asks (λ pair here. refl) }; disks = keeps_now keeps }
 
-  pub refused : {A : Type 0} {ask : Pair → Bool} {text : Pair → List ℕ} {call : Try Pair A} (u : Both) (x y : List ℕ) (b : Bool)
-      → OfEach u (λ pair. b ≡ ask pair) → b ≡ true → OfEach u (λ pair. y ≡ x ++ text pair) → KeepsDisks medium u u
-      → Does medium scripts (Then (Asks ask) (either (Tells text None) call)) u u x y (Err Over)
-  refused u x y b is yes_ wrote keeps = record {
-    step = λ names c. steps.refused u x y b (is names c) yes_ (wrote names c) (still names c u);
-    disks = keeps;
-  }
+  pub tells : {A : Type 0} {text : Pair → List ℕ} {u v : Both D} {x y : List ℕ} {a : A} → KeepsDisks medium u v
+      → OfEach medium scripts v (λ pair. y ≡ x ++ text pair) → Does medium scripts (Tells text (Some a)) v v x y (Ok a)
+  tells keeps wrote = record { step = λ names c. steps.says (wrote names c); disks = keeps_now keeps }
 
-  pub refuses : {A : Type 0} {text : Pair → List ℕ} (u : Both) (x y : List ℕ) → OfEach u (λ pair. y ≡ x ++ text pair)
-      → KeepsDisks medium u u → Does {A = A} medium scripts (Tells text None) u u x y (Err Over)
-  refuses u x y wrote keeps =
-      record { step = λ names c. steps.refuses u x y (wrote names c) (still names c u); disks = keeps }
+  pub refuses : {A : Type 0} {text : Pair → List ℕ} {u v : Both D} {x y : List ℕ} → KeepsDisks medium u v
+      → OfEach medium scripts v (λ pair. y ≡ x ++ text pair) → Does {A = A} medium scripts (Tells text None) v v x y (Err Over)
+  refuses keeps wrote = record { step = λ names c. steps.refuses (wrote names c) (λ pair here. still here); disks = keeps_now keeps }
 
-  pub tells : {A : Type 0} {text : Pair → List ℕ} (u : Both) (x y : List ℕ) (a : A) → OfEach u (λ pair. y ≡ x ++ text pair)
-      → KeepsDisks medium u u → Does medium scripts (Tells text (Some a)) u u x y (Ok a)
-  tells u x y a wrote keeps = record { step = λ names c. steps.says u x y a (wrote names c); disks = keeps }
+  -- it goes on, and then this is answered, or said
+  pub then_answers : {A B : Type 0} {one : Try Pair A} {f : A → B} {u v : Both D} {x y : List ℕ} {a : A} {b : B} {inner : Result A Halt}
+      → inner ≡ Ok a → b ≡ f a → Does medium scripts one u v x y inner
+      → Does medium scripts (Goes one (λ a. Answers (Some (f a)))) u v x y (Ok b)
+  then_answers {one = one} {f = f} {u = u} {v = v} {x = x} {y = y} was is it =
+      rw is (goes_then {next = λ a. Answers (Some (f a))} was it (answers it.disks))
 
-  pub answers : {A : Type 0} (u : Both) (x : List ℕ) (a : A) → KeepsDisks medium u u
-      → Does medium scripts (Answers (Some a)) u u x x (Ok a)
-  answers u x a keeps = record {
-    step = λ names c. record { is = steps.asks u x (Some a) (λ pair here. refl) };
-    disks = keeps;
-  }
+  pub then_tells : {A B : Type 0} {one : Try Pair A} {text : Pair → List ℕ} {u v : Both D} {x y z : List ℕ} {a : A} {b : B}
+      {inner : Result A Halt} → inner ≡ Ok a → Does medium scripts one u v x y inner
+      → OfEach medium scripts v (λ pair. z ≡ y ++ text pair)
+      → Does medium scripts (Goes one (λ _. Tells text (Some b))) u v x z (Ok b)
+  then_tells was it wrote = goes_then was it (tells it.disks wrote)
+
+  pub then_says : {A B : Type 0} {one : Try Pair A} {text : List ℕ} {u v : Both D} {x y z : List ℕ} {a : A} {answer b : B}
+      {inner : Result A Halt} → inner ≡ Ok a → Does medium scripts one u v x y inner → z ≡ y ++ text → b ≡ answer
+      → Does medium scripts (Goes one (λ _. Tells (λ _. text) (Some answer))) u v x z (Ok b)
+  then_says was it wrote same = rw same (then_tells was it (λ names c pair here. wrote))
 
   -- ---- want of memory
 
-  pub no_memory : {A : Type 0} {call : Try Pair A} (u v : Both) (x y : List ℕ) (outer : Result A Halt)
+  pub no_memory : {A : Type 0} {call : Try Pair A} {u v : Both D} {x y : List ℕ} {outer : Result A Halt}
       → IsErrAnd outer (λ halt. halt ≡ NoMemory) → KeepsDisks medium u v → Does medium scripts call u v x y outer
-  no_memory u v x y (Ok a) is keeps = absurd is
-  no_memory u v x y (Err halt) is keeps = record { step = λ names c. steps.no_memory u v x y halt is; disks = keeps }
-
-  -- so a body that gives up does anything
-  pub gives_up : {A : Type 0} {call : Try Pair A} (u : Both) (x y : List ℕ) → KeepsDisks medium u u
-      → Does medium scripts call u u x y (Err NoMemory)
-  gives_up u x y keeps = no_memory u u x y (Err NoMemory) refl keeps
+  no_memory is keeps = record { step = λ names c. steps.no_memory is; disks = keeps }
 
   -- ---- after a call that goes on
 
-  pub ready_after : {A : Type 0} {call : Try Pair A} (u v : Both) (x y : List ℕ) (a : A) (inner : Result A Halt) → inner ≡ Ok a
+  pub ready_after : {A : Type 0} {call : Try Pair A} {u v : Both D} {x y : List ℕ} {a : A} {inner : Result A Halt} → inner ≡ Ok a
       → Does medium scripts call u v x y inner → IsReadyWith medium scripts u → IsReadyWith medium scripts v
-  ready_after {call = call} u v x y a inner was it ready = ready_with medium scripts u v x y (Some a)
-      (λ names c. ((subst (λ (r : Result _ Halt). Does medium scripts call u v x y r) was it).step names c).is) ready
+  ready_after {call = call} {u} {v} {x} {y} was it ready =
+      let done = subst (λ (r : Result _ Halt). Does medium scripts call u v x y r) was it in
+      let t = (done.step ready.names ready.c).is.step ready.pair ready.stands in
+      record { names = ready.names; c = ready.c; pair = t.1; stands = t.4 }
 
-  -- ---- what the client does alone
+-- among any scripts
+pub ready_after_any : {D A : Type 0} {call : Try Pair A} {medium : Medium D} {u v : Both D} {x y : List ℕ} {a : A} {inner : Result A Halt}
+    → inner ≡ Ok a → ((scripts : List Declared) → Does medium scripts call u v x y inner) → IsReady medium u → IsReady medium v
+ready_after_any was it ready = record { scripts = ready.scripts; is = ready_after was (it ready.scripts) ready.is }
 
-  module _ (old new : Laptop D) (server : ServerNode D) (x y : List ℕ) (place : SamePlace old new) where
-    module _ (one : Try Client (Unit {0})) (call : Try Pair (Unit {0})) (lifts : Lifts one call) (names : List (List ℕ)) (c : ℕ) where
-      lifted : {P Q : Laptop D → Client → Type 0} (a : Option (Unit {0})) → StepsTo P Q one old new x y a
-          → StepsTo (PairStands c (IsAt P names c) (ServerStands medium names)) (PairStands c (IsAt Q names c) (ServerStands medium names))
-          call (two old server) (two new server) x y a
-      lifted a it = record {
-        step = λ pair here.
-            let t = it.step pair.client here.client.is in (
-              t.0,
-              record pair { client = t.1 },
-              t.2,
-              lifts.lift pair t.0 a t.1 t.3,
-              record {
-                place = here.place;
-                client = record {
-                  is = t.4;
-                  place = place ∙ here.client.place;
-                  named =
-                      here.client.named
-                      ∙ ap (λ (name : List ℕ). Some name) (sym (lifts.name pair.client t.1 t.0 a t.3));
-                  few = here.client.few;
-                };
-                server = here.server;
-              },
-            );
-      }
+-- ---- what the client does alone
 
-      ends_lifted : (result : Result (Unit {0}) Halt) → EndsAlone medium scripts one old new x y result
-          → Ends (UpStands medium scripts names c) (AnyStands medium scripts names c) call (two old server) (two new server) x y result
-      ends_lifted (Ok done) it = record { is = lifted (Some done) it.is }
-      ends_lifted (Err NoMemory) it = record { is = tt }
-      ends_lifted (Err Over) it = record { is = lifted None it.is }
+-- a call of the client is one of the pair, and leaves its name
+pub record Lifts {A : Type 0} (one : Call Client A) (call : Call Pair A) : Type 0 where
+  pub lift : (pair : Pair) (text : List ℕ) (a : A) (n : Client) → one pair.client text a n → call pair text a (record pair { client = n })
+  pub name : (m n : Client) (text : List ℕ) (a : A) → one m text a n → n.name ≡ m.name
 
-    pub alone : (one : Try Client (Unit {0})) (call : Try Pair (Unit {0})) → Lifts one call → (result : Result (Unit {0}) Halt)
-        → EndsAlone medium scripts one old new x y result → HasDisk server → KeepsDisk medium (disk_in old) (disk_in new)
-        → Does medium scripts call (two old server) (two new server) x y result
-    alone one call lifts result it has keeps = record {
-      step = λ names c. ends_lifted one call lifts names c result it;
-      disks = client_keeps medium old new server has keeps;
-    }
+lift_then : {A B : Type 0} {one : Call Client A} {call : Call Pair A} {next : A → Call Client B} {more : A → Call Pair B}
+    → Lifts one call → ((a : A) → Lifts (next a) (more a)) → Lifts (Then one next) (Then call more)
+lift_then lifts each = record {
+  lift = λ pair text b n it. record {
+    mid = record pair { client = it.mid };
+    front = it.front;
+    rest = it.rest;
+    answer = it.answer;
+    first = lifts.lift pair it.front it.answer it.mid it.first;
+    second = (each it.answer).lift (record pair { client = it.mid }) it.rest b n it.second;
+    whole = it.whole;
+  };
+  name = λ m n text b it. (each it.answer).name it.mid n it.rest b it.second ∙ lifts.name m it.mid it.front it.answer it.first;
+}
 
-    -- a change of what it keeps
-    pub notes : (change : ClientState → ClientState) (result : Result (Unit {0}) Halt) → Changes medium change old new x y result
-        → HasDisk server → KeepsDisk medium (disk_in old) (disk_in new)
-        → Does medium scripts (Notes change) (two old server) (two new server) x y result
-    notes change result it has keeps = alone (NotesAlone change) (Notes change) (notes_lift change) result (it scripts) has keeps
+-- the same answer, and no change but of the class
+lift_class : {A : Type 0} (a : A) (change : Client → Client) → ((m : Client) → (change m).name ≡ m.name)
+    → Lifts (Gets (λ _. a) change) (Gets (λ _. a) (λ pair. record pair { client = change pair.client }))
+lift_class a change same = record {
+  lift = λ pair text b n it. (it.0, it.1, ap (λ (client : Client). record pair { client = client }) it.2);
+  name = λ m n text b it. ap (λ (client : Client). client.name) it.2 ∙ same m;
+}
 
-  -- ---- again and again
+lift_notes : (change : ClientState → ClientState) → Lifts (NotesAlone change) (Notes change)
+lift_notes change = lift_then (record {
+  lift = λ pair text a n it. record { inner = n; step = it; is = refl };
+  name = λ m n text a it. ap (λ (client : Client). client.name) it.is;
+}) (λ on. lift_class (unless_stopped on) (λ m. m) (λ m. refl))
 
-  -- so much was done in these rounds that what is left makes the whole
-  pub record SoFar (most : ℕ) (round : Try Pair Bool) (u : Both) (x : List ℕ) (done : ℕ) (v : Both) (y : List ℕ) : Type 0 where
-    pub whole : (w : Both) (z : List ℕ) (result : Result (Unit {0}) Halt)
-        → Does medium scripts (Repeats (most - done) round) v w y z result → Does medium scripts (Repeats most round) u w x z result
-    pub disks : KeepsDisks medium u v
+lift_unless : {A B : Type 0} {next : A → Try Client B} {more : A → Try Pair B} → ((a : A) → Lifts (next a) (more a)) → (o : Option A)
+    → Lifts (unless_over next o) (unless_over more o)
+lift_unless each None = lift_class None (λ m. m) (λ m. refl)
+lift_unless each (Some a) = each a
 
-  module _ (most : ℕ) (round : Try Pair Bool) (u : Both) (x : List ℕ) where
-    pub none_yet : KeepsDisks medium u u → SoFar most round u x 0 u x
-    none_yet keeps = record {
-      whole = λ w z result it. subst (λ (n : ℕ). Does medium scripts (Repeats n round) u w x z result)
-          (let e : most - 0 ≡ most = omega arith in e) it;
-      disks = keeps;
-    }
+lift_starts : (script : Declared) (option : OnConflict Declared) (first : Bool)
+    → Lifts (StartsAlone script option first) (Starts script option first)
+lift_starts script option first =
+    lift_then (lift_notes (begin script option)) (lift_unless (λ done. lift_class (Some tt) (alone.set_class first) (λ m. refl)))
 
-    module _ (done : ℕ) (v : Both) (y : List ℕ) (so_far : SoFar most round u x done v y) where
-      -- one round more is done
-      more : done < most → (w : Both) (z : List ℕ) (result : Result (Unit {0}) Halt)
-          → Does medium scripts (Goes round (either (Repeats (most - (done + 1)) round) (Answers (Some tt)))) v w y z result
-          → Does medium scripts (Repeats most round) u w x z result
-      more within w z result it = so_far.whole w z result
-          (subst (λ (n : ℕ). Does medium scripts (Repeats n round) v w y z result)
-          (let e : suc (most - (done + 1)) ≡ most - done = omega (arith, within) in e) it)
+module _ {D : Type 0} {medium : Medium D} where
+  lifted : {A : Type 0} {one : Try Client A} {call : Try Pair A} {P Q : Laptop D → Client → Type 0} {old new : Laptop D}
+      {server : ServerNode D} {x y : List ℕ} {a : Option A} (names : List (List ℕ)) (c : ℕ) → Lifts one call → SamePlace old new
+      → StepsTo P Q one old new x y a
+      → StepsTo (PairStands c (IsAt P names c) (ServerStands medium names)) (PairStands c (IsAt Q names c) (ServerStands medium names)) call
+      (two old server) (two new server) x y a
+  lifted {a = a} names c lifts place it = record {
+    step = λ pair here.
+        let t = it.step pair.client here.client.is in (
+          t.0,
+          record pair { client = t.1 },
+          t.2,
+          lifts.lift pair t.0 a t.1 t.3,
+          record {
+            place = here.place;
+            client = at_as here.client t.4 place (lifts.name pair.client t.1 t.0 a t.3);
+            server = here.server;
+          },
+        );
+  }
 
+  by_client : {scripts : List Declared} {one : Try Client (Unit {0})} {call : Try Pair (Unit {0})} {u v : Both D} {new : Laptop D}
+      {x y : List ℕ} {result : Result (Unit {0}) Halt} → Lifts one call → KeepsDisks medium u v → SamePlace v.laptop new
+      → EndsAlone medium scripts one v.laptop new x y result → KeepsDisk medium (disk_in v.laptop) (disk_in new)
+      → Does medium scripts call v (two new v.server) x y result
+  by_client {scripts} {one} {call} {u} {v} {new} {x} {y} {result} lifts keeps place it more = record {
+    step = λ names c. by names c result it;
+    disks = keeps_more (keeps_now keeps) more;
+  }
+    where
+      by : (names : List (List ℕ)) (c : ℕ) (r : Result (Unit {0}) Halt) → EndsAlone medium scripts one v.laptop new x y r
+          → Ends (UpStands medium scripts names c) (AnyStands medium scripts names c) call v (two new v.server) x y r
+      by names c (Ok done) it = record { is = lifted names c lifts place it.is }
+      by names c (Err NoMemory) it = record { is = tt }
+      by names c (Err Over) it = record { is = lifted names c lifts place it.is }
+
+  -- a change of what it keeps
+  pub notes : {scripts : List Declared} (change : ClientState → ClientState) {u v : Both D} {new : Laptop D} {x y : List ℕ}
+      {result : Result (Unit {0}) Halt} → KeepsDisks medium u v → SamePlace v.laptop new
+      → EndsAlone medium scripts (NotesAlone change) v.laptop new x y result → KeepsDisk medium (disk_in v.laptop) (disk_in new)
+      → Does medium scripts (Notes change) v (two new v.server) x y result
+  notes change keeps place it more = by_client (lift_notes change) keeps place it more
+
+  -- the beginning of a transaction
+  pub starts : {scripts : List Declared} (script : Declared) (option : OnConflict Declared) (first : Bool) {u v : Both D}
+      {new : Laptop D} {x y : List ℕ} {result : Result (Unit {0}) Halt} → KeepsDisks medium u v → SamePlace v.laptop new
+      → EndsAlone medium scripts (StartsAlone script option first) v.laptop new x y result
+      → KeepsDisk medium (disk_in v.laptop) (disk_in new)
+      → Does medium scripts (Starts script option first) v (two new v.server) x y result
+  starts script option first keeps place it more = by_client (lift_starts script option first) keeps place it more
+
+-- ---- again and again
+
+-- so much was done in these rounds that what is left makes the whole
+pub record SoFar {D : Type 0} (medium : Medium D) (scripts : List Declared) (most : ℕ) (round : Try Pair Bool) (u : Both D) (x : List ℕ)
+    (done : ℕ) (v : Both D) (y : List ℕ) : Type 0 where
+  pub whole : (w : Both D) (z : List ℕ) (result : Result (Unit {0}) Halt)
+      → Does medium scripts (Repeats (most - done) round) v w y z result → Does medium scripts (Repeats most round) u w x z result
+  pub disks : KeepsDisks medium u v
+
+module _ {D : Type 0} {medium : Medium D} {scripts : List Declared} {most : ℕ} {round : Try Pair Bool} {u : Both D} {x : List ℕ} where
+  pub none_yet : KeepsDisks medium u u → SoFar medium scripts most round u x 0 u x
+  none_yet keeps = record {
+    whole = λ w z result it. subst (λ (n : ℕ). Does medium scripts (Repeats n round) u w x z result)
+        (let e : most - 0 ≡ most = omega arith in e) it;
+    disks = keeps;
+  }
+
+  module _ {done : ℕ} {v : Both D} {y : List ℕ} (so_far : SoFar medium scripts most round u x done v y) where
+    -- one round more is done
+    more : {w : Both D} {z : List ℕ} {result : Result (Unit {0}) Halt} → done < most
+        → Does medium scripts (Goes round (either (Repeats (most - (done + 1)) round) (Answers (Some tt)))) v w y z result
+        → Does medium scripts (Repeats most round) u w x z result
+    more {w} {z} {result} within it = so_far.whole w z result
+        (subst (λ (n : ℕ). Does medium scripts (Repeats n round) v w y z result)
+        (let e : suc (most - (done + 1)) ≡ most - done = omega (arith, within) in e) it)
+
+    module _ {w : Both D} {z : List ℕ} {inner : Result Bool Halt} (within : done < most)
+        (it : Does medium scripts round v w y z inner) where
       -- and it goes on
-      pub one_more : done < most → (w : Both) (z : List ℕ) (b : Bool) (inner : Result Bool Halt) → inner ≡ Ok b → b ≡ true
-          → Does medium scripts round v w y z inner → SoFar most round u x (done + 1) w z
-      one_more within w z b inner was on it = record {
-        whole = λ last t result rest. more within last t result
-            (goes_then v w last y z t true inner result (was ∙ ap (λ (b : Bool). Ok b) on) it rest);
-        disks = keeps_then medium u v w so_far.disks it.disks;
+      pub one_more : {b : Bool} → inner ≡ Ok b → b ≡ true → SoFar medium scripts most round u x (done + 1) w z
+      one_more was on = record {
+        whole = λ last t result rest. more within
+            (goes_then {next = either (Repeats (most - (done + 1)) round) (Answers (Some tt))} (was ∙ ap (λ (b : Bool). Ok b) on) it rest);
+        disks = keeps_then so_far.disks it.disks;
       }
 
       -- that was the last one
-      pub last_round : done < most → (w : Both) (z : List ℕ) (b : Bool) (inner : Result Bool Halt) → inner ≡ Ok b → b ≡ false
-          → Does medium scripts round v w y z inner → KeepsDisks medium w w → Does medium scripts (Repeats most round) u w x z (Ok tt)
-      last_round within w z b inner was off it keeps = more within w z (Ok tt)
-          (goes_then v w w y z z false inner (Ok tt) (was ∙ ap (λ (b : Bool). Ok b) off) it (answers w z tt keeps))
+      pub last_round : {b : Bool} → inner ≡ Ok b → b ≡ false → Does medium scripts (Repeats most round) u w x z (Ok tt)
+      last_round was off = more within
+          (goes_then {next = either (Repeats (most - (done + 1)) round) (Answers (Some tt))} (was ∙ ap (λ (b : Bool). Ok b) off) it
+          (answers it.disks))
 
       -- it has not gone on
-      pub halted_round : done < most → (w : Both) (z : List ℕ) (inner : Result Bool Halt) (outer : Result (Unit {0}) Halt) (fault : Halt)
-          → inner ≡ Err fault → IsErrAnd outer (λ other. other ≡ fault) → Does medium scripts round v w y z inner
+      pub halted_round : {outer : Result (Unit {0}) Halt} {fault : Halt} → inner ≡ Err fault → IsErrAnd outer (λ other. other ≡ fault)
           → Does medium scripts (Repeats most round) u w x z outer
-      halted_round within w z inner outer fault was is it = more within w z outer (hands_on v w y z inner outer fault was is it)
+      halted_round was is = more within (hands_on was is it)
 
-      -- no more are to be made
-      pub all_rounds : most ≤ done → KeepsDisks medium v v → Does medium scripts (Repeats most round) u v x y (Ok tt)
-      all_rounds all keeps = so_far.whole v y (Ok tt)
-          (subst (λ (n : ℕ). Does medium scripts (Repeats n round) v v y y (Ok tt))
-          (let e : 0 ≡ most - done = omega (arith, all) in e) (answers v y tt keeps))
-
--- among any scripts
-pub ready_after_any : {D A : Type 0} {call : Try Pair A} (medium : Medium D) (u v : Two (Laptop D) (ServerNode D)) (x y : List ℕ) (a : A)
-    (inner : Result A Halt) → inner ≡ Ok a → ((scripts : List Declared) → Does medium scripts call u v x y inner) → IsReady medium u
-    → IsReady medium v
-ready_after_any medium u v x y a inner was it ready =
-    any_ready medium ready.scripts v (ready_after medium ready.scripts u v x y a inner was (it ready.scripts) ready.is)
+    -- no more are to be made
+    pub all_rounds : most ≤ done → Does medium scripts (Repeats most round) u v x y (Ok tt)
+    all_rounds all = so_far.whole v y (Ok tt)
+        (subst (λ (n : ℕ). Does medium scripts (Repeats n round) v v y y (Ok tt))
+        (let e : 0 ≡ most - done = omega (arith, all) in e) (answers so_far.disks))

@@ -1,28 +1,77 @@
--- A message to the server and its reply are an exchange of the machine.
-use Rattle.std.proofs.Common.{◌≡◌, ℕ, ◌+◌, List, ◌++◌, Option, Some, None, Bool, true, false, Vec, refl, sym, ap, subst, ◌∙◌}
+-- An exchange of a client with the server; what a client asks for, and holds if it comes; and what it knows of its transactions.
+use Rattle.std.proofs.Common.{◌≡◌, ℕ, ◌+◌, List, ◌++◌, Option, Some, None, Result, Ok, Err, Bool, true, false, Vec, refl, sym, ap, subst}
+use Rattle.std.proofs.Common.{◌∙◌, [], ◌∷◌, is_some, inl, inr}
+use Rattle.std.specs.Prelude.{IfErr}
 use Rattle.std.specs.declared.alloc.Global.{Global}
-use Rattle.iot_disk.specs.Disk.{Medium}
+use Rattle.iot_tree.specs.Tree.{Nodes}
+use Rattle.iot_tree.specs.declared.want.Want.{Want}
 use Rattle.iot_link.specs.Links.{passage, passage_by}
 use Rattle.iot_link.specs.declared.passages.Loss.{Loss}
 use Rattle.iot_link.specs.declared.passages.Passage.{Passage}
-use Rattle.iot_link.specs.declared.passages.Passage.TheVariants.{Away, RequestLost, ReplyLost, Both}
-use Rattle.iot_machine.specs.Calls.{Call}
-use Rattle.iot_machine.specs.Clients.{Declared}
-use Rattle.iot_machine.specs.Machine.{Client, Commit, Pair, break}
+use Rattle.iot_link.specs.declared.passages.Passage.TheVariants.{Away, RequestLost, ReplyLost, Both as Reaches}
+use Rattle.iot_queue.specs.declared.items.Item.{Item}
+use Rattle.iot_kept.specs.States.{State}
+use Rattle.iot_disk.specs.Disk.{Medium}
+use Rattle.iot_machine.specs.Calls.{Call, At}
+use Rattle.iot_machine.specs.Clients.{Declared, ClientState, hold}
+use Rattle.iot_machine.specs.Machine.{Client, Commit, Pair, its_server, break}
+use Rattle.iot_machine.specs.Machine as machine
 use Rattle.iot_machine.specs.Nodes.{Node}
-use Rattle.iot_machine.specs.Transactions.{Exchange}
+use Rattle.iot_machine.specs.Serving.{Submission, Lends, Judges}
+use Rattle.iot_machine.specs.Transactions.{Handles, exchange_by, Exchange, unless_stopped, Brings, holds, Holds, runs, pends, is_queued}
+use Rattle.iot_machine.specs.Stops.{Appends}
 use Rattle.iot_node.specs.Steps.{StepsTo}
-use Rattle.iot_server_node.specs.Messages.{said_of}
-use Rattle.iot_server_node.specs.Servers.{ServerStands, ServesBy, is_up}
-use Rattle.iot_server_node.specs.declared.message.Handed.{Handed}
+use Rattle.iot_node.specs.declared.halt.Halt.{Halt}
+use Rattle.iot_server_node.specs.Messages.{IsRefresh, SpellsCut, SpellsVerdict, said_of}
+use Rattle.iot_server_node.specs.Servers.{ServerStands, HavingAnswered, ServesBy, IsHanded, IsNamedIn, is_up}
+use Rattle.iot_server_node.specs.declared.message.Message.{Message}
 use Rattle.iot_server_node.specs.declared.server.Served.{Served}
 use Rattle.iot_server_node.specs.declared.server.ServerNode.{ServerNode}
 use Rattle.iot_server_node.proofs.ServersLaws.{up_is}
-use Rattle.iot_laptop.specs.Laptops.{LaptopStands, Relinked, after_passage}
+use Rattle.iot_laptop.specs.Laptops.{LaptopStands, Relinked, after_passage, Stands, state_in, waits_of}
 use Rattle.iot_laptop.specs.declared.laptop.Laptop.{Laptop}
-use Rattle.iot_exchange.specs.Pairs.{Two, two, IsAt, UpStands, Serves, Exchanges}
-use Rattle.iot_exchange.proofs.PairsLaws as pairs
-use Rattle.iot_exchange.proofs.PairsLaws.{Passed}
+use Rattle.iot_laptop.specs.Alone.{NotesAlone}
+use Rattle.iot_laptop.specs.Calls.{EndsAlone, Changes}
+use Rattle.iot_laptop.specs.Messages.{SpellsTree, BringsTree}
+use Rattle.iot_laptop.proofs.LaptopsLaws.{runs_is, waits_is}
+use Rattle.iot_exchange.specs.Pairs.{Both, two, IsAt, UpStands, Query, Objects, Judgment, AsksFor, Spells, request_of, Serves, Exchanges}
+use Rattle.iot_exchange.specs.Pairs.{Asked, IsReady, IsFree, KeepsDisks, Does}
+use Rattle.iot_exchange.proofs.DoesLaws.{StepsOn, at_as, OfEach, then_does, answers}
+use Rattle.iot_exchange.proofs.StepsLaws.{bind, gets, asks, then_ends}
+
+-- what is so anyhow
+pub on_err : {T E P : Type 0} (r : Result T E) → P → IfErr r (λ _. P)
+on_err (Ok t) so = tt
+on_err (Err e) so = so
+
+-- ---- what the server does
+
+module _ {D : Type 0} (medium : Medium D) (message : Message) (old new : ServerNode D) (x : List ℕ) where
+  -- whatever is asked
+  pub serves : (served : Option Served) (y : List ℕ)
+      → ((client : ℕ) (held : Nodes) (want : Want) (names : List (List ℕ)) → IsRefresh client held want message.request.items
+      → ServesBy medium names (Lends held want) (SpellsCut held want) message.handed served old new x y)
+      → ((it : Submission) (names : List (List ℕ)) → IsHanded message it → IsNamedIn names it
+      → ServesBy medium names (Judges it) (SpellsVerdict it.reads) message.handed served old new x y)
+      → (names : List (List ℕ)) (query : Query) → AsksFor names message query
+      → ServesBy medium names (request_of query) (Spells query) message.handed served old new x y
+  serves served y lends judges names (Objects client held want) asked = lends client held want names asked
+  serves served y lends judges names (Judgment it) asked = judges it names asked.0 asked.1
+
+  -- it replies, and what it committed is said
+  pub replies : {A : Type 0} {names : List (List ℕ)} {call : Call (Node (List Commit)) (Option A)} {Spelled : List ℕ → A → Type 0}
+      (served : Served) {mid y : List ℕ} → y ≡ mid ++ said_of served.committed message.handed
+      → ServesBy medium names call Spelled message.handed (Some served) old new x mid
+      → Serves (ServerStands medium names) Spelled call (Some served.reply) old new x y
+  replies {names = names} {call} served wrote it = record {
+    is = (
+      it.1.0,
+      it.1.1,
+      λ n. subst
+          (λ (z : List ℕ). StepsTo (HavingAnswered medium names n) (HavingAnswered medium names (n + 1)) call old new x z (Some it.1.0))
+          (sym (wrote ∙ ap (λ (z : List ℕ). z ++ said_of served.committed message.handed) it.0)) (it.1.2 n x),
+    );
+  }
 
 -- ---- how far a message gets
 
@@ -30,103 +79,222 @@ away_by : (up : Bool) (armed : Option Loss) (server_up : Bool) → up ≡ false 
 away_by false armed server_up down = refl
 away_by true armed server_up down = absurd cc
 
+-- nothing is sent over a link that is not up
+pub away_if_down : {D : Type 0} (laptop : Laptop D) (server_up : Bool) {p : Passage} → p ≡ passage laptop.link server_up
+    → laptop.link.up ≡ false → p ≡ Away
+away_if_down laptop server_up is down = is ∙ away_by laptop.link.up laptop.link.armed server_up down
+
 same_name : (p : Passage) (m : Client) → (after_passage p m).name ≡ m.name
 same_name Away m = refl
 same_name RequestLost m = refl
 same_name ReplyLost m = refl
-same_name Both m = refl
+same_name Reaches m = refl
 
--- nothing is sent over a link that is not up
-pub away_if_down : {D : Type 0} (laptop : Laptop D) (server_up : Bool) (p : Passage) → p ≡ passage laptop.link server_up
-    → laptop.link.up ≡ false → p ≡ Away
-away_if_down laptop server_up p is down = is ∙ away_by laptop.link.up laptop.link.armed server_up down
+-- ---- what the server makes of it
 
--- ---- what the two stand for then
+module _ {D A : Type 0} {medium : Medium D} {scripts : List Declared} {names : List (List ℕ)} {c : ℕ} {server later : ServerNode D}
+    {request : Call (Node (List Commit)) (Option A)} {x y : List ℕ} {laptop : Laptop D} where
+  -- it alone does it, and counts so many more
+  by_server : {a : Option A} (count : ℕ → ℕ)
+      → ((n : ℕ) → StepsTo (HavingAnswered medium names n) (HavingAnswered medium names (count n)) request server later x y a)
+      → StepsTo (UpStands medium scripts names c)
+      (λ w pair. (pair.place ≡ c) × IsAt (LaptopStands medium scripts) names c w.laptop pair.client
+      × ServerStands medium names w.server pair.server (count pair.requests))
+      (At its_server request) (two laptop server) (two laptop later) x y a
+  by_server count it = record {
+    step = λ pair here.
+        let t = (it pair.requests).step pair.server here.server in (
+          t.0,
+          record pair { server = t.1 },
+          t.2,
+          record { inner = t.1; step = t.3; is = refl },
+          (here.place, here.client, t.4),
+        );
+  }
 
-module _ {D : Type 0} (medium : Medium D) (names : List (List ℕ)) where
-  pub alive_is : (server : ServerNode D) (server_up : Bool) → server_up ≡ is_up server → (node : Node (List Commit)) (n : ℕ)
-      → ServerStands medium names server node n → server_up ≡ node.alive
-  alive_is server server_up up node n here = up ∙ sym (up_is medium names server node n here)
+  handles : {Spelled : List ℕ → A → Type 0} (reply : Option (Vec ℕ Global))
+      → Serves (ServerStands medium names) Spelled request reply server later x y
+      → Exchanges (UpStands medium scripts names c) Spelled (Handles request) reply (two laptop server) (two laptop later) x y
+  handles None it = record {
+    is = bind (by_server (λ n. n) it.is) (gets (λ pair here. (refl, record { place = here.0; client = here.1; server = here.2 })));
+  }
+  handles (Some reply) it = record {
+    is = (
+      it.is.0,
+      it.is.1,
+      bind (by_server (λ n. n + 1) it.is.2) (gets (λ pair here. (refl, record { place = here.0; client = here.1; server = here.2 }))),
+    );
+  }
 
-  module _ (scripts : List Declared) (c : ℕ) (old new : Laptop D) where
-    abbrev Clients : Laptop D → Client → Type 0
-    Clients = IsAt (LaptopStands medium scripts) names c
+-- ---- an exchange that gets so far
 
-    pub passed : (server_up : Bool) (p : Passage) → p ≡ passage old.link server_up → Relinked medium (after_passage p) old new
-        → (m : Client) → Clients old m → Passed Clients server_up p new m
-    passed server_up p is relinked m here = record {
-      is = is ∙ ap (λ link. passage link server_up) here.is.link;
-      stands = record {
-        is = relinked.stands scripts m here.is;
-        place = relinked.place ∙ here.place;
-        named = here.named ∙ ap (λ (name : List ℕ). Some name) (sym (same_name p m));
-        few = here.few;
-      };
-    }
+pub record Passed {D : Type 0} (medium : Medium D) (old new : Laptop D) (server : ServerNode D) (p : Passage) : Type 0 where
+  pub is : p ≡ passage old.link (is_up server)
+  pub after : Relinked medium (after_passage p) old new
 
-    -- the server has stopped
-    pub broke : Relinked medium break old new → (m : Client) → Clients old m → Clients new (break m)
-    broke relinked m here = record {
-      is = relinked.stands scripts m here.is;
-      place = relinked.place ∙ here.place;
-      named = here.named;
-      few = here.few;
-    }
+pub passed : {D : Type 0} {medium : Medium D} {old new : Laptop D} {server : ServerNode D} {server_up : Bool} {p q : Passage}
+    → server_up ≡ is_up server → p ≡ passage old.link server_up → Relinked medium (after_passage p) old new → p ≡ q
+    → Passed medium old new server q
+passed {medium = medium} {old} {new} up is after how = record {
+  is = sym how ∙ is ∙ ap (passage old.link) up;
+  after = subst (λ (r : Passage). Relinked medium (after_passage r) old new) how after;
+}
 
-  -- ---- what the server does
+module _ {D : Type 0} {medium : Medium D} {old new : Laptop D} {server : ServerNode D} where
+  -- what the client is then
+  linked : {p : Passage} {scripts : List Declared} {names : List (List ℕ)} {c : ℕ} {m : Client} → Passed medium old new server p
+      → IsAt (LaptopStands medium scripts) names c old m → IsAt (LaptopStands medium scripts) names c new (after_passage p m)
+  linked {p} {scripts} {m = m} it here = at_as here (it.after.stands scripts m here.is) it.after.place (same_name p m)
 
-  -- it replies, and what it committed is said
-  pub replies : {A : Type 0} (call : Call (Node (List Commit)) (Option A)) (Spelled : List ℕ → A → Type 0) (handed : Option Handed)
-      (old new : ServerNode D) (served : Served) (x mid y : List ℕ) → ServesBy medium names call Spelled handed (Some served) old new x mid
-      → y ≡ mid ++ said_of served.committed handed
-      → Serves (ServerStands medium names) Spelled call (Some served.reply) old new x y
-  replies call Spelled handed old new served x mid y it wrote = (
-    it.1.0,
-    it.1.1,
-    λ n. subst
-        (λ (z : List ℕ). StepsTo (λ server node. ServerStands medium names server node n)
-        (λ server node. ServerStands medium names server node (n + 1)) call old new x z (Some it.1.0))
-        (sym (wrote ∙ ap (λ (z : List ℕ). z ++ said_of served.committed handed) it.0)) (it.1.2 n x),
-  )
+  module _ {A : Type 0} {scripts : List Declared} {names : List (List ℕ)} {c : ℕ} {request : Call (Node (List Commit)) (Option A)} where
+    exchanged : {p : Passage} {v : Both D} {x y : List ℕ} {a : Option A} → Passed medium old new server p
+        → StepsOn medium scripts names c (exchange_by request p) (two old server) v x y a
+        → StepsOn medium scripts names c (Exchange request) (two old server) v x y a
+    exchanged {p} it one = bind (asks (λ pair here.
+        let alive = sym (up_is medium names server pair.server pair.requests here.server) in
+        it.is ∙ (λ i. passage (here.client.is.link i) (alive i)))) one
 
--- ---- an exchange
+    -- it was not sent
+    pub away : {x : List ℕ} → Passed medium old new server Away
+        → StepsOn medium scripts names c (Exchange request) (two old server) (two new server) x x None
+    away it = exchanged it (gets (λ pair here. (refl, record { place = here.place; client = linked it here.client; server = here.server })))
 
-module _ {D A : Type 0} (medium : Medium D) (old new : Laptop D) (server : ServerNode D) (server_up : Bool)
-    (up : server_up ≡ is_up server) (p : Passage) (is : p ≡ passage old.link server_up) (after : Relinked medium (after_passage p) old new)
-    (scripts : List Declared) (names : List (List ℕ)) (c : ℕ) (request : Call (Node (List Commit)) (Option A)) (x : List ℕ) where
-  abbrev Up : Two (Laptop D) (ServerNode D) → Pair → Type 0
-  Up = UpStands medium scripts names c
+    -- or it was lost
+    pub request_lost : {x : List ℕ} → Passed medium old new server RequestLost
+        → StepsOn medium scripts names c (Exchange request) (two old server) (two new server) x x None
+    request_lost it =
+        exchanged it (gets (λ pair here. (refl, record { place = here.place; client = linked it here.client; server = here.server })))
 
-  -- it was not sent
-  pub away : p ≡ Away → StepsTo Up Up (Exchange request) (two old server) (two new server) x x None
-  away how = pairs.not_sent c (Clients medium names scripts c old new) (ServerStands medium names) request server_up old new server
-      (alive_is medium names server server_up up) p (passed medium names scripts c old new server_up p is after) x how
+    module _ {later : ServerNode D} {x y : List ℕ} where
+      unheard : {a : Option A} → Passed medium old new server ReplyLost
+          → StepsOn medium scripts names c (Handles request) (two old server) (two old later) x y a
+          → StepsOn medium scripts names c (Exchange request) (two old server) (two new later) x y None
+      unheard it one = exchanged it (bind one (gets (λ pair here.
+          (refl, record { place = here.place; client = linked it here.client; server = here.server }))))
 
-  -- or it was lost
-  pub request_lost : p ≡ RequestLost → StepsTo Up Up (Exchange request) (two old server) (two new server) x x None
-  request_lost how = pairs.request_lost c (Clients medium names scripts c old new) (ServerStands medium names) request server_up old new
-      server (alive_is medium names server server_up up) p (passed medium names scripts c old new server_up p is after) x how
+      module _ {Spelled : List ℕ → A → Type 0} where
+        -- the server handled it, and its reply is lost
+        pub reply_lost : (reply : Option (Vec ℕ Global)) → Passed medium old new server ReplyLost
+            → Serves (ServerStands medium names) Spelled request reply server later x y
+            → StepsOn medium scripts names c (Exchange request) (two old server) (two new later) x y None
+        reply_lost None it served = unheard it (handles None served).is
+        reply_lost (Some reply) it served = unheard it (handles (Some reply) served).is.2
 
-  module _ (Spells : List ℕ → A → Type 0) (later : ServerNode D) (y : List ℕ) (replied : Option (Vec ℕ Global))
-      (served : Serves (ServerStands medium names) Spells request replied server later x y) where
-    -- the server handled it, and its reply is lost
-    pub reply_lost : p ≡ ReplyLost → StepsTo Up Up (Exchange request) (two old server) (two new later) x y None
-    reply_lost how = pairs.reply_lost c (Clients medium names scripts c old new) (ServerStands medium names) request server_up old new
-        server (alive_is medium names server server_up up) p (passed medium names scripts c old new server_up p is after)
-        Spells later x y replied how served
+        -- the reply comes
+        pub comes : {reply : Vec ℕ Global} → Passed medium old new server Reaches
+            → Serves (ServerStands medium names) Spelled request (Some reply) server later x y
+            → Exchanges (UpStands medium scripts names c) Spelled (Exchange request) (Some reply) (two old server) (two new later) x y
+        comes {reply} it served =
+            let e = (handles {laptop = old} (Some reply) served).is in
+            record {
+              is = (
+                e.0,
+                e.1,
+                exchanged it (bind e.2 (gets (λ pair here.
+                    (refl, record { place = here.place; client = linked it here.client; server = here.server })))),
+              );
+            }
 
-    -- the reply comes
-    pub comes : (reply : Vec ℕ Global) → replied ≡ Some reply → p ≡ Both
-        → Exchanges Up Spells (Exchange request) (Some reply) (two old server) (two new later) x y
-    comes reply some how = pairs.both c (Clients medium names scripts c old new) (ServerStands medium names) request server_up old new
-        server (alive_is medium names server server_up up) p (passed medium names scripts c old new server_up p is after)
-        Spells later x y reply how
-        (subst (λ (r : Option (Vec ℕ Global)). Serves (ServerStands medium names) Spells request r server later x y) some served)
+        -- none comes, since the server stopped
+        pub none_comes : {last : Laptop D} → Passed medium old new server Reaches
+            → Serves (ServerStands medium names) Spelled request None server later x y → Relinked medium break new last
+            → StepsOn medium scripts names c (Exchange request) (two old server) (two last later) x y None
+        none_comes it served broke = exchanged it (bind (handles None served).is (gets (λ pair here.
+            let at_it = linked it here.client in (
+              refl,
+              record {
+                place = here.place;
+                client = at_as at_it (broke.stands scripts pair.client at_it.is) broke.place refl;
+                server = here.server;
+              },
+            ))))
 
-    -- none comes, since the server stopped
-    pub none_comes : (last : Laptop D) → replied ≡ None → p ≡ Both → Relinked medium break new last
-        → StepsTo Up Up (Exchange request) (two old server) (two last later) x y None
-    none_comes last none how breaks = pairs.broken c (Clients medium names scripts c old new) (ServerStands medium names) request server_up
-        old new server (alive_is medium names server server_up up) p (passed medium names scripts c old new server_up p is after)
-        Spells later x y last how (broke medium names scripts c new last breaks)
-        (subst (λ (r : Option (Vec ℕ Global)). Serves (ServerStands medium names) Spells request r server later x y) none served)
+-- ---- tests
+
+pub no_some : {A : Type 0} (o : Option A) → is_some o ≡ false → o ≡ None
+no_some None is = refl
+no_some (Some a) is = absurd cc
+
+no_items : (items : List Item) → waits_of items ≡ false → items ≡ []
+no_items [] is = refl
+no_items (item ∷ items) is = absurd cc
+
+pub is_free : {D : Type 0} {laptop : Laptop D} → is_some (state_in laptop).running ≡ false → waits_of (state_in laptop).items ≡ false
+    → IsFree laptop
+is_free {laptop = laptop} idle none = record { idle = no_some (state_in laptop).running idle; none = no_items (state_in laptop).items none }
+
+-- so it is still
+pub free_as : {D : Type 0} (old : Laptop D) {new : Laptop D} → state_in new ≡ state_in old → IsFree old → IsFree new
+free_as old same free = record {
+  idle = ap (λ (s : State). s.running) same ∙ free.idle;
+  none = ap (λ (s : State). s.items) same ∙ free.none;
+}
+
+module _ {D : Type 0} {medium : Medium D} {scripts : List Declared} {u : Both D} {b : Bool} where
+  -- whether a transaction runs
+  pub runs_here : is_some (state_in u.laptop).running ≡ b → OfEach medium scripts u (λ pair. b ≡ runs pair)
+  runs_here is names c pair here = sym is ∙ runs_is _ _ _ _ here.client.is.state
+
+  -- whether transactions wait
+  pub pends_here : waits_of (state_in u.laptop).items ≡ b → OfEach medium scripts u (λ pair. b ≡ pends pair)
+  pends_here is names c pair here = sym is ∙ waits_is _ _ _ _ here.client.is.state
+
+-- ---- what is held
+
+module _ {D : Type 0} {medium : Medium D} {scripts : List Declared} {u v : Both D} {x y : List ℕ} (want : Want) where
+  brings : {names : List (List ℕ)} {c : ℕ} {o : Option Nodes}
+      → StepsOn medium scripts names c (Exchange (Lends (state_in u.laptop).held want)) u v x y o
+      → StepsOn medium scripts names c (Brings want) u v x y o
+  brings it = bind (asks (λ pair here. here.client.is.state.held)) it
+
+  -- nothing came
+  pub missed : (change : Nodes → ClientState → ClientState) → ((names : List (List ℕ)) (c : ℕ)
+      → StepsOn medium scripts names c (Exchange (Lends (state_in u.laptop).held want)) u v x y None)
+      → KeepsDisks medium u v → Does medium scripts (Holds change want) u v x y (Ok false)
+  missed change none keeps = then_does {next = holds change} (λ names c. brings (none names c)) keeps (answers keeps)
+
+-- the reply brings a tree, which is held
+pub came : {D : Type 0} {medium : Medium D} {scripts : List Declared} (change : Nodes → ClientState → ClientState) (client : ℕ)
+    (want : Want) {message : Message} {reply : Vec ℕ Global} {u v w : Both D} {x y z : List ℕ} {result : Result Bool Halt}
+    → Asked medium scripts message (Some reply) u v x y → IsRefresh client (state_in u.laptop).held want message.request.items
+    → KeepsDisks medium u w
+    → ((t : Nodes) → SpellsTree reply.items t → Does medium scripts (holds change (Some t)) v w y z result)
+    → Does medium scripts (Holds change want) u w x z result
+came change client want {u = u} asked is keeps each = record {
+  step = λ names c.
+      let e = (asked.is names c (Objects client (state_in u.laptop).held want) is).is in
+      then_ends {next = holds change} (brings want e.2) ((each e.0 e.1.spelled).step names c);
+  disks = keeps;
+}
+
+pub brings_tree : {D : Type 0} {medium : Medium D} (client : ℕ) (held : Nodes) (want : Want) {message : Message} {reply : Vec ℕ Global}
+    {u v : Both D} {x y : List ℕ} → IsReady medium u
+    → ((scripts : List Declared) → Asked medium scripts message (Some reply) u v x y)
+    → IsRefresh client held want message.request.items → BringsTree reply.items
+brings_tree client held want ready asked is =
+    let e = ((asked ready.scripts).is ready.is.names ready.is.c (Objects client held want) is).is in
+    record { tree = e.0; is = e.1.spelled }
+
+-- ---- if nothing ran or waited, nothing does
+
+-- what the machine's client keeps then
+noted : (change : ClientState → ClientState) (m n : machine.Client) (text : List ℕ) (done : Unit {0})
+    → NotesAlone change m text (Some done) n → n.node.durable ≡ change m.node.durable
+noted change m n text done it = by it.first.step
+  where
+    by : Appends m.name change m.node it.front it.answer it.first.inner → n.node.durable ≡ change m.node.durable
+    by (inl went) =
+        ap (λ (k : machine.Client). k.node.durable) (it.second.2 ∙ it.first.is) ∙ ap (λ node. node.durable) went.2
+    by (inr stopped) = let e : Some done ≡ None = it.second.1 ∙ ap unless_stopped stopped.1 in absurd cc
+
+pub free_still : {D : Type 0} {medium : Medium D} (t : Nodes) {old new : Laptop D} {x y : List ℕ} {inner : Result (Unit {0}) Halt}
+    {done : Unit {0}} → inner ≡ Ok done → Stands medium old → Changes medium (hold t) old new x y inner → IsFree old → IsFree new
+free_still {medium = medium} t {old} {new} {x} {y} {done = done} was here changes free =
+    let s = (subst (λ (r : Result (Unit {0}) Halt). EndsAlone medium here.scripts (NotesAlone (hold t)) old new x y r) was
+    (changes here.scripts)).is.step here.machine here.stands in
+    let kept = noted (hold t) here.machine s.1 s.0 done s.3 in
+    is_free
+    (runs_is _ _ _ _ s.4.state ∙ ap (λ (kept : ClientState). is_some kept.running) kept ∙ sym (runs_is _ _ _ _ here.stands.state)
+    ∙ ap is_some free.idle)
+    (waits_is _ _ _ _ s.4.state ∙ ap (λ (kept : ClientState). is_queued kept.items) kept ∙ sym (waits_is _ _ _ _ here.stands.state)
+    ∙ ap waits_of free.none)

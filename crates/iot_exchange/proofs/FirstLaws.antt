@@ -1,89 +1,119 @@
--- The first transaction that waits, in each pair for which a client with the server stands.
-use Rattle.std.proofs.Common.{◌≡◌, ℕ, IsSome, true, List, [], ◌∷◌, ◌++◌, Option, Some, None, Result, Ok, Err, refl, sym, ap, subst, ◌∙◌}
-use Rattle.std.proofs.Common.{codes}
-use Rattle.std.proofs.lemmas.Option.{same_Some}
+-- The first transaction that waits, in a client and in each pair for which it stands with the server: how it is decided of, submitted and
+-- resolved. What a client is told of one is what the machine says, and one that conflicts is resolved by the script that is planned for
+-- it, on the server's whole tree.
+use Rattle.std.proofs.Common.{◌≡◌, ℕ, true, false, List, [], ◌∷◌, ◌++◌, Some, None, Result, Ok, Err, refl, sym, ap, subst, ◌∙◌}
+use Rattle.std.proofs.Common.{codes, ◌<◌, length, Vec, Global, IsErrAnd, slice_get, slice_index_or, ◌^◌, IsSome, if◌then◌else◌}
+use Rattle.std.proofs.lemmas.Option.{same_Some, slice_get-get_or, slice_get_within}
 use Rattle.std.specs.List.{AllByRecursion}
-use Rattle.iot_disk.specs.Disk.{Medium}
+use Rattle.std.specs.FinMap.{empty, entries, len-entries, len-empty}
+use Rattle.iot_text.specs.Paths.{path_cmp}
+use Rattle.iot_tree.specs.Tree.{Nodes, Path, Row, root_alone, IsWhole}
+use Rattle.iot_tree.specs.declared.acts.Read.{Read}
+use Rattle.iot_tree.specs.declared.labels.Way.TheVariants.{Certified}
+use Rattle.iot_tree.proofs.RowLaws.{root_map, entries_rows}
+use Rattle.iot_tree.specs.Snapshots.{known, is_known, paths_where}
+use Rattle.iot_tree.specs.declared.limits.TheConstants.{ACT_LIMIT}
+use Rattle.iot_tree.specs.declared.nodes.Node.TheVariants.{FarDir}
+use Rattle.iot_tree.specs.declared.want.Want.TheVariants as wanted
+use Rattle.iot_tree.specs.declared.labels.OnConflict as labels
+use Rattle.iot_lang.specs.Code.{Code}
+use Rattle.iot_acts.specs.Turns.{reads_of}
+use Rattle.iot_acts.specs.Traces.{after_acts}
+use Rattle.iot_exec.specs.Files.{files_of}
+use Rattle.iot_limits.proofs.SpelledLaws.{no_files_are_spelled}
 use Rattle.iot_queue.specs.declared.items.Item.{Item}
+use Rattle.iot_queue.specs.declared.items.Resolution.{Resolution}
 use Rattle.iot_queue.specs.declared.items.Stage.{Stage}
 use Rattle.iot_queue.specs.declared.items.Stage.TheVariants as kept_stages
-use Rattle.iot_kept.specs.Changes.{HeadIs}
-use Rattle.iot_machine.specs.Calls.{Call, Try, Asks, Then}
+use Rattle.iot_resolve.specs.Plans as resolves
+use Rattle.iot_resolve.specs.declared.plan.Plan as plans
+use Rattle.iot_kept.specs.Changes.{HeadIs, IsByHand, IsSubmittedIn, IsSubmitted}
+use Rattle.iot_client.specs.Messages.{way_of, IsRefresh}
+use Rattle.iot_wire.proofs.MessagesLaws.{call_one}
+use Rattle.iot_wire.proofs.SpellingLaws.{reply_laws}
+use Rattle.iot_wire.specs.Messages.{IsMessage, IsOneMessage}
+use Rattle.iot_wire.specs.Rules.{IsReply, IsRequest}
+use Rattle.iot_wire.specs.Spelling.{reply_spelling, request_spelling}
+use Rattle.iot_wire.specs.declared.requests.Request.TheVariants.{Refresh}
+use Rattle.iot_wire.specs.declared.replies.Reply.TheVariants as replies
+use Rattle.iot_disk.specs.Disk.{Medium}
+use Rattle.iot_machine.specs.Calls.{Try, Asks, Then}
+use Rattle.iot_machine.specs.Clients.{Declared, Plan, new_client, plan_of, plan_by, local_run, reach, resolution_of}
 use Rattle.iot_machine.specs.Clients as clients
-use Rattle.iot_machine.specs.Clients.{Declared, ClientState}
-use Rattle.iot_machine.specs.Machine.{Client, Pair, kept}
-use Rattle.iot_machine.specs.Texts.{line, transaction_name, manual_line}
-use Rattle.iot_machine.specs.Transactions.{Notes, Synced, Stays, Syncs, sync_head, sync_at, item_name}
-use Rattle.iot_node.specs.Disks.{KeepsDisk}
-use Rattle.iot_node.specs.Steps.{StepsTo, Ends}
+use Rattle.iot_machine.specs.Machine.{Pair, kept}
+use Rattle.iot_machine.specs.Machine as machine
+use Rattle.iot_machine.specs.Options.{OnConflict}
+use Rattle.iot_machine.specs.Options as options
+use Rattle.iot_machine.specs.Sound.{CanResolve, IsPlanned}
+use Rattle.iot_machine.specs.Texts.{line, transaction_name, manual_line, resolve_line}
+use Rattle.iot_machine.specs.Transactions.{Synced, Stays, Unanswered, Syncs, Submits, submits, resolves, sync_head, sync_at}
+use Rattle.iot_machine.specs.Transactions.{IfManual, if_manual, is_manual, item_name, submission_of, NotesAloud, told, Moved}
+use Rattle.iot_machine.specs.Serving.{Submission, Verdict, Settled, Conflict}
+use Rattle.iot_machine.proofs.WholeLaws.{whole_comes}
 use Rattle.iot_node.specs.declared.halt.Halt.{Halt}
-use Rattle.iot_node.specs.declared.halt.Halt.TheVariants.{NoMemory, Over}
+use Rattle.iot_node.specs.declared.halt.Halt.TheVariants.{Over}
 use Rattle.iot_node.specs.declared.lines.Transaction.{Transaction}
-use Rattle.iot_server_node.specs.Servers.{HasDisk}
-use Rattle.iot_server_node.specs.declared.server.ServerNode.{ServerNode}
-use Rattle.iot_laptop.specs.Alone.{NotesAlone}
-use Rattle.iot_laptop.specs.Calls.{EndsAlone, head_name}
-use Rattle.iot_laptop.specs.Kept.{StageStands, ItemStands, ItemsStand}
-use Rattle.iot_laptop.specs.Laptops.{SamePlace, disk_in, state_in, waits_of}
-use Rattle.iot_laptop.specs.Messages.{name_of}
-use Rattle.iot_laptop.specs.Scripts.{ItemIsNamed}
+use Rattle.iot_server_node.specs.Servers.{IsSubmission}
+use Rattle.iot_server_node.specs.declared.message.Message.{Message}
+use Rattle.iot_server_node.specs.Messages as at_server
+use Rattle.iot_laptop.specs.Calls.{head_name, decision, decision_on, undecided_word, HandsIn, acts_in, label_in, head_reads, head_option}
+use Rattle.iot_laptop.specs.Calls.{AsksAll, IsHeadPlan, head_plan, Plans}
+use Rattle.iot_laptop.specs.Kept.{ResolutionStands, StageStands, ItemStands, ItemsStand}
+use Rattle.iot_laptop.specs.Laptops.{state_in, waits_of, LaptopStands}
+use Rattle.iot_laptop.specs.Messages.{name_of, SpellsVerdict, IsVerdict, told_change, SpellsTree, BringsTree}
+use Rattle.iot_laptop.specs.Scripts.{ItemIsNamed, option_named, script_named, HasNamed}
 use Rattle.iot_laptop.specs.declared.laptop.Laptop.{Laptop}
+use Rattle.iot_laptop.specs.declared.needs.Undecided.{Undecided}
 use Rattle.iot_laptop.proofs.LaptopsLaws.{HeadStands, head_stands}
-use Rattle.iot_exchange.specs.Pairs.{Two, two, UpStands, AnyStands, KeepsDisks, Does}
-use Rattle.iot_exchange.proofs.DoesLaws.{alone}
-use Rattle.iot_exchange.proofs.StepsLaws.{bind, asks, then_ends, says}
-
--- ---- what is known of each answer alone
-
-module _ {W M : Type 0} where
-  asks_step : {A B : Type 0} {before after : W → M → Type 0} {ask : M → A} {next : A → Call M B} (P : A → Type 0) (u v : W) (x y : List ℕ)
-      (b : B) → ((m : M) → before u m → P (ask m)) → ((a : A) → P a → StepsTo before after (next a) u v x y b)
-      → StepsTo before after (Then (Asks ask) next) u v x y b
-  asks_step {ask = ask} P u v x y b is each = record {
-    step = λ m here.
-        let s = (each (ask m) (is m here)).step m here in (
-          s.0,
-          s.1,
-          s.2,
-          record { mid = m; front = []; rest = s.0; answer = ask m; first = (refl, refl, refl); second = s.3; whole = refl },
-          s.4,
-        );
-  }
-
-  -- the answer differs between machines, and after each that it may be this follows
-  pub asks_each : {A B : Type 0} {up down : W → M → Type 0} {ask : M → A} {next : A → Try M B} (P : A → Type 0) (u v : W) (x y : List ℕ)
-      (result : Result B Halt) → ((m : M) → up u m → P (ask m)) → ((a : A) → P a → Ends up down (next a) u v x y result)
-      → Ends up down (Then (Asks ask) next) u v x y result
-  asks_each P u v x y (Ok b) is each = record { is = asks_step P u v x y (Some b) is (λ a so. (each a so).is) }
-  asks_each P u v x y (Err NoMemory) is each = record { is = tt }
-  asks_each P u v x y (Err Over) is each = record { is = asks_step P u v x y None is (λ a so. (each a so).is) }
-
-  -- what follows from any machine for which the world stands
-  pub given : {B : Type 0} {up down : W → M → Type 0} {call : Try M B} (u v : W) (x y : List ℕ) (result : Result B Halt)
-      → ((m : M) → up u m → Ends up down call u v x y result) → Ends up down call u v x y result
-  given u v x y (Ok b) each = record { is = record { step = λ m here. (each m here).is.step m here } }
-  given u v x y (Err NoMemory) each = record { is = tt }
-  given u v x y (Err Over) each = record { is = record { step = λ m here. (each m here).is.step m here } }
+use Rattle.iot_laptop.specs.declared.needs.Submitted.{Submitted}
+use Rattle.iot_laptop.specs.declared.needs.Undecided.TheVariants as why
+use Rattle.iot_exchange.specs.Pairs.{Both, UpStands, KeepsDisks, Objects, Judgment, MissesAll, Does, AsksFor, Asked, IsReady, IsReadyWith}
+use Rattle.iot_exchange.specs.Saying.{synced_by, told_text, told_synced, resolver_said}
+use Rattle.iot_exchange.specs.declared.synced.Synced.{Synced as Sync}
+use Rattle.iot_exchange.specs.Queues.{IsCodeOf}
+use Rattle.iot_exchange.proofs.DoesLaws.{DoesFrom, each_from, still}
+use Rattle.iot_exchange.proofs.StepsLaws.{from, asks_from, then_from, says, refuses}
 
 -- ---- stages
 
-pub conflict_stage : (s : Stage) (m : clients.Stage) → s ≡ kept_stages.Conflict → StageStands s m → m ≡ clients.Conflict
-conflict_stage s m is stands = by m (subst (λ (s : Stage). StageStands s m) is stands)
-  where
-    by : (m : clients.Stage) → StageStands kept_stages.Conflict m → m ≡ clients.Conflict
-    by clients.Waiting stands = absurd stands
-    by clients.Conflict stands = refl
-    by clients.Manual stands = absurd stands
-    by (clients.Resolved it) stands = absurd stands
+-- a stage as it is kept, and as the machine has it
+pub data SameStage : Stage → clients.Stage → Type 0 where
+  waiting : SameStage kept_stages.Waiting clients.Waiting
+  conflict : SameStage kept_stages.Conflict clients.Conflict
+  manual : SameStage kept_stages.Manual clients.Manual
+  resolved : {done : Resolution} {it : clients.Resolution} → ResolutionStands done it
+      → SameStage (kept_stages.Resolved done) (clients.Resolved it)
 
-pub manual_stage : (s : Stage) (m : clients.Stage) → s ≡ kept_stages.Manual → StageStands s m → m ≡ clients.Manual
-manual_stage s m is stands = by m (subst (λ (s : Stage). StageStands s m) is stands)
-  where
-    by : (m : clients.Stage) → StageStands kept_stages.Manual m → m ≡ clients.Manual
-    by clients.Waiting stands = absurd stands
-    by clients.Conflict stands = absurd stands
-    by clients.Manual stands = refl
-    by (clients.Resolved it) stands = absurd stands
+pub same_stage : (s : Stage) (ms : clients.Stage) → StageStands s ms → SameStage s ms
+same_stage kept_stages.Waiting clients.Waiting it = waiting
+same_stage kept_stages.Conflict clients.Conflict it = conflict
+same_stage kept_stages.Manual clients.Manual it = manual
+same_stage (kept_stages.Resolved done) (clients.Resolved m) it = resolved it
+same_stage kept_stages.Waiting clients.Conflict it = absurd it
+same_stage kept_stages.Waiting clients.Manual it = absurd it
+same_stage kept_stages.Waiting (clients.Resolved m) it = absurd it
+same_stage kept_stages.Conflict clients.Waiting it = absurd it
+same_stage kept_stages.Conflict clients.Manual it = absurd it
+same_stage kept_stages.Conflict (clients.Resolved m) it = absurd it
+same_stage kept_stages.Manual clients.Waiting it = absurd it
+same_stage kept_stages.Manual clients.Conflict it = absurd it
+same_stage kept_stages.Manual (clients.Resolved m) it = absurd it
+same_stage (kept_stages.Resolved done) clients.Waiting it = absurd it
+same_stage (kept_stages.Resolved done) clients.Conflict it = absurd it
+same_stage (kept_stages.Resolved done) clients.Manual it = absurd it
+
+-- one that waits for a decision by hand is that in the machine, too
+manual_stage : {s : Stage} {ms : clients.Stage} → SameStage s ms → s ≡ kept_stages.Manual → ms ≡ clients.Manual
+manual_stage waiting is = absurd cc
+manual_stage conflict is = absurd cc
+manual_stage manual is = refl
+manual_stage (resolved it) is = absurd cc
+
+conflict_stage : {s : Stage} {ms : clients.Stage} → SameStage s ms → s ≡ kept_stages.Conflict → ms ≡ clients.Conflict
+conflict_stage waiting is = absurd cc
+conflict_stage conflict is = refl
+conflict_stage manual is = absurd cc
+conflict_stage (resolved it) is = absurd cc
 
 -- ---- the first that waits
 
@@ -93,136 +123,567 @@ pub record First {D : Type 0} (laptop : Laptop D) (t : Transaction) : Type 0 whe
   pub items : (state_in laptop).items ≡ item ∷ rest
   pub named : t ≡ record { client = laptop.name; number = item.tid }
 
-first_by : {D : Type 0} (laptop : Laptop D) (t : Transaction) (items : List Item) → (state_in laptop).items ≡ items
-    → head_name laptop items ≡ Some t → First laptop t
-first_by laptop t [] same is = absurd cc
-first_by laptop t (item ∷ rest) same is =
-    record { item = item; rest = rest; items = same; named = sym (same_Some (record { client = laptop.name; number = item.tid }) t is) }
+module _ {D : Type 0} {laptop : Laptop D} where
+  first_by : {t : Transaction} (items : List Item) → (state_in laptop).items ≡ items → head_name laptop items ≡ Some t → First laptop t
+  first_by [] same is = absurd cc
+  first_by (item ∷ rest) same is = record { item = item; rest = rest; items = same; named = sym (same_Some _ _ is) }
 
-pub first_of : {D : Type 0} (laptop : Laptop D) (t : Transaction) → head_name laptop (state_in laptop).items ≡ Some t → First laptop t
-first_of laptop t is = first_by laptop t (state_in laptop).items refl is
+  pub first_of : {t : Transaction} → head_name laptop (state_in laptop).items ≡ Some t → First laptop t
+  first_of is = first_by (state_in laptop).items refl is
 
-none_by : {D : Type 0} (laptop : Laptop D) (items : List Item) → head_name laptop items ≡ None → items ≡ []
-none_by laptop [] is = refl
-none_by laptop (item ∷ items) is = absurd cc
+  -- what is so of the head is so of it
+  pub head_is : {t : Transaction} (Is : Item → Type 0) (first : First laptop t) → HeadIs Is (state_in laptop).items → Is first.item
+  head_is Is first head = subst (HeadIs Is) first.items head
 
-pub none_waits : {D : Type 0} (laptop : Laptop D) → head_name laptop (state_in laptop).items ≡ None → (state_in laptop).items ≡ []
-none_waits laptop is = none_by laptop (state_in laptop).items is
+module _ {D : Type 0} (laptop : Laptop D) where
+  none_by : (items : List Item) → head_name laptop items ≡ None → items ≡ []
+  none_by [] is = refl
+  none_by (item ∷ items) is = absurd cc
 
-pub first_waits : {D : Type 0} (laptop : Laptop D) (t : Transaction) → First laptop t → waits_of (state_in laptop).items ≡ true
-first_waits laptop t first = ap waits_of first.items
+  pub none_waits : head_name laptop (state_in laptop).items ≡ None → (state_in laptop).items ≡ []
+  none_waits is = none_by (state_in laptop).items is
 
--- what is so of the head is so of it
-pub head_is : {D : Type 0} (Is : Item → Type 0) (laptop : Laptop D) (t : Transaction) (first : First laptop t)
-    → HeadIs Is (state_in laptop).items → Is first.item
-head_is Is laptop t first head = subst (HeadIs Is) first.items head
+  -- if it is decided of, it waits for that
+  decided_on : {t : Transaction} (item : Item) (stage : Stage) → decision_on laptop item stage ≡ Ok t
+      → (stage ≡ kept_stages.Manual) × (record { client = laptop.name; number = item.tid } ≡ t)
+  decided_on item kept_stages.Waiting is = absurd cc
+  decided_on item kept_stages.Conflict is = absurd cc
+  decided_on item kept_stages.Manual is = (refl, cc)
+  decided_on item (kept_stages.Resolved done) is = absurd cc
 
--- none of the machine's waits either
-pub no_items : (items : List Item) (held : _) (ms : List clients.Item) → items ≡ [] → ItemsStand items held ms → ms ≡ []
-no_items items held ms none stand = by ms (subst (λ (items : List Item). ItemsStand items held ms) none stand)
+  pub decided : {t : Transaction} (items : List Item) → decision laptop items ≡ Ok t
+      → (head_name laptop items ≡ Some t) × HeadIs IsByHand items
+  decided [] is = absurd cc
+  decided (item ∷ items) is = let on = decided_on item item.stage is in (ap (λ (t : Transaction). Some t) on.1, on.0)
+
+  -- or not
+  refused_on : {u : Undecided} {s : Stage} {ms : clients.Stage} (item : Item) → SameStage s ms → decision_on laptop item s ≡ Err u
+      → (u ≡ why.NotManual) × (is_manual ms ≡ false)
+  refused_on item waiting is = (cc, refl)
+  refused_on item conflict is = (cc, refl)
+  refused_on item manual is = absurd cc
+  refused_on item (resolved it) is = (cc, refl)
+
+-- if nothing is decided of it, it does not wait for that
+pub is_undecided : {D : Type 0} {laptop : Laptop D} {t : Transaction} {u : Undecided} (first : First laptop t)
+    → decision laptop (state_in laptop).items ≡ Err u → first.item.stage ≡ kept_stages.Manual → ⊥
+is_undecided {laptop = laptop} {u = u} first is by_hand =
+    let e = sym is ∙ ap (decision laptop) first.items ∙ ap (decision_on laptop first.item) by_hand in
+    absurd cc
+
+pub first_waits : {D : Type 0} {laptop : Laptop D} {t : Transaction} → First laptop t → waits_of (state_in laptop).items ≡ true
+first_waits first = ap waits_of first.items
+
+-- an option that resolves has a plan
+some_plan : (held : Nodes) (mi : clients.Item) (option : OnConflict Declared) → CanResolve option
+    → (p : Plan) × (plan_by held mi option ≡ Some p)
+some_plan held mi options.Reexec can = (_, refl)
+some_plan held mi (options.Resolver script) can = (_, refl)
+some_plan held mi options.Abort can = absurd can
+some_plan held mi options.Manual can = absurd can
+
+-- ---- in a pair
+
+none_there : {items : List Item} (held : Nodes) (ms : List clients.Item) → items ≡ [] → ItemsStand items held ms → ms ≡ []
+none_there held [] none stand = refl
+none_there held (m ∷ ms) none stand = absurd (subst (λ (items : List Item). ItemsStand items held (m ∷ ms)) none stand)
+
+module _ {D : Type 0} {medium : Medium D} {scripts : List Declared} {names : List (List ℕ)} {c : ℕ} {old : Both D} {pair : Pair}
+    (here : UpStands medium scripts names c old pair) where
+  -- none waits
+  at_none : {A : Type 0} {next : List clients.Item → Try Pair A} {new : Both D} {x z : List ℕ} {result : Result A Halt}
+      → (state_in old.laptop).items ≡ [] → DoesFrom medium scripts names c (next []) pair new x z result
+      → DoesFrom medium scripts names c (Then (Asks (λ pair. (kept pair).items)) next) pair new x z result
+  at_none {next = next} {new} {x} {z} {result} none it =
+      asks_from (subst (λ (ms : List clients.Item). DoesFrom medium scripts names c (next ms) pair new x z result)
+      (sym (none_there _ (kept pair).items none here.client.is.state.items)) it)
+
+  module _ {t : Transaction} (first : First old.laptop t) where
+    -- it is the first of the machine's
+    pub head : HeadStands (state_in old.laptop).held first.item first.rest (kept pair).items
+    head = head_stands _ _ _ _ here.client.is.state first.item first.rest first.items
+
+    pub stage_there : SameStage first.item.stage head.first.stage
+    stage_there = same_stage first.item.stage head.first.stage head.stands.stage
+
+    -- its name in each pair for which the two stand
+    pub name_there : {new : Both D} {after : Pair} → UpStands medium scripts names c new after → item_name head.first after ≡ name_of t
+    name_there there =
+        let name = same_Some _ _ (sym there.client.named ∙ here.client.named) ∙ sym here.client.is.name in
+        (λ i. transaction_name (name i) (sym head.stands.number i)) ∙ ap name_of (sym first.named)
+
+    -- its scripts are those of their names
+    pub named_there : ItemIsNamed scripts head.first
+    named_there = (subst (AllByRecursion (ItemIsNamed scripts)) head.split here.client.is.named.items).0
+
+    -- something is planned for it if it conflicts
+    pub planned_there : first.item.stage ≡ kept_stages.Conflict → (p : Plan) × (plan_of (kept pair).held head.first ≡ Some p)
+    planned_there is =
+        some_plan (kept pair).held head.first head.first.option
+        (subst (IsPlanned head.first.option) (conflict_stage stage_there is) head.stands.planned)
+
+    module _ {new : Both D} {x z : List ℕ} where
+      pub at_first : {A : Type 0} {next : List clients.Item → Try Pair A} {result : Result A Halt}
+          → DoesFrom medium scripts names c (next (head.first ∷ head.later)) pair new x z result
+          → DoesFrom medium scripts names c (Then (Asks (λ pair. (kept pair).items)) next) pair new x z result
+      at_first {next = next} {result} it =
+          asks_from (subst (λ (ms : List clients.Item). DoesFrom medium scripts names c (next ms) pair new x z result)
+          (sym head.split) it)
+
+      -- it is submitted
+      submits_at : {s : Stage} {ms : clients.Stage} {result : Result Synced Halt} → SameStage s ms → IsSubmittedIn s
+          → DoesFrom medium scripts names c (Submits head.first) pair new x z result
+          → DoesFrom medium scripts names c (sync_at head.first ms) pair new x z result
+      submits_at waiting is it = it
+      submits_at conflict is it = absurd is
+      submits_at manual is it = absurd is
+      submits_at (resolved done) is it = it
+
+      pub submits_from : {result : Result Synced Halt} → IsSubmittedIn first.item.stage
+          → DoesFrom medium scripts names c (submits head.first.option (submission_of head.first pair)) pair new x z result
+          → DoesFrom medium scripts names c Syncs pair new x z result
+      submits_from is it = at_first {next = sync_head} (submits_at stage_there is (asks_from it))
+
+      -- it is resolved
+      resolves_at : {ms : clients.Stage} {p : Plan} {result : Result Synced Halt} → ms ≡ clients.Conflict
+          → plan_of (kept pair).held head.first ≡ Some p
+          → DoesFrom medium scripts names c (resolves (name_of t) (Some p)) pair new x z result
+          → DoesFrom medium scripts names c (sync_at head.first ms) pair new x z result
+      resolves_at is planned it = rw is (asks_from (asks_from (rw (name_there here, planned) it)))
+
+      pub resolves_from : {p : Plan} {result : Result Synced Halt} → first.item.stage ≡ kept_stages.Conflict
+          → plan_of (kept pair).held head.first ≡ Some p
+          → DoesFrom medium scripts names c (resolves (name_of t) (Some p)) pair new x z result
+          → DoesFrom medium scripts names c Syncs pair new x z result
+      resolves_from is planned it = at_first {next = sync_head} (resolves_at (conflict_stage stage_there is) planned it)
+
+      -- no message gets through
+      misses_at : {s : Stage} {ms : clients.Stage} → SameStage s ms → (s ≡ kept_stages.Manual → ⊥)
+          → (s ≡ kept_stages.Conflict → (p : Plan) × (plan_of (kept pair).held head.first ≡ Some p))
+          → MissesAll medium scripts names c old new → z ≡ x ++ line (codes "away")
+          → DoesFrom medium scripts names c (sync_at head.first ms) pair new x z (Ok Unanswered)
+      misses_at waiting not_manual planned misses wrote =
+          asks_from (then_from here (misses.none (Judgment (submission_of head.first pair)) x) (says (λ pair here. wrote)))
+      misses_at conflict not_manual planned misses wrote =
+          let p = planned refl in
+          resolves_at refl p.1 (then_from here (misses.none (Objects 0 new_client.held (wanted.Below [])) x) (says (λ pair here. wrote)))
+      misses_at manual not_manual planned misses wrote = absurd (not_manual refl)
+      misses_at (resolved it) not_manual planned misses wrote =
+          asks_from (then_from here (misses.none (Judgment (submission_of head.first pair)) x) (says (λ pair here. wrote)))
+
+-- ---- without the server
+
+module _ {D : Type 0} {medium : Medium D} {scripts : List Declared} {old : Both D} {x y : List ℕ} where
+  pub syncs_none : (state_in old.laptop).items ≡ [] → KeepsDisks medium old old → y ≡ x ++ line (codes "nothing")
+      → Does medium scripts Syncs old old x y (Ok Stays)
+  syncs_none none keeps wrote =
+      each_from keeps (λ names c pair here. at_none here {next = sync_head} none (from (says (λ pair here. wrote)) here))
+
+  module _ {t : Transaction} (first : First old.laptop t) where
+    -- it waits for a decision by hand
+    pub syncs_by_hand : first.item.stage ≡ kept_stages.Manual → KeepsDisks medium old old → y ≡ x ++ manual_line (name_of t)
+        → Does medium scripts Syncs old old x y (Ok Stays)
+    syncs_by_hand is keeps wrote =
+        each_from keeps (λ names c pair here.
+        let mi = (head here first).first in
+        at_first here first {next = sync_head}
+        (subst (λ (ms : clients.Stage). DoesFrom medium scripts names c (sync_at mi ms) pair old x y (Ok Stays))
+        (sym (manual_stage (stage_there here first) is))
+        (from (says (λ pair there. wrote ∙ ap (λ (n : List ℕ). x ++ manual_line n) (sym (name_there here first there)))) here)))
+
+    -- no message gets through
+    pub syncs_away : {new : Both D} → (first.item.stage ≡ kept_stages.Manual → ⊥) → KeepsDisks medium old new
+        → ((names : List (List ℕ)) (c : ℕ) → MissesAll medium scripts names c old new) → y ≡ x ++ line (codes "away")
+        → Does medium scripts Syncs old new x y (Ok Unanswered)
+    syncs_away {new} not_manual keeps misses wrote =
+        each_from keeps (λ names c pair here.
+        at_first here first {next = sync_head}
+        (misses_at here first (stage_there here first) not_manual (planned_there here first) (misses names c) wrote))
+
+-- ---- decisions by hand
+
+module _ {D : Type 0} {medium : Medium D} {scripts : List Declared} {old : Both D} {call : clients.Item → Try Pair (Unit {0})}
+    {x y : List ℕ} where
+  -- it is said why nothing is decided
+  undecided_by : {u : Undecided} (items : List Item) → (state_in old.laptop).items ≡ items → decision old.laptop items ≡ Err u
+      → y ≡ x ++ line (undecided_word u) → (names : List (List ℕ)) (c : ℕ) (pair : Pair) → UpStands medium scripts names c old pair
+      → DoesFrom medium scripts names c (IfManual call) pair old x y (Err Over)
+  undecided_by {u} [] same is wrote names c pair here =
+      let nothing : u ≡ why.Nothing = cc in
+      at_none here {next = if_manual call} same
+      (from (refuses (λ pair here. wrote ∙ ap (λ (u : Undecided). x ++ line (undecided_word u)) nothing) (λ pair here. still here)) here)
+  undecided_by (item ∷ items) same is wrote names c pair here =
+      let first : First old.laptop (record { client = old.laptop.name; number = item.tid }) =
+      record { item = item; rest = items; items = same; named = refl } in
+      let refused = refused_on old.laptop item (stage_there here first) is in
+      at_first here first {next = if_manual call}
+      (rw refused.1
+      (from (refuses (λ pair here. wrote ∙ ap (λ (u : Undecided). x ++ line (undecided_word u)) refused.0) (λ pair here. still here)) here))
+
+  pub undecided : {u : Undecided} → decision old.laptop (state_in old.laptop).items ≡ Err u → KeepsDisks medium old old
+      → y ≡ x ++ line (undecided_word u) → Does medium scripts (IfManual call) old old x y (Err Over)
+  undecided is keeps wrote = each_from keeps (undecided_by (state_in old.laptop).items refl is wrote)
+
+  -- it is decided of
+  pub decides : {t : Transaction} {new : Both D} {result : Result (Unit {0}) Halt}
+      → decision old.laptop (state_in old.laptop).items ≡ Ok t → KeepsDisks medium old new
+      → ((names : List (List ℕ)) (c : ℕ) (mi : clients.Item)
+      → ((after : Pair) → UpStands medium scripts names c new after → item_name mi after ≡ name_of t)
+      → (pair : Pair) → UpStands medium scripts names c old pair → DoesFrom medium scripts names c (call mi) pair new x y result)
+      → Does medium scripts (IfManual call) old new x y result
+  decides {result = result} is keeps each = each_from keeps (λ names c pair here.
+      let head_is_it = decided old.laptop (state_in old.laptop).items is in
+      let first = first_of head_is_it.0 in
+      let mi = (head here first).first in
+      let manual : is_manual mi.stage ≡ true =
+      ap is_manual (manual_stage (stage_there here first) (head_is IsByHand first head_is_it.1)) in
+      at_first here first {next = if_manual call}
+      (rw manual (each names c mi (λ after there. name_there here first there) pair here)))
+
+-- what a reply says is in the same words at both ends
+verdict_said : (reads : List Read) (bytes : List ℕ) (told : Verdict) → at_server.SpellsVerdict reads bytes told
+    → SpellsVerdict reads bytes told
+verdict_said reads bytes (Settled number) is = is
+verdict_said reads bytes (Conflict place question) is =
+    (is.0, record { answer = is.1.answer; spelled = is.1.spelled; first = is.1.first; at = is.1.at }, is.2)
+
+-- no files are listed if none are kept
+no_files : entries (empty {K = List (List ℕ)} {X = List ℕ} {R = path_cmp}) ≡ []
+no_files = none _ (sym (len-entries empty) ∙ len-empty path_cmp (List ℕ))
   where
-    by : (ms : List clients.Item) → ItemsStand [] held ms → ms ≡ []
-    by [] stand = refl
-    by (m ∷ ms) stand = absurd stand
+    none : {A : Type 0} (xs : List A) → length xs ≡ 0 → xs ≡ []
+    none [] is = refl
+    none (x ∷ xs) is = absurd cc
 
--- a server that has its disk after a call
-pub server_there : {D : Type 0} (medium : Medium D) (old mid : Two (Laptop D) (ServerNode D)) → KeepsDisks medium old mid
-    → HasDisk mid.server
-server_there medium old mid keeps = subst (λ (o : Option _). IsSome o) (sym keeps.server.new_has) refl
+-- a resolution's way by the option as it is kept, and by the machine's
+ways_are : (option : OnConflict Declared) → CanResolve option → clients.way_of option ≡ way_of (option_named option)
+ways_are options.Reexec can = refl
+ways_are (options.Resolver script) can = refl
+ways_are options.Abort can = absurd can
+ways_are options.Manual can = absurd can
 
--- a change that goes by these scripts is noted of the pair
-pub notes_among : {D : Type 0} (medium : Medium D) (scripts : List Declared) (old new : Laptop D) (server : ServerNode D) (x y : List ℕ)
-    → SamePlace old new → (change : ClientState → ClientState) (result : Result (Unit {0}) Halt)
-    → EndsAlone medium scripts (NotesAlone change) old new x y result
-    → HasDisk server → KeepsDisk medium (disk_in old) (disk_in new)
-    → Does medium scripts (Notes change) (two old server) (two new server) x y result
-notes_among medium scripts old new server x y place change result it has keeps =
-    alone medium scripts old new server x y place (NotesAlone change) (Notes change) (record {
-      lift = λ pair text a n one. record {
-        mid = record pair { client = one.mid };
-        front = one.front;
-        rest = one.rest;
-        answer = one.answer;
-        first = record { inner = one.mid; step = one.first; is = refl };
-        second = (one.second.0, one.second.1, ap (λ (client : Client). record pair { client = client }) one.second.2);
-        whole = one.whole;
-      };
-      name = λ m n text a one. ap (λ (k : Client). k.name) one.second.2 ∙ ap (λ (k : Client). k.name) one.first.is;
-    }) result it has keeps
+-- what a transaction submits that is at this stage
+abbrev submitted_at : Pair → clients.Item → clients.Stage → Submission
+submitted_at pair mi stage = submission_of (record mi { stage = stage }) pair
 
-module _ {D : Type 0} (medium : Medium D) (scripts : List Declared) (names : List (List ℕ)) (c : ℕ) where
-  abbrev pub Up : Two (Laptop D) (ServerNode D) → Pair → Type 0
-  Up = UpStands medium scripts names c
+-- the message that submits a transaction
+abbrev pub message_of : Submitted → Message
+message_of it = record { request = it.request; handed = Some (record { printed = it.printed; way = it.way }) }
 
-  abbrev pub Any : Two (Laptop D) (ServerNode D) → Pair → Type 0
-  Any = AnyStands medium scripts names c
+-- ---- what is submitted
 
-  module _ (old : Two (Laptop D) (ServerNode D)) (x : List ℕ) where
-    -- none waits
-    pub asks_none : {A : Type 0} {next : List clients.Item → Try Pair A} (new : Two (Laptop D) (ServerNode D)) (z : List ℕ)
-        (result : Result A Halt) → (state_in old.laptop).items ≡ [] → Ends Up Any (next []) old new x z result
-        → Ends Up Any (Then (Asks (λ pair. (kept pair).items)) next) old new x z result
-    asks_none new z result none more =
-        then_ends old old new x x z [] result
-        (asks old x []
-        (λ pair here.
-        sym
-        (no_items (state_in old.laptop).items (state_in old.laptop).held (kept pair).items none here.client.is.state.items)))
-        more
+module _ {D : Type 0} {medium : Medium D} {scripts : List Declared} {names : List (List ℕ)} {c : ℕ} {old : Both D} {pair : Pair}
+    (here : UpStands medium scripts names c old pair) {t : Transaction} (first : First old.laptop t) where
+  abbrev mi : clients.Item
+  mi = (head here first).first
 
-    module _ (t : Transaction) (first : First old.laptop t) where
-      -- it is one of the machine's
-      pub head_in : (pair : Pair) → Up old pair → HeadStands (state_in old.laptop).held first.item first.rest (kept pair).items
-      head_in pair here = head_stands _ _ _ _ here.client.is.state first.item first.rest first.items
+  abbrev transaction : Transaction
+  transaction = record { client = old.laptop.name; number = first.item.tid }
 
-      -- its name there
-      pub name_there : (pair : Pair) (mi : clients.Item) → Up old pair → ItemStands (state_in old.laptop).held first.item mi
-          → item_name mi pair ≡ name_of t
-      name_there pair mi here stands =
-          ap (λ (n : List ℕ). transaction_name n mi.number) (sym here.client.is.name)
-          ∙ ap (λ (n : ℕ). transaction_name old.laptop.name n) (sym stands.number)
-          ∙ ap name_of (sym first.named)
+  -- the client of the pair has its name among these
+  named_in : (pair.place < length names) × (item_name mi pair ≡ transaction_name (slice_index_or names pair.place []) mi.number)
+  named_in =
+      let there : slice_get names pair.place ≡ Some pair.client.name = ap (slice_get names) here.place ∙ here.client.named in
+      let within : pair.place < length names = slice_get_within names pair.place pair.client.name there in (
+        within,
+        ap (λ (n : List ℕ). transaction_name n mi.number)
+            (same_Some pair.client.name _ (sym there ∙ slice_get-get_or names pair.place [] within)),
+      )
 
-      -- its scripts are those of their names
-      pub named_there : (pair : Pair) → (here : Up old pair) → ItemIsNamed scripts (head_in pair here).first
-      named_there pair here =
-          (subst (AllByRecursion (ItemIsNamed scripts)) (head_in pair here).split here.client.is.named.items).0
+  -- by its stage
+  submission_by : {s : Stage} {ms : clients.Stage} → SameStage s ms → IsSubmittedIn s → IsPlanned mi.option ms
+      → IsSubmission (label_in old.laptop.place first.item s) (acts_in first.item s) transaction (submitted_at pair mi ms)
+  submission_by waiting is planned =
+      let stands = (head here first).stands in
+      let placed = here.place ∙ sym here.client.place in
+      record {
+        name = name_there here first here ∙ ap name_of first.named;
+        has_label = (λ i. record {
+          client = placed i;
+          tid = sym stands.number i;
+          script = sym stands.name i;
+          budget = sym stands.budget i;
+          way = Certified;
+          kept = no_files i;
+        });
+        base = (state_in old.laptop).held;
+        tree = here.client.is.state.tree;
+        has_acts = stands.acts;
+        reads = ap (λ (t : Nodes). reads_of (local_run t mi).acts) (sym here.client.is.state.held) ∙ ap reads_of (sym stands.acts);
+        spelled = record { script = stands.script; kept = no_files_are_spelled };
+      }
+  submission_by conflict is planned = absurd is
+  submission_by manual is planned = absurd is
+  submission_by (resolved done) is planned =
+      let stands = (head here first).stands in
+      let placed = here.place ∙ sym here.client.place in
+      let its_way = ways_are mi.option planned ∙ ap way_of (sym stands.option) in
+      record {
+        name = name_there here first here ∙ ap name_of first.named;
+        has_label = (λ i. record {
+          client = placed i;
+          tid = sym stands.number i;
+          script = sym done.name i;
+          budget = sym done.budget i;
+          way = its_way i;
+          kept = sym done.kept i;
+        });
+        base = _;
+        tree = done.tree;
+        has_acts = done.acts;
+        reads = ap reads_of (sym done.acts);
+        spelled = record { script = done.script; kept = done.files };
+      }
 
-      -- it is the first that waits, and so is it
-      record Headed (P : clients.Item → Type 0) (ms : List clients.Item) : Type 0 where
-        head : HeadStands (state_in old.laptop).held first.item first.rest ms
-        so : P head.first
+  module _ {it : Submitted} (hands : HandsIn old.laptop first.item it) where
+    submission : IsSubmission (label_in old.laptop.place first.item first.item.stage) (acts_in first.item first.item.stage) transaction
+        (submission_of mi pair)
+    submission = submission_by (stage_there here first) hands.submitted (head here first).stands.planned
 
-      -- whatever it is in the machine, if it is so, the rest follows
-      pub asks_first : {A : Type 0} {next : List clients.Item → Try Pair A} (P : clients.Item → Type 0)
-          (new : Two (Laptop D) (ServerNode D)) (z : List ℕ) (result : Result A Halt)
-          → ((pair : Pair) (mi : clients.Item) → Up old pair → ItemStands (state_in old.laptop).held first.item mi
-          → ItemIsNamed scripts mi → P mi)
-          → ((mi : clients.Item) (ms : List clients.Item) → ItemStands (state_in old.laptop).held first.item mi → P mi
-          → Ends Up Any (next (mi ∷ ms)) old new x z result)
-          → Ends Up Any (Then (Asks (λ pair. (kept pair).items)) next) old new x z result
-      asks_first {next = next} P new z result known each =
-          asks_each (Headed P) old new x z result
-          (λ pair here.
-          let head = head_in pair here in
-          record { head = head; so = known pair head.first here head.stands (named_there pair here) })
-          (λ ms it.
-          subst (λ (ms : List clients.Item). Ends Up Any (next ms) old new x z result) (sym it.head.split)
-          (each it.head.first it.head.later it.head.stands it.so))
+    -- the message asks for a judgment of what the machine submits
+    asks_judgment : AsksFor names (message_of it) (Judgment (submission_of mi pair))
+    asks_judgment = (
+      record {
+        label = label_in old.laptop.place first.item first.item.stage;
+        acts = acts_in first.item first.item.stage;
+        asked = hands.asked;
+        transaction = transaction;
+        handed = (λ i. Some (record {
+          printed = record { transaction = hands.transaction i; output = hands.output i };
+          way = hands.way i;
+        }));
+        submission = submission;
+      },
+      record { client = named_in.0; name = named_in.1 },
+    )
 
-      -- it waits for a decision by hand
-      pub syncs_by_hand : (y : List ℕ) → first.item.stage ≡ kept_stages.Manual → y ≡ x ++ manual_line (name_of t)
-          → Ends Up Any Syncs old old x y (Ok Stays)
-      syncs_by_hand y manual wrote =
-          asks_first {next = sync_head} (λ mi. mi ≡ mi) old y (Ok Stays) (λ pair mi here stands named. refl)
-          (λ mi ms stands so.
-          subst (λ (s : clients.Stage). Ends Up Any (sync_at mi s) old old x y (Ok Stays))
-          (sym (manual_stage first.item.stage mi.stage manual stands.stage))
-          (says old x y Stays
-          (λ pair here. wrote ∙ ap (λ (n : List ℕ). x ++ manual_line n) (sym (name_there pair mi here stands)))))
+    -- what the reply says of it
+    says_it : (bytes : List ℕ) (told : Verdict) → at_server.SpellsVerdict (submission_of mi pair).reads bytes told
+        → SpellsVerdict (head_reads (state_in old.laptop).items) bytes told
+    says_it bytes told is = subst (λ (r : List Read). SpellsVerdict r bytes told)
+        (submission.reads ∙ sym (ap head_reads first.items)) (verdict_said _ bytes told is)
 
-    -- none waits
-    pub syncs_none : (y : List ℕ) → (state_in old.laptop).items ≡ [] → y ≡ x ++ line (codes "nothing")
-        → Ends Up Any Syncs old old x y (Ok Stays)
-    syncs_none y none wrote =
-        asks_none {next = sync_head} old y (Ok Stays) none (says old x y Stays (λ pair here. wrote))
+-- ---- what becomes of it
+
+-- what is told of it is one change of what the client keeps, which is said
+module _ {D : Type 0} {medium : Medium D} {scripts : List Declared} {u v : Both D} {x y : List ℕ} {result : Result Synced Halt} where
+  told_by : (name : List ℕ) (verdict : Verdict) (option : OnConflict Declared)
+      → Does medium scripts (NotesAloud (told_change verdict (option_named option)) (told_text name verdict (option_named option))
+      (told_synced verdict (option_named option))) u v x y result → Does medium scripts (told name option (Some verdict)) u v x y result
+  told_by name (Settled number) option it = it
+  told_by name (Conflict read question) options.Reexec it = it
+  told_by name (Conflict read question) (options.Resolver script) it = it
+  told_by name (Conflict read question) options.Abort it = it
+  told_by name (Conflict read question) options.Manual it = it
+
+  told_as : {name other : List ℕ} (verdict : Verdict) (option : OnConflict Declared) → other ≡ name
+      → Does medium scripts (NotesAloud (told_change verdict (option_named option)) (told_text name verdict (option_named option))
+      (told_synced verdict (option_named option))) u v x y result → Does medium scripts (told other option (Some verdict)) u v x y result
+  told_as {name} verdict option same it =
+      subst (λ (n : List ℕ). Does medium scripts (told n option (Some verdict)) u v x y result) (sym same) (told_by name verdict option it)
+
+-- a fault that was handed on
+pub synced_err : (fault : Halt) (outer : Result Sync Halt) → IsErrAnd outer (λ other. other ≡ fault)
+    → IsErrAnd (synced_by outer) (λ other. other ≡ fault)
+synced_err fault (Ok synced) is = absurd is
+synced_err fault (Err halt) is = is
+
+module _ {D : Type 0} (old : Both D) {t : Transaction} (it : Submitted)
+    (head_is_it : head_name old.laptop (state_in old.laptop).items ≡ Some t)
+    (hands : HeadIs (λ item. HandsIn old.laptop item it) (state_in old.laptop).items) where
+  first : First old.laptop t
+  first = first_of head_is_it
+
+  hands_in : HandsIn old.laptop first.item it
+  hands_in = head_is (λ item. HandsIn old.laptop item it) first hands
+
+  -- the request is one
+  pub some_commit : at_server.IsSomeRequest it.request.items
+  some_commit = record { request = _; is = hands_in.asked }
+
+  pub submitted_head : HeadIs IsSubmitted (state_in old.laptop).items
+  submitted_head = subst (HeadIs IsSubmitted) (sym first.items) hands_in.submitted
+
+  -- no reply came
+  pub submits_away : {medium : Medium D} {scripts : List Declared} {mid : Both D} {x y z : List ℕ}
+      → Asked medium scripts (message_of it) None old mid x y → z ≡ y ++ line (codes "away")
+      → Does medium scripts Syncs old mid x z (Ok Unanswered)
+  submits_away asked wrote = each_from asked.disks (λ names c pair here.
+      submits_from here first hands_in.submitted (then_from here
+      (asked.is names c (Judgment (submission_of (mi here first) pair)) (asks_judgment here first hands_in)).is
+      (says (λ pair here. wrote))))
+
+  -- a verdict came
+  pub verdict_came : {medium : Medium D} {mid : Both D} {x y : List ℕ} {reply : Vec ℕ Global} → IsReady medium old
+      → ((scripts : List Declared) → Asked medium scripts (message_of it) (Some reply) old mid x y)
+      → IsVerdict (head_reads (state_in old.laptop).items) reply.items
+  verdict_came {reply = reply} ready asked =
+      let here = ready.is.stands in
+      let e = ((asked ready.scripts).is ready.is.names ready.is.c (Judgment (submission_of (mi here first) ready.is.pair))
+      (asks_judgment here first hands_in)).is in
+      record { told = e.0; is = says_it here first hands_in reply.items e.0 e.1 }
+
+  -- what the reply says of it becomes of it
+  pub submits_told : {medium : Medium D} {scripts : List Declared} {mid new : Both D} {x y z : List ℕ} {reply : Vec ℕ Global}
+      {result : Result Synced Halt}
+      → KeepsDisks medium old new → Asked medium scripts (message_of it) (Some reply) old mid x y
+      → ((verdict : Verdict) (option : labels.OnConflict) → SpellsVerdict (head_reads (state_in old.laptop).items) reply.items verdict
+      → head_option (state_in old.laptop).items ≡ Some option
+      → Does medium scripts (NotesAloud (told_change verdict option) (told_text (name_of t) verdict option) (told_synced verdict option))
+      mid new y z result)
+      → Does medium scripts Syncs old new x z result
+  submits_told {reply = reply} keeps asked each = each_from keeps (λ names c pair here.
+      let m = mi here first in
+      let e = (asked.is names c (Judgment (submission_of m pair)) (asks_judgment here first hands_in)).is in
+      let has : head_option (state_in old.laptop).items ≡ Some (option_named m.option) =
+      ap head_option first.items ∙ ap (λ (l : labels.OnConflict). Some l) (head here first).stands.option in
+      submits_from here first hands_in.submitted (then_from here e.2
+      ((told_as e.0 m.option (name_there here first here)
+      (each e.0 (option_named m.option) (says_it here first hands_in reply.items e.0 e.1) has)).step names c)))
+
+-- ---- the whole tree
+
+-- a new client knows nothing
+nothing_known : known (root_alone FarDir) ≡ []
+nothing_known =
+    ap known (sym (root_map FarDir))
+    ∙ ap (paths_where (λ (row : Row). is_known row.1)) (entries_rows (([], FarDir) ∷ []) refl)
+
+same_objects : (one other : Nodes) → replies.Objects one ≡ replies.Objects other → one ≡ other
+same_objects one other is = cc
+
+-- ---- plans
+
+-- what the machine plans if the client plans this, by this script
+abbrev plan_as : (local : Nodes) → plans.Plan → Declared → Plan
+plan_as local plan script = record {
+  said = resolver_said plan;
+  script = script;
+  budget = plan.budget;
+  offered = if plan.keeps then files_of local else [];
+}
+
+-- it is planned by the script of the name that the client has
+record IsPlannedBy (scripts : List Declared) (held : Nodes) (item : Item) (mi : clients.Item) (option : OnConflict Declared)
+    (plan : plans.Plan) : Type 0 where
+  script : Declared
+  named : script_named plan.script scripts ≡ Some script
+  is : plan_by held mi option ≡ Some (plan_as (after_acts held item.acts) plan script)
+
+module _ {scripts : List Declared} {held : Nodes} {item : Item} {mi : clients.Item} (stands : ItemStands held item mi)
+    {plan : plans.Plan} where
+  planned_by : (option : OnConflict Declared) → HasNamed scripts option → script_named mi.script.name scripts ≡ Some mi.script
+      → resolves.plan_for item.script item.budget (option_named option) ≡ Some plan → IsPlannedBy scripts held item mi option plan
+  planned_by options.Reexec has own is = subst (IsPlannedBy scripts held item mi options.Reexec) (same_Some _ plan is) (record {
+    script = mi.script;
+    named = ap (λ (n : List ℕ). script_named n scripts) stands.name ∙ own;
+    is = (λ i. Some (record { said = codes "reexec"; script = mi.script; budget = sym stands.budget i; offered = [] }));
+  })
+  planned_by (options.Resolver script) has own is =
+      subst (IsPlannedBy scripts held item mi (options.Resolver script)) (same_Some _ plan is) (record {
+        script = script;
+        named = has;
+        is = (λ i. Some (record { said = script.name; script = script; budget = ACT_LIMIT; offered = files_of (sym stands.tree i) }));
+      })
+  planned_by options.Abort has own is = absurd cc
+  planned_by options.Manual has own is = absurd cc
+
+  planned : ItemIsNamed scripts mi → resolves.plan_of item ≡ Some plan → IsPlannedBy scripts held item mi mi.option plan
+  planned named is = planned_by mi.option named.resolver named.script (rw stands.option at is)
+
+-- the same is planned in each client of the machine for which it stands
+module _ {D : Type 0} {medium : Medium D} {scripts : List Declared} {laptop : Laptop D} {t : Transaction} (first : First laptop t)
+    {plan : plans.Plan} (is : resolves.plan_of first.item ≡ Some plan) where
+  module _ (m : machine.Client) (here : LaptopStands medium scripts laptop m) where
+    its_head : HeadStands (state_in laptop).held first.item first.rest m.node.durable.items
+    its_head = head_stands _ _ _ _ here.state first.item first.rest first.items
+
+    its_plan : IsPlannedBy scripts (state_in laptop).held first.item its_head.first its_head.first.option plan
+    its_plan = planned its_head.stands (subst (AllByRecursion (ItemIsNamed scripts)) its_head.split here.named.items).0 is
+
+    pub plan_declared : IsSome (script_named plan.script scripts)
+    plan_declared = rw its_plan.named refl
+
+  plans_it : {script : Declared} → script_named plan.script scripts ≡ Some script
+      → Plans medium scripts laptop (plan_as (after_acts (state_in laptop).held first.item.acts) plan script)
+  plans_it found m here =
+      let it = its_plan m here in
+      let h = its_head m here in
+      (λ i. head_plan (sym here.state.held i) (h.split i)) ∙ it.is
+      ∙ ap (λ (s : Declared). Some (plan_as (after_acts (state_in laptop).held first.item.acts) plan s))
+      (same_Some _ _ (sym it.named ∙ found))
+
+-- ---- the first that waits
+
+-- the message that asks for it
+abbrev pub asking : Vec ℕ Global → Message
+asking request = record { request = request; handed = None }
+
+module _ {D : Type 0} (old : Both D) {t : Transaction} (request : Vec ℕ Global)
+    (head_is_it : head_name old.laptop (state_in old.laptop).items ≡ Some t)
+    (asks : HeadIs (λ item. AsksAll old.laptop item request.items) (state_in old.laptop).items) where
+  head_first : First old.laptop t
+  head_first = first_of head_is_it
+
+  asks_all : AsksAll old.laptop head_first.item request.items
+  asks_all = head_is (λ item. AsksAll old.laptop item request.items) head_first asks
+
+  -- the request is one for the whole tree
+  pub some_whole : at_server.IsSomeRequest request.items
+  some_whole = record { request = _; is = asks_all.asked }
+
+  asks_below : IsRefresh old.laptop.place new_client.held (wanted.Below []) request.items
+  asks_below = subst
+      (λ (paths : List Path). IsMessage IsRequest request_spelling request.items (Refresh old.laptop.place paths (wanted.Below [])))
+      (sym nothing_known) asks_all.asked
+
+  pub in_conflict : HeadIs (λ item. item.stage ≡ kept_stages.Conflict) (state_in old.laptop).items
+  in_conflict = subst (HeadIs (λ item. item.stage ≡ kept_stages.Conflict)) (sym head_first.items) asks_all.conflict
+
+  -- no reply came
+  pub resolves_away : {medium : Medium D} {scripts : List Declared} {mid : Both D} {x y z : List ℕ}
+      → Asked medium scripts (asking request) None old mid x y → z ≡ y ++ line (codes "away")
+      → Does medium scripts Syncs old mid x z (Ok Unanswered)
+  resolves_away asked wrote = each_from asked.disks (λ names c pair here.
+      let p = planned_there here head_first asks_all.conflict in
+      resolves_from here head_first asks_all.conflict p.1 (then_from here
+      (asked.is names c (Objects old.laptop.place new_client.held (wanted.Below [])) asks_below).is (says (λ pair here. wrote))))
+
+  -- the server's whole tree came
+  pub whole_came : {medium : Medium D} {mid : Both D} {x y : List ℕ} {reply : Vec ℕ Global} → IsReady medium old
+      → ((scripts : List Declared) → Asked medium scripts (asking request) (Some reply) old mid x y)
+      → BringsTree reply.items × (length reply.items < 2 ^ 64 → (u : Nodes) → SpellsTree reply.items u → IsWhole u)
+  whole_came {reply = reply} ready asked =
+      let e = ((asked ready.scripts).is ready.is.names ready.is.c (Objects old.laptop.place new_client.held (wanted.Below []))
+      asks_below).is in (
+        record { tree = e.0; is = e.1.spelled },
+        λ short u spells.
+            let one : IsOneMessage IsReply reply_spelling reply.items = call_one _ _ _ reply_laws reply.items short in
+            let same : u ≡ e.0 = same_objects _ _ (one _ _ spells e.1.spelled) in
+            subst IsWhole (sym (same ∙ e.1.cut ∙ whole_comes e.1.server e.1.tree)) e.1.whole,
+      )
+
+  module _ (plan : plans.Plan) (is : IsHeadPlan (state_in old.laptop).items plan) where
+    its : resolves.plan_of head_first.item ≡ Some plan
+    its = (subst (λ (items : List Item). IsHeadPlan items plan) head_first.items is).1
+
+    -- its script is declared
+    pub declared_for : {medium : Medium D} {scripts : List Declared} → IsReadyWith medium scripts old
+        → IsSome (script_named plan.script scripts)
+    declared_for ready = plan_declared head_first its ready.pair.client ready.stands.client.is
+
+    -- it is resolved on that by what is planned for it
+    pub resolves_told : {medium : Medium D} {scripts : List Declared} {mid new : Both D} {x y z : List ℕ} {reply : Vec ℕ Global}
+        {code : Code} {result : Result Synced Halt}
+        → IsCodeOf plan.script scripts code → KeepsDisks medium old new → Asked medium scripts (asking request) (Some reply) old mid x y
+        → ((p : Plan) (u : Nodes) → SpellsTree reply.items u → Plans medium scripts old.laptop p → p.script.code ≡ code
+        → Does medium scripts
+        (NotesAloud (reach (clients.Resolved (resolution_of p u))) (resolve_line (name_of t) (resolver_said plan)) Moved)
+        mid new y z result)
+        → Does medium scripts Syncs old new x z result
+    resolves_told {medium} {scripts} coded keeps asked each = each_from keeps (λ names c pair here.
+        let plans = plans_it {medium = medium} {scripts = scripts} head_first its coded.is in
+        let e = (asked.is names c (Objects old.laptop.place new_client.held (wanted.Below [])) asks_below).is in
+        resolves_from here head_first asks_all.conflict
+        (sym (ap (head_plan (kept pair).held) (head here head_first).split) ∙ plans pair.client here.client.is)
+        (then_from here e.2 ((each _ e.0 e.1.spelled plans coded.has).step names c)))

@@ -1,15 +1,7 @@
 pub mod StepsLaws
-pub mod PairsLaws
-pub mod ReadyLaws
 pub mod DoesLaws
 pub mod ExchangeLaws
-pub mod ObjectsLaws
 pub mod FirstLaws
-pub mod SubmittingLaws
 pub mod NamesLaws
-pub mod ResolvingLaws
-pub mod QueuesLaws
-pub mod DecidingLaws
-pub mod LookingLaws
-pub mod RunsLaws
+pub mod TasksLaws
 pub mod TransactionsLaws

@@ -1,5 +1,5 @@
 -- A client with the server, as the code has them: which pair of the machine they stand for, and how they change.
-use Rattle.std.specs.Prelude.{◌≡◌, ℕ, ◌+◌, ◌≤◌, Bool, true, false, List, Option, None, Some, Result, Ok, Err, Vec, slice_get}
+use Rattle.std.specs.Prelude.{◌≡◌, ℕ, ◌+◌, ◌≤◌, List, [], Option, None, Some, Result, Vec, slice_get}
 use Rattle.std.specs.declared.alloc.Global.{Global}
 use Rattle.iot_disk.specs.Disk.{Medium}
 use Rattle.iot_tree.specs.Tree.{Nodes}
@@ -10,13 +10,15 @@ use Rattle.iot_machine.specs.Calls.{Call, Try}
 use Rattle.iot_machine.specs.Clients.{Declared}
 use Rattle.iot_machine.specs.Machine.{Client, Commit, Pair}
 use Rattle.iot_machine.specs.Nodes.{Node}
-use Rattle.iot_machine.specs.Serving.{Lends}
+use Rattle.iot_machine.specs.Serving.{Submission, Verdict, Lends, Judges}
 use Rattle.iot_machine.specs.Transactions.{Exchange}
 use Rattle.iot_node.specs.Disks.{KeepsDisk}
 use Rattle.iot_node.specs.Steps.{StepsTo, Ends}
 use Rattle.iot_node.specs.declared.halt.Halt.{Halt}
+use Rattle.iot_server_node.specs.Messages.{SpellsCut, SpellsVerdict}
 use Rattle.iot_server_node.specs.Records.{KeepsRecords}
-use Rattle.iot_server_node.specs.Servers.{ServerStands, disk_of}
+use Rattle.iot_server_node.specs.Servers.{ServerStands, IsHanded, IsNamedIn, disk_of}
+use Rattle.iot_server_node.specs.declared.message.Message.{Message}
 use Rattle.iot_server_node.specs.declared.server.ServerNode.{ServerNode}
 use Rattle.iot_laptop.specs.Laptops.{LaptopStands, ClientStands, state_in, disk_in}
 use Rattle.iot_laptop.specs.declared.laptop.Laptop.{Laptop}
@@ -30,6 +32,9 @@ pub record Two (L S : Type 0) : Type 0 where
 
 abbrev pub two : {L S : Type 0} → L → S → Two L S
 two laptop server = record { laptop = laptop; server = server }
+
+abbrev pub Both : Type 0 → Type 0
+Both D = Two (Laptop D) (ServerNode D)
 
 -- they stand for this pair, whose client is at place c among all clients
 pub record PairStands {L S : Type 0} (c : ℕ) (clients : L → Client → Type 0) (servers : S → Node (List Commit) → ℕ → Type 0)
@@ -99,20 +104,57 @@ pub record Does {D A : Type 0} (medium : Medium D) (scripts : List Declared) (ca
 
 -- ---- exchanges
 
+-- what is asked of the server: what of its tree is known and wanted, or its verdict on a transaction
+pub data Query : Type 0 where
+  Objects : (client : ℕ) → (held : Nodes) → Want → Query
+  Judgment : Submission → Query
+
+abbrev pub Answered : Query → Type 0
+Answered (Objects client held want) = Nodes
+Answered (Judgment it) = Verdict
+
+-- what the machine's server does with it
+abbrev pub request_of : (query : Query) → Call (Node (List Commit)) (Option (Answered query))
+request_of (Objects client held want) = Lends held want
+request_of (Judgment it) = Judges it
+
+-- what a reply says
+abbrev pub Spells : (query : Query) → List ℕ → Answered query → Type 0
+Spells (Objects client held want) = SpellsCut held want
+Spells (Judgment it) = SpellsVerdict it.reads
+
+-- the message asks this, where the clients have these names
+abbrev pub AsksFor : List (List ℕ) → Message → Query → Type 0
+AsksFor names message (Objects client held want) = IsRefresh client held want message.request.items
+AsksFor names message (Judgment it) = IsHanded message it × IsNamedIn names it
+
+-- what is so of the answer, if the reply spells one, and of none, if no reply came
+abbrev pub IfReplied : {A : Type 0} → (List ℕ → A → Type 0) → Option (Vec ℕ Global) → (Option A → Type 0) → Type 0
+IfReplied Spelled None P = P None
+IfReplied {A = A} Spelled (Some reply) P = (a : A) × Spelled reply.items a × P (Some a)
+
+-- how many requests were answered then, if so many were before
+abbrev pub answered : {A : Type 0} → Option A → ℕ → ℕ
+answered None n = n
+answered (Some a) n = n + 1
+
 -- what a live server does with a request: it answers what the bytes spell, or it stops and gives no reply
-abbrev pub Serves : {S A : Type 0} → (S → Node (List Commit) → ℕ → Type 0) → (List ℕ → A → Type 0) → Call (Node (List Commit)) (Option A)
-    → Option (Vec ℕ Global) → (old new : S) → (x y : List ℕ) → Type 0
-Serves servers Spells call None old new x y =
-    (n : ℕ) → StepsTo (λ s node. servers s node n) (λ s node. servers s node n) call old new x y None
-Serves {A = A} servers Spells call (Some reply) old new x y =
-    (a : A) × Spells reply.items a
-    × ((n : ℕ) → StepsTo (λ s node. servers s node n) (λ s node. servers s node (n + 1)) call old new x y (Some a))
+pub record Serves {S A : Type 0} (servers : S → Node (List Commit) → ℕ → Type 0) (Spelled : List ℕ → A → Type 0)
+    (call : Call (Node (List Commit)) (Option A)) (reply : Option (Vec ℕ Global)) (old new : S) (x y : List ℕ) : Type 0 where
+  pub is : IfReplied Spelled reply (λ a. (n : ℕ)
+      → StepsTo (λ s node. servers s node n) (λ s node. servers s node (answered a n)) call old new x y a)
 
 -- an exchange of this request, and what the reply spells, if one came
-abbrev pub Exchanges : {W A : Type 0} → (W → Pair → Type 0) → (List ℕ → A → Type 0) → Call Pair (Option A) → Option (Vec ℕ Global)
-    → (old new : W) → (x y : List ℕ) → Type 0
-Exchanges up Spells call None old new x y = StepsTo up up call old new x y None
-Exchanges {A = A} up Spells call (Some reply) old new x y = (a : A) × Spells reply.items a × StepsTo up up call old new x y (Some a)
+pub record Exchanges {W A : Type 0} (up : W → Pair → Type 0) (Spelled : List ℕ → A → Type 0) (call : Call Pair (Option A))
+    (reply : Option (Vec ℕ Global)) (old new : W) (x y : List ℕ) : Type 0 where
+  pub is : IfReplied Spelled reply (λ a. StepsTo up up call old new x y a)
+
+-- the message was sent, and this is the reply, if one came: whatever it asks, that was exchanged; and both have their disks
+pub record Asked {D : Type 0} (medium : Medium D) (scripts : List Declared) (message : Message) (reply : Option (Vec ℕ Global))
+    (old new : Both D) (x y : List ℕ) : Type 0 where
+  pub is : (names : List (List ℕ)) (c : ℕ) (query : Query) → AsksFor names message query
+      → Exchanges (UpStands medium scripts names c) (Spells query) (Exchange (request_of query)) reply old new x y
+  pub disks : KeepsDisks medium old new
 
 -- the client asks with this request for what it knows, and for something that it wants
 pub record IsAsked {D : Type 0} (laptop : Laptop D) (request : List ℕ) : Type 0 where
@@ -120,7 +162,14 @@ pub record IsAsked {D : Type 0} (laptop : Laptop D) (request : List ℕ) : Type 
   pub is : IsRefresh laptop.place (state_in laptop).held want request
 
 -- whatever is asked, no reply comes
-pub record MissesAll {D : Type 0} (medium : Medium D) (scripts : List Declared) (names : List (List ℕ)) (c : ℕ)
-    (old new : Two (Laptop D) (ServerNode D)) : Type 0 where
-  pub held : (held : Nodes) (want : Want) (x : List ℕ) → StepsTo (UpStands medium scripts names c) (UpStands medium scripts names c)
-      (Exchange (Lends held want)) old new x x None
+pub record MissesAll {D : Type 0} (medium : Medium D) (scripts : List Declared) (names : List (List ℕ)) (c : ℕ) (old new : Both D) : Type
+    0 where
+  pub none : (query : Query) (x : List ℕ) → StepsTo (UpStands medium scripts names c) (UpStands medium scripts names c)
+      (Exchange (request_of query)) old new x x None
+
+-- ---- a client with nothing to do
+
+-- no transaction of it runs or waits
+pub record IsFree {D : Type 0} (laptop : Laptop D) : Type 0 where
+  pub idle : (state_in laptop).running ≡ None
+  pub none : (state_in laptop).items ≡ []

@@ -1,5 +1,5 @@
 -- How the transactions that wait are synced.
-use Rattle.std.specs.Prelude.{◌≡◌, ℕ, Bool, List, Option, Some, option_map}
+use Rattle.std.specs.Prelude.{◌≡◌, ℕ, Bool, List, Some}
 use Rattle.iot_lang.specs.Code.{Code}
 use Rattle.iot_machine.specs.Calls.{Try, Asks, Answers, Then, Goes, either}
 use Rattle.iot_machine.specs.Clients.{Declared}
@@ -16,6 +16,8 @@ SyncsNext = Then (Asks pends) sync_if
 abbrev pub DrainsQuietly : Try Pair (Unit {0})
 DrainsQuietly = Goes SyncsAll (λ _. Then (Asks is_drained) (either Refreshes (Answers (Some tt))))
 
--- the script of this name has this code
+-- the script of this name is declared, with this code
 pub record IsCodeOf (name : List ℕ) (scripts : List Declared) (code : Code) : Type 0 where
-  pub is : option_map (λ script. script.code) (script_named name scripts) ≡ Some code
+  pub script : Declared
+  pub is : script_named name scripts ≡ Some script
+  pub has : script.code ≡ code

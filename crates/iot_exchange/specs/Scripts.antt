@@ -1,5 +1,5 @@
 -- Scripts as they were declared, and what a client may be asked to do with them.
-use Rattle.std.specs.Prelude.{◌≡◌, ℕ, ◌<◌, ◌≤◌, List, Some, length, map, slice_get}
+use Rattle.std.specs.Prelude.{◌≡◌, ℕ, ◌<◌, ◌≤◌, List, Some, map, slice_get}
 use Rattle.iot_event.specs.Declarations.{ResolverIsDeclared}
 use Rattle.iot_event.specs.declared.event.Task.{Task}
 use Rattle.iot_event.specs.declared.event.Task.TheVariants as tasks

@@ -4,11 +4,10 @@ ghost use Rattle.iot_machine.specs.Clients.{Declared};
 ghost use Rattle.iot_machine.specs.Events.{Repairs, Discards};
 ghost use Rattle.iot_laptop.specs.Laptops.{Stands};
 ghost use Rattle.iot_laptop.specs.Scripts.{IsNamed};
-ghost use Rattle.iot_server_node.specs.Servers.{HasDisk};
 ghost use Rattle.iot_server_node.specs.declared.server.ServerNode.{ServerNode};
-ghost use Rattle.iot_exchange.specs.Pairs.{two, Does};
+ghost use Rattle.iot_exchange.specs.Pairs.{two, IsReady, Does};
 
-use crate::texts::{say_discard, say_repair};
+use crate::texts::{say_of, say_repair};
 use iot_disk::Disk;
 use iot_laptop::Laptop;
 use iot_node::{Halt, say};
@@ -23,8 +22,8 @@ pub(crate) fn repair<D: Disk>(
     out: &mut Text,
 ) -> Result<(), Halt>
     requires { Stands D.medium laptop.old }
-    ensures { (server : ServerNode D) → HasDisk server → (scripts : List Declared) (declared : Declared) → IsNamed scripts declared
-        → declared.name ≡ script.now
+    ensures { (server : ServerNode D) → IsReady D.medium (two laptop.old server) → (scripts : List Declared) (declared : Declared)
+        → IsNamed scripts declared → declared.name ≡ script.now
         → Does D.medium scripts (Repairs declared) (two laptop.old server) (two laptop.new server) out.old out.new result }
 {
     match laptop.decision() {
@@ -47,13 +46,13 @@ pub(crate) fn discard<D: Disk>(
     out: &mut Text,
 ) -> Result<(), Halt>
     requires { Stands D.medium laptop.old }
-    ensures { (server : ServerNode D) → HasDisk server → (scripts : List Declared) → Does D.medium scripts Discards
-        (two laptop.old server) (two laptop.new server) out.old out.new result }
+    ensures { (server : ServerNode D) → IsReady D.medium (two laptop.old server) → (scripts : List Declared)
+        → Does D.medium scripts Discards (two laptop.old server) (two laptop.new server) out.old out.new result }
 {
     match laptop.decision() {
         Ok(transaction) => {
             laptop.discard(alloc, out)?;
-            say_discard(&transaction, out)?;
+            say_of(b"discard ", &transaction, out)?;
             Ok(())
         }
         Err(undecided) => {

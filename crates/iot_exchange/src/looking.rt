@@ -7,9 +7,8 @@ ghost use Rattle.iot_machine.specs.Events.{ReadsOf, running_of};
 ghost use Rattle.iot_machine.specs.Machine.{Client};
 ghost use Rattle.iot_machine.specs.Recorded.{queue_kept};
 ghost use Rattle.iot_machine.specs.Texts.{queue_text};
-ghost use Rattle.iot_server_node.specs.Servers.{HasDisk};
 ghost use Rattle.iot_server_node.specs.declared.server.ServerNode.{ServerNode};
-ghost use Rattle.iot_exchange.specs.Pairs.{two, Does};
+ghost use Rattle.iot_exchange.specs.Pairs.{two, IsReady, Does};
 
 use iot_client::Running;
 use iot_disk::Disk;
@@ -36,8 +35,8 @@ pub(crate) fn say_queue<D: Disk>(laptop: &Laptop<D>, out: &mut Text) -> Result<(
 pub(crate) fn say_reads<D: Disk>(laptop: &Laptop<D>, place: u64, out: &mut Text) -> Result<(), Halt>
     requires stands { Stands D.medium laptop.now }
     requires counts { 1 ≤ place }
-    ensures { (server : ServerNode D) → HasDisk server → (scripts : List Declared) → Does D.medium scripts (ReadsOf place)
-        (two laptop.now server) (two laptop.now server) out.old out.new result }
+    ensures { (server : ServerNode D) → IsReady D.medium (two laptop.now server) → (scripts : List Declared)
+        → Does D.medium scripts (ReadsOf place) (two laptop.now server) (two laptop.now server) out.old out.new result }
 {
     match waiting(laptop, place) {
         Some(item) => {

@@ -1,14 +1,14 @@
 //! What a client asks of the server: objects, over its link.
-ghost use Rattle.std.specs.Prelude.{◌≡◌, List, None, [], IfOk};
+ghost use Rattle.std.specs.Prelude.{List, IfOk};
 ghost use Rattle.iot_client.specs.Messages.{IsRefresh};
 ghost use Rattle.iot_laptop.specs.Laptops.{IsFirst, state_in};
 ghost use Rattle.iot_machine.specs.Clients.{Declared, hold, fetch};
 ghost use Rattle.iot_machine.specs.Events.{Hoards, Refreshes};
 ghost use Rattle.iot_machine.specs.Transactions.{Holds, Takes};
 ghost use Rattle.iot_tree.specs.declared.want.Want.{Want as Wanted};
-ghost use Rattle.iot_exchange.specs.Pairs.{two, IsReady, IsAsked, Does};
+ghost use Rattle.iot_exchange.specs.Pairs.{two, IsReady, IsFree, IsAsked, Does};
 
-use crate::exchange::{exchange, is_away};
+use crate::exchange::{exchange, miss};
 use crate::texts::{say_hoard, say_refresh};
 use iot_disk::Disk;
 use iot_laptop::Laptop;
@@ -88,17 +88,20 @@ pub(crate) fn bring<D: Disk>(
     out: &mut Text,
 ) -> Result<bool, Halt>
     requires ready { IsReady D.medium (two laptop.old server.old) }
-    requires idle { (state_in laptop.old).running ≡ None }
-    requires none { (state_in laptop.old).items ≡ [] }
+    requires free { IsFree laptop.old }
     ensures does { (scripts : List Declared) → Does D.medium scripts (Holds hold want.now)
         (two laptop.old server.old) (two laptop.new server.new) out.old out.new result }
-    ensures idle { IfOk result (λ _. (state_in laptop.new).running ≡ None) }
-    ensures none { IfOk result (λ _. (state_in laptop.new).items ≡ []) }
+    ensures free { IfOk result (λ _. IsFree laptop.new) }
 {
-    if is_away(laptop, server) {
+    if !laptop.is_connected() {
+        miss(laptop, server);
         return Ok(false);
     }
-    let message = Message::asking(laptop.ask(alloc, want)?);
+    let request = laptop.ask(alloc, want)?;
+    let message = Message {
+        request,
+        handed: None,
+    };
     match exchange(laptop, server, alloc, &message, out)? {
         Some(reply) => {
             laptop.take(alloc, &reply, out)?;
@@ -123,7 +126,10 @@ pub(crate) fn fetch<D: Disk>(
         → (scripts : List Declared) → Does D.medium scripts (Holds fetch want)
         (two laptop.old server.old) (two laptop.new server.new) out.old out.new result }
 {
-    let message = Message::asking(request.into_bytes());
+    let message = Message {
+        request: request.into_bytes(),
+        handed: None,
+    };
     match exchange(laptop, server, alloc, &message, out)? {
         Some(reply) => {
             laptop.fetched(alloc, &reply, out)?;

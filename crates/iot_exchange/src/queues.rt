@@ -1,12 +1,12 @@
 //! The transactions of a client that wait for the server.
-ghost use Rattle.std.specs.Prelude.{◌≡◌, List, Some, IfOk, IsSome};
+ghost use Rattle.std.specs.Prelude.{◌≡◌, false, List, Some, IfOk, IsSome};
 ghost use Rattle.iot_machine.specs.Clients.{Declared};
 ghost use Rattle.iot_kept.specs.Changes.{HeadIs};
 ghost use Rattle.iot_lang.specs.Scripts.{IsScript};
 ghost use Rattle.iot_laptop.specs.Calls.{head_name, HandsIn, AsksAll};
 ghost use Rattle.iot_laptop.specs.Laptops.{state_in};
 ghost use Rattle.iot_laptop.specs.Scripts.{script_named};
-ghost use Rattle.iot_machine.specs.Events.{SyncsOnce, Drains};
+ghost use Rattle.iot_machine.specs.Events.{Drains};
 ghost use Rattle.iot_machine.specs.Transactions.{Syncs, SyncsAll};
 ghost use Rattle.iot_exchange.specs.Scripts.{scripts_of};
 ghost use Rattle.iot_exchange.specs.Pairs.{two, IsReady, IsReadyWith, Does};
@@ -14,10 +14,10 @@ ghost use Rattle.iot_exchange.specs.Queues.{SyncsNext, DrainsQuietly, IsCodeOf};
 ghost use Rattle.iot_exchange.specs.Saying.{synced_by};
 
 use crate::declared::DeclaredScript;
-use crate::exchange::exchange;
+use crate::exchange::{exchange, miss};
 use crate::objects::refresh;
 use crate::synced::Synced;
-use crate::texts::{say_manual, say_resolve, say_told};
+use crate::texts::{say_of, say_resolve, say_told};
 use iot_disk::Disk;
 use iot_lang::Script;
 use iot_laptop::{Laptop, Need, Submitted};
@@ -28,22 +28,6 @@ use std::alloc::Global;
 use std::rc::Rc;
 
 // ---- the first that waits
-
-/// Submits or resolves the first transaction that waits, by its stage.
-pub(crate) fn sync_once<D: Disk>(
-    laptop: &mut Laptop<D>,
-    server: &mut ServerNode<D>,
-    alloc: Global,
-    scripts: &[DeclaredScript],
-    out: &mut Text,
-) -> Result<(), Halt>
-    requires { IsReadyWith D.medium (scripts_of scripts.now) (two laptop.old server.old) }
-    ensures { Does D.medium (scripts_of scripts.now) SyncsOnce
-        (two laptop.old server.old) (two laptop.new server.new) out.old out.new result }
-{
-    let _synced = sync(laptop, server, alloc, scripts, out)?;
-    Ok(())
-}
 
 /// Submits or resolves the first transaction that waits, by its stage, and tells how that went.
 pub(crate) fn sync<D: Disk>(
@@ -61,12 +45,42 @@ pub(crate) fn sync<D: Disk>(
         say(b"nothing", out)?;
         return Ok(Synced::Stays);
     };
+    if !laptop.is_connected() {
+        return sync_away(laptop, server, &transaction, out);
+    }
     match laptop.need(alloc)? {
         Need::Verdict(submitted) => submit(laptop, server, alloc, &transaction, submitted, out),
         Need::Tree(request) => resolve(laptop, server, alloc, scripts, &transaction, request, out),
         Need::Decision => {
-            say_manual(&transaction, out)?;
+            say_of(b"manual ", &transaction, out)?;
             Ok(Synced::Stays)
+        }
+    }
+}
+
+/// What becomes of the first transaction that waits as long as the client's link is not up: nothing is spelled for a server that no message
+/// reaches.
+fn sync_away<D: Disk>(
+    laptop: &mut Laptop<D>,
+    server: &ServerNode<D>,
+    transaction: &Transaction,
+    out: &mut Text,
+) -> Result<Synced, Halt>
+    requires ready { IsReady D.medium (two laptop.old server.now) }
+    requires down { laptop.old.link.up ≡ false }
+    requires head { head_name laptop.old (state_in laptop.old).items ≡ Some transaction.now }
+    ensures { (scripts : List Declared) → Does D.medium scripts Syncs
+        (two laptop.old server.now) (two laptop.new server.now) out.old out.new (synced_by result) }
+{
+    match laptop.decision() {
+        Ok(_) => {
+            say_of(b"manual ", transaction, out)?;
+            Ok(Synced::Stays)
+        }
+        Err(_) => {
+            miss(laptop, server);
+            say(b"away", out)?;
+            Ok(Synced::Unanswered)
         }
     }
 }
@@ -122,7 +136,10 @@ fn resolve<D: Disk>(
     ensures { Does D.medium (scripts_of scripts.now) Syncs
         (two laptop.old server.old) (two laptop.new server.new) out.old out.new (synced_by result) }
 {
-    let message = Message::asking(request);
+    let message = Message {
+        request,
+        handed: None,
+    };
     match exchange(laptop, server, alloc, &message, out)? {
         Some(reply) => {
             let plan = laptop.plan();

@@ -11,7 +11,7 @@ use crate::decisions::{discard, repair};
 use crate::declared::DeclaredScript;
 use crate::looking::{say_queue, say_reads};
 use crate::objects::{hoard, refresh};
-use crate::queues::{drain, sync_once};
+use crate::queues::{drain, sync};
 use crate::runs::run;
 use crate::transactions::{begin_aloud, end, step_aloud};
 use iot_disk::Disk;
@@ -102,7 +102,10 @@ fn carry_out<D: Disk>(
         }
         Task::Step { count } => step_aloud(laptop, server, alloc, *count, out),
         Task::End => end(laptop, server, alloc, scripts, out),
-        Task::Sync => sync_once(laptop, server, alloc, scripts, out),
+        Task::Sync => {
+            let _synced = sync(laptop, server, alloc, scripts, out)?;
+            Ok(())
+        }
         Task::Drain => drain(laptop, server, alloc, scripts, out),
         Task::Repair { script } => repair(laptop, alloc, &scripts[*script as usize].name, out),
         Task::Discard => discard(laptop, alloc, out),

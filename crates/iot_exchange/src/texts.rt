@@ -1,9 +1,8 @@
 //! The lines of a client's transactions.
 ghost use Rattle.std.specs.Prelude.{◌≡◌, ◌++◌, OnOk};
 ghost use Rattle.iot_laptop.specs.Messages.{name_of, verdict_of};
-ghost use Rattle.iot_machine.specs.Texts.{hoard_line, refresh_line, begin_line, fetch_line, step_line, end_line, settled_line};
-ghost use Rattle.iot_machine.specs.Texts.{conflict_line, question_text, abort_line, manual_line, resolve_line, repair_line, discard_line};
-ghost use Rattle.iot_machine.specs.Texts.{pending_line, transaction_name};
+ghost use Rattle.iot_machine.specs.Texts.{hoard_line, refresh_line, begin_line, fetch_line, step_line, settled_line};
+ghost use Rattle.iot_machine.specs.Texts.{line, conflict_line, question_text, resolve_line, repair_line, pending_line};
 ghost use Rattle.iot_exchange.specs.Saying.{place_said, resolver_said, told_text};
 
 use iot_laptop::{Told, Verdict};
@@ -40,7 +39,7 @@ pub(crate) fn say_begin(
     out: &mut Text,
 ) -> Result<(), NoMemory>
     ensures { OnOk result (out.new ≡ out.old
-        ++ begin_line (transaction_name transaction.now.client transaction.now.number) script.now first) }
+        ++ begin_line (name_of transaction.now) script.now first) }
 {
     out.append(b"begin ")?;
     transaction.write_to(out)?;
@@ -66,7 +65,7 @@ pub(crate) fn say_step(
     out: &mut Text,
 ) -> Result<(), NoMemory>
     ensures { OnOk result (out.new ≡ out.old
-        ++ step_line (transaction_name transaction.now.client transaction.now.number) acts (place_said at_end acts)) }
+        ++ step_line (name_of transaction.now) acts (place_said at_end acts)) }
 {
     out.append(b"step ")?;
     transaction.write_to(out)?;
@@ -89,11 +88,11 @@ fn say_place(acts: u64, at_end: bool, out: &mut Text) -> Result<(), NoMemory>
     Ok(())
 }
 
-/// `end TID`
-pub(crate) fn say_end(transaction: &Transaction, out: &mut Text) -> Result<(), NoMemory>
-    ensures { OnOk result (out.new ≡ out.old ++ end_line (transaction_name transaction.now.client transaction.now.number)) }
+/// This word of a transaction, as `end TID`.
+pub(crate) fn say_of(word: &[u8], transaction: &Transaction, out: &mut Text) -> Result<(), NoMemory>
+    ensures { OnOk result (out.new ≡ out.old ++ line (word.now ++ name_of transaction.now)) }
 {
-    out.append(b"end ")?;
+    out.append(word)?;
     transaction.write_to(out)?;
     out.push(b'\n')
 }
@@ -105,7 +104,7 @@ pub(crate) fn say_told(
     out: &mut Text,
 ) -> Result<(), NoMemory>
     ensures { OnOk result (out.new ≡ out.old
-        ++ told_text (transaction_name transaction.now.client transaction.now.number) (verdict_of told.now.verdict) told.now.option) }
+        ++ told_text (name_of transaction.now) (verdict_of told.now.verdict) told.now.option) }
 {
     match &told.verdict {
         Verdict::Settled { number } => say_settled(transaction, *number, out),
@@ -113,8 +112,8 @@ pub(crate) fn say_told(
             say_conflict(transaction, *read, question, out)?;
             match told.option {
                 OnConflict::Reexec | OnConflict::Resolver(_) => Ok(()),
-                OnConflict::Abort => say_abort(transaction, out),
-                OnConflict::Manual => say_manual(transaction, out),
+                OnConflict::Abort => say_of(b"abort ", transaction, out),
+                OnConflict::Manual => say_of(b"manual ", transaction, out),
             }
         }
     }
@@ -122,7 +121,7 @@ pub(crate) fn say_told(
 
 /// `settled TID N`
 fn say_settled(transaction: &Transaction, number: u64, out: &mut Text) -> Result<(), NoMemory>
-    ensures { OnOk result (out.new ≡ out.old ++ settled_line (transaction_name transaction.now.client transaction.now.number) number) }
+    ensures { OnOk result (out.new ≡ out.old ++ settled_line (name_of transaction.now) number) }
 {
     out.append(b"settled ")?;
     transaction.write_to(out)?;
@@ -139,7 +138,7 @@ fn say_conflict(
     out: &mut Text,
 ) -> Result<(), NoMemory>
     ensures { OnOk result (out.new ≡ out.old
-        ++ conflict_line (transaction_name transaction.now.client transaction.now.number) read question.now) }
+        ++ conflict_line (name_of transaction.now) read question.now) }
 {
     out.append(b"conflict ")?;
     transaction.write_to(out)?;
@@ -169,24 +168,6 @@ fn say_question(question: &Question, out: &mut Text) -> Result<(), NoMemory>
     }
 }
 
-/// `abort TID`
-fn say_abort(transaction: &Transaction, out: &mut Text) -> Result<(), NoMemory>
-    ensures { OnOk result (out.new ≡ out.old ++ abort_line (transaction_name transaction.now.client transaction.now.number)) }
-{
-    out.append(b"abort ")?;
-    transaction.write_to(out)?;
-    out.push(b'\n')
-}
-
-/// `manual TID`
-pub(crate) fn say_manual(transaction: &Transaction, out: &mut Text) -> Result<(), NoMemory>
-    ensures { OnOk result (out.new ≡ out.old ++ manual_line (transaction_name transaction.now.client transaction.now.number)) }
-{
-    out.append(b"manual ")?;
-    transaction.write_to(out)?;
-    out.push(b'\n')
-}
-
 /// `resolve TID S`, or `resolve TID reexec`
 pub(crate) fn say_resolve(
     transaction: &Transaction,
@@ -194,7 +175,7 @@ pub(crate) fn say_resolve(
     out: &mut Text,
 ) -> Result<(), NoMemory>
     ensures { OnOk result (out.new ≡ out.old
-        ++ resolve_line (transaction_name transaction.now.client transaction.now.number) (resolver_said plan.now)) }
+        ++ resolve_line (name_of transaction.now) (resolver_said plan.now)) }
 {
     out.append(b"resolve ")?;
     transaction.write_to(out)?;
@@ -221,7 +202,7 @@ pub(crate) fn say_repair(
     out: &mut Text,
 ) -> Result<(), NoMemory>
     ensures { OnOk result (out.new ≡ out.old
-        ++ repair_line (transaction_name transaction.now.client transaction.now.number) script.now) }
+        ++ repair_line (name_of transaction.now) script.now) }
 {
     out.append(b"repair ")?;
     transaction.write_to(out)?;
@@ -230,21 +211,10 @@ pub(crate) fn say_repair(
     out.push(b'\n')
 }
 
-/// `discard TID`
-pub(crate) fn say_discard(transaction: &Transaction, out: &mut Text) -> Result<(), NoMemory>
-    ensures { OnOk result (out.new ≡ out.old ++ discard_line (transaction_name transaction.now.client transaction.now.number)) }
-{
-    out.append(b"discard ")?;
-    transaction.write_to(out)?;
-    out.push(b'\n')
-}
-
 /// `pending TID`, and what it printed.
 pub(crate) fn say_pending(printed: &Printed, out: &mut Text) -> Result<(), NoMemory>
     ensures { OnOk result (out.new ≡ out.old ++ (pending_line (name_of printed.now.transaction) ++ printed.now.output)) }
 {
-    out.append(b"pending ")?;
-    printed.transaction.write_to(out)?;
-    out.push(b'\n')?;
+    say_of(b"pending ", &printed.transaction, out)?;
     out.append_text(&printed.output)
 }

@@ -16,7 +16,7 @@ use crate::declared::DeclaredScript;
 use crate::objects::{bring, fetch};
 use crate::queues::sync;
 use crate::synced::Synced;
-use crate::texts::{say_begin, say_end, say_fetch, say_pending, say_step};
+use crate::texts::{say_begin, say_fetch, say_of, say_pending, say_step};
 use iot_client::Step;
 use iot_disk::Disk;
 use iot_laptop::Laptop;
@@ -227,7 +227,7 @@ pub(crate) fn end<D: Disk>(
         return Err(Halt::Over);
     }
     let gone = laptop.end(alloc, out)?;
-    say_end(&gone.printed.transaction, out)?;
+    say_of(b"end ", &gone.printed.transaction, out)?;
     if !gone.first {
         say_pending(&gone.printed, out)?;
         return Ok(());

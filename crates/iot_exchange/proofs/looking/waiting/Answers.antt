@@ -1,7 +1,7 @@
 use Rattle.std.proofs.Common.{◌-◌, List, slice_get, ap, ◌∙◌}
 use Rattle.iot_kept.specs.States.{State}
 use Rattle.iot_queue.specs.declared.items.Item.{Item}
-use Rattle.iot_exchange.proofs.LookingLaws.{lent_element}
+use Rattle.iot_exchange.proofs.TransactionsLaws.{lent_element}
 use Rattle.iot_exchange.proofs.looking.waiting.Goals as goal
 
 pub returns : goal.returns

@@ -1,4 +1,4 @@
-use Rattle.std.proofs.Common.{rules, tests, ◌∙◌, bytes_eq}
+use Rattle.std.proofs.Common.{rules, tests, bytes_eq}
 use Rattle.std.proofs.lemmas.Iterator.{YieldsList-from_slice}
 use Rattle.std.proofs.lemmas.Iterator.Search.{find_from_yields_List}
 use Rattle.std.proofs.lemmas.Result.{IfOk-weaker}
@@ -13,10 +13,8 @@ unreachable-requires c =
     c.in-None.is c.requires.declared
 
 pub returns-clause-code : goal.returns-clause-code
-returns-clause-code c =
-    IfOk-weaker c.shared.result _ _
-    (λ script same.
-    code_found c.args.scripts.now c.args.name.now c.find.result c.in-Some.declared script.value
+returns-clause-code c = IfOk-weaker c.shared.result _ _ (λ script same.
+    code_found c.args.scripts.now c.args.name.now c.find.result
     (find_from_yields_List (λ w. bytes_eq w.name c.args.name.now) _ _ _ c.find.ensures.ran
     (YieldsList-from_slice c.args.scripts.now c.iter.ensures.rest) (λ x b q k. search (rules, tests)))
     c.in-Some.is same)

@@ -1,45 +1,65 @@
-use Rattle.std.proofs.Common.{Result, sym, ap, subst, ◌∙◌, is_some}
-use Rattle.iot_laptop.specs.Laptops.{Stands}
-use Rattle.iot_exchange.specs.Pairs.{two}
-use Rattle.iot_exchange.proofs.ReadyLaws.{stands}
+use Rattle.std.proofs.Common.{◌++◌, ap, sym, ◌∙◌}
+use Rattle.std.proofs.lemmas.Option.{same_Some}
 use Rattle.iot_laptop.specs.Calls.{done}
-use Rattle.iot_exchange.proofs.SubmittingLaws.{brings_verdict, submits_away, submits_halts, submits_told}
+use Rattle.iot_laptop.specs.Messages.{name_of, told_change}
+use Rattle.iot_exchange.specs.Pairs.{two}
+use Rattle.iot_exchange.specs.Saying.{told_text, told_synced}
+use Rattle.iot_node.specs.declared.halt.Halt.TheVariants.{NoMemory}
+use Rattle.iot_exchange.proofs.DoesLaws.{notes, hands_on, then_says, stands, keeps_more, no_memory}
+use Rattle.iot_exchange.proofs.FirstLaws.{some_commit, submitted_head, verdict_came, submits_away, submits_told, synced_err}
 use Rattle.iot_exchange.proofs.queues.submit.Goals as goal
 
-pub settle-requires-clause-stands : goal.settle-requires-clause-stands
-settle-requires-clause-stands g c =
-    subst (λ laptop. Stands g.D.Disk.medium laptop) (sym (c.in_ok-reply.ensures.same (ap is_some c.in-Some.is)))
-    (stands g.D.Disk.medium (two c.args.laptop.now c.args.server.now) c.requires.ready)
+pub exchange-requires-clause-request : goal.exchange-requires-clause-request
+exchange-requires-clause-request g c =
+    some_commit (two c.args.laptop.now c.args.server.now) c.args.submitted c.requires.head c.requires.hands
 
-pub settle-requires-clause-told : goal.settle-requires-clause-told
-settle-requires-clause-told g c =
-    brings_verdict g.D.Disk.medium (two c.args.laptop.now c.args.server.now) c.args.transaction.now c.requires.head c.args.submitted
-    c.requires.hands (two c.exchange.new.laptop c.exchange.new.server) c.args.out.now c.exchange.new.out c.in_ok-reply.field-0
-    c.in_ok-reply.ensures.judges c.exchange.ensures.disks c.in-Some.reply c.in-Some.is
-    (c.in_ok-reply.ensures.same (ap is_some c.in-Some.is)) c.deref.result.now c.deref.ensures.value c.requires.ready
+pub settle-requires : goal.settle-requires
+settle-requires g c =
+    let same = rw c.in-Some.is at c.in_ok-reply.ensures.same in
+    let old = two c.args.laptop.now c.args.server.now in
+    record {
+      stands = rw same (stands c.requires.ready);
+      submitted = rw same (submitted_head old c.args.submitted c.requires.head c.requires.hands);
+      told = rw (same, c.deref.ensures.value)
+          (verdict_came old c.args.submitted c.requires.head c.requires.hands c.requires.ready
+          (rw c.in-Some.is at c.in_ok-reply.ensures.asked));
+    }
 
 pub returns-in_err-told-in-Some : goal.returns-in_err-told-in-Some
 returns-in_err-told-in-Some g c scripts =
-    submits_halts g.D.Disk.medium (two c.args.laptop.now c.args.server.now) c.args.transaction.now c.requires.head c.args.submitted
-    c.requires.hands (two c.exchange.new.laptop c.exchange.new.server) c.args.out.now c.exchange.new.out c.in_ok-reply.field-0
-    c.in_ok-reply.ensures.judges c.exchange.ensures.disks c.in-Some.reply c.in-Some.is
-    (c.in_ok-reply.ensures.same (ap is_some c.in-Some.is)) c.deref.result.now c.deref.ensures.value c.settle.new.self c.settle.new.out
-    (done c.settle.result) c.settle.ensures.does c.settle.ensures.place c.settle.ensures.disk scripts
-    c.from_residual-in_err-told-in-Some.result c.in_err-told-in-Some.field-0.0 (ap done c.in_err-told-in-Some.was)
-    c.from_residual-in_err-told-in-Some.ensures.1
+    let settles = rw (c.in_ok-reply.ensures.state, c.deref.ensures.value) at c.settle.ensures.does in
+    let asked = rw c.in-Some.is at (c.in_ok-reply.ensures.asked scripts) in
+    submits_told (two c.args.laptop.now c.args.server.now) c.args.submitted c.requires.head c.requires.hands
+    (keeps_more asked.disks c.settle.ensures.disk) asked (λ verdict option spells has.
+    hands_on (ap done c.in_err-told-in-Some.was)
+    (synced_err c.in_err-told-in-Some.field-0.0 _ c.from_residual-in_err-told-in-Some.ensures.1)
+    (notes (told_change verdict option) asked.disks c.settle.ensures.place
+    (settles verdict option spells has scripts) c.settle.ensures.disk))
 
 pub returns-in-Some : goal.returns-in-Some
 returns-in-Some g c scripts =
-    submits_told g.D.Disk.medium (two c.args.laptop.now c.args.server.now) c.args.transaction.now c.requires.head c.args.submitted
-    c.requires.hands (two c.exchange.new.laptop c.exchange.new.server) c.args.out.now c.exchange.new.out c.in_ok-reply.field-0
-    c.in_ok-reply.ensures.judges c.exchange.ensures.disks c.in-Some.reply c.in-Some.is
-    (c.in_ok-reply.ensures.same (ap is_some c.in-Some.is)) c.deref.result.now c.deref.ensures.value c.settle.new.self c.settle.new.out
-    (done c.settle.result) c.settle.ensures.does c.settle.ensures.place c.settle.ensures.disk scripts c.in_ok-told-in-Some.told
-    c.say_told.new.out _ (ap done c.in_ok-told-in-Some.was) c.in_ok-told-in-Some.ensures.told c.in_ok-say_told-in-Some.ensures
-    c.by.ensures
+    let settles = rw (c.in_ok-reply.ensures.state, c.deref.ensures.value) at c.settle.ensures.does in
+    let is_told = rw (rw c.in-Some.is at c.in_ok-reply.ensures.same, c.deref.ensures.value) at c.in_ok-told-in-Some.ensures.told in
+    let asked = rw c.in-Some.is at (c.in_ok-reply.ensures.asked scripts) in
+    submits_told (two c.args.laptop.now c.args.server.now) c.args.submitted c.requires.head c.requires.hands
+    (keeps_more asked.disks c.settle.ensures.disk) asked (λ verdict option spells has.
+    let which = is_told.verdict verdict spells in
+    let chosen = same_Some _ _ (sym is_told.option ∙ has) in
+    then_says (ap done c.in_ok-told-in-Some.was)
+    (notes (told_change verdict option) asked.disks c.settle.ensures.place
+    (settles verdict option spells has scripts) c.settle.ensures.disk)
+    (c.in_ok-say_told-in-Some.ensures ∙ (λ i. c.settle.new.out ++ told_text (name_of c.args.transaction.now) (which i) (chosen i)))
+    (c.by.ensures ∙ (λ i. told_synced (which i) (chosen i))))
 
 pub returns : goal.returns
-returns g c scripts =
-    submits_away g.D.Disk.medium (two c.args.laptop.now c.args.server.now) c.args.transaction.now c.requires.head c.args.submitted
-    c.requires.hands (two c.exchange.new.laptop c.exchange.new.server) c.args.out.now c.exchange.new.out c.in_ok-reply.field-0
-    c.in_ok-reply.ensures.judges c.exchange.ensures.disks scripts c.say.new.out c.in-None.is c.in_ok-say-in-None.ensures
+returns g c scripts = submits_away (two c.args.laptop.now c.args.server.now) c.args.submitted c.requires.head c.requires.hands
+    (rw c.in-None.is at (c.in_ok-reply.ensures.asked scripts)) c.in_ok-say-in-None.ensures
+
+pub returns-in_err-say_told-in-Some : goal.returns-in_err-say_told-in-Some
+returns-in_err-say_told-in-Some g c scripts =
+    no_memory (synced_err NoMemory _ c.from_residual-in_err-say_told-in-Some.ensures.1)
+    (keeps_more (c.in_ok-reply.ensures.asked scripts).disks c.settle.ensures.disk)
+
+pub returns-in_err-say-in-None : goal.returns-in_err-say-in-None
+returns-in_err-say-in-None g c scripts =
+    no_memory (synced_err NoMemory _ c.from_residual-in_err-say-in-None.ensures.1) (c.in_ok-reply.ensures.asked scripts).disks

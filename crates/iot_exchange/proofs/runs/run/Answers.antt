@@ -1,41 +1,34 @@
-use Rattle.iot_exchange.specs.Pairs.{two}
-use Rattle.iot_exchange.specs.Scripts.{script_of, scripts_of}
-use Rattle.iot_exchange.proofs.DoesLaws.{ready_after}
-use Rattle.iot_exchange.proofs.RunsLaws.{runs_busy, runs_offline, runs_halts, runs_synced}
+use Rattle.std.proofs.Common.{refl, sym, ◌∙◌}
+use Rattle.iot_machine.specs.Events.{runs_script}
+use Rattle.iot_exchange.specs.Scripts.{script_of}
+use Rattle.iot_exchange.proofs.DoesLaws.{asks_then, refuses, answers, goes_then, hands_on, ready_after, any_ready, keeps_same}
+use Rattle.iot_exchange.proofs.ExchangeLaws.{runs_here}
+use Rattle.iot_exchange.proofs.TasksLaws.{up_is}
 use Rattle.iot_exchange.proofs.runs.run.Goals as goal
 
 pub returns-then-runs : goal.returns-then-runs
-returns-then-runs g c option means =
-    runs_busy g.D.Disk.medium (scripts_of c.args.scripts.now) (script_of c.args.script.now) option (two c.args.laptop.now c.args.server.now)
-    c.args.out.now c.runs.result c.requires.ready c.say.new.out c.runs.ensures c.if-runs.true c.in_ok-say.ensures
+returns-then-runs g c option means = asks_then (runs_here (sym c.runs.ensures ∙ c.if-runs.true))
+    (refuses (keeps_same (any_ready c.requires.ready)) (λ names at pair here. c.in_ok-say.ensures))
 
 pub returns-then-not-is_connected : goal.returns-then-not-is_connected
 returns-then-not-is_connected g c option means =
-    runs_offline g.D.Disk.medium (scripts_of c.args.scripts.now) (script_of c.args.script.now) option
-    (two c.args.laptop.now c.args.server.now)
-    c.args.out.now c.runs.result c.requires.ready c.runs.ensures c.if-runs.false c.is_connected.result c.is_connected.ensures
-    (two c.run_script.new.laptop c.run_script.new.server) c.run_script.new.out c.if-not-is_connected.true c.run_script.result
-    (c.run_script.ensures option means)
+    asks_then (runs_here (sym c.runs.ensures ∙ c.if-runs.false))
+    (asks_then (up_is (sym c.is_connected.ensures ∙ c.if-not-is_connected.true))
+    (goes_then {next = λ _. runs_script (script_of c.args.script.now) option} refl
+    (answers (keeps_same (any_ready c.requires.ready))) (c.run_script.ensures option means)))
 
 pub returns-in_err-sync_all : goal.returns-in_err-sync_all
 returns-in_err-sync_all g c option means =
-    runs_halts g.D.Disk.medium (scripts_of c.args.scripts.now) (script_of c.args.script.now) option
-    (two c.args.laptop.now c.args.server.now)
-    c.args.out.now c.runs.result c.requires.ready c.runs.ensures c.if-runs.false c.is_connected.result c.is_connected.ensures
-    (two c.sync_all.new.laptop c.sync_all.new.server) c.sync_all.new.out c.if-not-is_connected.false c.sync_all.result _
-    c.in_err-sync_all.field-0.0 c.in_err-sync_all.was c.from_residual-in_err-sync_all.ensures.1 c.sync_all.ensures
+    asks_then (runs_here (sym c.runs.ensures ∙ c.if-runs.false))
+    (asks_then (up_is (sym c.is_connected.ensures ∙ c.if-not-is_connected.false))
+    (hands_on c.in_err-sync_all.was c.from_residual-in_err-sync_all.ensures.1 c.sync_all.ensures))
 
 pub run_script-requires-2-clause-ready : goal.run_script-requires-2-clause-ready
-run_script-requires-2-clause-ready g c =
-    ready_after g.D.Disk.medium (scripts_of c.args.scripts.now) (two c.args.laptop.now c.args.server.now)
-    (two c.sync_all.new.laptop c.sync_all.new.server)
-    c.args.out.now c.sync_all.new.out tt c.sync_all.result c.in_ok-sync_all.was c.sync_all.ensures c.requires.ready
+run_script-requires-2-clause-ready g c = ready_after c.in_ok-sync_all.was c.sync_all.ensures c.requires.ready
 
 pub returns : goal.returns
 returns g c option means =
-    runs_synced g.D.Disk.medium (scripts_of c.args.scripts.now) (script_of c.args.script.now) option
-    (two c.args.laptop.now c.args.server.now)
-    c.args.out.now c.runs.result c.requires.ready c.runs.ensures c.if-runs.false c.is_connected.result c.is_connected.ensures
-    (two c.run_script-2.new.laptop c.run_script-2.new.server) c.run_script-2.new.out c.if-not-is_connected.false
-    (two c.sync_all.new.laptop c.sync_all.new.server) c.sync_all.new.out c.sync_all.result c.run_script-2.result c.in_ok-sync_all.was
-    c.sync_all.ensures (c.run_script-2.ensures option means)
+    asks_then (runs_here (sym c.runs.ensures ∙ c.if-runs.false))
+    (asks_then (up_is (sym c.is_connected.ensures ∙ c.if-not-is_connected.false))
+    (goes_then {next = λ _. runs_script (script_of c.args.script.now) option} c.in_ok-sync_all.was c.sync_all.ensures
+    (c.run_script-2.ensures option means)))

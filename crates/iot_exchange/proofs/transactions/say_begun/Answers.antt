@@ -8,7 +8,7 @@ use Rattle.iot_exchange.proofs.transactions.say_begun.Goals as goal
 
 pub returns-in_ok-say_begin-in-Some : goal.returns-in_ok-say_begin-in-Some
 returns-in_ok-say_begin-in-Some g c scripts pair here =
-    begun_said g.D.Disk.medium scripts c.args.laptop.now pair.client here c.args.out.now c.say_begin.new.out _
+    begun_said here c.args.out.now c.say_begin.new.out _
     (sym c.running.ensures.running ∙ ap (λ o. transaction_of (option_copied o)) c.in-Some.is) c.in-Some.running.now.first
     (sym c.running.ensures.class ∙ ap (λ o. class_of (option_copied o)) c.in-Some.is)
     (c.in_ok-say_begin-in-Some.ensures
@@ -17,6 +17,5 @@ returns-in_ok-say_begin-in-Some g c scripts pair here =
     c.transaction-transaction.ensures)
 
 pub returns-in-None : goal.returns-in-None
-returns-in-None g c scripts pair here =
-    none_said g.D.Disk.medium scripts c.args.laptop.now pair.client here c.args.out.now c.args.out.now _
+returns-in-None g c scripts pair here = none_said here c.args.out.now c.args.out.now _
     (sym c.running.ensures.running ∙ ap (λ o. transaction_of (option_copied o)) c.in-None.is) refl

@@ -1,127 +1,88 @@
-use Rattle.std.proofs.Common.{Ok, ap, sym, subst, ◌∙◌}
-use Rattle.iot_client.specs.Messages.{IsRefresh}
+use Rattle.std.proofs.Common.{Ok, refl, ap, sym, ◌∙◌}
 use Rattle.iot_client.specs.declared.steps.Step.{Step}
-use Rattle.iot_laptop.specs.Laptops.{state_in, IsFirst}
-use Rattle.iot_laptop.specs.declared.laptop.Laptop.{Laptop}
+use Rattle.iot_machine.specs.Clients.{act_once}
+use Rattle.iot_machine.specs.Transactions.{fetched, step_of}
 use Rattle.iot_tree.specs.declared.want.Want.TheVariants as wanted
-use Rattle.iot_exchange.specs.Pairs.{two}
-use Rattle.iot_exchange.proofs.DoesLaws.{no_memory}
-use Rattle.iot_exchange.proofs.ReadyLaws.{has_disk, keeps_same, keeps_client, keeps_then, ready_as}
-use Rattle.iot_exchange.proofs.TransactionsLaws.{no_step, step_acted, step_at_end, step_at_limit, step_halted, asked, fetch_halted}
-use Rattle.iot_exchange.proofs.TransactionsLaws.{fetch_quiet, fetch_loud}
+use Rattle.iot_exchange.proofs.DoesLaws.{asks_then, answers, goes_then, hands_on, then_answers, notes, no_memory, stands, low, keeps_same}
+use Rattle.iot_exchange.proofs.DoesLaws.{keeps_more, keeps_then}
+use Rattle.iot_exchange.proofs.TransactionsLaws.{none_runs, steps_by, step_halted, does_as, fetched_quiet, fetched_loud}
 use Rattle.iot_exchange.proofs.transactions.step.Goals as goal
 
 pub returns-then-not-runs : goal.returns-then-not-runs
-returns-then-not-runs g c scripts =
-    let u = two c.args.laptop.now c.args.server.now in
-    no_step g.D.Disk.medium scripts c.args.loud u c.args.out.now (sym c.runs.ensures ∙ c.if-not-runs.true)
-    (keeps_same g.D.Disk.medium u c.requires)
+returns-then-not-runs g c scripts = asks_then {next = step_of c.args.loud} (none_runs (sym c.runs.ensures ∙ c.if-not-runs.true))
+    (answers (keeps_same c.requires))
+
+pub step-requires : goal.step-requires
+step-requires g c = record {
+  stands = stands c.requires;
+  place = low c.requires;
+  runs = sym c.runs.ensures ∙ c.if-not-runs.false;
+}
 
 pub returns-in_err-step : goal.returns-in_err-step
 returns-in_err-step g c scripts =
-    let u = two c.args.laptop.now c.args.server.now in
-    step_halted g.D.Disk.medium scripts c.args.loud c.args.laptop.now c.step.new.self c.args.server.now c.args.out.now c.step.new.out
-    c.step.result (sym c.runs.ensures ∙ c.if-not-runs.false) c.step.ensures.next c.step.ensures.does _
-    c.in_err-step.field-0.0 c.in_err-step.was c.from_residual.ensures.1 c.step.ensures.place (has_disk g.D.Disk.medium u c.requires)
-    c.step.ensures.disk (keeps_client g.D.Disk.medium u c.requires c.step.new.self c.step.ensures.disk)
+    step_halted c.args.loud c.in_err-step.was (sym c.runs.ensures ∙ c.if-not-runs.false) c.step.ensures.next
+    c.from_residual.ensures.1 (keeps_same c.requires) c.step.ensures.place c.step.ensures.does c.step.ensures.disk
 
 pub returns-in-Acted : goal.returns-in-Acted
 returns-in-Acted g c scripts =
-    step_acted g.D.Disk.medium scripts c.args.loud c.args.laptop.now c.step.new.self c.args.server.now c.args.out.now c.step.new.out
-    c.step.result (sym c.runs.ensures ∙ c.if-not-runs.false) c.step.ensures.next c.step.ensures.does c.in-Acted.acts c.in-Acted.ended
-    (c.in_ok-step.was ∙ ap (λ (s : Step). Ok s) c.in-Acted.is) c.step.ensures.place
-    (has_disk g.D.Disk.medium (two c.args.laptop.now c.args.server.now) c.requires) c.step.ensures.disk
+    let was = c.in_ok-step.was ∙ ap (λ (s : Step). Ok s) c.in-Acted.is in
+    steps_by c.args.loud (sym c.runs.ensures ∙ c.if-not-runs.false) (rw was at c.step.ensures.next)
+    (then_answers refl refl
+    (notes act_once (keeps_same c.requires) c.step.ensures.place ((rw was at c.step.ensures.does) scripts) c.step.ensures.disk))
 
 pub returns-in-AtEnd : goal.returns-in-AtEnd
 returns-in-AtEnd g c scripts =
-    step_at_end g.D.Disk.medium scripts c.args.loud c.args.laptop.now c.step.new.self c.args.server.now c.args.out.now c.step.new.out
-    c.step.result (sym c.runs.ensures ∙ c.if-not-runs.false) c.step.ensures.next c.step.ensures.does c.in-AtEnd.acts
-    (c.in_ok-step.was ∙ ap (λ (s : Step). Ok s) c.in-AtEnd.is)
-    (keeps_same g.D.Disk.medium (two c.args.laptop.now c.args.server.now) c.requires)
+    let was = c.in_ok-step.was ∙ ap (λ (s : Step). Ok s) c.in-AtEnd.is in
+    let same = rw was at c.step.ensures.does in
+    steps_by c.args.loud (sym c.runs.ensures ∙ c.if-not-runs.false) (rw was at c.step.ensures.next)
+    (rw (same.0, same.1) (answers (keeps_same c.requires)))
 
 pub returns-in-AtLimit : goal.returns-in-AtLimit
 returns-in-AtLimit g c scripts =
-    step_at_limit g.D.Disk.medium scripts c.args.loud c.args.laptop.now c.step.new.self c.args.server.now c.args.out.now c.step.new.out
-    c.step.result (sym c.runs.ensures ∙ c.if-not-runs.false) c.step.ensures.next c.step.ensures.does c.in-AtLimit.acts
-    (c.in_ok-step.was ∙ ap (λ (s : Step). Ok s) c.in-AtLimit.is)
-    (keeps_same g.D.Disk.medium (two c.args.laptop.now c.args.server.now) c.requires)
+    let was = c.in_ok-step.was ∙ ap (λ (s : Step). Ok s) c.in-AtLimit.is in
+    let same = rw was at c.step.ensures.does in
+    steps_by c.args.loud (sym c.runs.ensures ∙ c.if-not-runs.false) (rw was at c.step.ensures.next)
+    (rw (same.0, same.1) (answers (keeps_same c.requires)))
 
 pub fetch-requires : goal.fetch-requires
 fetch-requires g c =
-    let scripts = c.requires.scripts in
-    let asks = asked g.D.Disk.medium scripts c.args.loud c.args.laptop.now c.step.new.self c.args.server.now c.args.out.now c.step.new.out
-    c.step.result (sym c.runs.ensures ∙ c.if-not-runs.false) c.step.ensures.next c.step.ensures.does
-    c.in-Fetch.request c.in-Fetch.path
-    (c.in_ok-step.was ∙ ap (λ (s : Step). Ok s) c.in-Fetch.is) in
+    let asks = rw (c.in_ok-step.was ∙ ap (λ (s : Step). Ok s) c.in-Fetch.is) at c.step.ensures.does in
     record {
-      ready = ready_as g.D.Disk.medium c.args.laptop.now c.step.new.self c.args.server.now asks.0 c.requires;
-      first = subst (λ (l : Laptop g.row.D.Denot). IsFirst l) (sym asks.0) asks.3;
-      asked = record {
-        want = wanted.Path c.in-Fetch.path;
-        is = subst (λ (l : Laptop g.row.D.Denot). IsRefresh l.place (state_in l).held (wanted.Path c.in-Fetch.path) c.in-Fetch.request)
-            (sym asks.0) asks.2;
-      };
+      ready = rw asks.0 c.requires;
+      first = rw asks.0 asks.3;
+      asked = record { want = wanted.Path c.in-Fetch.path; is = rw asks.0 asks.2 };
     }
 
 pub returns-in_err-came-in-Fetch : goal.returns-in_err-came-in-Fetch
 returns-in_err-came-in-Fetch g c scripts =
-    let asks = asked g.D.Disk.medium scripts c.args.loud c.args.laptop.now c.step.new.self c.args.server.now c.args.out.now c.step.new.out
-    c.step.result (sym c.runs.ensures ∙ c.if-not-runs.false) c.step.ensures.next c.step.ensures.does
-    c.in-Fetch.request c.in-Fetch.path
-    (c.in_ok-step.was ∙ ap (λ (s : Step). Ok s) c.in-Fetch.is) in
-    fetch_halted g.D.Disk.medium scripts c.args.loud c.args.laptop.now c.step.new.self c.args.server.now c.args.out.now c.step.new.out
-    c.step.result (sym c.runs.ensures ∙ c.if-not-runs.false) c.step.ensures.next c.step.ensures.does
-    c.in-Fetch.request c.in-Fetch.path
-    (c.in_ok-step.was ∙ ap (λ (s : Step). Ok s) c.in-Fetch.is)
-    (two c.fetch.new.laptop c.fetch.new.server) c.fetch.new.out c.fetch.result _ c.in_err-came-in-Fetch.field-0.0 c.in_err-came-in-Fetch.was
-    c.from_residual-in_err-came-in-Fetch.ensures.1
-    (c.fetch.ensures (wanted.Path c.in-Fetch.path)
-    (subst (λ (l : Laptop g.row.D.Denot). IsRefresh l.place (state_in l).held (wanted.Path c.in-Fetch.path) c.in-Fetch.request)
-    (sym asks.0) asks.2) scripts)
+    let was = c.in_ok-step.was ∙ ap (λ (s : Step). Ok s) c.in-Fetch.is in
+    let asks = rw was at c.step.ensures.does in
+    steps_by c.args.loud (sym c.runs.ensures ∙ c.if-not-runs.false) (rw was at c.step.ensures.next)
+    (does_as asks.0 asks.1 (hands_on c.in_err-came-in-Fetch.was c.from_residual-in_err-came-in-Fetch.ensures.1
+    (c.fetch.ensures (wanted.Path c.in-Fetch.path) (rw asks.0 asks.2) scripts)))
 
 pub returns-then-not-loud : goal.returns-then-not-loud
 returns-then-not-loud g c scripts =
-    let asks = asked g.D.Disk.medium scripts c.args.loud c.args.laptop.now c.step.new.self c.args.server.now c.args.out.now c.step.new.out
-    c.step.result (sym c.runs.ensures ∙ c.if-not-runs.false) c.step.ensures.next c.step.ensures.does
-    c.in-Fetch.request c.in-Fetch.path
-    (c.in_ok-step.was ∙ ap (λ (s : Step). Ok s) c.in-Fetch.is) in
-    fetch_quiet g.D.Disk.medium scripts c.args.loud c.args.laptop.now c.step.new.self c.args.server.now c.args.out.now c.step.new.out
-    c.step.result (sym c.runs.ensures ∙ c.if-not-runs.false) c.step.ensures.next c.step.ensures.does
-    c.in-Fetch.request c.in-Fetch.path
-    (c.in_ok-step.was ∙ ap (λ (s : Step). Ok s) c.in-Fetch.is)
-    (two c.fetch.new.laptop c.fetch.new.server) c.fetch.new.out c.in_ok-came-in-Fetch.came c.fetch.result c.in_ok-came-in-Fetch.was
-    (c.fetch.ensures (wanted.Path c.in-Fetch.path)
-    (subst (λ (l : Laptop g.row.D.Denot). IsRefresh l.place (state_in l).held (wanted.Path c.in-Fetch.path) c.in-Fetch.request)
-    (sym asks.0) asks.2) scripts)
-    c.if-not-loud.true
+    let was = c.in_ok-step.was ∙ ap (λ (s : Step). Ok s) c.in-Fetch.is in
+    let asks = rw was at c.step.ensures.does in
+    let does = c.fetch.ensures (wanted.Path c.in-Fetch.path) (rw asks.0 asks.2) scripts in
+    steps_by c.args.loud (sym c.runs.ensures ∙ c.if-not-runs.false) (rw was at c.step.ensures.next)
+    (does_as asks.0 asks.1 (goes_then {next = fetched c.args.loud c.in-Fetch.path} c.in_ok-came-in-Fetch.was does
+    (fetched_quiet c.in-Fetch.path c.in_ok-came-in-Fetch.came does.disks c.if-not-loud.true)))
 
 pub returns-in_ok-say_fetch-in-Fetch : goal.returns-in_ok-say_fetch-in-Fetch
 returns-in_ok-say_fetch-in-Fetch g c scripts =
-    let asks = asked g.D.Disk.medium scripts c.args.loud c.args.laptop.now c.step.new.self c.args.server.now c.args.out.now c.step.new.out
-    c.step.result (sym c.runs.ensures ∙ c.if-not-runs.false) c.step.ensures.next c.step.ensures.does
-    c.in-Fetch.request c.in-Fetch.path
-    (c.in_ok-step.was ∙ ap (λ (s : Step). Ok s) c.in-Fetch.is) in
-    fetch_loud g.D.Disk.medium scripts c.args.loud c.args.laptop.now c.step.new.self c.args.server.now c.args.out.now c.step.new.out
-    c.step.result (sym c.runs.ensures ∙ c.if-not-runs.false) c.step.ensures.next c.step.ensures.does
-    c.in-Fetch.request c.in-Fetch.path
-    (c.in_ok-step.was ∙ ap (λ (s : Step). Ok s) c.in-Fetch.is)
-    (two c.fetch.new.laptop c.fetch.new.server) c.fetch.new.out c.in_ok-came-in-Fetch.came c.fetch.result c.in_ok-came-in-Fetch.was
-    (c.fetch.ensures (wanted.Path c.in-Fetch.path)
-    (subst (λ (l : Laptop g.row.D.Denot). IsRefresh l.place (state_in l).held (wanted.Path c.in-Fetch.path) c.in-Fetch.request)
-    (sym asks.0) asks.2) scripts)
-    c.say_fetch.new.out c.if-not-loud.false c.in_ok-say_fetch-in-Fetch.ensures
+    let was = c.in_ok-step.was ∙ ap (λ (s : Step). Ok s) c.in-Fetch.is in
+    let asks = rw was at c.step.ensures.does in
+    let does = c.fetch.ensures (wanted.Path c.in-Fetch.path) (rw asks.0 asks.2) scripts in
+    steps_by c.args.loud (sym c.runs.ensures ∙ c.if-not-runs.false) (rw was at c.step.ensures.next)
+    (does_as asks.0 asks.1 (goes_then {next = fetched c.args.loud c.in-Fetch.path} c.in_ok-came-in-Fetch.was does
+    (fetched_loud c.in-Fetch.path c.in_ok-came-in-Fetch.came does.disks c.if-not-loud.false c.in_ok-say_fetch-in-Fetch.ensures)))
 
 pub returns-in_err-say_fetch-in-Fetch : goal.returns-in_err-say_fetch-in-Fetch
 returns-in_err-say_fetch-in-Fetch g c scripts =
-    let asks = asked g.D.Disk.medium scripts c.args.loud c.args.laptop.now c.step.new.self c.args.server.now c.args.out.now c.step.new.out
-    c.step.result (sym c.runs.ensures ∙ c.if-not-runs.false) c.step.ensures.next c.step.ensures.does
-    c.in-Fetch.request c.in-Fetch.path
-    (c.in_ok-step.was ∙ ap (λ (s : Step). Ok s) c.in-Fetch.is) in
-    let u = two c.args.laptop.now c.args.server.now in
-    let v = two c.step.new.self c.args.server.now in
-    let w = two c.fetch.new.laptop c.fetch.new.server in
-    no_memory g.D.Disk.medium scripts u w c.args.out.now c.say_fetch.new.out _ c.from_residual-in_err-say_fetch-in-Fetch.ensures.1
-    (keeps_then g.D.Disk.medium u v w (keeps_client g.D.Disk.medium u c.requires c.step.new.self c.step.ensures.disk)
-    (c.fetch.ensures (wanted.Path c.in-Fetch.path)
-    (subst (λ (l : Laptop g.row.D.Denot). IsRefresh l.place (state_in l).held (wanted.Path c.in-Fetch.path) c.in-Fetch.request)
-    (sym asks.0) asks.2) scripts).disks)
+    let asks = rw (c.in_ok-step.was ∙ ap (λ (s : Step). Ok s) c.in-Fetch.is) at c.step.ensures.does in
+    no_memory c.from_residual-in_err-say_fetch-in-Fetch.ensures.1
+    (keeps_then (keeps_more (keeps_same c.requires) c.step.ensures.disk)
+    (c.fetch.ensures (wanted.Path c.in-Fetch.path) (rw asks.0 asks.2) scripts).disks)

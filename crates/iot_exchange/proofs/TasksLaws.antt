@@ -1,0 +1,138 @@
+-- A task of a client, alive or down, is one of the machine, and so are all syncs together.
+use Rattle.std.proofs.Common.{◌≡◌, ℕ, suc, ◌*◌, ◌&&◌, not, is_some, Bool, List, [], ◌∷◌, ◌++◌, length, Result, sym, ap, subst, ◌∙◌, arith}
+use Rattle.std.proofs.Common.{codes, refl, length-append, true, false, Option, Ok, Err}
+use Rattle.std.proofs.lemmas.List.{append-nil}
+use Rattle.iot_tree.specs.Tree.{Nodes}
+use Rattle.iot_acts.specs.Traces.{after_acts}
+use Rattle.iot_queue.specs.declared.items.Item.{Item}
+use Rattle.iot_disk.specs.Disk.{Medium}
+use Rattle.iot_machine.specs.Calls.{Repeats, or_text, Try, Whole}
+use Rattle.iot_machine.specs.Clients.{Declared}
+use Rattle.iot_machine.specs.Clients as clients
+use Rattle.iot_machine.specs.Events.{is_drained, Drains, IfUp}
+use Rattle.iot_machine.specs.Texts.{line}
+use Rattle.iot_machine.specs.Transactions.{pends, runs, SyncsAll}
+use Rattle.iot_machine.specs.Machine.{Client, Pair}
+use Rattle.iot_node.specs.declared.halt.Halt.{Halt}
+use Rattle.iot_node.specs.Steps.{StepsTo}
+use Rattle.iot_node.specs.declared.halt.Halt.TheVariants.{Over}
+use Rattle.iot_node.proofs.StepsToLaws as calls
+use Rattle.iot_laptop.specs.Kept.{ItemsStand}
+use Rattle.iot_laptop.specs.Laptops.{is_alive, state_in, waits_of, ClientStands, awake, fallen}
+use Rattle.iot_laptop.proofs.LaptopsLaws.{runs_is, waits_is}
+use Rattle.iot_laptop.proofs.NodesLaws.{is_awake, is_down, awake_stands}
+use Rattle.iot_laptop.specs.declared.laptop.Laptop.{Laptop}
+use Rattle.iot_exchange.specs.Pairs.{Both, Does, UpStands, AnyStands, IsReadyWith, IsStandingWith}
+use Rattle.iot_exchange.specs.Queues.{SyncsNext, DrainsQuietly}
+use Rattle.iot_exchange.proofs.DoesLaws.{OfEach, asks_then, at_as, still}
+use Rattle.iot_exchange.proofs.StepsLaws.{or_says, Steps, at_each, at_one, joined, bind, asks}
+
+items_long : (items : List Item) (t : Nodes) (ms : List clients.Item) → ItemsStand items t ms → length items ≡ length ms
+items_long [] t [] stand = refl
+items_long [] t (m ∷ ms) stand = absurd stand
+items_long (item ∷ items) t [] stand = absurd stand
+items_long (item ∷ items) t (m ∷ ms) stand = ap suc (items_long items (after_acts t item.acts) ms stand.1)
+
+-- ---- a text if nothing was said
+
+if_silent : (other x z w : List ℕ) → length z ≡ length x → w ≡ z ++ other → (text : List ℕ) → z ≡ x ++ text → w ≡ x ++ or_text other text
+if_silent other x z w same wrote [] is = wrote ∙ ap (λ (l : List ℕ). l ++ other) (is ∙ append-nil x)
+if_silent other x z w same wrote (byte ∷ bytes) is =
+    let long = ap length is in absurd (omega (arith, same, long, length-append x (byte ∷ bytes)))
+
+if_spoken : (other x z : List ℕ) → (length z ≡ length x → ⊥) → (text : List ℕ) → z ≡ x ++ text → z ≡ x ++ or_text other text
+if_spoken other x z longer [] is = absurd (longer (ap length (is ∙ append-nil x)))
+if_spoken other x z longer (byte ∷ bytes) is = is
+
+module _ {D : Type 0} {medium : Medium D} {scripts : List Declared} {u v : Both D} {x z : List ℕ} {result : Result (Unit {0}) Halt}
+    (it : Does medium scripts DrainsQuietly u v x z result) where
+  pub drains_silent : {w : List ℕ} → length z ≡ length x → w ≡ z ++ line (codes "nothing") → Does medium scripts Drains u v x w result
+  drains_silent {w} same wrote = record {
+    step = λ names c. or_says (if_silent (line (codes "nothing")) x z w same wrote) (it.step names c);
+    disks = it.disks;
+  }
+
+  pub drains_spoken : (length z ≡ length x → ⊥) → Does medium scripts Drains u v x z result
+  drains_spoken longer = record {
+    step = λ names c. or_says (if_spoken (line (codes "nothing")) x z longer) (it.step names c);
+    disks = it.disks;
+  }
+
+-- ---- what a client knows of its pair
+
+module _ {D : Type 0} {medium : Medium D} {scripts : List Declared} {u : Both D} {b : Bool} where
+  pub up_is : u.laptop.link.up ≡ b → OfEach medium scripts u (λ pair. b ≡ pair.client.link.up)
+  up_is is names c pair here = sym is ∙ ap (λ link. link.up) here.client.is.link
+
+  pub drained_is : (is_alive u.laptop && not (waits_of (state_in u.laptop).items) && not (is_some (state_in u.laptop).running)
+      && u.laptop.link.up) ≡ b → OfEach medium scripts u (λ pair. b ≡ is_drained pair)
+  drained_is is names c pair here =
+      let it = here.client.is in
+      let alive = is_awake medium scripts u.laptop pair.client it in
+      let waits : waits_of (state_in u.laptop).items ≡ pends pair = waits_is _ _ _ _ it.state in
+      let does_run : is_some (state_in u.laptop).running ≡ runs pair = runs_is _ _ _ _ it.state in
+      sym is ∙ (λ i. alive i && not (waits i) && not (does_run i) && (it.link i).up)
+
+-- ---- all of them
+
+pub all_by : {D : Type 0} {medium : Medium D} {scripts : List Declared} {u w : Both D} {x z : List ℕ} {most : ℕ}
+    {result : Result (Unit {0}) Halt} → most ≡ 3 * length (state_in u.laptop).items
+    → Does medium scripts (Repeats most SyncsNext) u w x z result → Does medium scripts SyncsAll u w x z result
+all_by {medium = medium} {scripts} {u} {w} {x} {z} {result = result} is it =
+    asks_then {next = λ n. Repeats (3 * n) SyncsNext} (λ names c pair here. items_long _ _ _ here.client.is.state.items)
+    (subst (λ (n : ℕ). Does medium scripts (Repeats n SyncsNext) u w x z result) is it)
+
+alive_is : {D : Type 0} {medium : Medium D} {scripts : List Declared} {laptop : Laptop D} {m : Client}
+    → ClientStands medium scripts laptop m → is_alive laptop ≡ m.node.alive
+alive_is {medium = medium} {scripts} {laptop} {m} (awake here) = is_awake medium scripts laptop m here ∙ sym here.alive
+alive_is {medium = medium} {scripts} {laptop} {m} (fallen here) = is_down medium scripts laptop m here ∙ sym here.alive
+
+whole : {W : Type 0} {P Q : W → Pair → Type 0} {call : Try Pair (Unit {0})} {o : Option (Unit {0})} {pair : Pair} {v : W} {x y : List ℕ}
+    → ((n : Pair) → P v n → Q v n) → Steps P call pair v x y o → Steps Q (Whole call) pair v x y tt
+whole {y = y} less it = joined it (record {
+  text = [];
+  next = it.next;
+  wrote = sym (append-nil y);
+  step = (refl, refl);
+  stands = less it.next it.stands;
+})
+
+module _ {D : Type 0} {medium : Medium D} {scripts : List Declared} {u : Both D} where
+  up_there : {names : List (List ℕ)} {c : ℕ} {pair : Pair} → is_alive u.laptop ≡ true → AnyStands medium scripts names c u pair
+      → UpStands medium scripts names c u pair
+  up_there {pair = pair} alive here = record {
+    place = here.place;
+    client = at_as here.client (awake_stands medium scripts u.laptop pair.client alive here.client.is) refl refl;
+    server = here.server;
+  }
+
+  pub ready_there : is_alive u.laptop ≡ true → IsStandingWith medium scripts u → IsReadyWith medium scripts u
+  ready_there alive it = record { names = it.names; c = it.c; pair = it.pair; stands = up_there alive it.stands }
+
+  module _ {call : Try Pair (Unit {0})} {x y : List ℕ} where
+    -- it says that it is down
+    pub says_down : is_alive u.laptop ≡ false → y ≡ x ++ line (codes "down") → (names : List (List ℕ)) (c : ℕ)
+        → StepsTo (AnyStands medium scripts names c) (AnyStands medium scripts names c) (IfUp call) u u x y tt
+    says_down down wrote names c =
+        bind {a = false} (asks (λ pair here. sym down ∙ alive_is here.client.is)) (calls.says u x y (λ pair here. wrote))
+
+    module _ {v : Both D} (names : List (List ℕ)) (c : ℕ) where
+      if_up : is_alive u.laptop ≡ true
+          → ((pair : Pair) → UpStands medium scripts names c u pair → Steps (AnyStands medium scripts names c) (Whole call) pair v x y tt)
+          → StepsTo (AnyStands medium scripts names c) (AnyStands medium scripts names c) (IfUp call) u v x y tt
+      if_up alive each = bind {a = true} (asks (λ pair here. sym alive ∙ alive_is here.client.is))
+          (at_each (λ pair here. each pair (up_there alive here)))
+
+    module _ {v : Both D} {inner : Result (Unit {0}) Halt} (alive : is_alive u.laptop ≡ true) (it : Does medium scripts call u v x y inner)
+        (names : List (List ℕ)) (c : ℕ) where
+      done_as : (r : Result (Unit {0}) Halt) → inner ≡ r → Does medium scripts call u v x y r
+      done_as r was = subst (λ (r : Result (Unit {0}) Halt). Does medium scripts call u v x y r) was it
+
+      pub all_done : inner ≡ Ok tt
+          → StepsTo (AnyStands medium scripts names c) (AnyStands medium scripts names c) (IfUp call) u v x y tt
+      all_done was =
+          if_up names c alive (λ pair here. whole (λ n here. still here) (at_one ((done_as (Ok tt) was).step names c).is here))
+
+      pub all_over : inner ≡ Err Over
+          → StepsTo (AnyStands medium scripts names c) (AnyStands medium scripts names c) (IfUp call) u v x y tt
+      all_over was = if_up names c alive (λ pair here. whole (λ n here. here) (at_one ((done_as (Err Over) was).step names c).is here))
