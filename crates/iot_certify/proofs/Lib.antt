@@ -2,4 +2,3 @@ pub mod ReadsLaws
 pub mod WalkLaws
 pub mod AccessLaws
 mod SilentLaws
-mod MadeLaws

@@ -7,7 +7,7 @@ use Rattle.iot_tree.specs.Questions.{answer_of}
 use Rattle.iot_tree.specs.declared.acts.Act.{Act}
 use Rattle.iot_tree.specs.declared.acts.Read.{Read}
 use Rattle.iot_tree.specs.declared.questions.Answer.{Answer}
-use Rattle.iot_acts.specs.Traces.{ReadsHold, FitsIfAny, ActsHold, after_update}
+use Rattle.iot_acts.specs.Traces.{ReadsHold, ActsHold, after_update}
 use Rattle.iot_acts.specs.Turns.{turns, DiffersAt, ReadDiffers, ActDiffers, ActMisfits}
 use Rattle.iot_acts.specs.Guards.{AllGuarded}
 use Rattle.iot_acts.proofs.GuardLaws.{guarded_fits}
@@ -36,30 +36,6 @@ module _ (t u : Nodes) (acts : List Act) (i place : ℕ) (act : Act) (reads : Li
       (inl (rest.differs found (answer_of u read.question)
       (inl (subst (λ (reads : List Read). ReadDiffers u reads place found (answer_of u read.question)) same
       (wrong_differs u reads at place found read wrong read_is found_is)))))
-
-  -- the next act holds, and its update is made
-  pub walked_next : act ≡ get_or acts i act → reads ≡ act.reads → Walked t acts u (drop i acts) place → ReadsHold u reads
-      → FitsIfAny u act.update → (v : Nodes) (next : ℕ) → v ≡ after_update u act.update → next ≡ length reads + place
-      → Walked t acts v (drop (i + 1) acts) next
-  walked_next is same walked hold fits v next made counted =
-      let cut : drop i acts ≡ act ∷ drop (i + 1) acts =
-      drop_more acts i act lt ∙ ap (λ (next : Act). next ∷ drop (i + 1) acts) (sym is) in
-      let rest : Walked t acts u (act ∷ drop (i + 1) acts) place = subst (λ (rest : List Act). Walked t acts u rest place) cut walked in
-      let held : ReadsHold u act.reads = subst (ReadsHold u) same hold in
-      let place_is : next ≡ length act.reads + place = counted ∙ ap (λ (reads : List Read). length reads + place) same in record {
-        holds = λ later. rest.holds (held, fits, subst (λ (w : Nodes). ActsHold w (drop (i + 1) acts)) made later);
-        differs =
-            λ found answer later.
-            rest.differs found answer
-            (inr (
-              held,
-              fits,
-              subst (λ (n : ℕ). ActDiffers (after_update u act.update) (drop (i + 1) acts) n found answer) place_is
-                  (subst (λ (w : Nodes). ActDiffers w (drop (i + 1) acts) next found answer) made later),
-            ));
-        misfits =
-            λ later. rest.misfits (held, inr (fits, subst (λ (w : Nodes). ActMisfits w (drop (i + 1) acts)) made later));
-      }
 
 -- ---- what the verdict says
 

@@ -1,14 +1,14 @@
 //! Certification by acts.
-ghost use Rattle.std.specs.Prelude.{◌≡◌, ◌↔◌, ◌+◌, length, IfOk, IfSome};
-ghost use Rattle.iot_acts.specs.Traces.{ActsHold, after_acts};
+ghost use Rattle.std.specs.Prelude.{◌≡◌, ◌↔◌, ◌+◌, length, IfOk};
+ghost use Rattle.iot_acts.specs.Traces.{ActsHold};
 ghost use Rattle.iot_acts.specs.Turns.{turns, reads_of, DiffersAt};
 ghost use Rattle.iot_acts.specs.Guards.{AllGuarded};
 ghost use Rattle.iot_tree.specs.declared.questions.Answer.{Answer as AnswerValue};
 ghost use Rattle.iot_certify.specs.Verdicts.{IsVerdictOnActs, IfDiffers};
 
+use crate::Verdict;
 use crate::reads::{differs, first_wrong, place_after};
-use crate::updates::{apply, current, fits, spares_copy};
-use crate::{Certified, Verdict};
+use crate::updates::{apply, current, fits, is_unseen};
 use iot_text::NoMemory;
 use iot_tree::{Act, Acts, Answer, Tree};
 use std::alloc::Global;
@@ -22,26 +22,14 @@ pub fn certify_acts(alloc: Global, t: &Tree, acts: &Acts) -> Result<Verdict, NoM
     // For guarded acts it is always the first read that differs in its turn, with the tree's answer.
     ensures guarded { AllGuarded acts.now → IfOk result (λ verdict. IfDiffers verdict (DiffersAt (turns t.now acts.now) 1)) }
 {
-    let certified = certify_onto(alloc, t, acts)?;
-    Ok(certified.verdict)
-}
-
-/// The same, and the tree after the acts if they hold and it was made on the way: who goes on with that tree need not make it again.
-pub fn certify_onto(alloc: Global, t: &Tree, acts: &Acts) -> Result<Certified, NoMemory>
-    ensures verdict { IfOk result (λ done. IsVerdictOnActs t.now acts.now done.verdict) }
-    ensures holds { IfOk result (λ done. (done.verdict ≡ Verdict.Holds) ↔ ActsHold t.now acts.now) }
-    ensures guarded { AllGuarded acts.now → IfOk result (λ done. IfDiffers done.verdict (DiffersAt (turns t.now acts.now) 1)) }
-    ensures after { IfOk result (λ done. IfSome done.after (λ tree. tree ≡ after_acts t.now acts.now)) }
-{
     // What is asked here is the clause that the rows are a tree's.
     let _tree = t.rows();
     walk(alloc, t, acts.as_slice())
 }
 
-/// The verdict on acts, and the tree after them if it was made.
-fn walk(alloc: Global, t: &Tree, acts: &[Act]) -> Result<Certified, NoMemory>
-    ensures verdict { IfOk result (λ done. IsVerdictOnActs t.now acts.now done.verdict) }
-    ensures after { IfOk result (λ done. IfSome done.after (λ tree. tree ≡ after_acts t.now acts.now)) }
+/// The verdict on acts.
+fn walk(alloc: Global, t: &Tree, acts: &[Act]) -> Result<Verdict, NoMemory>
+    ensures { IfOk result (IsVerdictOnActs t.now acts.now) }
 {
     let mut changed = None;
     let mut place = 1;
@@ -49,22 +37,18 @@ fn walk(alloc: Global, t: &Tree, acts: &[Act]) -> Result<Certified, NoMemory>
         let now = current(t, &changed);
         let reads = act.reads.as_slice();
         if let Some(at) = first_wrong(now, reads) {
-            let verdict = differs(alloc, now, &reads[at], place_after(place, at)?)?;
-            return Ok(Certified::alone(verdict));
+            return differs(alloc, now, &reads[at], place_after(place, at)?);
         }
         if !fits(now, &act.update) {
-            return Ok(Certified::alone(misfit(acts)?));
+            return misfit(acts);
         }
-        if spares_copy(&changed, &act.update, &acts[turn + 1..]) {
-            return Ok(Certified::alone(Verdict::Holds));
+        if is_unseen(&act.update, &acts[turn + 1..]) {
+            return Ok(Verdict::Holds);
         }
         changed = apply(alloc, t, changed, &act.update)?;
         place = place_after(place, reads.len())?;
     }
-    Ok(Certified {
-        verdict: Verdict::Holds,
-        after: changed,
-    })
+    Ok(Verdict::Holds)
 }
 
 /// The verdict on acts of which an update does not fit: away, at the place after all their reads.

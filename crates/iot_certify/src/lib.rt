@@ -8,5 +8,5 @@ mod updates;
 mod verdict;
 
 pub use access::certify;
-pub use acts::{certify_acts, certify_onto};
-pub use verdict::{Certified, Verdict};
+pub use acts::certify_acts;
+pub use verdict::Verdict;

@@ -48,13 +48,12 @@ pub(crate) fn apply(
     Ok(Some(tree))
 }
 
-/// Whether no copy of the tree need be made for this update: none is there yet, and no later act sees the update, since they all read and
-/// change nothing, and so hold on every tree.
-pub(crate) fn spares_copy(changed: &Option<Tree>, update: &Option<Update>, later: &[Act]) -> bool
+/// Whether there is an update that no later act can see: they read and change nothing, and so hold on every tree.
+pub(crate) fn is_unseen(update: &Option<Update>, later: &[Act]) -> bool
     ensures { result ≡ true → (t : Nodes) → ActsHold t later.now }
 {
     // Without an update there is nothing to spare, and the later acts need no look.
-    if changed.is_some() || update.is_none() {
+    if update.is_none() {
         return false;
     }
     are_silent(later)

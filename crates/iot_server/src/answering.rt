@@ -1,6 +1,5 @@
 //! The reply to a request.
-ghost use Rattle.std.specs.Prelude.{◌≡◌, ◌+◌, ◌++◌, ◌∷◌, ℕ, List, IfOk, IfSome, OnOk, IsErrOf, None};
-ghost use Rattle.iot_acts.specs.Traces.{after_acts};
+ghost use Rattle.std.specs.Prelude.{◌≡◌, ◌+◌, ◌++◌, ◌∷◌, ℕ, List, IfOk, OnOk, IsErrOf, None};
 ghost use Rattle.iot_codec.specs.Rules.{ArePaths, IsLabel, AreActs};
 ghost use Rattle.iot_codec.specs.Spelling.{label_spelling, acts_spelling};
 ghost use Rattle.iot_disk.specs.Faults.{CountsJournalFault};
@@ -18,12 +17,12 @@ ghost use Rattle.iot_wire.specs.declared.requests.Request.{Request as Asked};
 ghost use Rattle.iot_wire.specs.declared.requests.Request.TheVariants.{Refresh, Commit};
 ghost use Rattle.iot_wire.specs.declared.replies.Reply.TheVariants.{Committed};
 
-use iot_certify::{Certified, Verdict, certify_onto};
+use iot_certify::{Verdict, certify_acts};
 use iot_disk::{Disk, JournalFault};
 use iot_prune::{prune, widen};
 use iot_store::Store;
 use iot_text::NoMemory;
-use iot_tree::{Acts, Label, Paths, Tree, Want};
+use iot_tree::{Acts, Label, Paths, Want};
 use iot_wire::{Reply, Request, write_reply};
 use std::alloc::Global;
 
@@ -144,31 +143,27 @@ fn judge<D: Disk>(
     ensures faults { CountsJournalFault result (D.medium.faults (disk_of store.old)) (D.medium.faults (disk_of store.new)) }
     ensures arms { D.medium.arms (disk_of store.new) ≡ D.medium.arms (disk_of store.old) }
 {
-    let Certified { verdict, after } = certify_onto(alloc, store.tree(), acts)?;
-    match verdict {
-        Verdict::Holds => commit(alloc, store, label, acts, spelling, after),
+    match certify_acts(alloc, store.tree(), acts)? {
+        Verdict::Holds => commit(alloc, store, label, acts, spelling),
         Verdict::Differs { read, answer } => {
             Ok(write_reply(alloc, &Reply::Conflict { read, answer })?)
         }
     }
 }
 
-/// Commits a new transaction whose acts hold; the tree after them may be at hand. Its reply is spelled first, so that want of memory
-/// comes before the commit.
+/// Commits a new transaction whose acts hold. Its reply is spelled first, so that want of memory comes before the commit.
 fn commit<D: Disk>(
     alloc: Global,
     store: &mut Store<D>,
     label: Label,
     acts: &Acts,
     spelling: &[u8],
-    made: Option<Tree>,
 ) -> Result<Vec<u8>, JournalFault>
     requires synced { IsSynced D.medium store.old }
     requires label { IsLabel label }
     requires acts { AreActs acts.now }
     requires spelled { spelling.now ≡ label_spelling label ++ acts_spelling acts.now }
     requires new { number_in (state_of store.old).labels label.client label.tid ≡ None }
-    requires made { IfSome made (λ tree. tree ≡ after_acts (state_of store.old).tree acts.now) }
     requires holds { IsJudged (state_of store.old).tree acts.now Verdict.Holds }
     ensures answered { IfOk result (λ bytes.
         IsAnswered (state_of store.old) (bodies_on D.medium store.old) (Commit label acts.now) bytes.items
@@ -183,7 +178,7 @@ fn commit<D: Disk>(
     ensures arms { D.medium.arms (disk_of store.new) ≡ D.medium.arms (disk_of store.old) }
 {
     let bytes = committed(alloc, store.number())?;
-    store.commit_made(alloc, label, acts, spelling, made)?;
+    store.commit_spelled(alloc, label, acts, spelling)?;
     Ok(bytes)
 }
 

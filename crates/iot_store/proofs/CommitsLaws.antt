@@ -1,11 +1,17 @@
 -- Acts that are made one after the other, as a loop does.
-use Rattle.std.proofs.Common.{◌≡◌, ℕ, ◌+◌, ◌<◌, ◌≤◌, List, [], ◌∷◌, length, get_or, drop, sym, ap, ◌∙◌, subst}
+use Rattle.std.proofs.Common.{◌≡◌, ℕ, ◌+◌, ◌<◌, ◌≤◌, List, [], ◌∷◌, length, get_or, drop, Option, Some, None, refl, sym, ap, ◌∙◌, subst}
 use Rattle.std.proofs.lemmas.List.{drop_more, drop_all}
 use Rattle.iot_tree.specs.Tree.{Nodes}
 use Rattle.iot_tree.specs.Questions.{answer_of}
 use Rattle.iot_tree.specs.declared.acts.Act.{Act}
 use Rattle.iot_tree.specs.declared.acts.Read.{Read}
+use Rattle.iot_tree.specs.declared.updates.Update.{Update}
+use Rattle.iot_tree.specs.Updates.{updated}
 use Rattle.iot_acts.specs.Traces.{ReadsHold, FitsIfAny, after_update, ActsHold, after_acts}
+use Rattle.iot_stamp.specs.Stamping.{stamp_after}
+use Rattle.iot_stamp.specs.Stamps.{Stamps, nodes_of}
+use Rattle.iot_stamp.proofs.StampsLaws.{nodes_with}
+use Rattle.iot_store.specs.Stamps.{stamped_if_any, stamped_acts}
 
 -- what is left at a turn of a loop
 pub left_is : {X : Type 0} (xs : List X) (i : ℕ) (x : X) → i < length xs → x ≡ get_or xs i x → drop i xs ≡ x ∷ drop (i + 1) xs
@@ -13,36 +19,52 @@ left_is xs i x within is = drop_more xs i x within ∙ ap (λ y. y ∷ drop (i +
 
 -- ---- acts
 
--- the acts from a place on hold on the tree exactly if all hold on the one before them, and lead to the same tree
-pub record ActsOnWay (acts : List Act) (i : ℕ) (before now : Nodes) : Type 0 where
-  pub rest : ActsHold before acts → ActsHold now (drop i acts)
-  pub whole : ActsHold now (drop i acts) → ActsHold before acts
-  pub end : after_acts before acts ≡ after_acts now (drop i acts)
+-- what is stamped is the tree after the acts
+module _ (stamp : ℕ) where
+  pub nodes_after_update : (t : Stamps) (update : Option Update)
+      → nodes_of (stamped_if_any t update stamp) ≡ after_update (nodes_of t) update
+  nodes_after_update t None = refl
+  nodes_after_update t (Some update) = nodes_with (stamp_after t update stamp) (updated (nodes_of t) update)
 
-module _ (acts : List Act) (i : ℕ) (before now : Nodes) (way : ActsOnWay acts i before now) where
+  pub nodes_after_acts : (t : Stamps) (acts : List Act) → nodes_of (stamped_acts t acts stamp) ≡ after_acts (nodes_of t) acts
+  nodes_after_acts t [] = refl
+  nodes_after_acts t (act ∷ acts) =
+      nodes_after_acts (stamped_if_any t act.update stamp) acts ∙ ap (λ n. after_acts n acts) (nodes_after_update t act.update)
+
+-- the acts from a place on hold on the tree exactly if all hold on the one before them, and lead to the same tree
+pub record ActsOnWay (acts : List Act) (stamp i : ℕ) (before now : Stamps) : Type 0 where
+  pub rest : ActsHold (nodes_of before) acts → ActsHold (nodes_of now) (drop i acts)
+  pub whole : ActsHold (nodes_of now) (drop i acts) → ActsHold (nodes_of before) acts
+  pub end : stamped_acts before acts stamp ≡ stamped_acts now (drop i acts) stamp
+
+module _ (acts : List Act) (stamp i : ℕ) (before now : Stamps) (way : ActsOnWay acts stamp i before now) where
   module _ (act : Act) (within : i < length acts) (is : act ≡ get_or acts i act) where
     left_acts : drop i acts ≡ act ∷ drop (i + 1) acts
     left_acts = left_is acts i act within is
 
-    pub act_next : ActsHold before acts → ReadsHold now act.reads × FitsIfAny now act.update
-    act_next hold = let here = subst (ActsHold now) left_acts (way.rest hold) in (here.0, here.1)
+    pub act_next : ActsHold (nodes_of before) acts → ReadsHold (nodes_of now) act.reads × FitsIfAny (nodes_of now) act.update
+    act_next hold = let here = subst (ActsHold (nodes_of now)) left_acts (way.rest hold) in (here.0, here.1)
 
-    pub act_made : (next : Nodes) → ReadsHold now act.reads → FitsIfAny now act.update → next ≡ after_update now act.update
-        → ActsOnWay acts (i + 1) before next
-    act_made next reads fits made = record {
-      rest = λ hold. subst (λ t. ActsHold t (drop (i + 1) acts)) (sym made) (subst (ActsHold now) left_acts (way.rest hold)).2;
-      whole = λ hold. way.whole (subst (ActsHold now) (sym left_acts) (reads, fits, subst (λ t. ActsHold t (drop (i + 1) acts)) made hold));
-      end = way.end ∙ ap (after_acts now) left_acts ∙ ap (λ t. after_acts t (drop (i + 1) acts)) (sym made);
-    }
+    pub act_made : (next : Stamps) → ReadsHold (nodes_of now) act.reads → FitsIfAny (nodes_of now) act.update
+        → next ≡ stamped_if_any now act.update stamp → ActsOnWay acts stamp (i + 1) before next
+    act_made next reads fits made =
+        let nodes : nodes_of next ≡ after_update (nodes_of now) act.update = ap nodes_of made ∙ nodes_after_update stamp now act.update in
+        record {
+          rest = λ hold. subst (λ t. ActsHold t (drop (i + 1) acts)) (sym nodes) (subst (ActsHold (nodes_of now)) left_acts (way.rest hold)).2;
+          whole = λ hold. way.whole
+              (subst (ActsHold (nodes_of now)) (sym left_acts) (reads, fits, subst (λ t. ActsHold t (drop (i + 1) acts)) nodes hold));
+          end = way.end ∙ ap (λ (l : List Act). stamped_acts now l stamp) left_acts
+              ∙ ap (λ t. stamped_acts t (drop (i + 1) acts) stamp) (sym made);
+        }
 
-    pub act_stops : (ReadsHold now act.reads → FitsIfAny now act.update → ⊥) → ActsHold before acts → ⊥
+    pub act_stops : (ReadsHold (nodes_of now) act.reads → FitsIfAny (nodes_of now) act.update → ⊥) → ActsHold (nodes_of before) acts → ⊥
     act_stops not hold = let next = act_next hold in not next.0 next.1
 
-  pub acts_made : length acts ≤ i → ActsHold before acts × (now ≡ after_acts before acts)
+  pub acts_made : length acts ≤ i → ActsHold (nodes_of before) acts × (now ≡ stamped_acts before acts stamp)
   acts_made past =
       let none : drop i acts ≡ [] = drop_all i acts past in (
-        way.whole (subst (ActsHold now) (sym none) tt),
-        sym (way.end ∙ ap (after_acts now) none),
+        way.whole (subst (ActsHold (nodes_of now)) (sym none) tt),
+        sym (way.end ∙ ap (λ (l : List Act). stamped_acts now l stamp) none),
       )
 
 -- ---- reads

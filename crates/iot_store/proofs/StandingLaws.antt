@@ -1,6 +1,6 @@
 -- Bodies that lead from one state to another, and the states for which images of a disk stand whose journal is known.
 use Rattle.std.proofs.Common.{◌≡◌, ◌≤◌, ◌<◌, inl, inr, true, ℕ, ◌+◌, ◌^◌, List, [], ◌∷◌, ◌++◌, length}
-use Rattle.std.proofs.Common.{refl, sym, ap, ◌∙◌, subst, arith, append_assoc, append-nil}
+use Rattle.std.proofs.Common.{refl, sym, ap, ◌∙◌, subst, arith, append_assoc, append-nil, length-append}
 use Rattle.iot_disk.specs.declared.faults.StartFault.{StartFault}
 use Rattle.iot_disk.specs.declared.faults.StartFault.TheVariants as fault
 use Rattle.iot_journal.specs.Decoding.{Encodes, decoded, records, bodies_decoded}
@@ -33,6 +33,14 @@ leads_split (first ∷ front) bodies before after leads =
 
 length-records : (body : List ℕ) (bodies : List (List ℕ)) → length (records (body ∷ bodies)) ≡ 9 + length body + length (records bodies)
 length-records body bodies = omega (arith, length-records-append (body ∷ []) bodies, length-records-push [] body)
+
+-- each record is longer than nothing, so there are no more labels than the records have bytes
+pub labels_few : (bodies : List (List ℕ)) (before after : State) → Leads bodies before after
+    → length after.labels ≤ length before.labels + length (records bodies)
+labels_few [] before after leads = let same = ap (λ (s : State). length s.labels) leads in omega (arith, same)
+labels_few (body ∷ bodies) before after leads =
+    let more = labels_few bodies (after_commit before leads.0 leads.1) after leads.4 in
+    omega (arith, more, length-records body bodies, length-append before.labels (leads.0 ∷ []))
 
 -- bodies lead to one state
 leads_same : (bodies : List (List ℕ)) (before one other : State) → length (records bodies) < 2 ^ 64 → Leads bodies before one →

@@ -3,15 +3,17 @@ use Rattle.std.specs.Prelude.{◌≡◌, ℕ, Bool, true, false, List}
 use Rattle.std.specs.Ordering.{nat_cmp, ordering_then}
 use Rattle.std.specs.declared.cmp.Ordering.{Ordering}
 use Rattle.std.specs.BTreeMap.{BTreeMap, get}
-use Rattle.iot_tree.specs.Tree.{Nodes}
-use Rattle.iot_tree.specs.Updates.{Fits, updated}
+use Rattle.iot_tree.specs.Updates.{Fits}
 use Rattle.iot_tree.specs.declared.updates.Update.{Update}
 use Rattle.iot_tree.specs.declared.labels.Label.{Label}
 use Rattle.iot_tree.specs.declared.acts.Act.{Act}
-use Rattle.iot_acts.specs.Traces.{ReadsHold, FitsIfAny, after_update, ActsHold, after_acts}
+use Rattle.iot_acts.specs.Traces.{ReadsHold, FitsIfAny, ActsHold}
+use Rattle.iot_stamp.specs.Stamping.{stamped}
+use Rattle.iot_stamp.specs.Stamps.{Stamps, nodes_of}
 use Rattle.iot_store.specs.States.{State, CanFollow, after_commit}
 use Rattle.iot_store.specs.Numbers.{number_in}
 use Rattle.iot_store.specs.Records.{IsRecord}
+use Rattle.iot_store.specs.Stamps.{stamped_if_any, stamped_acts}
 use Rattle.iot_store.specs.Standing.{CannotFollow}
 
 -- clients with their transactions, in the order of the index
@@ -35,17 +37,18 @@ ReplaysIf false body before after = CannotFollow before body
 
 -- ---- acts
 
--- an update was made if it fits, and only then
-abbrev pub UpdatesIf : Bool → Update → Nodes → Nodes → Type 0
-UpdatesIf true update before after = Fits before update × (after ≡ updated before update)
-UpdatesIf false update before after = Fits before update → ⊥
+-- an update was made with this stamp if it fits, and only then
+abbrev pub UpdatesIf : Bool → Update → ℕ → Stamps → Stamps → Type 0
+UpdatesIf true update stamp before after = Fits (nodes_of before) update × (after ≡ stamped before update stamp)
+UpdatesIf false update stamp before after = Fits (nodes_of before) update → ⊥
 
 -- an act's update was made if the act holds, and only then
-abbrev pub MakesIf : Bool → Act → Nodes → Nodes → Type 0
-MakesIf true act before after = ReadsHold before act.reads × FitsIfAny before act.update × (after ≡ after_update before act.update)
-MakesIf false act before after = ReadsHold before act.reads → FitsIfAny before act.update → ⊥
+abbrev pub MakesIf : Bool → Act → ℕ → Stamps → Stamps → Type 0
+MakesIf true act stamp before after =
+    ReadsHold (nodes_of before) act.reads × FitsIfAny (nodes_of before) act.update × (after ≡ stamped_if_any before act.update stamp)
+MakesIf false act stamp before after = ReadsHold (nodes_of before) act.reads → FitsIfAny (nodes_of before) act.update → ⊥
 
 -- the updates of acts were made if these hold, and only then
-abbrev pub MakesAllIf : Bool → List Act → Nodes → Nodes → Type 0
-MakesAllIf true acts before after = ActsHold before acts × (after ≡ after_acts before acts)
-MakesAllIf false acts before after = ActsHold before acts → ⊥
+abbrev pub MakesAllIf : Bool → List Act → ℕ → Stamps → Stamps → Type 0
+MakesAllIf true acts stamp before after = ActsHold (nodes_of before) acts × (after ≡ stamped_acts before acts stamp)
+MakesAllIf false acts stamp before after = ActsHold (nodes_of before) acts → ⊥

@@ -1,8 +1,11 @@
-//! The commits in memory: the tree that they make, their labels, and the number of each.
-ghost use Rattle.std.specs.Prelude.{◌≡◌, ◌↔◌, IsTrue, OnOk, IfOk, IfSome};
-ghost use Rattle.iot_acts.specs.Traces.{ReadsHold, FitsIfAny, after_update, ActsHold, after_acts};
+//! The commits in memory: the tree that they make, with its stamps, their labels, and the number of each.
+ghost use Rattle.std.specs.Prelude.{◌≡◌, ◌↔◌, ◌<◌, ◌^◌, length, IsTrue, OnOk, IfOk};
+ghost use Rattle.iot_acts.specs.Traces.{ReadsHold, FitsIfAny, ActsHold};
+ghost use Rattle.iot_stamp.specs.Stamps.{nodes_of};
 ghost use Rattle.iot_store.specs.Commits.{UpdatesIf, MakesIf, MakesAllIf};
+ghost use Rattle.iot_store.specs.Stamps.{stamped_if_any, stamped_acts};
 
+use iot_stamp::Stamped;
 use iot_text::NoMemory;
 use iot_tree::{Act, Label, Labels, Read, Tree, Update};
 use std::alloc::Global;
@@ -12,7 +15,7 @@ use std::marker::Model;
 /// The commits of a server, as they are on its disk. After an `Err` of a call they are given up.
 #[derive(Drop)]
 pub(crate) struct Commits {
-    pub(crate) tree: Tree,
+    pub(crate) tree: Stamped,
     pub(crate) labels: Labels,
 
     /// The number of each commit, by its client and its transaction.
@@ -20,6 +23,7 @@ pub(crate) struct Commits {
 }
 
 impl Model for Commits {
+    ghost use Rattle.iot_stamp.specs.Stamps.{nodes_of};
     ghost use Rattle.iot_store.specs.Commits.{IsIndex};
     ghost use Rattle.iot_store.specs.States.{State, state_code};
 
@@ -27,7 +31,7 @@ impl Model for Commits {
 
     ghost coded = { state_code };
 
-    ghost view = { λ c. record { tree = c.tree; labels = c.labels } };
+    ghost view = { λ c. record { tree = nodes_of c.tree; labels = c.labels; stamps = c.tree } };
 
     ghost invariant = { λ c. IsIndex c.numbers c.labels };
 }
@@ -38,13 +42,14 @@ impl Commits {
     ghost use Rattle.iot_store.specs.States.{opening, is_of, CanFollow, after_commit};
     ghost use Rattle.iot_store.specs.Numbers.{number_in};
     ghost use Rattle.iot_store.specs.Commits.{AddsIf};
+    ghost use Rattle.iot_store.specs.Stamps.{next_stamp};
 
     /// No commits.
     pub(crate) fn new(alloc: Global) -> Result<Commits, NoMemory>
         ensures { IfOk result (λ commits. commits ≡ opening) }
     {
         Ok(Commits {
-            tree: Tree::whole_root(alloc)?,
+            tree: Stamped::with_stamp(alloc, Tree::whole_root(alloc)?, 1)?,
             labels: Labels::new(alloc),
             numbers: BTreeMap::new(alloc),
         })
@@ -54,7 +59,23 @@ impl Commits {
     pub(crate) fn tree(&self) -> &Tree
         ensures { result.now ≡ self.now.tree }
     {
+        self.tree.tree()
+    }
+
+    /// That tree with its stamps.
+    pub(crate) fn stamped(&self) -> &Stamped
+        ensures stamps { result.now ≡ self.now.stamps }
+        ensures tree { nodes_of result.now ≡ self.now.tree }
+    {
         &self.tree
+    }
+
+    /// The stamp of the next commit.
+    fn next_stamp(&self) -> u64
+        requires { length self.now.labels < 2 ^ 62 }
+        ensures { result ≡ next_stamp (length self.now.labels) }
+    {
+        self.labels.len() as u64 + 2
     }
 
     /// Their labels.
@@ -71,20 +92,16 @@ impl Commits {
         self.numbers.get(&(client, tid)).copied()
     }
 
-    /// Adds a commit that can follow. The tree after its acts may be at hand.
-    pub(crate) fn add(
-        &mut self,
-        alloc: Global,
-        label: Label,
-        acts: &[Act],
-        made: Option<Tree>,
-    ) -> Result<(), NoMemory>
+    /// Adds a commit that can follow.
+    pub(crate) fn add(&mut self, alloc: Global, label: Label, acts: &[Act]) -> Result<(), NoMemory>
         requires follows { CanFollow self.old label acts.now }
-        requires made { IfSome made (λ tree. tree ≡ after_acts self.old.tree acts.now) }
+        requires few { length self.old.labels < 2 ^ 62 }
         ensures { OnOk result (self.new ≡ after_commit self.old label acts.now) }
     {
-        pass(alloc, &mut self.tree, acts, made)?;
-        self.list(label)
+        let stamp = self.next_stamp();
+        apply_all(alloc, &mut self.tree, acts, stamp)?;
+        self.list(label)?;
+        Ok(())
     }
 
     /// Adds a commit if it can follow, and says whether it can.
@@ -94,12 +111,14 @@ impl Commits {
         label: Label,
         acts: &[Act],
     ) -> Result<bool, NoMemory>
+        requires { length self.old.labels < 2 ^ 62 }
         ensures { IfOk result (λ follows. AddsIf follows label acts.now self.old self.new) }
     {
         if let Some(_) = self.number_of(label.client, label.tid) {
             return Ok(false);
         }
-        if !replay_all(alloc, &mut self.tree, acts)? {
+        let stamp = self.next_stamp();
+        if !replay_all(alloc, &mut self.tree, acts, stamp)? {
             return Ok(false);
         }
         self.list(label)?;
@@ -110,6 +129,7 @@ impl Commits {
     fn list(&mut self, label: Label) -> Result<(), NoMemory>
         requires { list_any (is_of label.client label.tid) self.old.labels ≡ false }
         ensures tree { OnOk result (self.new.tree ≡ self.old.tree) }
+        ensures stamps { OnOk result (self.new.stamps ≡ self.old.stamps) }
         ensures labels { OnOk result (self.new.labels ≡ self.old.labels ++ label ∷ []) }
     {
         let key = (label.client, label.tid);
@@ -125,49 +145,39 @@ impl Commits {
     }
 }
 
-/// Makes of the tree what it is after acts that hold: the tree at hand, if there is one.
-fn pass(alloc: Global, tree: &mut Tree, acts: &[Act], made: Option<Tree>) -> Result<(), NoMemory>
-    requires holds { ActsHold tree.old acts.now }
-    requires made { IfSome made (λ made. made ≡ after_acts tree.old acts.now) }
-    ensures { OnOk result (tree.new ≡ after_acts tree.old acts.now) }
-{
-    match made {
-        Some(made) => {
-            *tree = made;
-            Ok(())
-        }
-        None => apply_all(alloc, tree, acts),
-    }
-}
-
-/// Makes the updates of acts that hold.
-fn apply_all(alloc: Global, tree: &mut Tree, acts: &[Act]) -> Result<(), NoMemory>
-    requires { ActsHold tree.old acts.now }
-    ensures { OnOk result (tree.new ≡ after_acts tree.old acts.now) }
+/// Makes the updates of acts that hold, with this stamp.
+fn apply_all(alloc: Global, tree: &mut Stamped, acts: &[Act], stamp: u64) -> Result<(), NoMemory>
+    requires { ActsHold (nodes_of tree.old) acts.now }
+    ensures { OnOk result (tree.new ≡ stamped_acts tree.old acts.now stamp) }
 {
     'acts: for act in acts {
-        apply_if_any(alloc, tree, &act.update)?;
+        apply_if_any(alloc, tree, &act.update, stamp)?;
     }
     Ok(())
 }
 
-/// Makes an update, if there is one.
-fn apply_if_any(alloc: Global, tree: &mut Tree, update: &Option<Update>) -> Result<(), NoMemory>
-    requires { FitsIfAny tree.old update.now }
-    ensures { OnOk result (tree.new ≡ after_update tree.old update.now) }
+/// Makes an update with this stamp, if there is one.
+fn apply_if_any(
+    alloc: Global,
+    tree: &mut Stamped,
+    update: &Option<Update>,
+    stamp: u64,
+) -> Result<(), NoMemory>
+    requires { FitsIfAny (nodes_of tree.old) update.now }
+    ensures { OnOk result (tree.new ≡ stamped_if_any tree.old update.now stamp) }
 {
     match update {
         None => Ok(()),
-        Some(update) => tree.apply(alloc, update),
+        Some(update) => tree.apply(alloc, update, stamp),
     }
 }
 
 /// Makes the updates of acts as long as they hold, and says whether all do.
-fn replay_all(alloc: Global, tree: &mut Tree, acts: &[Act]) -> Result<bool, NoMemory>
-    ensures { IfOk result (λ hold. MakesAllIf hold acts.now tree.old tree.new) }
+fn replay_all(alloc: Global, tree: &mut Stamped, acts: &[Act], stamp: u64) -> Result<bool, NoMemory>
+    ensures { IfOk result (λ hold. MakesAllIf hold acts.now stamp tree.old tree.new) }
 {
     'acts: for act in acts {
-        if !replay_act(alloc, tree, act)? {
+        if !replay_act(alloc, tree, act, stamp)? {
             return Ok(false);
         }
     }
@@ -175,26 +185,26 @@ fn replay_all(alloc: Global, tree: &mut Tree, acts: &[Act]) -> Result<bool, NoMe
 }
 
 /// Makes an act's update if its reads hold and it fits, and says whether it did.
-fn replay_act(alloc: Global, tree: &mut Tree, act: &Act) -> Result<bool, NoMemory>
-    ensures { IfOk result (λ holds. MakesIf holds act.now tree.old tree.new) }
+fn replay_act(alloc: Global, tree: &mut Stamped, act: &Act, stamp: u64) -> Result<bool, NoMemory>
+    ensures { IfOk result (λ holds. MakesIf holds act.now stamp tree.old tree.new) }
 {
-    if !do_hold(tree, act.reads.as_slice()) {
+    if !do_hold(tree.tree(), act.reads.as_slice()) {
         return Ok(false);
     }
     match &act.update {
         None => Ok(true),
-        Some(update) => make(alloc, tree, update),
+        Some(update) => make(alloc, tree, update, stamp),
     }
 }
 
 /// Makes an update if it fits, and says whether it did.
-fn make(alloc: Global, tree: &mut Tree, update: &Update) -> Result<bool, NoMemory>
-    ensures { IfOk result (λ fits. UpdatesIf fits update.now tree.old tree.new) }
+fn make(alloc: Global, tree: &mut Stamped, update: &Update, stamp: u64) -> Result<bool, NoMemory>
+    ensures { IfOk result (λ fits. UpdatesIf fits update.now stamp tree.old tree.new) }
 {
-    if !tree.fits(update) {
+    if !tree.tree().fits(update) {
         return Ok(false);
     }
-    tree.apply(alloc, update)?;
+    tree.apply(alloc, update, stamp)?;
     Ok(true)
 }
 

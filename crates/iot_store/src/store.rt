@@ -1,5 +1,5 @@
 //! The store itself.
-ghost use Rattle.std.specs.Prelude.{◌≡◌, ◌≤◌, ◌+◌, ◌^◌, ◌++◌, [], ◌∷◌, length, IfOk, IfErr, IfSome, OnOk, IsErrOf, MatchResult, true};
+ghost use Rattle.std.specs.Prelude.{◌≡◌, ◌<◌, ◌≤◌, ◌+◌, ◌^◌, ◌++◌, [], ◌∷◌, length, IfOk, IfErr, OnOk, IsErrOf, MatchResult, true};
 ghost use Rattle.iot_disk.specs.Disk.{armed_with, Only, SameImages};
 ghost use Rattle.iot_disk.specs.Faults.{CountsJournalFault};
 ghost use Rattle.iot_journal.specs.Decoding.{Encodes, decoded, records, is_started};
@@ -7,7 +7,7 @@ ghost use Rattle.iot_journal.specs.Images.{EachDecodes, EachDecodesEither};
 ghost use Rattle.iot_journal.specs.Start.{ChangesNothing};
 ghost use Rattle.iot_codec.specs.Rules.{IsLabel, AreActs};
 ghost use Rattle.iot_codec.specs.Spelling.{label_spelling, acts_spelling};
-ghost use Rattle.iot_acts.specs.Traces.{after_acts};
+ghost use Rattle.iot_stamp.specs.Stamps.{nodes_of};
 ghost use Rattle.iot_store.specs.States.{State, opening, CanFollow, after_commit};
 ghost use Rattle.iot_store.specs.Commits.{ReplaysIf};
 ghost use Rattle.iot_store.specs.Records.{record_spelling};
@@ -19,6 +19,7 @@ use crate::commits::Commits;
 use crate::records::{read, spell, take_spelling};
 use iot_disk::{Bodies, Disk, JournalFault, Pick, StartFault};
 use iot_journal::{FIRST_GATE, Journal, RECORD};
+use iot_stamp::Stamped;
 use iot_text::{NoMemory, Text};
 use iot_tree::{Acts, Label, Labels, Tree};
 use std::alloc::Global;
@@ -140,28 +141,25 @@ impl<D: Disk> Store<D> {
         ensures arms { D.medium.arms (disk_of self.new) ≡ D.medium.arms (disk_of self.old) }
     {
         spell(&mut self.buffer, &label, acts)?;
-        self.commit_buffer(alloc, label, acts, None)
+        self.commit_buffer(alloc, label, acts)
     }
 
-    /// The same, if the spellings of the label and of the acts are at hand, one after the other: these are copied, and not made again. If
-    /// the tree after the acts is at hand too, it is taken, and no update is made again.
+    /// The same, if the spellings of the label and of the acts are at hand, one after the other: these are copied, and not made again.
     ///
     /// # Errors
     ///
     /// As of `commit`.
-    pub fn commit_made(
+    pub fn commit_spelled(
         &mut self,
         alloc: Global,
         label: Label,
         acts: &Acts,
         spelling: &[u8],
-        made: Option<Tree>,
     ) -> Result<u64, JournalFault>
         requires synced { IsSynced D.medium self.old }
         requires label { IsLabel label }
         requires acts { AreActs acts.now }
         requires spelled { spelling.now ≡ label_spelling label ++ acts_spelling acts.now }
-        requires made { IfSome made (λ tree. tree ≡ after_acts (state_of self.old).tree acts.now) }
         requires follows { CanFollow (state_of self.old) label acts.now }
 
         // However this returns, every image stands for the commits before or for those with the new one: its records are
@@ -189,22 +187,20 @@ impl<D: Disk> Store<D> {
         ensures arms { D.medium.arms (disk_of self.new) ≡ D.medium.arms (disk_of self.old) }
     {
         take_spelling(&mut self.buffer, spelling)?;
-        self.commit_buffer(alloc, label, acts, made)
+        self.commit_buffer(alloc, label, acts)
     }
 
-    /// Adds the commit whose record the buffer is. The tree after its acts may be at hand.
+    /// Adds the commit whose record the buffer is.
     fn commit_buffer(
         &mut self,
         alloc: Global,
         label: Label,
         acts: &Acts,
-        made: Option<Tree>,
     ) -> Result<u64, JournalFault>
         requires synced { IsSynced D.medium self.old }
         requires label { IsLabel label }
         requires acts { AreActs acts.now }
         requires spelled { self.old.buffer ≡ record_spelling label acts.now }
-        requires made { IfSome made (λ tree. tree ≡ after_acts (state_of self.old).tree acts.now) }
         requires follows { CanFollow (state_of self.old) label acts.now }
 
         // However this returns, every image stands for the commits before or for those with the new one: its records are
@@ -231,7 +227,7 @@ impl<D: Disk> Store<D> {
             (D.medium.faults (disk_of self.old)) (D.medium.faults (disk_of self.new)) }
         ensures arms { D.medium.arms (disk_of self.new) ≡ D.medium.arms (disk_of self.old) }
     {
-        self.commits.add(alloc, label, acts.as_slice(), made)?;
+        self.commits.add(alloc, label, acts.as_slice())?;
         self.journal.append(self.buffer.as_bytes())?;
         Ok(self.number())
     }
@@ -241,6 +237,14 @@ impl<D: Disk> Store<D> {
         ensures { result.now ≡ (state_of self.now).tree }
     {
         self.commits.tree()
+    }
+
+    /// That tree with its stamps: 1 at its root before the first commit, and the number after its own from each commit on what that changes.
+    pub fn stamped(&self) -> &Stamped
+        ensures stamps { result.now ≡ (state_of self.now).stamps }
+        ensures tree { nodes_of result.now ≡ (state_of self.now).tree }
+    {
+        self.commits.stamped()
     }
 
     /// The labels of the commits, in their order.
@@ -303,6 +307,7 @@ fn replay(alloc: Global, bodies: &Bodies) -> Result<Commits, StartFault>
 
 /// Adds the commit whose record the body is, if it can follow, and says whether it can.
 fn replay_body(alloc: Global, commits: &mut Commits, body: &[u8]) -> Result<bool, NoMemory>
+    requires { length commits.old.labels < 2 ^ 62 }
     ensures { IfOk result (λ follows. ReplaysIf follows body.now commits.old commits.new) }
 {
     match read(alloc, body)? {

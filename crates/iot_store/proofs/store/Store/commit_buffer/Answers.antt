@@ -1,10 +1,11 @@
-use Rattle.std.proofs.Common.{◌≡◌, ℕ, List, [], ◌∷◌, ◌++◌, ap, sym, subst, ◌∙◌}
+use Rattle.std.proofs.Common.{◌≡◌, ℕ, List, [], ◌∷◌, ◌++◌, ap, sym, subst, ◌∙◌, arith}
+use Rattle.iot_journal.proofs.ImagesLaws.{records_fit}
 use Rattle.iot_tree.specs.declared.acts.Act.{Act}
 use Rattle.iot_tree.specs.declared.labels.Label.{Label}
 use Rattle.iot_store.specs.Records.{IsRecord}
 use Rattle.iot_store.specs.Standing.{Leads}
 use Rattle.iot_store.specs.States.{State, opening, CanFollow, after_commit}
-use Rattle.iot_store.proofs.StandingLaws.{each_stands, either_stands, leads_push}
+use Rattle.iot_store.proofs.StandingLaws.{each_stands, either_stands, leads_push, labels_few}
 use Rattle.iot_store.proofs.store.Store.commit_buffer.Goals as goal
 
 -- the records lead to the state after a commit
@@ -15,6 +16,13 @@ synced_leads bodies now before after body label acts made leads is follows pushe
     let end : after ≡ after_commit before label acts = state ∙ ap (after_commit before label) same in
     let more = leads_push bodies opening before body label acts leads is follows in
     subst (λ (bs : List (List ℕ)). Leads bs opening after) (sym pushed) (subst (λ s. Leads (bodies ++ body ∷ []) opening s) (sym end) more)
+
+pub add-requires-clause-few : goal.add-requires-clause-few
+add-requires-clause-few g c =
+    let synced = c.requires.synced in
+    let few = labels_few _ opening _ synced.leads in
+    let fits = records_fit _ _ _ synced.journal.layout synced.journal.limit in
+    omega (arith, few, fits)
 
 pub returns-in_err-append-clause-images : goal.returns-in_err-append-clause-images
 returns-in_err-append-clause-images g c =
