@@ -1,8 +1,7 @@
 -- A server keeps the list of commits on its disk, as a keeper is to.
-use Rattle.std.proofs.Common.{◌≡◌, ◌⊎◌, ℕ, List, length, Result, Ok, Err, Some, refl, sym, ap, subst, ◌∙◌, inl, inr}
+use Rattle.std.proofs.Common.{◌≡◌, ℕ, List, length, Result, Ok, Err, sym, ap, subst, ◌∙◌}
 use Rattle.std.proofs.lemmas.List.{length-map}
 use Rattle.std.specs.Prelude.{IfOk, IfErr, OnOk}
-use Rattle.iot_count.specs.Counts.{Rose}
 use Rattle.iot_disk.specs.Disk.{Medium}
 use Rattle.iot_disk.specs.declared.faults.StartFault.{StartFault}
 use Rattle.iot_disk.specs.declared.faults.StartFault.TheVariants as start
@@ -12,12 +11,9 @@ use Rattle.iot_store.specs.Causes.{HasCause, TakesBytes}
 use Rattle.iot_store.specs.Standing.{Leads, StandFor}
 use Rattle.iot_store.specs.States.{State, opening}
 use Rattle.iot_machine.specs.Machine.{Commit}
-use Rattle.iot_server.specs.Faults.{CountsServerFault}
 use Rattle.iot_server.specs.Servers as servers
-use Rattle.iot_server.specs.declared.fault.ServerFault.{ServerFault}
-use Rattle.iot_server.specs.declared.fault.ServerFault.TheVariants as fault
 use Rattle.iot_server.specs.declared.server.Server.{Server}
-use Rattle.iot_node.specs.Disks.{counts_on, KeepsDisk}
+use Rattle.iot_node.specs.Disks.{counts_on}
 use Rattle.iot_node.specs.Keeping.{EachIs, Comes, Fails, CountsStart}
 use Rattle.iot_server_node.specs.Keepers.{KeepsList, lists}
 use Rattle.iot_server_node.specs.Records.{IsImage, label_of, records_of, state_of}
@@ -83,71 +79,32 @@ module _ {D : Type 0} (medium : Medium D) where
         arms;
   }
 
-  -- ---- what a keeper has
+-- ---- what a keeper has
 
+module _ {D : Type 0} {medium : Medium D} {it : Server D} {n : ℕ} {commits : List Commit}
+    (is : KeepsList medium (record { server = it }) n commits) where
   -- as many labels as there are records
-  pub as_many : (it : Server D) (n : ℕ) (commits : List Commit) → KeepsList medium (record { server = it }) n commits
-      → length (servers.state_of it).labels ≡ n
-  as_many it n commits is =
-      ap (λ (s : State). length s.labels) is.has_state ∙ length-map commits label_of ∙ sym is.counted
+  pub as_many : length (servers.state_of it).labels ≡ n
+  as_many = ap (λ (s : State). length s.labels) is.has_state ∙ length-map commits label_of ∙ sym is.counted
 
   -- its records lead to its state
-  pub leads_list : (it : Server D) (n : ℕ) (commits : List Commit) → KeepsList medium (record { server = it }) n commits
-      → Leads (records_of commits) opening (state_of commits)
-  leads_list it n commits is =
+  pub leads_list : Leads (records_of commits) opening (state_of commits)
+  leads_list =
       subst (λ (bodies : List (List ℕ)). Leads bodies opening (state_of commits)) is.has_records
       (subst (λ (s : State). Leads (servers.bodies_on medium it) opening s) is.has_state is.synced.leads)
 
   -- each image of its disk has them
-  pub keeps_images : (it : Server D) (n : ℕ) (commits : List Commit) → KeepsList medium (record { server = it }) n commits
-      → EachIs (medium.may_leave (servers.disk_of it)) (λ bytes. IsImage bytes n commits)
-  keeps_images it n commits is = record {
+  pub keeps_images : EachIs (medium.may_leave (servers.disk_of it)) (λ bytes. IsImage bytes n commits)
+  keeps_images = record {
     each = λ bytes there. record {
       has_records =
           ap decoded (is.synced.journal.only.is bytes there) ∙ is.synced.journal.encodes ∙ ap Encodes is.has_records;
-      leads = leads_list it n commits is;
+      leads = leads_list;
       counted = is.counted;
     };
   }
 
-  -- ---- a request
-
-  -- what its disk counts after it
-  pub keeps_disk : {T : Type 0} (result : Result T ServerFault) (was now : Server D)
-      → CountsServerFault result (medium.faults (servers.disk_of was)) (medium.faults (servers.disk_of now))
-      → medium.arms (servers.disk_of now) ≡ medium.arms (servers.disk_of was)
-      → KeepsDisk medium (Some (servers.disk_of was)) (Some (servers.disk_of now))
-  keeps_disk result was now counts arms = record {
-    was = servers.disk_of was;
-    now = servers.disk_of now;
-    old_has = refl;
-    new_has = refl;
-    arms = arms;
-    faults = by result counts;
-  }
-    where
-      by : {T : Type 0} (result : Result T ServerFault)
-          → CountsServerFault result (medium.faults (servers.disk_of was)) (medium.faults (servers.disk_of now))
-          → (medium.faults (servers.disk_of now) ≡ medium.faults (servers.disk_of was))
-          ⊎ Rose (medium.faults (servers.disk_of was)) (medium.faults (servers.disk_of now))
-      by (Ok reply) counts = inl counts
-      by (Err fault.NoMemory) counts = inl counts
-      by (Err (fault.Malformed at)) counts = inl counts
-      by (Err fault.Stopped) counts = inr counts
-
--- a call goes so if its answer is this
-pub on_stop : {T : Type 0} (result : Result T ServerFault) (it : ServerFault) (before now : ℕ) → result ≡ Err it → it ≡ fault.Stopped
-    → CountsServerFault result before now → Rose before now
-on_stop {T} result it before now one other counts =
-    subst (λ (r : Result T ServerFault). CountsServerFault r before now) (one ∙ ap (λ (f : ServerFault). Err f) other) counts
-
-pub if_ok : {T E : Type 0} {P Q : T → Type 0} (result : Result T E) → ((t : T) → P t → Q t) → IfOk result P → IfOk result Q
-if_ok (Ok t) more is = more t is
-if_ok (Err e) more is = tt
-
-pub if_err : {T E : Type 0} {P Q : E → Type 0} (result : Result T E) → ((e : E) → P e → Q e) → IfErr result P → IfErr result Q
-if_err (Ok t) more is = tt
-if_err (Err e) more is = more e is
+-- ---- what is so of an answer
 
 pub on_ok : {T E P Q : Type 0} (result : Result T E) → (P → Q) → OnOk result P → OnOk result Q
 on_ok (Ok t) more is = more is

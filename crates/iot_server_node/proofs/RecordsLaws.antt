@@ -65,7 +65,7 @@ state_of-append commits commit made =
     same_state _ _ _ _ (tree_after-append commits commit ∙ made) (map-append label_of commits (commit ∷ []))
 
 -- the record and the state after a commit with this label and these acts
-module _ (commits : List Commit) (commit : Commit) (label : Label) (acts : List Act)
+module _ (commits : List Commit) {commit : Commit} {label : Label} {acts : List Act}
     (are : AreOf commit (tree_after commits) label acts) where
   pub record_is : records_of (commits ++ commit ∷ []) ≡ records_of commits ++ record_spelling label acts ∷ []
   record_is =

@@ -3,6 +3,7 @@ use Rattle.std.proofs.Common.{◌≡◌, ◌<◌, ℕ, suc, zero, ◌+◌, ◌%�
 use Rattle.std.proofs.Common.{Option, Some, None, IsSome, Err, codes, refl, sym, ap, subst, ◌∙◌, arith, inl, inr, slice_index_or}
 use Rattle.std.proofs.lemmas.List.{length-append}
 use Rattle.std.proofs.lemmas.Option.{same_Some}
+use Rattle.std.proofs.lemmas.Result.{IfOk-weaker, IfErr-weaker}
 use Rattle.std.proofs.Math.Nat.{mod-add-mod}
 use Rattle.std.specs.Prelude.{Result, IfOk, IfErr, Vec}
 use Rattle.std.specs.declared.alloc.Global.{Global}
@@ -16,7 +17,6 @@ use Rattle.iot_server.specs.Servers as servers
 use Rattle.iot_server.specs.Traffic.{no_traffic}
 use Rattle.iot_server.specs.declared.server.Server.{Server}
 use Rattle.iot_server.specs.declared.traffic.Traffic.{Traffic}
-use Rattle.iot_tree.specs.Tree.{Nodes}
 use Rattle.iot_tree.specs.declared.acts.Act.{Act}
 use Rattle.iot_tree.specs.declared.labels.Label.{Label}
 use Rattle.iot_machine.specs.Calls.{Call, Does, Says, either}
@@ -24,8 +24,8 @@ use Rattle.iot_machine.specs.Machine.{Commit, add_commit, tree_after}
 use Rattle.iot_machine.specs.Nodes.{Node, fallen, changed, back, unopened}
 use Rattle.iot_machine.specs.Refining.{Refines}
 use Rattle.iot_machine.specs.Serving.{server_name, added_text, commit_text, kept_text}
-use Rattle.iot_machine.specs.Stops.{OpensNode, Appends, ComesBack, Settles, Crashes, Restarts, ArmsDisk, Shows}
-use Rattle.iot_machine.specs.Texts.{line, tree_text, transaction_name}
+use Rattle.iot_machine.specs.Stops.{OpensNode, Appends, ComesBack, Settles, Crashes, Restarts, ArmsDisk}
+use Rattle.iot_machine.specs.Texts.{line, transaction_name}
 use Rattle.iot_node.specs.Disks.{IsEmpty, KeepsDisk, counts_on}
 use Rattle.iot_node.specs.Keeping.{Doubts}
 use Rattle.iot_node.specs.Posts as posts
@@ -36,16 +36,16 @@ use Rattle.iot_node.specs.declared.halt.Halt.TheVariants.{Over}
 use Rattle.iot_node.specs.declared.post.Doubt.{Doubt}
 use Rattle.iot_node.specs.declared.post.Post.{Post}
 use Rattle.iot_node.specs.declared.post.Post.TheVariants.{Up, Down, Between}
-use Rattle.iot_server_node.specs.Keepers.{lists, traffic_in, Handles, Refuses}
-use Rattle.iot_server_node.specs.Servers.{is_up, count_in, count_of, lent_in, IsKnown, AreKnown, AreKnownIfAny, IsLongerIfAny, NodeIsKnown}
+use Rattle.iot_server_node.specs.Keepers.{lists, traffic_in, Handles, Refuses, KeepsList}
+use Rattle.iot_server_node.specs.Servers.{is_up, count_in, count_of, IsKnown, AreKnown, AreKnownIfAny, IsLongerIfAny, NodeIsKnown}
 use Rattle.iot_server_node.specs.Servers.{HasAnsweredIn, ServerStands}
 use Rattle.iot_server_node.specs.Servers.{HavingAnswered, ServerIsSound, IsUnopened, answered_since, AreOf, live, IsLive, Handled, Refused}
 use Rattle.iot_server_node.specs.declared.keeper.ServerKeeper.{ServerKeeper}
 use Rattle.iot_server_node.specs.declared.server.ServerNode.{ServerNode}
-use Rattle.iot_server_node.proofs.KeepersLaws.{keeps_images, if_ok, if_err}
+use Rattle.iot_server_node.proofs.KeepersLaws.{keeps_images}
 use Rattle.iot_server_node.proofs.RecordsLaws.{all_more, few_commits, record_is, state_is}
 use Rattle.iot_node.proofs.PostsLaws.{holds_each}
-use Rattle.iot_node.proofs.StepsToLaws.{bind, asks, says, says_this, nothing}
+use Rattle.iot_node.proofs.StepsToLaws.{bind, asks, says_this, nothing}
 
 -- no bytes are a journal without a body
 nothing_decoded : decoded [] ≡ Encodes []
@@ -55,29 +55,23 @@ nothing_decoded = refl
 -- ---- what is known of the commits
 
 module _ (names : List (List ℕ)) where
-  known_so : (node after : Node (List Commit)) → after.durable ≡ node.durable → after.doubt ≡ node.doubt → NodeIsKnown names node
-      → NodeIsKnown names after
-  known_so node after durable doubt known = record {
-    durable = subst (AreKnown names) (sym durable) known.durable;
-    doubt = subst (AreKnownIfAny names) (sym doubt) known.doubt;
-    longer =
-        subst (λ (commits : List Commit). IsLongerIfAny commits after.doubt) (sym durable)
-        (subst (IsLongerIfAny node.durable) (sym doubt) known.longer);
-  }
+  -- what is known stays so in this call
+  abbrev pub Keeps : {A : Type 0} → Call (Node (List Commit)) A → A → Type 0
+  Keeps call a =
+      (node after : Node (List Commit)) (text : List ℕ) → call node text a after → NodeIsKnown names node → NodeIsKnown names after
 
-  pub known_opens : (node after : Node (List Commit)) (text : List ℕ) (on : Bool) → OpensNode server_name node text on after
-      → NodeIsKnown names node → NodeIsKnown names after
-  known_opens node after text on (inl is) known =
-      known_so node after (ap (λ (n : Node (List Commit)). n.durable) is.2) (ap (λ (n : Node (List Commit)). n.doubt) is.2) known
-  known_opens node after text on (inr is) known =
-      known_so node after (ap (λ (n : Node (List Commit)). n.durable) is.2.is) (ap (λ (n : Node (List Commit)). n.doubt) is.2.is) known
+  known_so : {node after other : Node (List Commit)} → after ≡ other → NodeIsKnown names node → other.durable ≡ node.durable
+      → other.doubt ≡ node.doubt → NodeIsKnown names after
+  known_so is known durable doubt =
+      rw is
+      (record { durable = rw durable known.durable; doubt = rw doubt known.doubt; longer = rw (durable, doubt) known.longer })
+
+  pub known_opens : (on : Bool) → Keeps (OpensNode server_name) on
+  known_opens on node after text (inl is) known = known_so is.2 known refl refl
+  known_opens on node after text (inr is) known = known_so is.2.is known refl refl
 
   known_back : (s : List Commit) (node after : Node (List Commit)) → after ≡ back s node → AreKnown names s → NodeIsKnown names after
-  known_back s node after is known = record {
-    durable = subst (AreKnown names) (sym (ap (λ (n : Node (List Commit)). n.durable) is)) known;
-    doubt = subst (AreKnownIfAny names) (sym (ap (λ (n : Node (List Commit)). n.doubt) is)) tt;
-    longer = subst (IsLongerIfAny after.durable) (sym (ap (λ (n : Node (List Commit)). n.doubt) is)) tt;
-  }
+  known_back s node after is known = subst (NodeIsKnown names) (sym is) (record { durable = known; doubt = tt; longer = tt })
 
   known_settled : (doubt : Option (List Commit)) (node after : Node (List Commit)) (text : List ℕ)
       → Settles server_name (kept_text names) doubt node text after → AreKnown names node.durable → AreKnownIfAny names doubt
@@ -86,28 +80,29 @@ module _ (names : List (List ℕ)) where
   known_settled (Some s) node after text (inl is) durable doubt = known_back s node after is.1 doubt
   known_settled (Some s) node after text (inr is) durable doubt = known_back node.durable node after is.1 durable
 
-  pub known_comes_back : (node after : Node (List Commit)) (text : List ℕ) (on : Bool)
-      → ComesBack server_name (kept_text names) node text on after → NodeIsKnown names node → NodeIsKnown names after
-  known_comes_back node after text on (inl is) known = known_settled node.doubt node after text is.1 known.durable known.doubt
-  known_comes_back node after text on (inr is) known =
-      known_so node after (ap (λ (n : Node (List Commit)). n.durable) is.2.is) (ap (λ (n : Node (List Commit)). n.doubt) is.2.is) known
+  known_comes_back : (on : Bool) → Keeps (ComesBack server_name (kept_text names)) on
+  known_comes_back on node after text (inl is) known = known_settled node.doubt node after text is.1 known.durable known.doubt
+  known_comes_back on node after text (inr is) known = known_so is.2.is known refl refl
 
-  pub known_armed : (calls : ℕ) (pick : Pick) (node after : Node (List Commit)) (text : List ℕ) (answer : Unit {0})
-      → ArmsDisk server_name calls pick node text answer after → NodeIsKnown names node → NodeIsKnown names after
-  known_armed calls pick node after text answer is known =
-      known_so node after (ap (λ (n : Node (List Commit)). n.durable) is.1) (ap (λ (n : Node (List Commit)). n.doubt) is.1) known
+  pub known_armed : (calls : ℕ) (pick : Pick) → Keeps (ArmsDisk server_name calls pick) tt
+  known_armed calls pick node after text is known = known_so is.1 known refl refl
 
-  known_fallen : (on : Bool) (node after : Node (List Commit)) (text : List ℕ) (answer : Unit {0})
-      → either (Does (λ _. line (codes "crash " ++ server_name)) fallen) (Says (λ _. line (codes "down"))) on node text answer after
-      → NodeIsKnown names node → NodeIsKnown names after
-  known_fallen true node after text answer is known =
-      known_so node after (ap (λ (n : Node (List Commit)). n.durable) is.1) (ap (λ (n : Node (List Commit)). n.doubt) is.1) known
-  known_fallen false node after text answer is known = subst (NodeIsKnown names) (sym is.1) known
+  known_fallen : (on : Bool) → Keeps (either (Does (λ _. line (codes "crash " ++ server_name)) fallen) (Says (λ _. line (codes "down"))) on) tt
+  known_fallen true node after text is known = known_so is.1 known refl refl
+  known_fallen false node after text is known = known_so is.1 known refl refl
 
-  pub known_crash : (node after : Node (List Commit)) (text : List ℕ) (answer : Unit {0}) → Crashes server_name node text answer after
-      → NodeIsKnown names node → NodeIsKnown names after
-  known_crash node after text answer it known =
-      known_fallen it.answer it.mid after it.rest answer it.second (subst (NodeIsKnown names) (sym it.first.2) known)
+  pub known_crash : Keeps (Crashes server_name) tt
+  known_crash node after text it known =
+      known_fallen it.answer it.mid after it.rest it.second (subst (NodeIsKnown names) (sym it.first.2) known)
+
+  -- also where the server stops as it appends a commit that is known
+  pub known_stopped : (commit : Commit) → IsKnown names commit → Keeps (Appends server_name (add_commit commit)) false
+  known_stopped commit one node after text (inl done) known = absurd cc
+  known_stopped commit one node after text (inr stop) known = subst (NodeIsKnown names) (sym stop.2.is) (record {
+    durable = known.durable;
+    doubt = all_more (IsKnown names) node.durable commit known.durable one;
+    longer = record { later = commit ∷ []; is = refl };
+  })
 
 -- one client more has a name
 module _ (names : List (List ℕ)) (name : List ℕ) where
@@ -200,18 +195,11 @@ module _ {D : Type 0} (medium : Medium D) (names : List (List ℕ)) where
   has_disk (Down fallen) node here = refl
   has_disk Between node here = absurd here
 
-  pub off_is_fallen : (post : Post (ServerKeeper D) D) (node : Node (List Commit)) → Posted post node → is_on post ≡ false
-      → is_fallen post ≡ true
-  off_is_fallen (Up keeper) node here off = absurd cc
-  off_is_fallen (Down fallen) node here off = refl
-  off_is_fallen Between node here off = absurd here
-
   -- what its post does, it does
-  pub with_known : {A : Type 0} (call : Call (Node (List Commit)) A) (old new : ServerNode D) (n k : ℕ) (x y : List ℕ) (a : A)
-      → Refines Posted call old.post new.post x y a
-      → ((node after : Node (List Commit)) (text : List ℕ) → call node text a after → NodeIsKnown names node → NodeIsKnown names after)
-      → (HasAnsweredIn n old.post → HasAnsweredIn k new.post) → StepsTo (Stands n) (Stands k) call old new x y a
-  with_known call old new n k x y a one keeps counts = record {
+  pub with_known : {A : Type 0} {call : Call (Node (List Commit)) A} {old new : ServerNode D} {n k : ℕ} {x y : List ℕ} {a : A}
+      → Refines Posted call old.post new.post x y a → Keeps names call a → (HasAnsweredIn n old.post → HasAnsweredIn k new.post)
+      → StepsTo (Stands n) (Stands k) call old new x y a
+  with_known one keeps counts = record {
     step = λ node here.
         let s = one.step node here.post in
         (s.0, s.1, s.2, s.3, record { post = s.4; known = keeps node s.1 s.0 s.3 here.known; answered = counts here.answered });
@@ -262,22 +250,15 @@ module _ {D : Type 0} (medium : Medium D) (names : List (List ℕ)) where
       (bind old old new x x y false tt
       (asks old x false (λ node here. sym (alive_is old.post node here.post ∙ down)))
       (bind old new new x y y on tt
-      (with_known (ComesBack server_name (kept_text names)) old new n 0 x y on one
-      (λ node after text. known_comes_back names node after text on) (λ had. answered_fresh new.post on fresh))
+      (with_known one (known_comes_back names on) (λ had. answered_fresh new.post on fresh))
       (nothing new y)))
-
-  pub came_up : (post : Post (ServerKeeper D) D) (node : Node (List Commit)) (x y : List ℕ) → is_on post ≡ true
-      → CameIf (lists medium) medium (is_on post) post server_name x y node
-  came_up (Up keeper) node x y on = tt
-  came_up (Down fallen) node x y on = absurd cc
-  came_up Between node x y on = absurd cc
 
   lasts_in : (post : Post (ServerKeeper D) D) (node : Node (List Commit)) → Posted post node → Lasts (lists medium) medium post node
   lasts_in (Up keeper) node here = record {
     disk = servers.disk_of keeper.server;
     has = refl;
     count = here.count;
-    each = record { each = λ bytes there. inl ((keeps_images medium keeper.server here.count node.durable here.stands).each bytes there) };
+    each = record { each = λ bytes there. inl ((keeps_images here.stands).each bytes there) };
   }
   lasts_in (Down fallen) node here = record {
     disk = fallen.disk;
@@ -297,36 +278,6 @@ module _ {D : Type 0} (medium : Medium D) (names : List (List ℕ)) where
       → node.alive ≡ is_up server
   up_is server node n here = alive_is server.post node here.post
 
-  -- ---- what it shows
-
-  tree_in : (post : Post (ServerKeeper D) D) (node : Node (List Commit)) → Posted post node → (it : Server D) → lent_in post ≡ Some it
-      → (node.alive ≡ true) × ((servers.state_of it).tree ≡ tree_after node.durable)
-  tree_in (Up keeper) node here it has = (
-    here.alive,
-    ap (λ (it : Server D). (servers.state_of it).tree) (sym (same_Some keeper.server it has))
-        ∙ ap (λ (s : State). s.tree) here.stands.has_state,
-  )
-  tree_in (Down fallen) node here it has = absurd cc
-  tree_in Between node here it has = absurd cc
-
-  down_in : (post : Post (ServerKeeper D) D) (node : Node (List Commit)) → Posted post node → lent_in post ≡ None → node.alive ≡ false
-  down_in (Up keeper) node here none = absurd cc
-  down_in (Down fallen) node here none = here.alive
-  down_in Between node here none = absurd here
-
-  pub shows_tree : (server : ServerNode D) (n : ℕ) (it : Server D) (x y : List ℕ) → lent_in server.post ≡ Some it
-      → y ≡ x ++ tree_text (servers.state_of it).tree
-      → StepsTo (Stands n) (Stands n) (Shows (λ commits. tree_text (tree_after commits))) server server x y tt
-  shows_tree server n it x y has wrote =
-      bind server server server x x y true tt (asks server x true (λ node here. sym (tree_in server.post node here.post it has).0))
-      (says server x y (λ node here. wrote ∙ ap (λ (t : Nodes). x ++ tree_text t) (tree_in server.post node here.post it has).1))
-
-  pub shows_down : (server : ServerNode D) (n : ℕ) (x y : List ℕ) → lent_in server.post ≡ None → y ≡ x ++ line (codes "down")
-      → StepsTo (Stands n) (Stands n) (Shows (λ commits. tree_text (tree_after commits))) server server x y tt
-  shows_down server n x y none wrote =
-      bind server server server x x y false tt (asks server x false (λ node here. sym (down_in server.post node here.post none)))
-      (says_this _ server x y wrote)
-
   -- ---- a request
 
   is_live_in : (post : Post (ServerKeeper D) D) (node : Node (List Commit)) → Posted post node → is_on post ≡ true
@@ -340,64 +291,56 @@ module _ {D : Type 0} (medium : Medium D) (names : List (List ℕ)) where
       → IsLive medium server
   is_live server node n up here = is_live_in server.post node here.post up
 
-  -- a server counts a request
-  counts_one : (was now : Server D) (n : ℕ) → (servers.traffic_of now).requests ≡ ((servers.traffic_of was).requests + 1) % 2 ^ 64
-      → (servers.traffic_of was).requests ≡ n % 2 ^ 64 → (servers.traffic_of now).requests ≡ (n + 1) % 2 ^ 64
-  counts_one was now n one had =
-      one ∙ ap (λ (requests : ℕ). (requests + 1) % 2 ^ 64) had ∙ mod-add-mod n (2 ^ 64) 1
-
-  module _ (was now : Server D) (asked reply : List ℕ) (it : Handles medium asked reply was now) where
-    -- one that has the records and the state that it had stands for what it stood for
-    pub stands_still : (node : Node (List Commit)) (n : ℕ) → servers.bodies_on medium now ≡ servers.bodies_on medium was
-        → servers.state_of now ≡ servers.state_of was
-        → ServerStands medium names (live was) node n → ServerStands medium names (live now) node (n + 1)
-    stands_still node n recorded made here = record {
+  module _ {was now : Server D} {asked reply : List ℕ} {node : Node (List Commit)} {n : ℕ} (it : Handles medium asked reply was now)
+      (here : ServerStands medium names (live was) node n) where
+    -- once more, with what it has now
+    stands_on : (change : List Commit → List Commit) (count : ℕ) → KeepsList medium (record { server = now }) count (change node.durable)
+        → NodeIsKnown names (changed change node) → ServerStands medium names (live now) (changed change node) (n + 1)
+    stands_on change count keeps known = record {
       post = record {
         alive = here.post.alive;
         sure = here.post.sure;
         counts = it.counts ∙ here.post.counts;
-        count = here.post.count;
-        stands = record {
+        count = count;
+        stands = keeps;
+      };
+      known = known;
+      answered =
+          it.requests ∙ ap (λ (requests : ℕ). (requests + 1) % 2 ^ 64) here.answered ∙ mod-add-mod n (2 ^ 64) 1;
+    }
+
+    -- one that has the records and the state that it had stands for what it stood for
+    pub stands_still : servers.bodies_on medium now ≡ servers.bodies_on medium was → servers.state_of now ≡ servers.state_of was
+        → ServerStands medium names (live now) node (n + 1)
+    stands_still recorded made =
+        stands_on (λ commits. commits) here.post.count (record {
           synced = it.synced;
           has_records = recorded ∙ here.post.stands.has_records;
           has_state = made ∙ here.post.stands.has_state;
           counted = here.post.stands.counted;
-        };
-      };
-      known = here.known;
-      answered = counts_one was now n it.requests here.answered;
-    }
+        })
+        here.known
 
     -- one that has one record more, of this commit, and the state after it, stands for a list with this commit
-    pub stands_longer : (node : Node (List Commit)) (n : ℕ) (commit : Commit) (label : Label) (acts : List Act)
+    pub stands_longer : {commit : Commit} {label : Label} {acts : List Act} → AreOf commit (tree_after node.durable) label acts
         → servers.bodies_on medium now ≡ servers.bodies_on medium was ++ record_spelling label acts ∷ []
-        → servers.state_of now ≡ after_commit (servers.state_of was) label acts
-        → AreOf commit (tree_after node.durable) label acts → IsKnown names commit → ServerStands medium names (live was) node n
+        → servers.state_of now ≡ after_commit (servers.state_of was) label acts → IsKnown names commit
         → ServerStands medium names (live now) (changed (add_commit commit) node) (n + 1)
-    stands_longer node n commit label acts recorded made are known here = record {
-      post = record {
-        alive = here.post.alive;
-        sure = here.post.sure;
-        counts = it.counts ∙ here.post.counts;
-        count = here.post.count + 1;
-        stands = record {
+    stands_longer {commit} {label} {acts} are recorded made known =
+        stands_on (add_commit commit) (here.post.count + 1) (record {
           synced = it.synced;
           has_records =
               recorded ∙ ap (λ (bodies : List (List ℕ)). bodies ++ record_spelling label acts ∷ []) here.post.stands.has_records
-              ∙ sym (record_is node.durable commit label acts are);
+              ∙ sym (record_is node.durable are);
           has_state =
-              made ∙ ap (λ (s : State). after_commit s label acts) here.post.stands.has_state
-              ∙ sym (state_is node.durable commit label acts are);
+              made ∙ ap (λ (s : State). after_commit s label acts) here.post.stands.has_state ∙ sym (state_is node.durable are);
           counted = ap (λ (k : ℕ). k + 1) here.post.stands.counted ∙ sym (length-append node.durable (commit ∷ []));
-        };
-      };
-      known = record {
-        durable = all_more (IsKnown names) node.durable commit here.known.durable known;
-        doubt = here.known.doubt;
-        longer = subst (IsLongerIfAny (add_commit commit node.durable)) (sym here.post.sure) tt;
-      };
-      answered = counts_one was now n it.requests here.answered;
-    }
+        })
+        (record {
+          durable = all_more (IsKnown names) node.durable commit here.known.durable known;
+          doubt = here.known.doubt;
+          longer = subst (IsLongerIfAny (add_commit commit node.durable)) (sym here.post.sure) tt;
+        })
 
 -- ---- an append that failed
 
@@ -441,7 +384,7 @@ module _ {D : Type 0} (medium : Medium D) (old : ServerNode D) (was now : Server
   pub handled_by : IfOk result (λ reply. Handles medium given reply.items was.server now.server)
       → IfOk result (λ reply. Handled medium asked reply.items old (at (Up now)))
   handled_by =
-      if_ok result (λ reply by. record {
+      IfOk-weaker result _ _ (λ reply by. record {
         was = was.server;
         now = now.server;
         old_is = ap at is;
@@ -452,7 +395,7 @@ module _ {D : Type 0} (medium : Medium D) (old : ServerNode D) (was now : Server
   pub refused_by : IfErr result (λ fault. Refuses medium given fault was.server now.server)
       → IfErr result (λ fault. Refused medium asked fault old (at (Up now)))
   refused_by =
-      if_err result (λ fault by. record {
+      IfErr-weaker result _ _ (λ fault by. record {
         was = was.server;
         now = now.server;
         old_is = ap at is;

@@ -19,49 +19,33 @@ give_up-requires-clause-few g c =
 
 pub returns-in-Ok-clause-lends : goal.returns-in-Ok-clause-lends
 returns-in-Ok-clause-lends g c client held want names asks =
-    lends g.D.Disk.medium names c.args.message.now.request.items c.args.message.now.handed client held want
-    (omega (arith, c.args.message.now.request.ok, c.args.message.now.request.small)) asks
-    (record { reply = c.in-Ok.reply; committed = c.committed_by.result }) c.args.self.now c.handle.new.self c.args.out.now
-    c.requires.sound c.in-Ok.ensures.handled
-    (c.committed_by.ensures ∙ (λ i. committed_since (c.number-before.ensures i) (c.number.ensures i)))
+    lends g.D.Disk.medium c.args.message.now held asks names (record { reply = c.in-Ok.reply; committed = c.committed_by.result }) c.requires.sound
+    c.in-Ok.ensures.handled (c.committed_by.ensures ∙ (λ i. committed_since (c.number-before.ensures i) (c.number.ensures i)))
 
 pub returns-in-Ok-clause-judges : goal.returns-in-Ok-clause-judges
 returns-in-Ok-clause-judges g c it names hands named =
-    judges g.D.Disk.medium c.args.message.now it (omega (arith, c.args.message.now.request.ok, c.args.message.now.request.small)) hands
-    names named (record { reply = c.in-Ok.reply; committed = c.committed_by.result }) c.args.self.now c.handle.new.self c.args.out.now
-    c.in-Ok.ensures.handled
+    judges hands names named g.D.Disk.medium (record { reply = c.in-Ok.reply; committed = c.committed_by.result }) c.requires.sound c.in-Ok.ensures.handled
     (c.committed_by.ensures ∙ (λ i. committed_since (c.number-before.ensures i) (c.number.ensures i)))
 
 pub returns-in_ok-give_up-in-Err-clause-lends : goal.returns-in_ok-give_up-in-Err-clause-lends
 returns-in_ok-give_up-in-Err-clause-lends g c client held want names asks n =
-    absurd
-    (lends_always g.D.Disk.medium names c.args.message.now.request.items c.args.message.now.handed client held want
-    (omega (arith, c.args.message.now.request.ok, c.args.message.now.request.small)) asks c.in-Err.fault c.args.self.now
-    c.handle.new.self c.in_ok-give_up-in-Err.ensures.stopped c.in-Err.ensures.refused)
+    absurd (lends_always g.D.Disk.medium c.args.message.now held asks c.in_ok-give_up-in-Err.ensures.stopped c.in-Err.ensures.refused)
 
 pub returns-in_ok-give_up-in-Err-clause-judges : goal.returns-in_ok-give_up-in-Err-clause-judges
 returns-in_ok-give_up-in-Err-clause-judges g c it names hands named =
-    judges_stopped g.D.Disk.medium c.args.message.now it
-    (omega (arith, c.args.message.now.request.ok, c.args.message.now.request.small)) hands names named c.in-Err.fault c.args.self.now
-    c.handle.new.self c.give_up.new.self c.number-before.result c.args.out.now c.give_up.new.out
-    c.in_ok-give_up-in-Err.ensures.stopped c.in-Err.ensures.refused c.number-before.ensures (c.in_ok-give_up-in-Err.ensures.step names)
-    (λ n. answered_off c.give_up.new.self.post n c.in_ok-give_up-in-Err.ensures.down)
+    judges_stopped hands names named g.D.Disk.medium c.in_ok-give_up-in-Err.ensures.stopped c.in-Err.ensures.refused c.number-before.ensures
+    (c.in_ok-give_up-in-Err.ensures.step names) (λ n. answered_off c.give_up.new.self.post n c.in_ok-give_up-in-Err.ensures.down)
 
 pub returns-in_err-give_up-in-Err-clause-lends_lasts : goal.returns-in_err-give_up-in-Err-clause-lends_lasts
 returns-in_err-give_up-in-Err-clause-lends_lasts g c =
     always_err c.from_residual.result
     (λ halt client held want names n node asks here.
-    lends_lasts g.D.Disk.medium names c.args.message.now.request.items c.args.message.now.handed client held want
-    (omega (arith, c.args.message.now.request.ok, c.args.message.now.request.small)) asks c.in-Err.fault c.args.self.now
-    c.handle.new.self c.give_up.new.self node n c.in-Err.ensures.refused c.give_up.ensures.disk here)
+    lends_lasts g.D.Disk.medium c.args.message.now held asks node c.in-Err.ensures.refused c.give_up.ensures.disk here)
 
 pub returns-in_err-give_up-in-Err-clause-judges_lasts : goal.returns-in_err-give_up-in-Err-clause-judges_lasts
 returns-in_err-give_up-in-Err-clause-judges_lasts g c =
     always_err c.from_residual.result
-    (λ halt it names n node hands here.
-    judges_lasts g.D.Disk.medium c.args.message.now it
-    (omega (arith, c.args.message.now.request.ok, c.args.message.now.request.small)) hands names c.in-Err.fault c.args.self.now
-    c.handle.new.self c.give_up.new.self node n c.in-Err.ensures.refused c.give_up.ensures.disk here)
+    (λ halt it names n node hands here. judges_lasts hands node c.in-Err.ensures.refused c.give_up.ensures.disk here)
 
 pub returns-in-Ok-clause-records : goal.returns-in-Ok-clause-records
 returns-in-Ok-clause-records g c =
