@@ -22,7 +22,7 @@ use Rattle.iot_machine.specs.Calls.{Call, Then}
 use Rattle.iot_machine.specs.Machine.{Commit, add_commit, tree_after}
 use Rattle.iot_machine.specs.Nodes.{Node, changed, doubting}
 use Rattle.iot_machine.specs.Serving as serving
-use Rattle.iot_machine.specs.Serving.{Submission, Judges, Commits, committed, Settled, Conflict, number_of, commit_text, kept_text, server_name}
+use Rattle.iot_machine.specs.Serving.{Submission, Judges, committed, Settled, Conflict, number_of, commit_text, server_name}
 use Rattle.iot_machine.specs.Stops.{Appends}
 use Rattle.iot_machine.specs.Texts.{commit_line, acts_output}
 use Rattle.iot_machine.proofs.KeptLaws.{kept_added}
@@ -123,7 +123,8 @@ module _ {message : Message} {it : Submission} (hands : IsHanded message it) whe
       -- its script does the same there
       are : AreOf it.commit (tree_after commits) label acts
       are =
-          let same = same_there it.commit.entry.script it.commit.entry.kept it.commit.entry.budget is.base (tree_after commits) acts is.has_acts
+          let same =
+          same_there it.commit.entry.script it.commit.entry.kept it.commit.entry.budget is.base (tree_after commits) acts is.has_acts
           (list_tree commits) hold_there in
           record {
             has_label = is.has_label;
@@ -184,11 +185,11 @@ module _ {message : Message} {it : Submission} (hands : IsHanded message it) whe
             (record { has_label = hands.asked.value.0; has_acts = hands.asked.value.1; spelled = refl })
             (subst (λ (s : State). CanFollow s label acts) keeps.has_state follows))
 
-  module _ (names : List (List ℕ)) (named : IsNamedIn names it) where
+  module _ {D : Type 0} (medium : Medium D) (names : List (List ℕ)) (named : IsNamedIn names it) where
     is_known : IsKnown names it.commit
     is_known = record { spelled = is.spelled; client = named.client }
 
-    module _ {D : Type 0} (medium : Medium D) (was : Server D) where
+    module _ (was : Server D) where
       -- a step of this server
       abbrev Steps : {A : Type 0} → (n k : ℕ) → Call (Node (List Commit)) A → ServerNode D → (x y : List ℕ) → A → Type 0
       Steps n k call new x y a = StepsTo (HavingAnswered medium names n) (HavingAnswered medium names k) call (live was) new x y a
@@ -224,8 +225,7 @@ module _ {message : Message} {it : Submission} (hands : IsHanded message it) whe
           })
 
     -- it is judged
-    module _ {D : Type 0} (medium : Medium D) (served : Served) (y : List ℕ) {was now : Server D}
-        (done : Handles medium message.request.items served.reply.items was now)
+    module _ (served : Served) (y : List ℕ) {was now : Server D} (done : Handles medium message.request.items served.reply.items was now)
         (counted : served.committed ≡ committed_since (count_of (live was)) (count_of (live now))) where
       abbrev Serves : Type 0
       Serves = ServesBy medium names (Judges it) (SpellsVerdict it.reads) message.handed (Some served) (live was) (live now) y y
@@ -246,14 +246,14 @@ module _ {message : Message} {it : Submission} (hands : IsHanded message it) whe
       -- this is the verdict, and this is to be said
       serves : (verdict : serving.Verdict) {said : List ℕ} → SpellsVerdict it.reads served.reply.items verdict
           → said_of served.committed message.handed ≡ said
-          → ((n : ℕ) (x : List ℕ) → Steps medium was n (n + 1) (Judges it) (live now) x (x ++ said) (Some verdict)) → Serves
+          → ((n : ℕ) (x : List ℕ) → Steps was n (n + 1) (Judges it) (live now) x (x ++ said) (Some verdict)) → Serves
       serves verdict spells said steps = (refl, (verdict, spells, λ n x. rw said (steps n x)))
 
       by_found : (found : Option ℕ) → number_in (servers.state_of was).labels label.client label.tid ≡ found
           → Submits found (servers.state_of was) label acts told.reply (servers.state_of now) → Serves
       by_found (Some number) listed (replied, made) =
           serves (Settled number) (inr (spelled replied)) (still_silent message served done counted made) (λ n x.
-          by_number medium was (Some number) listed (record {
+          by_number was (Some number) listed (record {
             step = λ node here.
                 ([], node, refl, (refl, refl, refl), stands_still medium names done here (recorded replied) made);
           }))
@@ -265,7 +265,7 @@ module _ {message : Message} {it : Submission} (hands : IsHanded message it) whe
           (said_by message served done counted made
           ∙ ap (λ (n : ℕ). said_of (committed_since number n) message.handed) more ∙ commit_is_said number message.handed)
           (λ n x.
-          judged_well medium was none judged.is refl
+          judged_well was none judged.is refl
           (bind _ (live now) _ _ x _ true _
           (record {
             step = λ node here. (
@@ -286,8 +286,8 @@ module _ {message : Message} {it : Submission} (hands : IsHanded message it) whe
           (acts_guarded it.commit.entry.script it.commit.entry.kept it.commit.entry.budget is.base is.base acts is.has_acts is.tree) in
           let within =
           parts_within (reads_of acts) _ place answer
-          (parts_there it.commit.entry.script it.commit.entry.kept it.commit.entry.budget is.base (servers.state_of was).tree acts is.has_acts
-          place answer differs) in
+          (parts_there it.commit.entry.script it.commit.entry.kept it.commit.entry.budget is.base (servers.state_of was).tree acts
+          is.has_acts place answer differs) in
           let found : (read : Read) × (slice_get it.reads (place - 1) ≡ Some read) =
           elim (slice_get_cases it.reads (place - 1)).1 [
             | inl there ↦ (there.0, there.2)
@@ -296,7 +296,7 @@ module _ {message : Message} {it : Submission} (hands : IsHanded message it) whe
           serves (Conflict place found.0.question)
           (found.0, record { answer = answer; spelled = spelled replied; first = within.0; at = found.1 }, refl)
           (still_silent message served done counted made) (λ n x.
-          by_number medium was None none (record {
+          by_number was None none (record {
             step = λ node here. (
               [],
               node,
@@ -307,27 +307,27 @@ module _ {message : Message} {it : Submission} (hands : IsHanded message it) whe
             );
           }))
 
-    pub judges : {D : Type 0} (medium : Medium D) (served : Served) {old new : ServerNode D} {y : List ℕ} → ServerIsSound medium old
+    pub judges : (served : Served) {old new : ServerNode D} {y : List ℕ} → ServerIsSound medium old
         → Handled medium message.request.items served.reply.items old new
         → served.committed ≡ committed_since (count_of old) (count_of new)
         → ServesBy medium names (Judges it) (SpellsVerdict it.reads) message.handed (Some served) old new y y
-    judges medium served {y = y} sound handled counted =
+    judges served {y = y} sound handled counted =
         by_servers (SpellsVerdict it.reads) message served sound handled counted (λ was now done sound counted.
-        by_found medium served y done counted _ refl (told medium served y done counted).answers)
+        by_found served y done counted _ refl (told served y done counted).answers)
 
     -- the server stops as it commits it
-    pub judges_stopped : {D : Type 0} (medium : Medium D) {fault : JournalFault} {old mid new : ServerNode D} {number : ℕ} {x y : List ℕ} → fault ≡ append.Stopped
+    pub judges_stopped : {fault : JournalFault} {old mid new : ServerNode D} {number : ℕ} {x y : List ℕ} → fault ≡ append.Stopped
         → Refused medium message.request.items fault old mid → number ≡ count_of old
         → GivesUp medium names fault (record { count = number; lines = printed_under (number + 1) message.handed }) mid new x y
         → ((n : ℕ) → HasAnsweredIn n new.post)
         → ServesBy medium names (Judges it) (SpellsVerdict it.reads) message.handed None old new x y
-    judges_stopped medium stopped refused numbered gives_up off =
+    judges_stopped stopped refused numbered gives_up off =
         let stops = subst (λ (f : JournalFault). Refuses medium message.request.items f refused.was refused.now) stopped refused.by in
         let after = follows medium refused.was refused.now stops in
         let counts = numbered ∙ ap count_of refused.old_is in
         λ n.
         rw refused.old_is
-        (judged_well medium refused.was (not_listed _ label.client label.tid after.is_new) after.holds counts
+        (judged_well refused.was (not_listed _ label.client label.tid after.is_new) after.holds counts
         (bind _ _ _ _ _ _ false None
         (with_known medium names
         (record {
@@ -346,11 +346,12 @@ module _ {message : Message} {it : Submission} (hands : IsHanded message it) whe
         (answers _ _ _ None (λ node here. here))))
 
   -- its disk has the list, or the list with it, if memory runs out
-  pub judges_lasts : {D : Type 0} {medium : Medium D} {names : List (List ℕ)} {fault : JournalFault} {old mid new : ServerNode D} (node : Node (List Commit)) {n : ℕ}
+  pub judges_lasts : {D : Type 0} {medium : Medium D} {names : List (List ℕ)} (fault : JournalFault) {old mid new : ServerNode D}
+      (node : Node (List Commit)) {n : ℕ}
       → Refused medium message.request.items fault old mid → disk_of new ≡ disk_of mid → ServerStands medium names old node n
       → Lasts (lists medium) medium new.post (doubting (add_commit it.commit) node)
-  judges_lasts {medium = medium} node refused same here =
-      refused_lasts false (Some (add_commit it.commit node.durable)) refused same here (λ was now there stops bytes left.
+  judges_lasts {medium = medium} fault node refused same here =
+      refused_lasts fault false (Some (add_commit it.commit node.durable)) refused same here (λ was now there stops bytes left.
       elim ((either_list medium was now stops there.post.stands).each bytes left) [
         | inl is ↦ inl is
         | inr is ↦ inr (add_commit it.commit node.durable, refl, is)

@@ -87,14 +87,14 @@ by_servers {medium = medium} Spelled message served sound handled counted serves
 -- ---- one that has no reply
 
 -- its disk has the list still, or what it may have if the server stopped, with what is in doubt then
-pub refused_lasts : {D : Type 0} {medium : Medium D} {names : List (List ℕ)} {asked : List ℕ} {fault : JournalFault}
+pub refused_lasts : {D : Type 0} {medium : Medium D} {names : List (List ℕ)} {asked : List ℕ} (fault : JournalFault)
     {old mid new : ServerNode D} {node : Node (List Commit)} {n : ℕ} (alive : Bool) (doubt : Option (List Commit))
     → Refused medium asked fault old mid → disk_of new ≡ disk_of mid → ServerStands medium names old node n
     → ((was now : Server D) (there : ServerStands medium names (live was) node n) → Refuses medium asked append.Stopped was now
     → (bytes : List ℕ) → medium.may_leave (servers.disk_of now) bytes
     → HoldsEither (lists medium) medium there.post.count (record node { alive = alive; doubt = doubt }) bytes)
     → Lasts (lists medium) medium new.post (record node { alive = alive; doubt = doubt })
-refused_lasts {D} {medium} {names} {asked} {fault} {old} {mid} {new} {node} {n} alive doubt refused same here stopped = record {
+refused_lasts {D} {medium} {names} {asked} fault {old} {mid} {new} {node} {n} alive doubt refused same here stopped = record {
   disk = servers.disk_of refused.now;
   has = same ∙ ap disk_of refused.new_is;
   count = there.post.count;
@@ -164,8 +164,8 @@ module _ {D : Type 0} (medium : Medium D) (message : Message) {client : ℕ} (he
       (subst (λ (f : JournalFault). Refuses medium message.request.items f refused.was refused.now) stopped refused.by)
 
   -- its disk has the list still, if memory runs out
-  pub lends_lasts : {names : List (List ℕ)} {fault : JournalFault} {old mid new : ServerNode D} (node : Node (List Commit)) {n : ℕ}
+  pub lends_lasts : {names : List (List ℕ)} (fault : JournalFault) {old mid new : ServerNode D} (node : Node (List Commit)) {n : ℕ}
       → Refused medium message.request.items fault old mid → disk_of new ≡ disk_of mid → ServerStands medium names old node n
       → Lasts (lists medium) medium new.post node
-  lends_lasts node refused same here =
-      refused_lasts node.alive node.doubt refused same here (λ was now there stops bytes left. absurd (appends_nothing was now stops))
+  lends_lasts fault node refused same here =
+      refused_lasts fault node.alive node.doubt refused same here (λ was now there stops bytes left. absurd (appends_nothing was now stops))

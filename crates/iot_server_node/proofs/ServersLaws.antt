@@ -1,12 +1,9 @@
 -- What a server does is what is said of it.
-use Rattle.std.proofs.Common.{◌≡◌, ◌<◌, ℕ, suc, zero, ◌+◌, ◌%◌, ◌^◌, Bool, true, false, if◌then◌else◌, List, [], ◌∷◌, ◌++◌, length, drop}
+use Rattle.std.proofs.Common.{◌≡◌, ℕ, suc, zero, ◌+◌, ◌%◌, ◌^◌, Bool, true, false, if◌then◌else◌, List, [], ◌∷◌, ◌++◌, length, drop}
 use Rattle.std.proofs.Common.{Option, Some, None, IsSome, Err, codes, refl, sym, ap, subst, ◌∙◌, arith, inl, inr, slice_index_or}
 use Rattle.std.proofs.lemmas.List.{length-append}
 use Rattle.std.proofs.lemmas.Option.{same_Some}
-use Rattle.std.proofs.lemmas.Result.{IfOk-weaker, IfErr-weaker}
 use Rattle.std.proofs.Math.Nat.{mod-add-mod}
-use Rattle.std.specs.Prelude.{Result, IfOk, IfErr, Vec}
-use Rattle.std.specs.declared.alloc.Global.{Global}
 use Rattle.iot_disk.specs.Disk.{Medium}
 use Rattle.iot_disk.specs.declared.disk.Pick.{Pick}
 use Rattle.iot_disk.specs.declared.faults.JournalFault.{JournalFault}
@@ -19,7 +16,7 @@ use Rattle.iot_server.specs.declared.server.Server.{Server}
 use Rattle.iot_server.specs.declared.traffic.Traffic.{Traffic}
 use Rattle.iot_tree.specs.declared.acts.Act.{Act}
 use Rattle.iot_tree.specs.declared.labels.Label.{Label}
-use Rattle.iot_machine.specs.Calls.{Call, Does, Says, either}
+use Rattle.iot_machine.specs.Calls.{Call, Does, Says, Nothing, Then, either}
 use Rattle.iot_machine.specs.Machine.{Commit, add_commit, tree_after}
 use Rattle.iot_machine.specs.Nodes.{Node, fallen, changed, back, unopened}
 use Rattle.iot_machine.specs.Refining.{Refines}
@@ -27,7 +24,6 @@ use Rattle.iot_machine.specs.Serving.{server_name, added_text, commit_text, kept
 use Rattle.iot_machine.specs.Stops.{OpensNode, Appends, ComesBack, Settles, Crashes, Restarts, ArmsDisk}
 use Rattle.iot_machine.specs.Texts.{line, transaction_name}
 use Rattle.iot_node.specs.Disks.{IsEmpty, KeepsDisk, counts_on}
-use Rattle.iot_node.specs.Keeping.{Doubts}
 use Rattle.iot_node.specs.Posts as posts
 use Rattle.iot_node.specs.Posts.{is_on, is_fallen, live_of, PostStands, HoldsBy, Answered, StepsFrom, IsStanding, Lasts, CameIf}
 use Rattle.iot_node.specs.Steps.{StepsTo}
@@ -36,16 +32,17 @@ use Rattle.iot_node.specs.declared.halt.Halt.TheVariants.{Over}
 use Rattle.iot_node.specs.declared.post.Doubt.{Doubt}
 use Rattle.iot_node.specs.declared.post.Post.{Post}
 use Rattle.iot_node.specs.declared.post.Post.TheVariants.{Up, Down, Between}
-use Rattle.iot_server_node.specs.Keepers.{lists, traffic_in, Handles, Refuses, KeepsList}
-use Rattle.iot_server_node.specs.Servers.{is_up, count_in, count_of, IsKnown, AreKnown, AreKnownIfAny, IsLongerIfAny, NodeIsKnown}
+use Rattle.iot_server_node.specs.Keepers.{lists, traffic_in, Handles, KeepsList}
+use Rattle.iot_server_node.specs.Servers.{is_up, IsKnown, AreKnown, AreKnownIfAny, IsLongerIfAny, NodeIsKnown}
 use Rattle.iot_server_node.specs.Servers.{HasAnsweredIn, ServerStands}
-use Rattle.iot_server_node.specs.Servers.{HavingAnswered, ServerIsSound, IsUnopened, answered_since, AreOf, live, IsLive, Handled, Refused}
+use Rattle.iot_server_node.specs.Servers.{HavingAnswered, IsUnopened, answered_since, AreOf, live, IsLive, Lives}
 use Rattle.iot_server_node.specs.declared.keeper.ServerKeeper.{ServerKeeper}
 use Rattle.iot_server_node.specs.declared.server.ServerNode.{ServerNode}
 use Rattle.iot_server_node.proofs.KeepersLaws.{keeps_images}
-use Rattle.iot_server_node.proofs.RecordsLaws.{all_more, few_commits, record_is, state_is}
+use Rattle.iot_machine.proofs.FollowsLaws.{all_as, all_push, at_push}
+use Rattle.iot_server_node.proofs.RecordsLaws.{record_is, state_is}
 use Rattle.iot_node.proofs.PostsLaws.{holds_each}
-use Rattle.iot_node.proofs.StepsToLaws.{bind, asks, says_this, nothing}
+use Rattle.iot_node.proofs.StepsToLaws.{bind, asks}
 
 -- no bytes are a journal without a body
 nothing_decoded : decoded [] ≡ Encodes []
@@ -80,14 +77,15 @@ module _ (names : List (List ℕ)) where
   known_settled (Some s) node after text (inl is) durable doubt = known_back s node after is.1 doubt
   known_settled (Some s) node after text (inr is) durable doubt = known_back node.durable node after is.1 durable
 
-  known_comes_back : (on : Bool) → Keeps (ComesBack server_name (kept_text names)) on
+  pub known_comes_back : (on : Bool) → Keeps (ComesBack server_name (kept_text names)) on
   known_comes_back on node after text (inl is) known = known_settled node.doubt node after text is.1 known.durable known.doubt
   known_comes_back on node after text (inr is) known = known_so is.2.is known refl refl
 
   pub known_armed : (calls : ℕ) (pick : Pick) → Keeps (ArmsDisk server_name calls pick) tt
   known_armed calls pick node after text is known = known_so is.1 known refl refl
 
-  known_fallen : (on : Bool) → Keeps (either (Does (λ _. line (codes "crash " ++ server_name)) fallen) (Says (λ _. line (codes "down"))) on) tt
+  known_fallen : (on : Bool)
+      → Keeps (either (Does (λ _. line (codes "crash " ++ server_name)) fallen) (Says (λ _. line (codes "down"))) on) tt
   known_fallen true node after text is known = known_so is.1 known refl refl
   known_fallen false node after text is known = known_so is.1 known refl refl
 
@@ -100,29 +98,18 @@ module _ (names : List (List ℕ)) where
   known_stopped commit one node after text (inl done) known = absurd cc
   known_stopped commit one node after text (inr stop) known = subst (NodeIsKnown names) (sym stop.2.is) (record {
     durable = known.durable;
-    doubt = all_more (IsKnown names) node.durable commit known.durable one;
+    doubt = all_push (IsKnown names) node.durable commit one known.durable;
     longer = record { later = commit ∷ []; is = refl };
   })
 
 -- one client more has a name
 module _ (names : List (List ℕ)) (name : List ℕ) where
-  front_at : (names : List (List ℕ)) (c : ℕ) → c < length names → slice_index_or (names ++ name ∷ []) c [] ≡ slice_index_or names c []
-  front_at [] c within = absurd (omega (arith, within))
-  front_at (first ∷ names) zero within = refl
-  front_at (first ∷ names) (suc c) within = front_at names c (omega (arith, within))
-
   known_more : (commits : List Commit) → AreKnown names commits → AreKnown (names ++ name ∷ []) commits
-  known_more [] known = tt
-  known_more (commit ∷ commits) known = (
-    record {
-      spelled = known.0.spelled;
-      client =
-          let few = known.0.client in
-          let more = length-append names (name ∷ []) in
-          omega (arith, few, more);
-    },
-    known_more commits known.1,
-  )
+  known_more commits =
+      all_as (IsKnown names) (IsKnown (names ++ name ∷ [])) commits (λ commit known. record {
+        spelled = known.spelled;
+        client = omega (arith, known.client, length-append names (name ∷ []));
+      })
 
   known_more_if_any : (commits : Option (List Commit)) → AreKnownIfAny names commits → AreKnownIfAny (names ++ name ∷ []) commits
   known_more_if_any None known = tt
@@ -134,7 +121,8 @@ module _ (names : List (List ℕ)) (name : List ℕ) where
   same_added before [] known = refl
   same_added before (commit ∷ later) known =
       ap (λ (client : List ℕ). commit_text (transaction_name client commit.entry.number) commit before)
-      (front_at names commit.entry.client known.0.client)
+      (at_push (λ (client : List ℕ). client ≡ slice_index_or names commit.entry.client []) names commit.entry.client name []
+      known.0.client refl)
 
   known_dropped : (count : ℕ) (commits : List Commit) → AreKnown names commits → AreKnown names (drop count commits)
   known_dropped zero commits known = known
@@ -189,12 +177,6 @@ module _ {D : Type 0} (medium : Medium D) (names : List (List ℕ)) where
   alive_is (Down fallen) node here = here.alive
   alive_is Between node here = absurd here
 
-  pub has_disk : (post : Post (ServerKeeper D) D) (node : Node (List Commit)) → Posted post node
-      → IsSome (posts.disk_of (lists medium).disk post)
-  has_disk (Up keeper) node here = refl
-  has_disk (Down fallen) node here = refl
-  has_disk Between node here = absurd here
-
   -- what its post does, it does
   pub with_known : {A : Type 0} {call : Call (Node (List Commit)) A} {old new : ServerNode D} {n k : ℕ} {x y : List ℕ} {a : A}
       → Refines Posted call old.post new.post x y a → Keeps names call a → (HasAnsweredIn n old.post → HasAnsweredIn k new.post)
@@ -231,27 +213,15 @@ module _ {D : Type 0} (medium : Medium D) (names : List (List ℕ)) where
 
   -- ---- a restart
 
-  pub restart_up : (server : ServerNode D) (n : ℕ) (x y : List ℕ) → is_up server ≡ true → y ≡ x ++ line (codes "up")
-      → StepsTo (Stands n) (Stands (answered_since (is_up server) n)) (Restarts server_name (kept_text names)) server server x y tt
-  restart_up server n x y up wrote =
-      subst (λ (on : Bool). StepsTo (Stands n) (Stands (answered_since on n)) (Restarts server_name (kept_text names)) server server x y tt)
-      (sym up)
-      (bind server server server x x y true tt
-      (asks server x true (λ node here. sym (alive_is server.post node here.post ∙ up)))
-      (says_this _ server x y wrote))
-
-  pub restart_down : (old new : ServerNode D) (n : ℕ) (x y : List ℕ) (on : Bool) → is_up old ≡ false
-      → Refines Posted (ComesBack server_name (kept_text names)) old.post new.post x y on
-      → live_of traffic_in new.post ≡ if on then Some no_traffic else None
+  -- by whether it is alive
+  pub restarts : (old new : ServerNode D) (n : ℕ) (x y : List ℕ) (on : Bool) → is_up old ≡ on
+      → StepsTo (Stands n) (Stands (answered_since on n))
+      (either (Says (λ _. line (codes "up"))) (Then (ComesBack server_name (kept_text names)) (λ _. Nothing)) on) old new x y tt
       → StepsTo (Stands n) (Stands (answered_since (is_up old) n)) (Restarts server_name (kept_text names)) old new x y tt
-  restart_down old new n x y on down one fresh =
+  restarts old new n x y on is step =
       subst (λ (on : Bool). StepsTo (Stands n) (Stands (answered_since on n)) (Restarts server_name (kept_text names)) old new x y tt)
-      (sym down)
-      (bind old old new x x y false tt
-      (asks old x false (λ node here. sym (alive_is old.post node here.post ∙ down)))
-      (bind old new new x y y on tt
-      (with_known one (known_comes_back names on) (λ had. answered_fresh new.post on fresh))
-      (nothing new y)))
+      (sym is)
+      (bind old old new x x y on tt (asks old x on (λ node here. sym (alive_is old.post node here.post ∙ is))) step)
 
   lasts_in : (post : Post (ServerKeeper D) D) (node : Node (List Commit)) → Posted post node → Lasts (lists medium) medium post node
   lasts_in (Up keeper) node here = record {
@@ -268,6 +238,10 @@ module _ {D : Type 0} (medium : Medium D) (names : List (List ℕ)) where
   }
   lasts_in Between node here = absurd here
 
+  pub has_disk : (post : Post (ServerKeeper D) D) (node : Node (List Commit)) → Posted post node
+      → IsSome (posts.disk_of (lists medium).disk post)
+  has_disk post node here = rw (lasts_in post node here).has refl
+
   -- what its disk holds
   pub lasts : (server : ServerNode D) (node : Node (List Commit)) (n : ℕ) → ServerStands medium names server node n
       → Lasts (lists medium) medium server.post node
@@ -280,16 +254,12 @@ module _ {D : Type 0} (medium : Medium D) (names : List (List ℕ)) where
 
   -- ---- a request
 
-  is_live_in : (post : Post (ServerKeeper D) D) (node : Node (List Commit)) → Posted post node → is_on post ≡ true
-      → IsLive medium (record { post = post })
-  is_live_in (Up keeper) node here up = record { it = keeper.server; up = refl; synced = here.stands.synced }
-  is_live_in (Down fallen) node here up = absurd cc
-  is_live_in Between node here up = absurd cc
-
   -- a server that is alive takes requests
-  pub is_live : (server : ServerNode D) (node : Node (List Commit)) (n : ℕ) → is_up server ≡ true → ServerStands medium names server node n
-      → IsLive medium server
-  is_live server node n up here = is_live_in server.post node here.post up
+  pub is_live : (post : Post (ServerKeeper D) D) (node : Node (List Commit)) → Posted post node → is_on post ≡ true
+      → IsLive medium (record { post = post })
+  is_live (Up keeper) node here up = record { it = keeper.server; up = refl; synced = here.stands.synced }
+  is_live (Down fallen) node here up = absurd cc
+  is_live Between node here up = absurd cc
 
   module _ {was now : Server D} {asked reply : List ℕ} {node : Node (List Commit)} {n : ℕ} (it : Handles medium asked reply was now)
       (here : ServerStands medium names (live was) node n) where
@@ -337,7 +307,7 @@ module _ {D : Type 0} (medium : Medium D) (names : List (List ℕ)) where
           counted = ap (λ (k : ℕ). k + 1) here.post.stands.counted ∙ sym (length-append node.durable (commit ∷ []));
         })
         (record {
-          durable = all_more (IsKnown names) node.durable commit here.known.durable known;
+          durable = all_push (IsKnown names) node.durable commit known here.known.durable;
           doubt = here.known.doubt;
           longer = subst (IsLongerIfAny (add_commit commit node.durable)) (sym here.post.sure) tt;
         })
@@ -345,63 +315,22 @@ module _ {D : Type 0} (medium : Medium D) (names : List (List ℕ)) where
 -- ---- an append that failed
 
 -- the event is over
-pub over_is : {D : Type 0} (medium : Medium D) (names : List (List ℕ)) (change : List Commit → List Commit) (node : Node (List Commit))
-    (new : Post (ServerKeeper D) D) (x y : List ℕ) (fault : JournalFault) (halt : Halt) → halt ≡ Over
-    → Answered {T = Unit {0}}
-    (StepsFrom (PostStands (lists medium) medium (kept_text names)) (Appends server_name change) node new x y) (Err fault) (Err halt)
-    → StepsFrom (PostStands (lists medium) medium (kept_text names)) (Appends server_name change) node new x y false
-over_is medium names change node new x y fault halt is answered =
-    subst
-    (λ (h : Halt).
-    Answered {T = Unit {0}}
-    (StepsFrom (PostStands (lists medium) medium (kept_text names)) (Appends server_name change) node new x y) (Err fault) (Err h))
-    is answered
-
-pub doubts_too : {D : Type 0} (medium : Medium D) (names : List (List ℕ)) (change : List Commit → List Commit) (was : ServerKeeper D)
-    (count : ℕ) (one other : List ℕ) → one ≡ other
-    → Doubts (lists medium) (kept_text names) change was (record { count = count; lines = other })
-    → Doubts (lists medium) (kept_text names) change was (record { count = count; lines = one })
-doubts_too medium names change was count one other same doubts =
-    record { count = doubts.count; lines = λ n commits keeps. same ∙ doubts.lines n commits keeps }
-
--- a server that is alive has not as many commits as can be counted
-few_in : {D : Type 0} (medium : Medium D) (names : List (List ℕ)) (post : Post (ServerKeeper D) D) (node : Node (List Commit))
-    → PostStands (lists medium) medium (kept_text names) post node → count_in post + 1 < 2 ^ 64
-few_in medium names (Up keeper) node here = few_commits medium keeper.server here.stands.synced
-few_in medium names (Down fallen) node here = omega arith
-few_in medium names Between node here = omega arith
-
-pub few_there : {D : Type 0} (medium : Medium D) (server : ServerNode D) → ServerIsSound medium server → count_of server + 1 < 2 ^ 64
-few_there medium server sound = few_in medium sound.names server.post sound.node sound.stands.post
+pub over_is : (step : Bool → Type 0) (fault : JournalFault) (halt : Halt) → halt ≡ Over
+    → Answered {T = Unit {0}} step (Err fault) (Err halt) → step false
+over_is step fault halt is answered = subst (λ (h : Halt). Answered {T = Unit {0}} step (Err fault) (Err h)) is answered
 
 -- ---- how it handles a request
 
-module _ {D : Type 0} (medium : Medium D) (old : ServerNode D) (was now : ServerKeeper D) (given asked : List ℕ) (is : old.post ≡ Up was)
-    (same : given ≡ asked) (result : Result (Vec ℕ Global) JournalFault) where
-  abbrev at : Post (ServerKeeper D) D → ServerNode D
-  at post = record { post = post }
-
-  pub handled_by : IfOk result (λ reply. Handles medium given reply.items was.server now.server)
-      → IfOk result (λ reply. Handled medium asked reply.items old (at (Up now)))
-  handled_by =
-      IfOk-weaker result _ _ (λ reply by. record {
-        was = was.server;
-        now = now.server;
-        old_is = ap at is;
-        new_is = refl;
-        by = subst (λ (bytes : List ℕ). Handles medium bytes reply.items was.server now.server) same by;
-      })
-
-  pub refused_by : IfErr result (λ fault. Refuses medium given fault was.server now.server)
-      → IfErr result (λ fault. Refused medium asked fault old (at (Up now)))
-  refused_by =
-      IfErr-weaker result _ _ (λ fault by. record {
-        was = was.server;
-        now = now.server;
-        old_is = ap at is;
-        new_is = refl;
-        by = subst (λ (bytes : List ℕ). Refuses medium bytes fault was.server now.server) same by;
-      })
+pub lives : {D : Type 0} (By : List ℕ → Server D → Server D → Type 0) {old : ServerNode D} {was now : ServerKeeper D}
+    {given asked : List ℕ} → old.post ≡ Up was → given ≡ asked → By given was.server now.server
+    → Lives (By asked) old (record { post = Up now })
+lives By {was = was} {now = now} is same by = record {
+  was = was.server;
+  now = now.server;
+  old_is = ap (λ (post : Post _ _). record { post = post }) is;
+  new_is = refl;
+  by = subst (λ (bytes : List ℕ). By bytes was.server now.server) same by;
+}
 
 -- one that was never started stands for some node
 pub is_standing : {D : Type 0} (medium : Medium D) (server : ServerNode D) → IsUnopened medium server
