@@ -1,4 +1,4 @@
-use Rattle.iot_node.proofs.PostsLaws.{post_arms_up, post_arms_down, armed_once}
+use Rattle.iot_node.proofs.PostsLaws.{post_arms_up, post_arms_down}
 use Rattle.iot_node.proofs.post.Post.arm.Goals as goal
 
 pub returns-in-Up-clause-step : goal.returns-in-Up-clause-step
@@ -12,5 +12,5 @@ returns-in-Down-clause-step g c place says =
     rw c.in-Down.is (post_arms_down (g.K.Keeper.keeping place) g.D.Disk.medium says c.in-Down.fallen.disk c.arm-in-Down.new.self
     c.in-Down.fallen.doubt c.args.calls c.args.pick
     c.args.name.now c.args.out.now c.say_stop.new.out c.arm-in-Down.ensures.images
-    (armed_once g.D.Disk.medium c.args.calls c.args.pick c.in-Down.fallen.disk c.arm-in-Down.new.self c.arm-in-Down.ensures.faults
-    c.arm-in-Down.ensures.arms) c.in_ok-say_stop.ensures.says)
+    (record { is = λ i. record { faults = c.arm-in-Down.ensures.faults i; arms = c.arm-in-Down.ensures.arms i } })
+    c.in_ok-say_stop.ensures.says)

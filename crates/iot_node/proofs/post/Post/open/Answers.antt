@@ -1,5 +1,6 @@
-use Rattle.std.proofs.Common.{sym, ◌∙◌}
-use Rattle.iot_node.proofs.PostsLaws.{post_opens, post_open_stops, was_ready, no_doubt, lasts_up, start_counts, was_stopped}
+use Rattle.std.proofs.Common.{None, inr, refl, sym, ◌∙◌}
+use Rattle.iot_machine.specs.Stops.{OpensNode}
+use Rattle.iot_node.proofs.PostsLaws.{post_opens, post_stops_again, was_ready, no_doubt, lasts_up, start_counts, was_stopped}
 use Rattle.iot_node.proofs.post.Post.open.Goals as goal
 
 pub returns-in-Ok-clause-step : goal.returns-in-Ok-clause-step
@@ -29,7 +30,7 @@ returns-in_ok-say_refused-in-Err-clause-step g c says =
       c.settle-in-Err.ensures,
       no_doubt g.D.Disk.medium c.args.self.now c.in-Down.field-0 c.requires.ready is,
     )
-    (post_open_stops (g.K.Keeper.keeping c.args.place) g.D.Disk.medium says c.in-Down.field-0.disk c.in-Err.disk c.args.name.now
-    c.args.out.now c.say_refused.new.out image
+    (post_stops_again (g.K.Keeper.keeping c.args.place) g.D.Disk.medium says (OpensNode c.args.name.now) c.in-Down.field-0.disk
+    c.in-Down.field-0.disk c.in-Err.disk None c.args.name.now c.args.out.now c.say_refused.new.out (λ node n is. inr (refl, refl, is)) image refl
     c.in-Err.ensures.fails.images (was_stopped _ _ _ c.in_ok-say_refused-in-Err.ensures.stopped counts)
     c.in_ok-say_refused-in-Err.ensures.says)
