@@ -17,7 +17,7 @@ use Rattle.iot_machine.specs.Texts.{line, stopped_line, stop_line}
 use Rattle.iot_node.specs.Disks.{counts_on}
 use Rattle.iot_node.specs.Keeping.{Keeping, EachIs, Failed, Comes, Fails, Armed, Appended, Doubts, CountsStart}
 use Rattle.iot_node.specs.Posts.{is_on, disk_of, Ready, back_said, UpStands, HoldsBy, DownStands, PostStands, StepsFrom}
-use Rattle.iot_node.specs.Posts.{HoldsEither, Lasts, CameIf}
+use Rattle.iot_node.specs.Posts.{HoldsEither, Lasts, CameIf, IsStanding}
 use Rattle.iot_node.specs.declared.post.Doubt.{Doubt}
 use Rattle.iot_node.specs.declared.post.Fallen.{Fallen}
 use Rattle.iot_node.specs.declared.post.Post.{Post}
@@ -28,6 +28,24 @@ pub on_has : {K D : Type 0} (post : Post K D) → is_on post ≡ true → (keepe
 on_has (Up keeper) up = (keeper, refl)
 on_has (Down fallen) up = absurd cc
 on_has Between up = absurd cc
+
+-- inside a call that starts or stops it, a node has no disk
+pub has_disk : {K D : Type 0} (disk : K → D) (post : Post K D) → IsSome (disk_of disk post) → post ≡ Between → ⊥
+has_disk disk post has is =
+    let none = subst (λ (p : Post _ _). IsSome (disk_of disk p)) is has in
+    cc
+
+-- ---- the counts of a disk
+
+pub same_counts : {D : Type 0} (medium : Medium D) (old new : D) → medium.faults new ≡ medium.faults old
+    → medium.arms new ≡ medium.arms old → counts_on medium new ≡ counts_on medium old
+same_counts medium old new one other = λ i. record { faults = one i; arms = other i }
+
+-- a node that is ready has nothing in doubt
+pub was_ready : {K D : Type 0} (medium : Medium D) (post : Post K D) (fallen : Fallen D) → Ready medium post → post ≡ Down fallen
+    → post ≡ Down (record { disk = fallen.disk; doubt = None })
+was_ready medium post fallen ready is =
+    is ∙ ap (λ (doubt : Option Doubt). Down (record { disk = fallen.disk; doubt = doubt })) (subst (Ready medium) is ready).0
 
 -- a node that counts what its disk did, and has stopped
 abbrev halted : {S : Type 0} → Node S → Counts → Node S
@@ -171,29 +189,6 @@ module _ {K S D : Type 0} (keeping : Keeping K S D) (medium : Medium D) (says : 
     lines = it.lines;
   }
 
-  -- it stops in a call that reads its disk
-  pub post_stops_again : (call : Call (Node S) Bool) (old disk left : D) (doubt : Option Doubt) (name x y : List ℕ)
-      → ((node n : Node S) → IsStopped node n → call node (stopped_line name) false n) → medium.may_leave old (medium.reads disk)
-      → counts_on medium disk ≡ counts_on medium old
-      → ((k : ℕ) (s : S) → keeping.image (medium.reads disk) k s → EachIs (medium.may_leave left) (λ bytes. keeping.image bytes k s))
-      → Failed (counts_on medium disk) (counts_on medium left) → y ≡ x ++ stopped_line name
-      → Refines Stands call (Down (record { disk = old; doubt = doubt })) (Down (record { disk = left; doubt = doubt })) x y false
-  post_stops_again call old disk left doubt name x y is_call image same images failed wrote = record {
-    step = λ node here. (
-      stopped_line name,
-      halted node (counts_on medium left),
-      wrote,
-      is_call node _ (stops node _ _ (same ∙ here.counts) failed),
-      record {
-        alive = here.alive;
-        counts = recounts node _ _ (same ∙ here.counts) failed;
-        count = here.count;
-        holds = holds_on (medium.may_leave old) (medium.may_leave left) here.count doubt node _ _
-            (λ bytes at. (medium.reads disk, image, λ k s is. (images k s is).each bytes at)) here.holds;
-      },
-    );
-  }
-
   pub post_back : (old disk : D) (made : K) (doubt : Option Doubt) (number : ℕ) (name x y : List ℕ)
       → medium.may_leave old (medium.reads disk) → counts_on medium disk ≡ counts_on medium old → Comes keeping medium disk made
       → ((n : ℕ) (s : S) → keeping.stands made n s → number ≡ n) → y ≡ x ++ back_said name doubt number
@@ -275,36 +270,8 @@ module _ {K S D : Type 0} (keeping : Keeping K S D) (medium : Medium D) (says : 
     },
   ))
 
--- inside a call that starts or stops it, a node has no disk
-pub has_disk : {K D : Type 0} (disk : K → D) (post : Post K D) → IsSome (disk_of disk post) → post ≡ Between → ⊥
-has_disk disk post has is =
-    let none = subst (λ (p : Post _ _). IsSome (disk_of disk p)) is has in
-    cc
+  -- ---- what its disk holds after a start
 
--- ---- the counts of a disk
-
-pub same_counts : {D : Type 0} (medium : Medium D) (old new : D) → medium.faults new ≡ medium.faults old
-    → medium.arms new ≡ medium.arms old → counts_on medium new ≡ counts_on medium old
-same_counts medium old new one other = λ i. record { faults = one i; arms = other i }
-
--- a node that is ready has nothing in doubt
-pub no_doubt : {K D : Type 0} (medium : Medium D) (post : Post K D) (fallen : Fallen D) → Ready medium post → post ≡ Down fallen
-    → fallen.doubt ≡ None
-no_doubt medium post fallen ready is = (subst (Ready medium) is ready).0
-
-pub was_ready : {K D : Type 0} (medium : Medium D) (post : Post K D) (fallen : Fallen D) → Ready medium post → post ≡ Down fallen
-    → post ≡ Down (record { disk = fallen.disk; doubt = None })
-was_ready medium post fallen ready is =
-    is ∙ ap (λ (doubt : Option Doubt). Down (record { disk = fallen.disk; doubt = doubt })) (no_doubt medium post fallen ready is)
-
--- ---- a start that failed
-
-pub was_stopped : (fault : StartFault) (before now : Counts) → fault ≡ start.Stopped → CountsStart fault before now → Failed before now
-was_stopped fault before now is counts = subst (λ (f : StartFault). CountsStart f before now) is counts
-
--- ---- what its disk holds after a start
-
-module _ {K S D : Type 0} (keeping : Keeping K S D) (medium : Medium D) (says : S → S → List ℕ) where
   -- each image of a node that is down holds one of its states
   pub holds_each : (fallen : Fallen D) (node : Node S) (down : DownStands keeping medium says fallen node) (bytes : List ℕ)
       → medium.may_leave fallen.disk bytes → HoldsEither keeping medium down.count node bytes
@@ -340,13 +307,16 @@ module _ {K S D : Type 0} (keeping : Keeping K S D) (medium : Medium D) (says : 
       };
     }
 
-    -- a start takes its bytes
-    pub start_counts : (behind : D) (fault : StartFault) → Fails keeping medium disk behind fault
-        → CountsStart fault (counts_on medium disk) (counts_on medium behind)
-    start_counts behind fault fails = elim read [
-      | inl is ↦ fails.counts down.count node.durable is
-      | inr it ↦ fails.counts (down.count + 1) it.0 it.2
-    ]
+    -- a start that stopped
+    start_failed : (behind : D) (fault : StartFault) → Fails keeping medium disk behind fault → fault ≡ start.Stopped
+        → Failed (counts_on medium disk) (counts_on medium behind)
+    start_failed behind fault fails stopped =
+        let counts : CountsStart fault (counts_on medium disk) (counts_on medium behind) =
+        elim read [
+          | inl is ↦ fails.counts down.count node.durable is
+          | inr it ↦ fails.counts (down.count + 1) it.0 it.2
+        ] in
+        subst (λ (f : StartFault). CountsStart f (counts_on medium disk) (counts_on medium behind)) stopped counts
 
     -- it came back from the image that the disk had then, which is said
     pub came : (made : K) (number : ℕ) (name x y : List ℕ) → Comes keeping medium disk made
@@ -366,3 +336,28 @@ module _ {K S D : Type 0} (keeping : Keeping K S D) (medium : Medium D) (says : 
       where
         said : {n : ℕ} → number ≡ n → y ≡ x ++ back_said name fallen.doubt n
         said is = wrote ∙ ap (λ k. x ++ back_said name fallen.doubt k) is
+
+-- it stops in a call that starts it
+pub post_stops_again : {K S D : Type 0} (keeping : Keeping K S D) (medium : Medium D) (says : S → S → List ℕ) (call : Call (Node S) Bool)
+    (post : Post K D) (fallen : Fallen D) {disk left : D} {fault : StartFault} (name x y : List ℕ) → post ≡ Down fallen → IsStanding keeping medium post → medium.may_leave fallen.disk (medium.reads disk)
+    → counts_on medium disk ≡ counts_on medium fallen.disk → Fails keeping medium disk left fault → fault ≡ start.Stopped
+    → ((node n : Node S) → IsStopped node n → call node (stopped_line name) false n) → y ≡ x ++ stopped_line name
+    → Refines (PostStands keeping medium says) call post (Down (record { disk = left; doubt = fallen.doubt })) x y false
+post_stops_again keeping medium says call post fallen {disk} {left} {fault} name x y is standing image same fails stopped is_call wrote = rw is (record {
+  step = λ node here. (
+    stopped_line name,
+    halted node (counts_on medium left),
+    wrote,
+    is_call node _ (stops node _ _ (same ∙ here.counts) failed),
+    record {
+      alive = here.alive;
+      counts = recounts node _ _ (same ∙ here.counts) failed;
+      count = here.count;
+      holds = holds_on keeping medium says (medium.may_leave fallen.disk) (medium.may_leave left) here.count fallen.doubt node _ _
+          (λ bytes at. (medium.reads disk, image, λ k s is. (fails.images k s is).each bytes at)) here.holds;
+    },
+  );
+})
+  where
+    failed : Failed (counts_on medium disk) (counts_on medium left)
+    failed = start_failed keeping medium standing.says post fallen disk standing.node is standing.stands image left fault fails stopped

@@ -1,6 +1,6 @@
 use Rattle.std.proofs.Common.{inr, refl, sym, ◌∙◌}
 use Rattle.iot_machine.specs.Stops.{ComesBack}
-use Rattle.iot_node.proofs.PostsLaws.{post_back, post_stops_again, same_counts, lasts_up, start_counts, was_stopped, came}
+use Rattle.iot_node.proofs.PostsLaws.{post_back, post_stops_again, same_counts, lasts_up, came}
 use Rattle.iot_node.proofs.post.Post.come_back.Goals as goal
 
 pub returns-in_err-say_back-in-Ok-clause-lasts : goal.returns-in_err-say_back-in-Ok-clause-lasts
@@ -32,13 +32,9 @@ returns-in_ok-say_back-in-Ok-clause-step g c says =
 
 pub returns-in_ok-say_refused-in-Err-clause-step : goal.returns-in_ok-say_refused-in-Err-clause-step
 returns-in_ok-say_refused-in-Err-clause-step g c says =
-    let is = sym c.replace.ensures.value ∙ c.in-Down.is in
-    let same = same_counts g.D.Disk.medium c.in-Down.field-0.disk c.restart.new.self c.restart.ensures.faults c.restart.ensures.arms in
-    let stands = c.requires.stands in
-    let counts = start_counts (g.K.Keeper.keeping c.args.place) g.D.Disk.medium stands.says c.args.self.now c.in-Down.field-0
-    c.restart.new.self stands.node is stands.stands
-    c.restart.ensures.image c.in-Err.disk c.in-Err.fault c.in-Err.ensures.fails in
-    rw (is, c.settle-in-Err.ensures) (post_stops_again (g.K.Keeper.keeping c.args.place) g.D.Disk.medium says
-    (ComesBack c.args.name.now says) c.in-Down.field-0.disk c.restart.new.self c.in-Err.disk c.in-Down.field-0.doubt c.args.name.now
-    c.args.out.now c.say_refused.new.out (λ node n is. inr (refl, refl, is)) c.restart.ensures.image same c.in-Err.ensures.fails.images
-    (was_stopped _ _ _ c.in_ok-say_refused-in-Err.ensures.stopped counts) c.in_ok-say_refused-in-Err.ensures.says)
+    rw c.settle-in-Err.ensures (post_stops_again (g.K.Keeper.keeping c.args.place) g.D.Disk.medium says (ComesBack c.args.name.now says)
+    c.args.self.now c.in-Down.field-0 c.args.name.now c.args.out.now c.say_refused.new.out (sym c.replace.ensures.value ∙ c.in-Down.is)
+    c.requires.stands c.restart.ensures.image
+    (same_counts g.D.Disk.medium c.in-Down.field-0.disk c.restart.new.self c.restart.ensures.faults c.restart.ensures.arms)
+    c.in-Err.ensures.fails c.in_ok-say_refused-in-Err.ensures.stopped (λ node n is. inr (refl, refl, is))
+    c.in_ok-say_refused-in-Err.ensures.says)

@@ -1,6 +1,6 @@
-use Rattle.std.proofs.Common.{None, inr, refl, sym, ◌∙◌}
+use Rattle.std.proofs.Common.{inr, refl, sym, ◌∙◌}
 use Rattle.iot_machine.specs.Stops.{OpensNode}
-use Rattle.iot_node.proofs.PostsLaws.{post_opens, post_stops_again, was_ready, no_doubt, lasts_up, start_counts, was_stopped}
+use Rattle.iot_node.proofs.PostsLaws.{post_opens, post_stops_again, was_ready, lasts_up}
 use Rattle.iot_node.proofs.post.Post.open.Goals as goal
 
 pub returns-in-Ok-clause-step : goal.returns-in-Ok-clause-step
@@ -19,18 +19,7 @@ returns-in-Ok-clause-lasts g c says node here =
 
 pub returns-in_ok-say_refused-in-Err-clause-step : goal.returns-in_ok-say_refused-in-Err-clause-step
 returns-in_ok-say_refused-in-Err-clause-step g c says =
-    let is = sym c.replace.ensures.value ∙ c.in-Down.is in
-    let image = g.met.D.Disk.reads_is_image c.in-Down.field-0.disk in
-    let stands = c.requires.stands in
-    let counts = start_counts (g.K.Keeper.keeping c.args.place) g.D.Disk.medium stands.says c.args.self.now c.in-Down.field-0
-    c.in-Down.field-0.disk stands.node is stands.stands image
-    c.in-Err.disk c.in-Err.fault c.in-Err.ensures.fails in
-    rw (
-      was_ready g.D.Disk.medium c.args.self.now c.in-Down.field-0 c.requires.ready is,
-      c.settle-in-Err.ensures,
-      no_doubt g.D.Disk.medium c.args.self.now c.in-Down.field-0 c.requires.ready is,
-    )
-    (post_stops_again (g.K.Keeper.keeping c.args.place) g.D.Disk.medium says (OpensNode c.args.name.now) c.in-Down.field-0.disk
-    c.in-Down.field-0.disk c.in-Err.disk None c.args.name.now c.args.out.now c.say_refused.new.out (λ node n is. inr (refl, refl, is)) image refl
-    c.in-Err.ensures.fails.images (was_stopped _ _ _ c.in_ok-say_refused-in-Err.ensures.stopped counts)
-    c.in_ok-say_refused-in-Err.ensures.says)
+    rw c.settle-in-Err.ensures (post_stops_again (g.K.Keeper.keeping c.args.place) g.D.Disk.medium says (OpensNode c.args.name.now)
+    c.args.self.now c.in-Down.field-0 c.args.name.now c.args.out.now c.say_refused.new.out (sym c.replace.ensures.value ∙ c.in-Down.is)
+    c.requires.stands (g.met.D.Disk.reads_is_image c.in-Down.field-0.disk) refl c.in-Err.ensures.fails
+    c.in_ok-say_refused-in-Err.ensures.stopped (λ node n is. inr (refl, refl, is)) c.in_ok-say_refused-in-Err.ensures.says)
