@@ -339,25 +339,27 @@ module _ {K S D : Type 0} (keeping : Keeping K S D) (medium : Medium D) (says : 
 
 -- it stops in a call that starts it
 pub post_stops_again : {K S D : Type 0} (keeping : Keeping K S D) (medium : Medium D) (says : S → S → List ℕ) (call : Call (Node S) Bool)
-    (post : Post K D) (fallen : Fallen D) {disk left : D} {fault : StartFault} (name x y : List ℕ) → post ≡ Down fallen → IsStanding keeping medium post → medium.may_leave fallen.disk (medium.reads disk)
+    (post : Post K D) (fallen : Fallen D) {disk left : D} {fault : StartFault} (name x y : List ℕ) → post ≡ Down fallen
+    → IsStanding keeping medium post → medium.may_leave fallen.disk (medium.reads disk)
     → counts_on medium disk ≡ counts_on medium fallen.disk → Fails keeping medium disk left fault → fault ≡ start.Stopped
     → ((node n : Node S) → IsStopped node n → call node (stopped_line name) false n) → y ≡ x ++ stopped_line name
     → Refines (PostStands keeping medium says) call post (Down (record { disk = left; doubt = fallen.doubt })) x y false
-post_stops_again keeping medium says call post fallen {disk} {left} {fault} name x y is standing image same fails stopped is_call wrote = rw is (record {
-  step = λ node here. (
-    stopped_line name,
-    halted node (counts_on medium left),
-    wrote,
-    is_call node _ (stops node _ _ (same ∙ here.counts) failed),
-    record {
-      alive = here.alive;
-      counts = recounts node _ _ (same ∙ here.counts) failed;
-      count = here.count;
-      holds = holds_on keeping medium says (medium.may_leave fallen.disk) (medium.may_leave left) here.count fallen.doubt node _ _
-          (λ bytes at. (medium.reads disk, image, λ k s is. (fails.images k s is).each bytes at)) here.holds;
-    },
-  );
-})
+post_stops_again keeping medium says call post fallen {disk} {left} {fault} name x y is standing image same fails stopped is_call
+    wrote = rw is (record {
+      step = λ node here. (
+        stopped_line name,
+        halted node (counts_on medium left),
+        wrote,
+        is_call node _ (stops node _ _ (same ∙ here.counts) failed),
+        record {
+          alive = here.alive;
+          counts = recounts node _ _ (same ∙ here.counts) failed;
+          count = here.count;
+          holds = holds_on keeping medium says (medium.may_leave fallen.disk) (medium.may_leave left) here.count fallen.doubt node _ _
+              (λ bytes at. (medium.reads disk, image, λ k s is. (fails.images k s is).each bytes at)) here.holds;
+        },
+      );
+    })
   where
     failed : Failed (counts_on medium disk) (counts_on medium left)
     failed = start_failed keeping medium standing.says post fallen disk standing.node is standing.stands image left fault fails stopped

@@ -4,7 +4,6 @@ use Rattle.std.proofs.lemmas.List.{append-nil}
 use Rattle.iot_disk.specs.Disk.{Medium}
 use Rattle.iot_disk.specs.declared.faults.JournalFault.{JournalFault}
 use Rattle.iot_disk.specs.declared.faults.JournalFault.TheVariants as append
-use Rattle.iot_exec.specs.Serial.{run_entry}
 use Rattle.iot_journal.specs.Decoding.{Encodes, decoded}
 use Rattle.iot_machine.specs.Machine.{Commit}
 use Rattle.iot_machine.specs.Nodes.{Node}
@@ -17,18 +16,19 @@ use Rattle.iot_server.specs.declared.server.Server.{Server}
 use Rattle.iot_store.specs.Records.{record_spelling}
 use Rattle.iot_store.specs.Standing.{Leads, StandFor}
 use Rattle.iot_store.specs.States.{State, opening, after_commit}
-use Rattle.iot_tree.specs.Tree.{Nodes, root_alone}
+use Rattle.iot_tree.specs.Tree.{root_alone}
 use Rattle.iot_tree.specs.declared.nodes.Node.TheVariants.{Dir}
 use Rattle.iot_wire.specs.declared.replies.Reply.{Reply}
 use Rattle.iot_wire.specs.declared.replies.Reply.TheVariants as replies
 use Rattle.iot_wire.specs.declared.requests.Request.{Request}
 use Rattle.iot_wire.specs.declared.requests.Request.TheVariants as requests
 use Rattle.iot_server_node.specs.Keepers.{lists, Handles, Refuses}
-use Rattle.iot_server_node.specs.Records.{IsImage, BeginsWith, EachBegins, DiskBegins, KeepsRecords, label_of, records_from, records_of}
+use Rattle.iot_server_node.specs.Records.{IsImage, BeginsWith, EachBegins, DiskBegins, KeepsRecords, records_of}
 use Rattle.iot_server_node.specs.Servers.{disk_of, IsLonger, IsLongerIfAny, NodeIsKnown, ServerStands, ServerIsSound, KeepsCommits}
 use Rattle.iot_server_node.specs.Servers.{Lives, Handled, Refused}
 use Rattle.iot_server_node.specs.declared.keeper.ServerKeeper.{ServerKeeper}
 use Rattle.iot_server_node.specs.declared.server.ServerNode.{ServerNode}
+use Rattle.iot_server_node.proofs.RecordsLaws.{records_more}
 use Rattle.iot_server_node.proofs.KeepersLaws.{same_bodies, image_stands}
 use Rattle.iot_server_node.proofs.ServersLaws.{lasts}
 
@@ -44,23 +44,13 @@ begins_by bodies more {state = state} read it = record {
   leads = subst (λ (them : List (List ℕ)). Leads them opening state) (same_bodies _ _ (sym it.read ∙ read)) it.leads;
 }
 
--- the records of a longer list
-records_more : (commits later : List Commit) (t : Nodes)
-    → (rest : List (List ℕ)) × (records_from (commits ++ later) t ≡ records_from commits t ++ rest)
-records_more [] later t = (records_from later t, refl)
-records_more (commit ∷ commits) later t =
-    let more = records_more commits later (run_entry commit.entry t).tree in (
-      more.0,
-      ap (λ (rs : List (List ℕ)). record_spelling (label_of commit) (run_entry commit.entry t).acts ∷ rs) more.1,
-    )
-
 -- an image of a list begins with the records of each list with which that one begins
 pub image_begins : (bytes : List ℕ) (n : ℕ) (commits longer : List Commit) → IsLonger commits longer → IsImage bytes n longer
     → BeginsWith (records_of commits) bytes
 image_begins bytes n commits longer is image =
-    let more = records_more commits is.later (root_alone Dir) in
-    begins_by (records_of commits) more.0
-    (image.has_records ∙ ap (λ (them : List Commit). Encodes (records_of them)) is.is ∙ ap Encodes more.1)
+    begins_by (records_of commits) _
+    (image.has_records ∙ ap (λ (them : List Commit). Encodes (records_of them)) is.is
+    ∙ ap Encodes (records_more commits is.later (root_alone Dir)))
     (image_stands bytes n longer image)
 
 -- also with its own
@@ -84,12 +74,13 @@ module _ {D : Type 0} (medium : Medium D) where
       → DiskBegins medium (records_of node.durable) (posts.disk_of (lists medium).disk post)
   lasts_begin names post node known it =
       subst (λ (o : Option D). DiskBegins medium (records_of node.durable) o) (sym it.has)
-      (record { each = λ image there. by image (it.each.each image there) })
-    where
-      by : (image : List ℕ) → HoldsEither (lists medium) medium it.count node image → BeginsWith (records_of node.durable) image
-      by image (inl is) = own_begins image it.count node.durable is
-      by image (inr (after, in_doubt, is)) =
-          image_begins image (it.count + 1) node.durable after (subst (IsLongerIfAny node.durable) in_doubt known.longer) is
+      (record {
+        each = λ image there. elim (it.each.each image there) [
+          | inl is ↦ own_begins image it.count node.durable is
+          | inr more ↦ image_begins image (it.count + 1) node.durable more.0
+              (subst (IsLongerIfAny node.durable) more.1 known.longer) more.2
+        ];
+      })
 
   -- the disk of a server begins with the records of its list
   pub stands_begin : (names : List (List ℕ)) (server : ServerNode D) (node : Node (List Commit)) (n : ℕ)

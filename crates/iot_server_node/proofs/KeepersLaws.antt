@@ -15,15 +15,12 @@ use Rattle.iot_server.specs.Servers as servers
 use Rattle.iot_server.specs.declared.server.Server.{Server}
 use Rattle.iot_node.specs.Disks.{counts_on}
 use Rattle.iot_node.specs.Keeping.{EachIs, CountsStart}
+use Rattle.iot_node.proofs.PostsLaws.{same_counts}
 use Rattle.iot_server_node.specs.Keepers.{KeepsList}
 use Rattle.iot_server_node.specs.Records.{IsImage, label_of, records_of, state_of}
 
 pub same_bodies : (one other : List (List ℕ)) → Encodes one ≡ Encodes other → one ≡ other
 same_bodies one other e = cc
-
-pub same_counts : {D : Type 0} (medium : Medium D) (one other : D) → medium.faults one ≡ medium.faults other
-    → medium.arms one ≡ medium.arms other → counts_on medium one ≡ counts_on medium other
-same_counts medium one other faults arms = λ i. record { faults = faults i; arms = arms i }
 
 -- bytes that are an image of a list stand for its state
 pub image_stands : (bytes : List ℕ) (n : ℕ) (commits : List Commit) → IsImage bytes n commits → StandFor bytes (state_of commits)
@@ -45,7 +42,7 @@ hold_too bodies n commits is = record {
 pub counts_start : {D : Type 0} (medium : Medium D) (fault : StartFault) (bytes : List ℕ) (disk left : D) → TakesBytes fault
     → HasCause fault bytes (medium.faults disk) (medium.faults left) → medium.arms left ≡ medium.arms disk
     → CountsStart fault (counts_on medium disk) (counts_on medium left)
-counts_start medium start.NoMemory bytes disk left takes cause arms = same_counts medium left disk cause arms
+counts_start medium start.NoMemory bytes disk left takes cause arms = same_counts medium disk left cause arms
 counts_start medium start.Stopped bytes disk left takes cause arms = record { faults = cause; arms = arms }
 counts_start medium start.Foreign bytes disk left takes cause arms = absurd takes
 counts_start medium (start.Damaged at) bytes disk left takes cause arms = absurd takes

@@ -31,22 +31,20 @@ tree_after-append commits commit =
     ap (λ (es : List (Entry Way)). tree_from es (root_alone Dir)) (map-append (λ c. c.entry) commits (commit ∷ []))
     ∙ tree_from-append (entries_of commits) commit.entry (root_alone Dir)
 
--- its record has the acts of that run
-records_from-append : (commits : List Commit) (commit : Commit) (tree : Nodes)
-    → records_from (commits ++ commit ∷ []) tree
-    ≡ records_from commits tree ++ record_spelling (label_of commit) (run_entry commit.entry (tree_from (entries_of commits) tree)).acts
-    ∷ []
-records_from-append [] commit tree = refl
-records_from-append (first ∷ later) commit tree =
-    ap (λ (rs : List (List ℕ)). record_spelling (label_of first) (run_entry first.entry tree).acts ∷ rs)
-    (records_from-append later commit (run_entry first.entry tree).tree)
+-- the records of a longer list
+pub records_more : (commits later : List Commit) (t : Nodes)
+    → records_from (commits ++ later) t ≡ records_from commits t ++ records_from later (tree_from (entries_of commits) t)
+records_more [] later t = refl
+records_more (commit ∷ commits) later t =
+    ap (λ (rs : List (List ℕ)). record_spelling (label_of commit) (run_entry commit.entry t).acts ∷ rs)
+    (records_more commits later (run_entry commit.entry t).tree)
 
 -- the record and the state after a commit with this label and these acts
 module _ (commits : List Commit) {commit : Commit} {label : Label} {acts : List Act}
     (are : AreOf commit (tree_after commits) label acts) where
   pub record_is : records_of (commits ++ commit ∷ []) ≡ records_of commits ++ record_spelling label acts ∷ []
   record_is =
-      records_from-append commits commit (root_alone Dir)
+      records_more commits (commit ∷ []) (root_alone Dir)
       ∙ (λ i. records_of commits ++ record_spelling (are.has_label i) (are.has_acts i) ∷ [])
 
   pub state_is : state_of (commits ++ commit ∷ []) ≡ after_commit (state_of commits) label acts

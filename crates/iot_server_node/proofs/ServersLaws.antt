@@ -1,12 +1,11 @@
 -- What a server does is what is said of it.
 use Rattle.std.proofs.Common.{◌≡◌, ℕ, suc, zero, ◌+◌, ◌%◌, ◌^◌, Bool, true, false, if◌then◌else◌, List, [], ◌∷◌, ◌++◌, length, drop}
-use Rattle.std.proofs.Common.{Option, Some, None, IsSome, Err, codes, refl, sym, ap, subst, ◌∙◌, arith, inl, inr, slice_index_or}
+use Rattle.std.proofs.Common.{Option, Some, None, IsSome, codes, refl, sym, ap, subst, ◌∙◌, arith, inl, inr, slice_index_or}
 use Rattle.std.proofs.lemmas.List.{length-append}
 use Rattle.std.proofs.lemmas.Option.{same_Some}
 use Rattle.std.proofs.Math.Nat.{mod-add-mod}
 use Rattle.iot_disk.specs.Disk.{Medium}
 use Rattle.iot_disk.specs.declared.disk.Pick.{Pick}
-use Rattle.iot_disk.specs.declared.faults.JournalFault.{JournalFault}
 use Rattle.iot_journal.specs.Decoding.{Encodes, decoded}
 use Rattle.iot_store.specs.Records.{record_spelling}
 use Rattle.iot_store.specs.States.{State, after_commit}
@@ -27,8 +26,6 @@ use Rattle.iot_node.specs.Disks.{IsEmpty, KeepsDisk, counts_on}
 use Rattle.iot_node.specs.Posts as posts
 use Rattle.iot_node.specs.Posts.{is_on, is_fallen, live_of, PostStands, HoldsBy, Answered, StepsFrom, IsStanding, Lasts, CameIf}
 use Rattle.iot_node.specs.Steps.{StepsTo}
-use Rattle.iot_node.specs.declared.halt.Halt.{Halt}
-use Rattle.iot_node.specs.declared.halt.Halt.TheVariants.{Over}
 use Rattle.iot_node.specs.declared.post.Doubt.{Doubt}
 use Rattle.iot_node.specs.declared.post.Post.{Post}
 use Rattle.iot_node.specs.declared.post.Post.TheVariants.{Up, Down, Between}
@@ -311,13 +308,6 @@ module _ {D : Type 0} (medium : Medium D) (names : List (List ℕ)) where
           doubt = here.known.doubt;
           longer = subst (IsLongerIfAny (add_commit commit node.durable)) (sym here.post.sure) tt;
         })
-
--- ---- an append that failed
-
--- the event is over
-pub over_is : (step : Bool → Type 0) (fault : JournalFault) (halt : Halt) → halt ≡ Over
-    → Answered {T = Unit {0}} step (Err fault) (Err halt) → step false
-over_is step fault halt is answered = subst (λ (h : Halt). Answered {T = Unit {0}} step (Err fault) (Err h)) is answered
 
 -- ---- how it handles a request
 

@@ -1,7 +1,8 @@
 use Rattle.std.proofs.Common.{sym, ◌∙◌}
 use Rattle.iot_server.specs.Servers as servers
+use Rattle.iot_node.proofs.PostsLaws.{same_counts}
 use Rattle.iot_server_node.specs.Records.{state_of}
-use Rattle.iot_server_node.proofs.KeepersLaws.{same_bodies, same_counts, image_stands, hold_too, counts_start}
+use Rattle.iot_server_node.proofs.KeepersLaws.{same_bodies, image_stands, hold_too, counts_start}
 use Rattle.iot_server_node.proofs.keeper.ServerKeeperKeeper.start.Goals as goal
 
 pub returns-in-Ok-clause-comes : goal.returns-in-Ok-clause-comes
@@ -14,7 +15,7 @@ returns-in-Ok-clause-comes g c = record {
   };
   images = hold_too c.in-Ok.ensures.bodies;
   counts =
-      same_counts g.D.Disk.medium (servers.disk_of c.in-Ok.server) c.args.disk c.in-Ok.ensures.steady c.in-Ok.ensures.arms;
+      same_counts g.D.Disk.medium c.args.disk (servers.disk_of c.in-Ok.server) c.in-Ok.ensures.steady c.in-Ok.ensures.arms;
 }
 
 pub returns-in-Err-clause-fails : goal.returns-in-Err-clause-fails
