@@ -41,25 +41,17 @@ pub same_counts : {D : Type 0} (medium : Medium D) (old new : D) → medium.faul
     → medium.arms new ≡ medium.arms old → counts_on medium new ≡ counts_on medium old
 same_counts medium old new one other = λ i. record { faults = one i; arms = other i }
 
--- a node that is ready has nothing in doubt
-pub was_ready : {K D : Type 0} (medium : Medium D) (post : Post K D) (fallen : Fallen D) → Ready medium post → post ≡ Down fallen
-    → post ≡ Down (record { disk = fallen.disk; doubt = None })
-was_ready medium post fallen ready is =
-    is ∙ ap (λ (doubt : Option Doubt). Down (record { disk = fallen.disk; doubt = doubt })) (subst (Ready medium) is ready).0
-
 -- a node that counts what its disk did, and has stopped
 abbrev halted : {S : Type 0} → Node S → Counts → Node S
 halted node now = record node { counts = record node.counts { faults = now.faults }; stops = node.stops + 1 }
 
-stops : {S : Type 0} (node : Node S) (before now : Counts) → before ≡ node.counts → Failed before now → IsStopped node (halted node now)
-stops node before now same failed =
-    record { faults = now.faults; rose = subst (λ (c : Counts). Rose c.faults now.faults) same failed.faults; is = refl }
-
--- what the disk counts is what the node counts then
-recounts : {S : Type 0} (node : Node S) (before now : Counts) → before ≡ node.counts → Failed before now
-    → now ≡ record node.counts { faults = now.faults }
-recounts node before now same failed =
-    ap (λ arms. record { faults = now.faults; arms = arms }) (failed.arms ∙ ap (λ (c : Counts). c.arms) same)
+-- it is that, and what the disk counts is what it counts then
+stops : {S : Type 0} (node : Node S) (before now : Counts) → before ≡ node.counts → Failed before now
+    → IsStopped node (halted node now) × (now ≡ (halted node now).counts)
+stops node before now same failed = (
+  record { faults = now.faults; rose = subst (λ (c : Counts). Rose c.faults now.faults) same failed.faults; is = refl },
+  ap (λ arms. record { faults = now.faults; arms = arms }) (failed.arms ∙ ap (λ (c : Counts). c.arms) same),
+)
 
 module _ {K S D : Type 0} (keeping : Keeping K S D) (medium : Medium D) (says : S → S → List ℕ) where
   abbrev Stands : Post K D → Node S → Type 0
@@ -95,10 +87,10 @@ module _ {K S D : Type 0} (keeping : Keeping K S D) (medium : Medium D) (says : 
     stopped_line name,
     halted (doubting change node) (counts_on medium (keeping.disk new)),
     wrote,
-    inr (refl, refl, stops (doubting change node) _ _ here.counts failed),
+    inr (refl, refl, (stops (doubting change node) _ _ here.counts failed).0),
     record {
       alive = refl;
-      counts = recounts (doubting change node) _ _ here.counts failed;
+      counts = (stops (doubting change node) _ _ here.counts failed).1;
       count = here.count;
       holds = record {
         after = change node.durable;
@@ -117,18 +109,18 @@ module _ {K S D : Type 0} (keeping : Keeping K S D) (medium : Medium D) (says : 
   on_is (Down fallen) node here = here.alive
   on_is Between node here = absurd here
 
-  pub post_crash_down : (post : Post K D) (name x y : List ℕ) → is_on post ≡ false → y ≡ x ++ line (codes "down")
+  pub post_crash_down : {post : Post K D} (name : List ℕ) {x y : List ℕ} → is_on post ≡ false → y ≡ x ++ line (codes "down")
       → Refines Stands (Crashes name) post post x y tt
-  post_crash_down post name x y down wrote =
-      bind post post post x x y false tt (asks post x false (λ node here. sym (on_is post node here ∙ down))) (says_this _ post x y wrote)
+  post_crash_down {post = post} name down wrote =
+      bind post post post _ _ _ false tt (asks post _ false (λ node here. sym (on_is post node here ∙ down))) (says_this _ post _ _ wrote)
 
-  pub post_crash_up : (keeper : K) (name x y : List ℕ)
+  pub post_crash_up : {keeper : K} (name : List ℕ) {x y : List ℕ}
       → ((n : ℕ) (s : S) → keeping.stands keeper n s → EachIs (medium.may_leave (keeping.disk keeper)) (λ bytes. keeping.image bytes n s))
       → y ≡ x ++ line (codes "crash " ++ name)
       → Refines Stands (Crashes name) (Up keeper) (Down (record { disk = keeping.disk keeper; doubt = None })) x y tt
-  post_crash_up keeper name x y images wrote =
-      bind (Up keeper) (Up keeper) (Down _) x x y true tt (asks (Up keeper) x true (λ node here. sym here.alive))
-      (does (Up keeper) (Down _) x y (λ node here. (
+  post_crash_up {keeper = keeper} name images wrote =
+      bind (Up keeper) (Up keeper) (Down _) _ _ _ true tt (asks (Up keeper) _ true (λ node here. sym here.alive))
+      (does (Up keeper) (Down _) _ _ (λ node here. (
         wrote,
         record {
           alive = refl;
@@ -140,23 +132,27 @@ module _ {K S D : Type 0} (keeping : Keeping K S D) (medium : Medium D) (says : 
 
   -- ---- the first start
 
-  pub post_opens : (disk : D) (made : K) (name x : List ℕ) → Comes keeping medium disk made → medium.may_leave disk (medium.reads disk)
-      → Refines Stands (OpensNode name) (Down (record { disk = disk; doubt = None })) (Up made) x x true
-  post_opens disk made name x comes image = record {
-    step = λ node here. (
-      [],
-      opened node,
-      sym (append-nil x),
-      inl (refl, refl, refl),
-      record {
-        alive = refl;
-        sure = here.holds.sure;
-        counts = comes.counts ∙ here.counts;
-        count = here.count;
-        stands = comes.from here.count node.durable (here.holds.each.each (medium.reads disk) image);
-      },
-    );
-  }
+  pub post_opens : {post : Post K D} {fallen : Fallen D} {made : K} (name : List ℕ) {x : List ℕ} → post ≡ Down fallen → Ready medium post
+      → Comes keeping medium fallen.disk made → medium.may_leave fallen.disk (medium.reads fallen.disk)
+      → Refines Stands (OpensNode name) post (Up made) x x true
+  post_opens {fallen = fallen} name {x} is ready comes image =
+      let none = (subst (Ready medium) is ready).0 in
+      rw is (record {
+        step = λ node here.
+            let holds = rw none at here.holds in (
+              [],
+              opened node,
+              sym (append-nil x),
+              inl (refl, refl, refl),
+              record {
+                alive = refl;
+                sure = holds.sure;
+                counts = comes.counts ∙ here.counts;
+                count = here.count;
+                stands = comes.from here.count node.durable (holds.each.each (medium.reads fallen.disk) image);
+              },
+            );
+      })
 
   -- ---- it comes back
 
@@ -189,11 +185,11 @@ module _ {K S D : Type 0} (keeping : Keeping K S D) (medium : Medium D) (says : 
     lines = it.lines;
   }
 
-  pub post_back : (old disk : D) (made : K) (doubt : Option Doubt) (number : ℕ) (name x y : List ℕ)
+  pub post_back : {old disk : D} {made : K} {doubt : Option Doubt} {number : ℕ} (name : List ℕ) {x y : List ℕ}
       → medium.may_leave old (medium.reads disk) → counts_on medium disk ≡ counts_on medium old → Comes keeping medium disk made
       → ((n : ℕ) (s : S) → keeping.stands made n s → number ≡ n) → y ≡ x ++ back_said name doubt number
       → Refines Stands (ComesBack name says) (Down (record { disk = old; doubt = doubt })) (Up made) x y true
-  post_back old disk made doubt number name x y image same comes counted wrote = record {
+  post_back {old} {disk} {made} {doubt} {number} name image same comes counted wrote = record {
     step = λ node here.
         let back = returns node here.count doubt here.counts here.holds in
         (back_said name doubt number, back.0, wrote, inl (refl, back.1), back.2);
@@ -238,11 +234,11 @@ module _ {K S D : Type 0} (keeping : Keeping K S D) (medium : Medium D) (says : 
   rearms calls pick node old new same it = it.is ∙ ap (λ (c : Counts). record { faults = c.faults; arms = armed_with c.arms calls pick })
       same
 
-  pub post_arms_up : (old new : K) (calls : ℕ) (pick : Pick) (name x y : List ℕ)
+  pub post_arms_up : {old new : K} {calls : ℕ} {pick : Pick} (name : List ℕ) {x y : List ℕ}
       → ((n : ℕ) (s : S) → keeping.stands old n s → keeping.stands new n s)
       → Armed medium calls pick (keeping.disk old) (keeping.disk new) → y ≡ x ++ stop_line name calls pick
       → Refines Stands (ArmsDisk name calls pick) (Up old) (Up new) x y tt
-  post_arms_up old new calls pick name x y still it wrote = does (Up old) (Up new) x y (λ node here. (
+  post_arms_up {old} {new} {calls} {pick} name still it wrote = does (Up old) (Up new) _ _ (λ node here. (
     wrote,
     record {
       alive = here.alive;
@@ -253,13 +249,13 @@ module _ {K S D : Type 0} (keeping : Keeping K S D) (medium : Medium D) (says : 
     },
   ))
 
-  pub post_arms_down : (old new : D) (doubt : Option Doubt) (calls : ℕ) (pick : Pick) (name x y : List ℕ)
+  pub post_arms_down : {old new : D} {doubt : Option Doubt} {calls : ℕ} {pick : Pick} (name : List ℕ) {x y : List ℕ}
       → SameImages (medium.may_leave old) (medium.may_leave new) → Armed medium calls pick old new
       → y ≡ x ++ stop_line name calls pick
       → Refines Stands (ArmsDisk name calls pick) (Down (record { disk = old; doubt = doubt }))
       (Down (record { disk = new; doubt = doubt }))
       x y tt
-  post_arms_down old new doubt calls pick name x y same it wrote = does (Down _) (Down _) x y (λ node here. (
+  post_arms_down {old} {new} {doubt} {calls} {pick} name same it wrote = does (Down _) (Down _) _ _ (λ node here. (
     wrote,
     record {
       alive = here.alive;
@@ -286,7 +282,7 @@ module _ {K S D : Type 0} (keeping : Keeping K S D) (medium : Medium D) (says : 
       ]
 
   -- a post that is known to be down, whose disk has this image to be read
-  module _ (post : Post K D) (fallen : Fallen D) (disk : D) (node : Node S) (is : post ≡ Down fallen)
+  module _ {post : Post K D} {fallen : Fallen D} (disk : D) (node : Node S) (is : post ≡ Down fallen)
       (here : PostStands keeping medium says post node) (left : medium.may_leave fallen.disk (medium.reads disk)) where
     down : DownStands keeping medium says fallen node
     down = subst (λ (p : Post K D). PostStands keeping medium says p node) is here
@@ -294,8 +290,8 @@ module _ {K S D : Type 0} (keeping : Keeping K S D) (medium : Medium D) (says : 
     read : HoldsEither keeping medium down.count node (medium.reads disk)
     read = holds_each fallen node down (medium.reads disk) left
 
-    pub lasts_up : (made : K) → Comes keeping medium disk made → Lasts keeping medium (Up made) node
-    lasts_up made comes = record {
+    pub lasts_up : {made : K} → Comes keeping medium disk made → Lasts keeping medium (Up made) node
+    lasts_up {made} comes = record {
       disk = keeping.disk made;
       has = refl;
       count = down.count;
@@ -308,21 +304,21 @@ module _ {K S D : Type 0} (keeping : Keeping K S D) (medium : Medium D) (says : 
     }
 
     -- a start that stopped
-    start_failed : (behind : D) (fault : StartFault) → Fails keeping medium disk behind fault → fault ≡ start.Stopped
+    start_failed : {behind : D} {fault : StartFault} → Fails keeping medium disk behind fault → fault ≡ start.Stopped
         → Failed (counts_on medium disk) (counts_on medium behind)
-    start_failed behind fault fails stopped =
+    start_failed {behind} {fault} fails stopped =
         let counts : CountsStart fault (counts_on medium disk) (counts_on medium behind) =
         elim read [
           | inl is ↦ fails.counts down.count node.durable is
           | inr it ↦ fails.counts (down.count + 1) it.0 it.2
         ] in
-        subst (λ (f : StartFault). CountsStart f (counts_on medium disk) (counts_on medium behind)) stopped counts
+        rw stopped at counts
 
     -- it came back from the image that the disk had then, which is said
-    pub came : (made : K) (number : ℕ) (name x y : List ℕ) → Comes keeping medium disk made
+    pub came : {made : K} {number : ℕ} (name x y : List ℕ) → Comes keeping medium disk made
         → ((n : ℕ) (s : S) → keeping.stands made n s → number ≡ n) → y ≡ x ++ back_said name fallen.doubt number
         → CameIf keeping medium true post name x y node
-    came made number name x y comes counted wrote =
+    came {number = number} name x y comes counted wrote =
         subst (λ (p : Post K D). CameIf keeping medium true p name x y node) (sym is)
         (record {
           image = medium.reads disk;
@@ -339,21 +335,21 @@ module _ {K S D : Type 0} (keeping : Keeping K S D) (medium : Medium D) (says : 
 
 -- it stops in a call that starts it
 pub post_stops_again : {K S D : Type 0} (keeping : Keeping K S D) (medium : Medium D) (says : S → S → List ℕ) (call : Call (Node S) Bool)
-    (post : Post K D) (fallen : Fallen D) {disk left : D} {fault : StartFault} (name x y : List ℕ) → post ≡ Down fallen
+    {post : Post K D} {fallen : Fallen D} {disk left : D} {fault : StartFault} (name : List ℕ) {x y : List ℕ} → post ≡ Down fallen
     → IsStanding keeping medium post → medium.may_leave fallen.disk (medium.reads disk)
     → counts_on medium disk ≡ counts_on medium fallen.disk → Fails keeping medium disk left fault → fault ≡ start.Stopped
     → ((node n : Node S) → IsStopped node n → call node (stopped_line name) false n) → y ≡ x ++ stopped_line name
     → Refines (PostStands keeping medium says) call post (Down (record { disk = left; doubt = fallen.doubt })) x y false
-post_stops_again keeping medium says call post fallen {disk} {left} {fault} name x y is standing image same fails stopped is_call
+post_stops_again keeping medium says call {post} {fallen} {disk} {left} {fault} name is standing image same fails stopped is_call
     wrote = rw is (record {
       step = λ node here. (
         stopped_line name,
         halted node (counts_on medium left),
         wrote,
-        is_call node _ (stops node _ _ (same ∙ here.counts) failed),
+        is_call node _ (stops node _ _ (same ∙ here.counts) failed).0,
         record {
           alive = here.alive;
-          counts = recounts node _ _ (same ∙ here.counts) failed;
+          counts = (stops node _ _ (same ∙ here.counts) failed).1;
           count = here.count;
           holds = holds_on keeping medium says (medium.may_leave fallen.disk) (medium.may_leave left) here.count fallen.doubt node _ _
               (λ bytes at. (medium.reads disk, image, λ k s is. (fails.images k s is).each bytes at)) here.holds;
@@ -362,4 +358,4 @@ post_stops_again keeping medium says call post fallen {disk} {left} {fault} name
     })
   where
     failed : Failed (counts_on medium disk) (counts_on medium left)
-    failed = start_failed keeping medium standing.says post fallen disk standing.node is standing.stands image left fault fails stopped
+    failed = start_failed keeping medium standing.says disk standing.node is standing.stands image fails stopped
