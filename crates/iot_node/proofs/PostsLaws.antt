@@ -1,12 +1,13 @@
 -- A node over any keeper does what the machine's node does.
-use Rattle.std.proofs.Common.{◌≡◌, ◌⊎◌, ℕ, ◌+◌, Bool, true, false, List, [], ◌++◌}
-use Rattle.std.proofs.Common.{Option, None, Some, IsSome, Ok}
+use Rattle.std.proofs.Common.{◌≡◌, ℕ, ◌+◌, Bool, true, false, List, [], ◌++◌}
+use Rattle.std.proofs.Common.{Option, None, Some, IsSome, Ok, Err}
 use Rattle.std.proofs.Common.{refl, sym, ap, subst, ◌∙◌, inl, inr, arith, codes}
 use Rattle.std.proofs.lemmas.List.{append-nil}
 use Rattle.std.proofs.lemmas.Bool.{le-leb, lt-leb}
 use Rattle.iot_count.specs.Counts.{Rose}
 use Rattle.iot_disk.specs.Disk.{Medium, SameImages, armed_with}
 use Rattle.iot_disk.specs.declared.disk.Pick.{Pick}
+use Rattle.iot_disk.specs.declared.faults.JournalFault.TheVariants as append
 use Rattle.iot_disk.specs.declared.faults.StartFault.{StartFault}
 use Rattle.iot_disk.specs.declared.faults.StartFault.TheVariants as start
 use Rattle.iot_machine.specs.Calls.{Call}
@@ -78,24 +79,22 @@ module _ {K S D : Type 0} (keeping : Keeping K S D) (medium : Medium D) (says : 
 
   pub post_stops : (old new : K) (name : List ℕ) (change : S → S) (node : Node S) (doubt : Doubt) (x y : List ℕ)
       → UpStands keeping medium says old node
-      → ((n : ℕ) → keeping.stands old n node.durable → EachIs (medium.may_leave (keeping.disk new))
-      (λ bytes. keeping.image bytes n node.durable ⊎ keeping.image bytes (n + 1) (change node.durable)))
-      → Failed (counts_on medium (keeping.disk old)) (counts_on medium (keeping.disk new)) → Doubts keeping says change old doubt
+      → Appended keeping medium {T = Unit {0}} change node.durable old new (Err append.Stopped) → Doubts keeping says change old doubt
       → y ≡ x ++ stopped_line name
       → StepsFrom Stands (Appends name change) node (Down (record { disk = keeping.disk new; doubt = Some doubt })) x y false
-  post_stops old new name change node doubt x y here images failed doubts wrote = (
+  post_stops old new name change node doubt x y here failed doubts wrote = (
     stopped_line name,
     halted (doubting change node) (counts_on medium (keeping.disk new)),
     wrote,
-    inr (refl, refl, (stops (doubting change node) _ _ here.counts failed).0),
+    inr (refl, refl, (stops (doubting change node) _ _ here.counts failed.1).0),
     record {
       alive = refl;
-      counts = (stops (doubting change node) _ _ here.counts failed).1;
+      counts = (stops (doubting change node) _ _ here.counts failed.1).1;
       count = here.count;
       holds = record {
         after = change node.durable;
         is = refl;
-        each = images here.count here.stands;
+        each = failed.0 here.count here.stands;
         counted = doubts.count here.count node.durable here.stands;
         lines = doubts.lines here.count node.durable here.stands;
       };
@@ -231,8 +230,8 @@ module _ {K S D : Type 0} (keeping : Keeping K S D) (medium : Medium D) (says : 
 
   rearms : (calls : ℕ) (pick : Pick) (node : Node S) (old new : D) → counts_on medium old ≡ node.counts → Armed medium calls pick old new
       → counts_on medium new ≡ (armed calls pick node).counts
-  rearms calls pick node old new same it = it.is ∙ ap (λ (c : Counts). record { faults = c.faults; arms = armed_with c.arms calls pick })
-      same
+  rearms calls pick node old new same it =
+      it.is ∙ (λ i. record { faults = (same i).faults; arms = armed_with (same i).arms calls pick })
 
   pub post_arms_up : {old new : K} {calls : ℕ} {pick : Pick} (name : List ℕ) {x y : List ℕ}
       → ((n : ℕ) (s : S) → keeping.stands old n s → keeping.stands new n s)
@@ -319,7 +318,7 @@ module _ {K S D : Type 0} (keeping : Keeping K S D) (medium : Medium D) (says : 
         → ((n : ℕ) (s : S) → keeping.stands made n s → number ≡ n) → y ≡ x ++ back_said name fallen.doubt number
         → CameIf keeping medium true post name x y node
     came {number = number} name x y comes counted wrote =
-        subst (λ (p : Post K D). CameIf keeping medium true p name x y node) (sym is)
+        rw is
         (record {
           image = medium.reads disk;
           left = left;

@@ -73,7 +73,7 @@ module _ {D : Type 0} (medium : Medium D) where
       → Lasts (lists medium) medium post node
       → DiskBegins medium (records_of node.durable) (posts.disk_of (lists medium).disk post)
   lasts_begin names post node known it =
-      subst (λ (o : Option D). DiskBegins medium (records_of node.durable) o) (sym it.has)
+      rw it.has
       (record {
         each = λ image there. elim (it.each.each image there) [
           | inl is ↦ own_begins image it.count node.durable is

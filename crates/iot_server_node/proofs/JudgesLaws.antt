@@ -34,7 +34,6 @@ use Rattle.iot_server.specs.Servers as servers
 use Rattle.iot_server.specs.declared.server.Server.{Server}
 use Rattle.iot_store.specs.Numbers.{number_in}
 use Rattle.iot_store.specs.Records.{record_spelling}
-use Rattle.iot_store.specs.Standing.{Leads}
 use Rattle.iot_store.specs.States.{State, CanFollow, opening, after_commit}
 use Rattle.iot_store.specs.States as store
 use Rattle.iot_tree.specs.declared.acts.Act.{Act}
@@ -149,8 +148,8 @@ module _ {message : Message} {it : Submission} (hands : IsHanded message it) whe
 
     follows : CanFollow (servers.state_of was) label acts
     follows =
-        subst (λ (l : Label). CanFollow (servers.state_of was) l acts) its_own.0
-        (subst (CanFollow (servers.state_of was) stops.0.label) its_own.1 stops.0.follows)
+        let cut = stops.0.follows in
+        rw (its_own.0, its_own.1) at cut
 
     -- each image has the list without it, or with it
     either_list : {count : ℕ} {commits : List Commit} → KeepsList medium (record { server = was }) count commits
@@ -169,7 +168,11 @@ module _ {message : Message} {it : Submission} (hands : IsHanded message it) whe
               has_records =
                   same ∙ (λ i. Encodes (keeps.has_records i ++ record_spelling (its_own.0 i) (its_own.1 i) ∷ []))
                   ∙ ap Encodes (sym (record_is commits there_are));
-              leads = leads_longer;
+              leads =
+                  rw (record_is commits there_are, state_is commits there_are)
+                  (leads_more (records_of commits) opening (state_of commits) (record_spelling label acts) label acts (leads_list keeps)
+                  (record { has_label = hands.asked.value.0; has_acts = hands.asked.value.1; spelled = refl })
+                  (subst (λ (s : State). CanFollow s label acts) keeps.has_state follows));
               counted = ap (λ (k : ℕ). k + 1) keeps.counted ∙ sym (length-append commits (it.commit ∷ []));
             })
       ];
@@ -177,13 +180,6 @@ module _ {message : Message} {it : Submission} (hands : IsHanded message it) whe
       where
         there_are : AreOf it.commit (tree_after commits) label acts
         there_are = are keeps follows.holds
-
-        leads_longer : Leads (records_of (add_commit it.commit commits)) opening (state_of (add_commit it.commit commits))
-        leads_longer =
-            rw (record_is commits there_are, state_is commits there_are)
-            (leads_more (records_of commits) opening (state_of commits) (record_spelling label acts) label acts (leads_list keeps)
-            (record { has_label = hands.asked.value.0; has_acts = hands.asked.value.1; spelled = refl })
-            (subst (λ (s : State). CanFollow s label acts) keeps.has_state follows))
 
   module _ {D : Type 0} (medium : Medium D) (names : List (List ℕ)) (named : IsNamedIn names it) where
     is_known : IsKnown names it.commit

@@ -1,7 +1,7 @@
 -- A server keeps the list of commits on its disk, as a keeper is to.
-use Rattle.std.proofs.Common.{◌≡◌, ℕ, List, length, Result, Ok, Err, sym, ap, subst, ◌∙◌}
+use Rattle.std.proofs.Common.{◌≡◌, ℕ, List, length, Result, Ok, Err, sym, ap, ◌∙◌}
 use Rattle.std.proofs.lemmas.List.{length-map}
-use Rattle.std.specs.Prelude.{IfOk, IfErr, OnOk}
+use Rattle.std.specs.Prelude.{IfOk, IfErr}
 use Rattle.iot_disk.specs.Disk.{Medium}
 use Rattle.iot_disk.specs.declared.faults.StartFault.{StartFault}
 use Rattle.iot_disk.specs.declared.faults.StartFault.TheVariants as start
@@ -58,8 +58,8 @@ module _ {D : Type 0} {medium : Medium D} {it : Server D} {n : ℕ} {commits : L
   -- its records lead to its state
   pub leads_list : Leads (records_of commits) opening (state_of commits)
   leads_list =
-      subst (λ (bodies : List (List ℕ)). Leads bodies opening (state_of commits)) is.has_records
-      (subst (λ (s : State). Leads (servers.bodies_on medium it) opening s) is.has_state is.synced.leads)
+      let leads = is.synced.leads in
+      rw (is.has_records, is.has_state) at leads
 
   -- each image of its disk has them
   pub keeps_images : EachIs (medium.may_leave (servers.disk_of it)) (λ bytes. IsImage bytes n commits)
@@ -73,10 +73,6 @@ module _ {D : Type 0} {medium : Medium D} {it : Server D} {n : ℕ} {commits : L
   }
 
 -- ---- what is so of an answer
-
-pub on_ok_both : {T E P Q R : Type 0} (result : Result T E) → (P → Q → R) → OnOk result P → OnOk result Q → OnOk result R
-on_ok_both (Ok t) more one other = more one other
-on_ok_both (Err e) more one other = tt
 
 pub if_ok_both : {T E : Type 0} {P Q R : T → Type 0} (result : Result T E) → ((t : T) → P t → Q t → R t) → IfOk result P → IfOk result Q
     → IfOk result R

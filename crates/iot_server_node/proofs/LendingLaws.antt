@@ -19,7 +19,7 @@ use Rattle.iot_wire.specs.declared.requests.Request.{Request}
 use Rattle.iot_wire.proofs.MessagesLaws.{call_one}
 use Rattle.iot_wire.proofs.SpellingLaws.{request_laws}
 use Rattle.iot_machine.specs.Clients.{snapshot}
-use Rattle.iot_machine.specs.Machine.{Commit, tree_after}
+use Rattle.iot_machine.specs.Machine.{Commit}
 use Rattle.iot_machine.specs.Calls.{Call}
 use Rattle.iot_machine.specs.Nodes.{Node}
 use Rattle.iot_machine.specs.Serving.{Lends}
@@ -52,11 +52,8 @@ module _ {D : Type 0} {medium : Medium D} (message : Message) (served : Served) 
       → IsAnswered (servers.state_of was) (servers.bodies_on medium was) request served.reply.items (servers.state_of now)
       (servers.bodies_on medium now)
   answers_it asked =
-      subst
-      (λ (request : Request).
-      IsAnswered (servers.state_of was) (servers.bodies_on medium was) request served.reply.items (servers.state_of now)
-      (servers.bodies_on medium now))
-      (one_request message _ _ it.handled.is asked) it.handled.answered
+      let answered = it.handled.answered in
+      rw (one_request message _ _ it.handled.is asked) at answered
 
   module _ (counted : served.committed ≡ committed_since (count_of (live was)) (count_of (live now))) where
     -- what is to be said, by the state after it
@@ -127,8 +124,7 @@ module _ {D : Type 0} (medium : Medium D) (message : Message) {client : ℕ} (he
   lends names served sound handled counted =
       by_servers (SpellsCut held want) message served sound handled counted (λ was now it sound counted.
       let told = answers_it message served it asks in
-      let its_tree : (servers.state_of was).tree ≡ tree_after sound.node.durable =
-      ap (λ (s : State). s.tree) sound.stands.post.stands.has_state in (
+      let its_tree = ap (λ (s : State). s.tree) sound.stands.post.stands.has_state in (
         refl,
         (
           snapshot held want (servers.state_of was).tree,
@@ -160,8 +156,8 @@ module _ {D : Type 0} (medium : Medium D) (message : Message) {client : ℕ} (he
   pub lends_always : {fault : JournalFault} {old new : ServerNode D} → fault ≡ append.Stopped
       → Refused medium message.request.items fault old new → ⊥
   lends_always stopped refused =
-      appends_nothing refused.was refused.now
-      (subst (λ (f : JournalFault). Refuses medium message.request.items f refused.was refused.now) stopped refused.by)
+      let stops = refused.by in
+      appends_nothing refused.was refused.now (rw stopped at stops)
 
   -- its disk has the list still, if memory runs out
   pub lends_lasts : {names : List (List ℕ)} (fault : JournalFault) {old mid new : ServerNode D} (node : Node (List Commit)) {n : ℕ}

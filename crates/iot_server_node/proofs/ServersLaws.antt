@@ -2,7 +2,6 @@
 use Rattle.std.proofs.Common.{◌≡◌, ℕ, suc, zero, ◌+◌, ◌%◌, ◌^◌, Bool, true, false, if◌then◌else◌, List, [], ◌∷◌, ◌++◌, length, drop}
 use Rattle.std.proofs.Common.{Option, Some, None, IsSome, codes, refl, sym, ap, subst, ◌∙◌, arith, inl, inr, slice_index_or}
 use Rattle.std.proofs.lemmas.List.{length-append}
-use Rattle.std.proofs.lemmas.Option.{same_Some}
 use Rattle.std.proofs.Math.Nat.{mod-add-mod}
 use Rattle.iot_disk.specs.Disk.{Medium}
 use Rattle.iot_disk.specs.declared.disk.Pick.{Pick}
@@ -12,7 +11,6 @@ use Rattle.iot_store.specs.States.{State, after_commit}
 use Rattle.iot_server.specs.Servers as servers
 use Rattle.iot_server.specs.Traffic.{no_traffic}
 use Rattle.iot_server.specs.declared.server.Server.{Server}
-use Rattle.iot_server.specs.declared.traffic.Traffic.{Traffic}
 use Rattle.iot_tree.specs.declared.acts.Act.{Act}
 use Rattle.iot_tree.specs.declared.labels.Label.{Label}
 use Rattle.iot_machine.specs.Calls.{Call, Does, Says, Nothing, Then, either}
@@ -141,16 +139,14 @@ module _ {D : Type 0} where
   -- one that was just started has answered none
   pub answered_fresh : (post : Post (ServerKeeper D) D) (on : Bool) → live_of traffic_in post ≡ if on then Some no_traffic else None
       → HasAnsweredIn 0 post
-  answered_fresh (Up keeper) true is =
-      ap (λ (traffic : Traffic). traffic.requests) (same_Some (traffic_in keeper) no_traffic is)
+  answered_fresh (Up keeper) true is = cc
   answered_fresh (Up keeper) false is = absurd cc
   answered_fresh (Down fallen) on is = tt
   answered_fresh Between on is = tt
 
   pub answered_same : (old new : Post (ServerKeeper D) D) (n : ℕ) → live_of traffic_in new ≡ live_of traffic_in old → HasAnsweredIn n old
       → HasAnsweredIn n new
-  answered_same (Up was) (Up now) n same had =
-      ap (λ (traffic : Traffic). traffic.requests) (same_Some (traffic_in now) (traffic_in was) same) ∙ had
+  answered_same (Up was) (Up now) n same had = cc
   answered_same (Down fallen) (Up now) n same had = absurd cc
   answered_same Between (Up now) n same had = absurd cc
   answered_same old (Down fallen) n same had = tt
@@ -216,8 +212,7 @@ module _ {D : Type 0} (medium : Medium D) (names : List (List ℕ)) where
       (either (Says (λ _. line (codes "up"))) (Then (ComesBack server_name (kept_text names)) (λ _. Nothing)) on) old new x y tt
       → StepsTo (Stands n) (Stands (answered_since (is_up old) n)) (Restarts server_name (kept_text names)) old new x y tt
   restarts old new n x y on is step =
-      subst (λ (on : Bool). StepsTo (Stands n) (Stands (answered_since on n)) (Restarts server_name (kept_text names)) old new x y tt)
-      (sym is)
+      rw is
       (bind old old new x x y on tt (asks old x on (λ node here. sym (alive_is old.post node here.post ∙ is))) step)
 
   lasts_in : (post : Post (ServerKeeper D) D) (node : Node (List Commit)) → Posted post node → Lasts (lists medium) medium post node
@@ -329,8 +324,7 @@ is_standing medium server never = record {
   says = kept_text [];
   node = unopened [] (counts_on medium never.disk);
   stands =
-      subst (λ (post : Post _ _). PostStands (lists medium) medium (kept_text []) post (unopened [] (counts_on medium never.disk)))
-      (sym never.down) (unopened_stands medium [] never.disk 0 never.empty).post;
+      rw never.down (unopened_stands medium [] never.disk 0 never.empty).post;
 }
 
 -- ---- one client more is declared

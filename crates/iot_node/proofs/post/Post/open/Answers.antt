@@ -17,5 +17,6 @@ returns-in-Ok-clause-lasts g c says node here =
 pub returns-in_ok-say_refused-in-Err-clause-step : goal.returns-in_ok-say_refused-in-Err-clause-step
 returns-in_ok-say_refused-in-Err-clause-step g c says =
     rw c.settle-in-Err.ensures (post_stops_again (g.K.Keeper.keeping c.args.place) g.D.Disk.medium says (OpensNode c.args.name.now)
-    c.args.name.now (sym c.replace.ensures.value ∙ c.in-Down.is) c.requires.stands (g.met.D.Disk.reads_is_image c.in-Down.field-0.disk) refl c.in-Err.ensures.fails
+    c.args.name.now (sym c.replace.ensures.value ∙ c.in-Down.is) c.requires.stands
+    (g.met.D.Disk.reads_is_image c.in-Down.field-0.disk) refl c.in-Err.ensures.fails
     c.in_ok-say_refused-in-Err.ensures.stopped (λ node n is. inr (refl, refl, is)) c.in_ok-say_refused-in-Err.ensures.says)

@@ -14,5 +14,4 @@ pub returns-in_ok-say_stopped-in-Stopped-clause-step : goal.returns-in_ok-say_st
 returns-in_ok-say_stopped-in-Stopped-clause-step g c place old new says change node is here appended doubts =
     let failed = rw (c.in-Err.is ∙ ap (λ (f : JournalFault). Err f) c.in-Stopped.is) at appended in
     rw (c.fall.ensures.down place new is) (post_stops (g.K.Keeper.keeping place) g.D.Disk.medium says old new c.args.name.now change node
-    c.args.doubt c.args.out.now
-    c.say_stopped.new.out here failed.0 failed.1 doubts c.in_ok-say_stopped-in-Stopped.ensures.says)
+    c.args.doubt c.args.out.now c.say_stopped.new.out here failed doubts c.in_ok-say_stopped-in-Stopped.ensures.says)

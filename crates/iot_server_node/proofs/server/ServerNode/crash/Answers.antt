@@ -1,13 +1,13 @@
 use Rattle.iot_machine.specs.Serving.{kept_text}
 use Rattle.iot_server_node.specs.Servers.{disk_of}
-use Rattle.iot_server_node.proofs.KeepersLaws.{on_ok_both}
+use Rattle.iot_server_node.proofs.KeepersLaws.{if_ok_both}
 use Rattle.iot_server_node.proofs.ServersLaws.{with_known, known_crash, answered_off, keeps_same}
 use Rattle.iot_server_node.proofs.server.ServerNode.crash.Goals as goal
 
 pub returns-clause-step : goal.returns-clause-step
 returns-clause-step g c =
-    on_ok_both c.crash.result
-    (λ step down names n.
+    if_ok_both c.crash.result
+    (λ done step down names n.
     with_known g.D.Disk.medium names (step 0 (kept_text names)) (known_crash names) (λ had. answered_off c.crash.new.self n down))
     c.crash.ensures.step c.crash.ensures.down
 
