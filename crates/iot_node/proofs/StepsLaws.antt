@@ -1,7 +1,7 @@
 -- How steps go together, over any world and any machine.
 use Rattle.std.proofs.Common.{◌≡◌, ℕ, List, [], ◌++◌, refl, sym, ap, ◌∙◌, append_assoc}
 use Rattle.std.proofs.lemmas.List.{append-nil}
-use Rattle.iot_machine.specs.Calls.{Call, Asks, Answers, Does, Says, Nothing, Then}
+use Rattle.iot_machine.specs.Calls.{Call, Asks, Does, Says, Then}
 use Rattle.iot_machine.specs.Refining.{Refines}
 
 module _ {W M : Type 0} {stands : W → M → Type 0} where
@@ -23,9 +23,6 @@ module _ {W M : Type 0} {stands : W → M → Type 0} where
       → Refines stands (Asks ask) u u x x a
   asks u x a is = record { step = λ m here. ([], m, sym (append-nil x), (refl, is m here, refl), here) }
 
-  pub answers : {A : Type 0} (u : W) (x : List ℕ) (a : A) → Refines stands (Answers a) u u x x a
-  answers u x a = asks u x a (λ m here. refl)
-
   pub does : {text : M → List ℕ} {change : M → M} (u v : W) (x y : List ℕ)
       → ((m : M) → stands u m → (y ≡ x ++ text m) × stands v (change m))
       → Refines stands (Does text change) u v x y tt
@@ -36,6 +33,3 @@ module _ {W M : Type 0} {stands : W → M → Type 0} where
 
   pub says_this : (text : List ℕ) (u : W) (x y : List ℕ) → y ≡ x ++ text → Refines stands (Says (λ _. text)) u u x y tt
   says_this text u x y is = says u x y (λ m here. is)
-
-  pub nothing : (u : W) (x : List ℕ) → Refines stands Nothing u u x x tt
-  nothing u x = says_this [] u x x (sym (append-nil x))

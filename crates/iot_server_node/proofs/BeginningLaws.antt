@@ -1,71 +1,57 @@
 -- What each image of the server's disk begins with.
-use Rattle.std.proofs.Common.{◌≡◌, ◌⊎◌, ◌+◌, ℕ, List, [], ◌∷◌, ◌++◌, Option, append_assoc, inl, inr, refl, sym, ap, subst, ◌∙◌}
+use Rattle.std.proofs.Common.{◌≡◌, ◌+◌, ℕ, List, [], ◌∷◌, ◌++◌, Option, append_assoc, inl, inr, refl, sym, ap, subst, ◌∙◌}
 use Rattle.std.proofs.lemmas.List.{append-nil}
 use Rattle.iot_disk.specs.Disk.{Medium}
 use Rattle.iot_disk.specs.declared.faults.JournalFault.{JournalFault}
 use Rattle.iot_disk.specs.declared.faults.JournalFault.TheVariants as append
-use Rattle.iot_exec.specs.Serial.{run_entry}
 use Rattle.iot_journal.specs.Decoding.{Encodes, decoded}
 use Rattle.iot_machine.specs.Machine.{Commit}
 use Rattle.iot_machine.specs.Nodes.{Node}
 use Rattle.iot_node.specs.Posts as posts
 use Rattle.iot_node.specs.Posts.{Lasts, HoldsEither}
 use Rattle.iot_node.specs.declared.post.Post.{Post}
-use Rattle.iot_server.specs.Faults.{CutsOff}
 use Rattle.iot_server.specs.Replies.{records_after}
 use Rattle.iot_server.specs.Servers as servers
 use Rattle.iot_server.specs.declared.server.Server.{Server}
 use Rattle.iot_store.specs.Records.{record_spelling}
 use Rattle.iot_store.specs.Standing.{Leads, StandFor}
 use Rattle.iot_store.specs.States.{State, opening, after_commit}
-use Rattle.iot_tree.specs.Tree.{Nodes, root_alone}
+use Rattle.iot_tree.specs.Tree.{root_alone}
 use Rattle.iot_tree.specs.declared.nodes.Node.TheVariants.{Dir}
-use Rattle.iot_wire.specs.Messages.{IsMessage}
-use Rattle.iot_wire.specs.Rules.{IsRequest}
-use Rattle.iot_wire.specs.Spelling.{request_spelling}
 use Rattle.iot_wire.specs.declared.replies.Reply.{Reply}
 use Rattle.iot_wire.specs.declared.replies.Reply.TheVariants as replies
 use Rattle.iot_wire.specs.declared.requests.Request.{Request}
 use Rattle.iot_wire.specs.declared.requests.Request.TheVariants as requests
 use Rattle.iot_server_node.specs.Keepers.{lists, Handles, Refuses}
-use Rattle.iot_server_node.specs.Records.{IsImage, BeginsWith, EachBegins, DiskBegins, KeepsRecords, label_of, records_from, records_of}
-use Rattle.iot_server_node.specs.Records.{state_of}
-use Rattle.iot_server_node.specs.Servers.{disk_of, IsLonger, IsLongerIfAny, NodeIsKnown, ServerStands, ServerIsSound, KeepsCommits, live}
-use Rattle.iot_server_node.specs.Servers.{Handled, Refused}
+use Rattle.iot_server_node.specs.Records.{IsImage, BeginsWith, EachBegins, DiskBegins, KeepsRecords, records_of}
+use Rattle.iot_server_node.specs.Servers.{disk_of, IsLonger, IsLongerIfAny, NodeIsKnown, ServerStands, ServerIsSound, KeepsCommits}
+use Rattle.iot_server_node.specs.Servers.{Lives, Handled, Refused}
 use Rattle.iot_server_node.specs.declared.keeper.ServerKeeper.{ServerKeeper}
 use Rattle.iot_server_node.specs.declared.server.ServerNode.{ServerNode}
-use Rattle.iot_server_node.proofs.KeepersLaws.{same_bodies}
+use Rattle.iot_server_node.proofs.RecordsLaws.{records_more}
+use Rattle.iot_server_node.proofs.KeepersLaws.{same_bodies, image_stands}
 use Rattle.iot_server_node.proofs.ServersLaws.{lasts}
 
 -- ---- one image
 
 -- bytes whose bodies are these and more
-begins_by : (bodies more all : List (List ℕ)) (bytes : List ℕ) (state : State) → decoded bytes ≡ Encodes all → all ≡ bodies ++ more
-    → Leads all opening state → BeginsWith bodies bytes
-begins_by bodies more all bytes state read is leads = record {
+begins_by : (bodies more : List (List ℕ)) {bytes : List ℕ} {state : State} → decoded bytes ≡ Encodes (bodies ++ more)
+    → StandFor bytes state → BeginsWith bodies bytes
+begins_by bodies more {state = state} read it = record {
   later = more;
-  has_records = read ∙ ap Encodes is;
+  has_records = read;
   state = state;
-  leads = subst (λ (them : List (List ℕ)). Leads them opening state) is leads;
+  leads = subst (λ (them : List (List ℕ)). Leads them opening state) (same_bodies _ _ (sym it.read ∙ read)) it.leads;
 }
-
--- the records of a longer list
-records_more : (commits later : List Commit) (t : Nodes)
-    → (rest : List (List ℕ)) × (records_from (commits ++ later) t ≡ records_from commits t ++ rest)
-records_more [] later t = (records_from later t, refl)
-records_more (commit ∷ commits) later t =
-    let more = records_more commits later (run_entry commit.entry t).tree in (
-      more.0,
-      ap (λ (rs : List (List ℕ)). record_spelling (label_of commit) (run_entry commit.entry t).acts ∷ rs) more.1,
-    )
 
 -- an image of a list begins with the records of each list with which that one begins
 pub image_begins : (bytes : List ℕ) (n : ℕ) (commits longer : List Commit) → IsLonger commits longer → IsImage bytes n longer
     → BeginsWith (records_of commits) bytes
 image_begins bytes n commits longer is image =
-    let more = records_more commits is.later (root_alone Dir) in
-    begins_by (records_of commits) more.0 (records_of longer) bytes (state_of longer) image.has_records
-    (ap (λ (them : List Commit). records_of them) is.is ∙ more.1) image.leads
+    begins_by (records_of commits) _
+    (image.has_records ∙ ap (λ (them : List Commit). Encodes (records_of them)) is.is
+    ∙ ap Encodes (records_more commits is.later (root_alone Dir)))
+    (image_stands bytes n longer image)
 
 -- also with its own
 pub own_begins : (bytes : List ℕ) (n : ℕ) (commits : List Commit) → IsImage bytes n commits → BeginsWith (records_of commits) bytes
@@ -87,13 +73,14 @@ module _ {D : Type 0} (medium : Medium D) where
       → Lasts (lists medium) medium post node
       → DiskBegins medium (records_of node.durable) (posts.disk_of (lists medium).disk post)
   lasts_begin names post node known it =
-      subst (λ (o : Option D). DiskBegins medium (records_of node.durable) o) (sym it.has)
-      (record { each = λ image there. by image (it.each.each image there) })
-    where
-      by : (image : List ℕ) → HoldsEither (lists medium) medium it.count node image → BeginsWith (records_of node.durable) image
-      by image (inl is) = own_begins image it.count node.durable is
-      by image (inr (after, in_doubt, is)) =
-          image_begins image (it.count + 1) node.durable after (subst (IsLongerIfAny node.durable) in_doubt known.longer) is
+      rw it.has
+      (record {
+        each = λ image there. elim (it.each.each image there) [
+          | inl is ↦ own_begins image it.count node.durable is
+          | inr more ↦ image_begins image (it.count + 1) node.durable more.0
+              (subst (IsLongerIfAny node.durable) more.1 known.longer) more.2
+        ];
+      })
 
   -- the disk of a server begins with the records of its list
   pub stands_begin : (names : List (List ℕ)) (server : ServerNode D) (node : Node (List Commit)) (n : ℕ)
@@ -126,94 +113,73 @@ added (requests.Commit label acts) (replies.Committed number) bodies = (record_s
 added (requests.Commit label acts) (replies.Already number) bodies = ([], sym (append-nil bodies))
 added (requests.Commit label acts) (replies.Conflict read answer) bodies = ([], sym (append-nil bodies))
 
-any_state : (bytes : List ℕ) (one other : State) → StandFor bytes one ⊎ StandFor bytes other → (state : State) × StandFor bytes state
-any_state bytes one other (inl is) = (one, is)
-any_state bytes one other (inr is) = (other, is)
-
 module _ {D : Type 0} (medium : Medium D) (is_image : (disk : D) → medium.may_leave disk (medium.reads disk)) where
   -- a server on whose disk nothing is under way
-  module _ (was : Server D) (synced : servers.IsSynced medium was) (bodies : List (List ℕ))
+  module _ (was now : Server D) (synced : servers.IsSynced medium was) (bodies : List (List ℕ))
       (had : EachBegins medium bodies (servers.disk_of was)) where
-    as_read : BeginsWith bodies (medium.reads (servers.disk_of was))
-    as_read = had.each (medium.reads (servers.disk_of was)) (is_image (servers.disk_of was))
-
-    on_it : servers.bodies_on medium was ≡ bodies ++ as_read.later
-    on_it = same_bodies _ _ (sym synced.journal.encodes ∙ as_read.has_records)
-
     -- bytes with its records, and perhaps more
-    more_begin : (more : List (List ℕ)) (bytes : List ℕ) (state : State) → decoded bytes ≡ Encodes (servers.bodies_on medium was ++ more)
-        → Leads (servers.bodies_on medium was ++ more) opening state → BeginsWith bodies bytes
-    more_begin more bytes state read leads =
-        begins_by bodies (as_read.later ++ more) (servers.bodies_on medium was ++ more) bytes state read
-        (ap (λ (them : List (List ℕ)). them ++ more) on_it ∙ append_assoc bodies as_read.later more) leads
+    more_begin : (more : List (List ℕ)) {bytes : List ℕ} {state : State} → decoded bytes ≡ Encodes (servers.bodies_on medium was ++ more)
+        → StandFor bytes state → BeginsWith bodies bytes
+    more_begin more read it =
+        let first = had.each (medium.reads (servers.disk_of was)) (is_image (servers.disk_of was)) in
+        let on_it = same_bodies _ _ (sym synced.journal.encodes ∙ first.has_records) in
+        begins_by bodies (first.later ++ more)
+        (read ∙ ap Encodes (ap (λ (them : List (List ℕ)). them ++ more) on_it ∙ append_assoc bodies first.later more)) it
 
-    standing_begin : (more : List (List ℕ)) (bytes : List ℕ) (state : State)
-        → decoded bytes ≡ Encodes (servers.bodies_on medium was ++ more) → StandFor bytes state → BeginsWith bodies bytes
-    standing_begin more bytes state read it =
-        more_begin more bytes state read
-        (subst (λ (them : List (List ℕ)). Leads them opening state) (same_bodies _ _ (sym it.read ∙ read)) it.leads)
-
-    -- bytes with its records
-    same_begin : (bytes : List ℕ) (state : State) → decoded bytes ≡ Encodes (servers.bodies_on medium was)
-        → Leads (servers.bodies_on medium was) opening state → BeginsWith bodies bytes
-    same_begin bytes state read leads =
-        let same = sym (append-nil (servers.bodies_on medium was)) in
-        more_begin [] bytes state (read ∙ ap Encodes same) (subst (λ (them : List (List ℕ)). Leads them opening state) same leads)
-
-    handled_begin : (asked reply : List ℕ) (now : Server D) → Handles medium asked reply was now
-        → EachBegins medium bodies (servers.disk_of now)
-    handled_begin asked reply now it = record {
+    handled_begin : {asked reply : List ℕ} → Handles medium asked reply was now → EachBegins medium bodies (servers.disk_of now)
+    handled_begin it = record {
       each = λ image there.
           let more = added it.handled.request it.handled.answered.reply (servers.bodies_on medium was) in
-          let same : servers.bodies_on medium now ≡ servers.bodies_on medium was ++ more.0 = it.handled.answered.records ∙ more.1 in
-          more_begin more.0 image (servers.state_of now)
-          (ap decoded (it.synced.journal.only.is image there) ∙ it.synced.journal.encodes ∙ ap Encodes same)
-          (subst (λ (them : List (List ℕ)). Leads them opening (servers.state_of now)) same it.synced.leads);
+          let read = ap decoded (it.synced.journal.only.is image there) ∙ it.synced.journal.encodes in
+          more_begin more.0 (read ∙ ap Encodes (it.handled.answered.records ∙ more.1))
+          (record { bodies = servers.bodies_on medium now; read = read; leads = it.synced.leads });
     }
 
-    cut_begins : (asked : List ℕ) (images : List ℕ → Type 0)
-        → CutsOff (IsMessage IsRequest request_spelling asked) (servers.state_of was) (servers.bodies_on medium was) images
-        → (image : List ℕ) → images image → BeginsWith bodies image
-    cut_begins asked images cut image there =
-        let standing = any_state image (servers.state_of was) (after_commit (servers.state_of was) cut.label cut.acts)
-        (cut.either.each image there) in
-        elim (cut.one_record.each image there) [
-          | inl same ↦ standing_begin [] image standing.0
-              (same ∙ ap Encodes (sym (append-nil (servers.bodies_on medium was)))) standing.1
-          | inr same ↦ standing_begin (record_spelling cut.label cut.acts ∷ []) image standing.0 same standing.1
-        ]
+    same_begin : {bytes : List ℕ} {state : State} → decoded bytes ≡ Encodes (servers.bodies_on medium was) → StandFor bytes state
+        → BeginsWith bodies bytes
+    same_begin read = more_begin [] (read ∙ ap Encodes (sym (append-nil (servers.bodies_on medium was))))
 
-    refused_begin : (asked : List ℕ) (fault : JournalFault) (now : Server D) → Refuses medium asked fault was now
+    refused_begin : (asked : List ℕ) (fault : JournalFault) → Refuses medium asked fault was now
         → EachBegins medium bodies (servers.disk_of now)
-    refused_begin asked append.NoMemory now kept =
-        record { each = λ image there. same_begin image (servers.state_of was) (kept.each image there) synced.leads }
-    refused_begin asked append.Stopped now stops =
-        record { each = λ image there. cut_begins asked (medium.may_leave (servers.disk_of now)) stops.0 image there }
+    refused_begin asked append.NoMemory kept = record {
+      each = λ image there.
+          let read = kept.each image there in
+          same_begin read (record { bodies = servers.bodies_on medium was; read = read; leads = synced.leads });
+    }
+    refused_begin asked append.Stopped stops = record {
+      each = λ image there.
+          let standing : (state : State) × StandFor image state =
+          elim (stops.0.either.each image there) [
+            | inl is ↦ (servers.state_of was, is)
+            | inr is ↦ (after_commit (servers.state_of was) stops.0.label stops.0.acts, is)
+          ] in
+          elim (stops.0.one_record.each image there) [
+            | inl same ↦ same_begin same standing.1
+            | inr same ↦ more_begin (record_spelling stops.0.label stops.0.acts ∷ []) same standing.1
+          ];
+    }
 
-  module _ (asked : List ℕ) (old mid new : ServerNode D) (sound : ServerIsSound medium old) where
-    its_records : (was : Server D) → old ≡ live was → servers.IsSynced medium was
-    its_records was is = (subst (ServerIsSound medium) is sound).stands.post.stands.synced
+  -- what a live server did keeps them, if this does
+  lives_on : {By : Server D → Server D → Type 0} {old mid : ServerNode D} (new : ServerNode D) → ServerIsSound medium old → Lives By old mid
+      → disk_of new ≡ disk_of mid
+      → ((was now : Server D) → servers.IsSynced medium was → (bodies : List (List ℕ)) → EachBegins medium bodies (servers.disk_of was)
+      → By was now → EachBegins medium bodies (servers.disk_of now))
+      → KeepsRecords medium (disk_of old) (disk_of new)
+  lives_on {old = old} new sound it same begin =
+      subst (λ (disk : Option D). KeepsRecords medium (disk_of old) disk) (sym (same ∙ ap disk_of it.new_is))
+      (rw it.old_is
+      (record {
+        keeps = λ bodies had.
+            begin it.was it.now (subst (ServerIsSound medium) it.old_is sound).stands.post.stands.synced bodies had it.by;
+      }))
 
-    -- it has replied
-    pub handled_records : (reply : List ℕ) → Handled medium asked reply old new → KeepsRecords medium (disk_of old) (disk_of new)
-    handled_records reply handled =
-        rw (handled.old_is, handled.new_is)
-        (record {
-          keeps = λ bodies had.
-              handled_begin handled.was (its_records handled.was handled.old_is) bodies had asked reply handled.now handled.by;
-        })
+  pub handled_records : {asked reply : List ℕ} {old new : ServerNode D} → ServerIsSound medium old → Handled medium asked reply old new
+      → KeepsRecords medium (disk_of old) (disk_of new)
+  handled_records sound handled =
+      lives_on _ sound handled refl (λ was now synced bodies had. handled_begin was now synced bodies had)
 
-    -- or it has not
-    refused_mid : (fault : JournalFault) → Refused medium asked fault old mid → KeepsRecords medium (disk_of old) (disk_of mid)
-    refused_mid fault refused =
-        rw (refused.old_is, refused.new_is)
-        (record {
-          keeps = λ bodies had.
-              refused_begin refused.was (its_records refused.was refused.old_is) bodies had asked fault refused.now refused.by;
-        })
-
-    pub refused_records : (fault : JournalFault) → Refused medium asked fault old mid → disk_of new ≡ disk_of mid
-        → KeepsRecords medium (disk_of old) (disk_of new)
-    refused_records fault refused same =
-        records_then medium (disk_of old) (disk_of mid) (disk_of new) (refused_mid fault refused)
-        (records_same medium (disk_of mid) (disk_of new) same)
+  pub refused_records : (asked : List ℕ) (fault : JournalFault) {old mid : ServerNode D} (new : ServerNode D)
+      → ServerIsSound medium old → Refused medium asked fault old mid → disk_of new ≡ disk_of mid
+      → KeepsRecords medium (disk_of old) (disk_of new)
+  refused_records asked fault new sound refused same =
+      lives_on new sound refused same (λ was now synced bodies had. refused_begin was now synced bodies had asked fault)

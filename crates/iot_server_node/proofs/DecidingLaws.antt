@@ -1,5 +1,5 @@
 -- What a server says that comes back is decided by its images, where they agree.
-use Rattle.std.proofs.Common.{◌≡◌, ℕ, suc, ◌+◌, if◌then◌else◌, Bool, true, false, List, [], ◌∷◌, ◌++◌, length}
+use Rattle.std.proofs.Common.{◌≡◌, ℕ, suc, ◌+◌, Bool, true, false, List, [], ◌∷◌, ◌++◌, length}
 use Rattle.std.proofs.Common.{Option, Some, None, inl, inr, refl, sym, ap, ◌∙◌, arith}
 use Rattle.std.proofs.lemmas.Bool.{le-leb, lt-leb}
 use Rattle.std.proofs.lemmas.List.{append-nil}
@@ -12,7 +12,7 @@ use Rattle.iot_machine.specs.Nodes.{Node}
 use Rattle.iot_machine.specs.Refining.{Refines}
 use Rattle.iot_machine.specs.Serving.{server_name, kept_text}
 use Rattle.iot_machine.specs.Stops.{ComesBack}
-use Rattle.iot_machine.specs.Texts.{stopped_line, kept_line, lost_line}
+use Rattle.iot_machine.specs.Texts.{stopped_line, lost_line}
 use Rattle.iot_node.specs.Posts.{is_on, PostStands, CameIf, back_said}
 use Rattle.iot_node.specs.declared.post.Doubt.{Doubt}
 use Rattle.iot_node.specs.declared.post.Fallen.{Fallen}
@@ -43,19 +43,11 @@ module _ (images : List ℕ → Type 0) (doubt : Doubt) (x y : List ℕ) where
       → y ≡ x ++ back_said server_name (Some doubt) n → DecidesBy images doubt.count server_name x y
   by_image bytes n commits left is wrote = record {
     kept = λ all.
-        let many : n ≡ doubt.count + 1 = many_there bytes n commits (doubt.count + 1) is (all.each bytes left) in
-        inl (record {
-          rest = doubt.lines;
-          is = wrote
-              ∙ ap (λ (less : Bool). x ++ (if less then lost_line server_name else kept_line server_name ++ doubt.lines))
-              (lt-leb n doubt.count (omega (arith, many)));
-        });
+        let many = many_there bytes n commits (doubt.count + 1) is (all.each bytes left) in
+        inl (record { rest = doubt.lines; is = rw (wrote, lt-leb n doubt.count (omega (arith, many))) refl });
     lost = λ all.
-        let many : n ≡ doubt.count = many_there bytes n commits doubt.count is (all.each bytes left) in
-        inl (begins_whole (lost_line server_name) x y
-        (wrote
-        ∙ ap (λ (less : Bool). x ++ (if less then lost_line server_name else kept_line server_name ++ doubt.lines))
-        (le-leb n doubt.count (omega (arith, many)))));
+        let many = many_there bytes n commits doubt.count is (all.each bytes left) in
+        inl (begins_whole (lost_line server_name) x y (rw (wrote, le-leb n doubt.count (omega (arith, many))) refl));
   }
 
   stopped_again : y ≡ x ++ stopped_line server_name → DecidesBy images doubt.count server_name x y

@@ -1,12 +1,10 @@
 -- One more entry in a list of commits.
-use Rattle.std.proofs.Common.{◌≡◌, ◌<◌, ◌+◌, ◌^◌, ℕ, List, [], ◌∷◌, ◌++◌, length, refl, sym, ap, subst, ◌∙◌, arith}
+use Rattle.std.proofs.Common.{◌≡◌, ◌<◌, ◌+◌, ◌^◌, ℕ, List, [], ◌∷◌, ◌++◌, length, map, refl, ap, subst, ◌∙◌, arith}
 use Rattle.std.proofs.lemmas.List.{map-append, length-append}
-use Rattle.std.specs.List.{AllByRecursion}
 use Rattle.iot_tree.specs.Tree.{Nodes, root_alone}
 use Rattle.iot_tree.specs.declared.nodes.Node.TheVariants.{Dir}
 use Rattle.iot_tree.specs.declared.labels.Label.{Label}
 use Rattle.iot_tree.specs.declared.labels.Way.{Way}
-use Rattle.iot_acts.specs.Traces.{after_acts}
 use Rattle.iot_exec.specs.Serial.{Entry, run_entry, tree_from}
 use Rattle.iot_journal.proofs.DecodingLaws.{length-bodies-le}
 use Rattle.iot_journal.proofs.ImagesLaws.{records_fit}
@@ -27,62 +25,33 @@ tree_from-append [] entry tree = refl
 tree_from-append (first ∷ later) entry tree = tree_from-append later entry (run_entry first tree).tree
 
 -- its script is run on the tree after the others
-pub tree_after-append : (commits : List Commit) (commit : Commit)
+tree_after-append : (commits : List Commit) (commit : Commit)
     → tree_after (commits ++ commit ∷ []) ≡ (run_entry commit.entry (tree_after commits)).tree
 tree_after-append commits commit =
     ap (λ (es : List (Entry Way)). tree_from es (root_alone Dir)) (map-append (λ c. c.entry) commits (commit ∷ []))
     ∙ tree_from-append (entries_of commits) commit.entry (root_alone Dir)
 
--- its record has the acts of that run
-records_from-append : (commits : List Commit) (commit : Commit) (tree : Nodes)
-    → records_from (commits ++ commit ∷ []) tree
-    ≡ records_from commits tree ++ record_spelling (label_of commit) (run_entry commit.entry (tree_from (entries_of commits) tree)).acts
-    ∷ []
-records_from-append [] commit tree = refl
-records_from-append (first ∷ later) commit tree =
-    ap (λ (rs : List (List ℕ)). record_spelling (label_of first) (run_entry first.entry tree).acts ∷ rs)
-    (records_from-append later commit (run_entry first.entry tree).tree)
-
-pub records_of-append : (commits : List Commit) (commit : Commit)
-    → records_of (commits ++ commit ∷ [])
-    ≡ records_of commits ++ record_spelling (label_of commit) (run_entry commit.entry (tree_after commits)).acts ∷ []
-records_of-append commits commit = records_from-append commits commit (root_alone Dir)
-
-abbrev the_state : Nodes → List Label → State
-the_state tree labels = record { tree = tree; labels = labels }
-
-same_state : (one other : Nodes) (labels more : List Label) → one ≡ other → labels ≡ more → the_state one labels ≡ the_state other more
-same_state one other labels more trees lists =
-    ap (λ (t : Nodes). the_state t labels) trees ∙ ap (λ (ls : List Label). the_state other ls) lists
-
--- its acts make the state after it
-pub state_of-append : (commits : List Commit) (commit : Commit)
-    → (run_entry commit.entry (tree_after commits)).tree
-    ≡ after_acts (tree_after commits) (run_entry commit.entry (tree_after commits)).acts
-    → state_of (commits ++ commit ∷ [])
-    ≡ after_commit (state_of commits) (label_of commit) (run_entry commit.entry (tree_after commits)).acts
-state_of-append commits commit made =
-    same_state _ _ _ _ (tree_after-append commits commit ∙ made) (map-append label_of commits (commit ∷ []))
+-- the records of a longer list
+pub records_more : (commits later : List Commit) (t : Nodes)
+    → records_from (commits ++ later) t ≡ records_from commits t ++ records_from later (tree_from (entries_of commits) t)
+records_more [] later t = refl
+records_more (commit ∷ commits) later t =
+    ap (λ (rs : List (List ℕ)). record_spelling (label_of commit) (run_entry commit.entry t).acts ∷ rs)
+    (records_more commits later (run_entry commit.entry t).tree)
 
 -- the record and the state after a commit with this label and these acts
-module _ (commits : List Commit) (commit : Commit) (label : Label) (acts : List Act)
+module _ (commits : List Commit) {commit : Commit} {label : Label} {acts : List Act}
     (are : AreOf commit (tree_after commits) label acts) where
   pub record_is : records_of (commits ++ commit ∷ []) ≡ records_of commits ++ record_spelling label acts ∷ []
   record_is =
-      records_of-append commits commit
-      ∙ ap (λ (l : Label). records_of commits ++ record_spelling l (run_entry commit.entry (tree_after commits)).acts ∷ []) are.has_label
-      ∙ ap (λ (them : List Act). records_of commits ++ record_spelling label them ∷ []) are.has_acts
+      records_more commits (commit ∷ []) (root_alone Dir)
+      ∙ (λ i. records_of commits ++ record_spelling (are.has_label i) (are.has_acts i) ∷ [])
 
   pub state_is : state_of (commits ++ commit ∷ []) ≡ after_commit (state_of commits) label acts
-  state_is =
-      state_of-append commits commit (are.made ∙ ap (after_acts (tree_after commits)) (sym are.has_acts))
-      ∙ ap (λ (l : Label). after_commit (state_of commits) l (run_entry commit.entry (tree_after commits)).acts) are.has_label
-      ∙ ap (after_commit (state_of commits) label) are.has_acts
-
--- one more of which this is so
-pub all_more : {A : Type 0} (P : A → Type 0) (list : List A) (one : A) → AllByRecursion P list → P one → AllByRecursion P (list ++ one ∷ [])
-all_more P [] one all is = (is, tt)
-all_more P (first ∷ later) one all is = (all.0, all_more P later one all.1 is)
+  state_is = λ i. record {
+    tree = (tree_after-append commits commit ∙ are.made) i;
+    labels = (map-append label_of commits (commit ∷ []) ∙ ap (λ (l : Label). map label_of commits ++ l ∷ []) are.has_label) i;
+  }
 
 -- one record more leads to the state after its commit
 pub leads_more : (front : List (List ℕ)) (before mid : State) (body : List ℕ) (label : Label) (acts : List Act) → Leads front before mid

@@ -1,51 +1,43 @@
 -- What a server does is what is said of it.
-use Rattle.std.proofs.Common.{◌≡◌, ◌<◌, ℕ, suc, zero, ◌+◌, ◌%◌, ◌^◌, Bool, true, false, if◌then◌else◌, List, [], ◌∷◌, ◌++◌, length, drop}
-use Rattle.std.proofs.Common.{Option, Some, None, IsSome, Err, codes, refl, sym, ap, subst, ◌∙◌, arith, inl, inr, slice_index_or}
+use Rattle.std.proofs.Common.{◌≡◌, ℕ, suc, zero, ◌+◌, ◌%◌, ◌^◌, Bool, true, false, if◌then◌else◌, List, [], ◌∷◌, ◌++◌, length, drop}
+use Rattle.std.proofs.Common.{Option, Some, None, IsSome, codes, refl, sym, ap, subst, ◌∙◌, arith, inl, inr, slice_index_or}
 use Rattle.std.proofs.lemmas.List.{length-append}
-use Rattle.std.proofs.lemmas.Option.{same_Some}
 use Rattle.std.proofs.Math.Nat.{mod-add-mod}
-use Rattle.std.specs.Prelude.{Result, IfOk, IfErr, Vec}
-use Rattle.std.specs.declared.alloc.Global.{Global}
 use Rattle.iot_disk.specs.Disk.{Medium}
 use Rattle.iot_disk.specs.declared.disk.Pick.{Pick}
-use Rattle.iot_disk.specs.declared.faults.JournalFault.{JournalFault}
 use Rattle.iot_journal.specs.Decoding.{Encodes, decoded}
 use Rattle.iot_store.specs.Records.{record_spelling}
 use Rattle.iot_store.specs.States.{State, after_commit}
 use Rattle.iot_server.specs.Servers as servers
 use Rattle.iot_server.specs.Traffic.{no_traffic}
 use Rattle.iot_server.specs.declared.server.Server.{Server}
-use Rattle.iot_server.specs.declared.traffic.Traffic.{Traffic}
-use Rattle.iot_tree.specs.Tree.{Nodes}
 use Rattle.iot_tree.specs.declared.acts.Act.{Act}
 use Rattle.iot_tree.specs.declared.labels.Label.{Label}
-use Rattle.iot_machine.specs.Calls.{Call, Does, Says, either}
+use Rattle.iot_machine.specs.Calls.{Call, Does, Says, Nothing, Then, either}
 use Rattle.iot_machine.specs.Machine.{Commit, add_commit, tree_after}
 use Rattle.iot_machine.specs.Nodes.{Node, fallen, changed, back, unopened}
 use Rattle.iot_machine.specs.Refining.{Refines}
 use Rattle.iot_machine.specs.Serving.{server_name, added_text, commit_text, kept_text}
-use Rattle.iot_machine.specs.Stops.{OpensNode, Appends, ComesBack, Settles, Crashes, Restarts, ArmsDisk, Shows}
-use Rattle.iot_machine.specs.Texts.{line, tree_text, transaction_name}
+use Rattle.iot_machine.specs.Stops.{OpensNode, Appends, ComesBack, Settles, Crashes, Restarts, ArmsDisk}
+use Rattle.iot_machine.specs.Texts.{line, transaction_name}
 use Rattle.iot_node.specs.Disks.{IsEmpty, KeepsDisk, counts_on}
-use Rattle.iot_node.specs.Keeping.{Doubts}
 use Rattle.iot_node.specs.Posts as posts
 use Rattle.iot_node.specs.Posts.{is_on, is_fallen, live_of, PostStands, HoldsBy, Answered, StepsFrom, IsStanding, Lasts, CameIf}
 use Rattle.iot_node.specs.Steps.{StepsTo}
-use Rattle.iot_node.specs.declared.halt.Halt.{Halt}
-use Rattle.iot_node.specs.declared.halt.Halt.TheVariants.{Over}
 use Rattle.iot_node.specs.declared.post.Doubt.{Doubt}
 use Rattle.iot_node.specs.declared.post.Post.{Post}
 use Rattle.iot_node.specs.declared.post.Post.TheVariants.{Up, Down, Between}
-use Rattle.iot_server_node.specs.Keepers.{lists, traffic_in, Handles, Refuses}
-use Rattle.iot_server_node.specs.Servers.{is_up, count_in, count_of, lent_in, IsKnown, AreKnown, AreKnownIfAny, IsLongerIfAny, NodeIsKnown}
+use Rattle.iot_server_node.specs.Keepers.{lists, traffic_in, Handles, KeepsList}
+use Rattle.iot_server_node.specs.Servers.{is_up, IsKnown, AreKnown, AreKnownIfAny, IsLongerIfAny, NodeIsKnown}
 use Rattle.iot_server_node.specs.Servers.{HasAnsweredIn, ServerStands}
-use Rattle.iot_server_node.specs.Servers.{HavingAnswered, ServerIsSound, IsUnopened, answered_since, AreOf, live, IsLive, Handled, Refused}
+use Rattle.iot_server_node.specs.Servers.{HavingAnswered, IsUnopened, answered_since, AreOf, live, IsLive, Lives}
 use Rattle.iot_server_node.specs.declared.keeper.ServerKeeper.{ServerKeeper}
 use Rattle.iot_server_node.specs.declared.server.ServerNode.{ServerNode}
-use Rattle.iot_server_node.proofs.KeepersLaws.{keeps_images, if_ok, if_err}
-use Rattle.iot_server_node.proofs.RecordsLaws.{all_more, few_commits, record_is, state_is}
+use Rattle.iot_server_node.proofs.KeepersLaws.{keeps_images}
+use Rattle.iot_machine.proofs.FollowsLaws.{all_as, all_push, at_push}
+use Rattle.iot_server_node.proofs.RecordsLaws.{record_is, state_is}
 use Rattle.iot_node.proofs.PostsLaws.{holds_each}
-use Rattle.iot_node.proofs.StepsToLaws.{bind, asks, says, says_this, nothing}
+use Rattle.iot_node.proofs.StepsToLaws.{bind, asks}
 
 -- no bytes are a journal without a body
 nothing_decoded : decoded [] ≡ Encodes []
@@ -55,29 +47,23 @@ nothing_decoded = refl
 -- ---- what is known of the commits
 
 module _ (names : List (List ℕ)) where
-  known_so : (node after : Node (List Commit)) → after.durable ≡ node.durable → after.doubt ≡ node.doubt → NodeIsKnown names node
-      → NodeIsKnown names after
-  known_so node after durable doubt known = record {
-    durable = subst (AreKnown names) (sym durable) known.durable;
-    doubt = subst (AreKnownIfAny names) (sym doubt) known.doubt;
-    longer =
-        subst (λ (commits : List Commit). IsLongerIfAny commits after.doubt) (sym durable)
-        (subst (IsLongerIfAny node.durable) (sym doubt) known.longer);
-  }
+  -- what is known stays so in this call
+  abbrev pub Keeps : {A : Type 0} → Call (Node (List Commit)) A → A → Type 0
+  Keeps call a =
+      (node after : Node (List Commit)) (text : List ℕ) → call node text a after → NodeIsKnown names node → NodeIsKnown names after
 
-  pub known_opens : (node after : Node (List Commit)) (text : List ℕ) (on : Bool) → OpensNode server_name node text on after
-      → NodeIsKnown names node → NodeIsKnown names after
-  known_opens node after text on (inl is) known =
-      known_so node after (ap (λ (n : Node (List Commit)). n.durable) is.2) (ap (λ (n : Node (List Commit)). n.doubt) is.2) known
-  known_opens node after text on (inr is) known =
-      known_so node after (ap (λ (n : Node (List Commit)). n.durable) is.2.is) (ap (λ (n : Node (List Commit)). n.doubt) is.2.is) known
+  known_so : {node after other : Node (List Commit)} → after ≡ other → NodeIsKnown names node → other.durable ≡ node.durable
+      → other.doubt ≡ node.doubt → NodeIsKnown names after
+  known_so is known durable doubt =
+      rw is
+      (record { durable = rw durable known.durable; doubt = rw doubt known.doubt; longer = rw (durable, doubt) known.longer })
+
+  pub known_opens : (on : Bool) → Keeps (OpensNode server_name) on
+  known_opens on node after text (inl is) known = known_so is.2 known refl refl
+  known_opens on node after text (inr is) known = known_so is.2.is known refl refl
 
   known_back : (s : List Commit) (node after : Node (List Commit)) → after ≡ back s node → AreKnown names s → NodeIsKnown names after
-  known_back s node after is known = record {
-    durable = subst (AreKnown names) (sym (ap (λ (n : Node (List Commit)). n.durable) is)) known;
-    doubt = subst (AreKnownIfAny names) (sym (ap (λ (n : Node (List Commit)). n.doubt) is)) tt;
-    longer = subst (IsLongerIfAny after.durable) (sym (ap (λ (n : Node (List Commit)). n.doubt) is)) tt;
-  }
+  known_back s node after is known = subst (NodeIsKnown names) (sym is) (record { durable = known; doubt = tt; longer = tt })
 
   known_settled : (doubt : Option (List Commit)) (node after : Node (List Commit)) (text : List ℕ)
       → Settles server_name (kept_text names) doubt node text after → AreKnown names node.durable → AreKnownIfAny names doubt
@@ -86,48 +72,39 @@ module _ (names : List (List ℕ)) where
   known_settled (Some s) node after text (inl is) durable doubt = known_back s node after is.1 doubt
   known_settled (Some s) node after text (inr is) durable doubt = known_back node.durable node after is.1 durable
 
-  pub known_comes_back : (node after : Node (List Commit)) (text : List ℕ) (on : Bool)
-      → ComesBack server_name (kept_text names) node text on after → NodeIsKnown names node → NodeIsKnown names after
-  known_comes_back node after text on (inl is) known = known_settled node.doubt node after text is.1 known.durable known.doubt
-  known_comes_back node after text on (inr is) known =
-      known_so node after (ap (λ (n : Node (List Commit)). n.durable) is.2.is) (ap (λ (n : Node (List Commit)). n.doubt) is.2.is) known
+  pub known_comes_back : (on : Bool) → Keeps (ComesBack server_name (kept_text names)) on
+  known_comes_back on node after text (inl is) known = known_settled node.doubt node after text is.1 known.durable known.doubt
+  known_comes_back on node after text (inr is) known = known_so is.2.is known refl refl
 
-  pub known_armed : (calls : ℕ) (pick : Pick) (node after : Node (List Commit)) (text : List ℕ) (answer : Unit {0})
-      → ArmsDisk server_name calls pick node text answer after → NodeIsKnown names node → NodeIsKnown names after
-  known_armed calls pick node after text answer is known =
-      known_so node after (ap (λ (n : Node (List Commit)). n.durable) is.1) (ap (λ (n : Node (List Commit)). n.doubt) is.1) known
+  pub known_armed : (calls : ℕ) (pick : Pick) → Keeps (ArmsDisk server_name calls pick) tt
+  known_armed calls pick node after text is known = known_so is.1 known refl refl
 
-  known_fallen : (on : Bool) (node after : Node (List Commit)) (text : List ℕ) (answer : Unit {0})
-      → either (Does (λ _. line (codes "crash " ++ server_name)) fallen) (Says (λ _. line (codes "down"))) on node text answer after
-      → NodeIsKnown names node → NodeIsKnown names after
-  known_fallen true node after text answer is known =
-      known_so node after (ap (λ (n : Node (List Commit)). n.durable) is.1) (ap (λ (n : Node (List Commit)). n.doubt) is.1) known
-  known_fallen false node after text answer is known = subst (NodeIsKnown names) (sym is.1) known
+  known_fallen : (on : Bool)
+      → Keeps (either (Does (λ _. line (codes "crash " ++ server_name)) fallen) (Says (λ _. line (codes "down"))) on) tt
+  known_fallen true node after text is known = known_so is.1 known refl refl
+  known_fallen false node after text is known = known_so is.1 known refl refl
 
-  pub known_crash : (node after : Node (List Commit)) (text : List ℕ) (answer : Unit {0}) → Crashes server_name node text answer after
-      → NodeIsKnown names node → NodeIsKnown names after
-  known_crash node after text answer it known =
-      known_fallen it.answer it.mid after it.rest answer it.second (subst (NodeIsKnown names) (sym it.first.2) known)
+  pub known_crash : Keeps (Crashes server_name) tt
+  known_crash node after text it known =
+      known_fallen it.answer it.mid after it.rest it.second (subst (NodeIsKnown names) (sym it.first.2) known)
+
+  -- also where the server stops as it appends a commit that is known
+  pub known_stopped : (commit : Commit) → IsKnown names commit → Keeps (Appends server_name (add_commit commit)) false
+  known_stopped commit one node after text (inl done) known = absurd cc
+  known_stopped commit one node after text (inr stop) known = subst (NodeIsKnown names) (sym stop.2.is) (record {
+    durable = known.durable;
+    doubt = all_push (IsKnown names) node.durable commit one known.durable;
+    longer = record { later = commit ∷ []; is = refl };
+  })
 
 -- one client more has a name
 module _ (names : List (List ℕ)) (name : List ℕ) where
-  front_at : (names : List (List ℕ)) (c : ℕ) → c < length names → slice_index_or (names ++ name ∷ []) c [] ≡ slice_index_or names c []
-  front_at [] c within = absurd (omega (arith, within))
-  front_at (first ∷ names) zero within = refl
-  front_at (first ∷ names) (suc c) within = front_at names c (omega (arith, within))
-
   known_more : (commits : List Commit) → AreKnown names commits → AreKnown (names ++ name ∷ []) commits
-  known_more [] known = tt
-  known_more (commit ∷ commits) known = (
-    record {
-      spelled = known.0.spelled;
-      client =
-          let few = known.0.client in
-          let more = length-append names (name ∷ []) in
-          omega (arith, few, more);
-    },
-    known_more commits known.1,
-  )
+  known_more commits =
+      all_as (IsKnown names) (IsKnown (names ++ name ∷ [])) commits (λ commit known. record {
+        spelled = known.spelled;
+        client = omega (arith, known.client, length-append names (name ∷ []));
+      })
 
   known_more_if_any : (commits : Option (List Commit)) → AreKnownIfAny names commits → AreKnownIfAny (names ++ name ∷ []) commits
   known_more_if_any None known = tt
@@ -139,7 +116,8 @@ module _ (names : List (List ℕ)) (name : List ℕ) where
   same_added before [] known = refl
   same_added before (commit ∷ later) known =
       ap (λ (client : List ℕ). commit_text (transaction_name client commit.entry.number) commit before)
-      (front_at names commit.entry.client known.0.client)
+      (at_push (λ (client : List ℕ). client ≡ slice_index_or names commit.entry.client []) names commit.entry.client name []
+      known.0.client refl)
 
   known_dropped : (count : ℕ) (commits : List Commit) → AreKnown names commits → AreKnown names (drop count commits)
   known_dropped zero commits known = known
@@ -161,16 +139,14 @@ module _ {D : Type 0} where
   -- one that was just started has answered none
   pub answered_fresh : (post : Post (ServerKeeper D) D) (on : Bool) → live_of traffic_in post ≡ if on then Some no_traffic else None
       → HasAnsweredIn 0 post
-  answered_fresh (Up keeper) true is =
-      ap (λ (traffic : Traffic). traffic.requests) (same_Some (traffic_in keeper) no_traffic is)
+  answered_fresh (Up keeper) true is = cc
   answered_fresh (Up keeper) false is = absurd cc
   answered_fresh (Down fallen) on is = tt
   answered_fresh Between on is = tt
 
   pub answered_same : (old new : Post (ServerKeeper D) D) (n : ℕ) → live_of traffic_in new ≡ live_of traffic_in old → HasAnsweredIn n old
       → HasAnsweredIn n new
-  answered_same (Up was) (Up now) n same had =
-      ap (λ (traffic : Traffic). traffic.requests) (same_Some (traffic_in now) (traffic_in was) same) ∙ had
+  answered_same (Up was) (Up now) n same had = cc
   answered_same (Down fallen) (Up now) n same had = absurd cc
   answered_same Between (Up now) n same had = absurd cc
   answered_same old (Down fallen) n same had = tt
@@ -194,24 +170,11 @@ module _ {D : Type 0} (medium : Medium D) (names : List (List ℕ)) where
   alive_is (Down fallen) node here = here.alive
   alive_is Between node here = absurd here
 
-  pub has_disk : (post : Post (ServerKeeper D) D) (node : Node (List Commit)) → Posted post node
-      → IsSome (posts.disk_of (lists medium).disk post)
-  has_disk (Up keeper) node here = refl
-  has_disk (Down fallen) node here = refl
-  has_disk Between node here = absurd here
-
-  pub off_is_fallen : (post : Post (ServerKeeper D) D) (node : Node (List Commit)) → Posted post node → is_on post ≡ false
-      → is_fallen post ≡ true
-  off_is_fallen (Up keeper) node here off = absurd cc
-  off_is_fallen (Down fallen) node here off = refl
-  off_is_fallen Between node here off = absurd here
-
   -- what its post does, it does
-  pub with_known : {A : Type 0} (call : Call (Node (List Commit)) A) (old new : ServerNode D) (n k : ℕ) (x y : List ℕ) (a : A)
-      → Refines Posted call old.post new.post x y a
-      → ((node after : Node (List Commit)) (text : List ℕ) → call node text a after → NodeIsKnown names node → NodeIsKnown names after)
-      → (HasAnsweredIn n old.post → HasAnsweredIn k new.post) → StepsTo (Stands n) (Stands k) call old new x y a
-  with_known call old new n k x y a one keeps counts = record {
+  pub with_known : {A : Type 0} {call : Call (Node (List Commit)) A} {old new : ServerNode D} {n k : ℕ} {x y : List ℕ} {a : A}
+      → Refines Posted call old.post new.post x y a → Keeps names call a → (HasAnsweredIn n old.post → HasAnsweredIn k new.post)
+      → StepsTo (Stands n) (Stands k) call old new x y a
+  with_known one keeps counts = record {
     step = λ node here.
         let s = one.step node here.post in
         (s.0, s.1, s.2, s.3, record { post = s.4; known = keeps node s.1 s.0 s.3 here.known; answered = counts here.answered });
@@ -243,41 +206,21 @@ module _ {D : Type 0} (medium : Medium D) (names : List (List ℕ)) where
 
   -- ---- a restart
 
-  pub restart_up : (server : ServerNode D) (n : ℕ) (x y : List ℕ) → is_up server ≡ true → y ≡ x ++ line (codes "up")
-      → StepsTo (Stands n) (Stands (answered_since (is_up server) n)) (Restarts server_name (kept_text names)) server server x y tt
-  restart_up server n x y up wrote =
-      subst (λ (on : Bool). StepsTo (Stands n) (Stands (answered_since on n)) (Restarts server_name (kept_text names)) server server x y tt)
-      (sym up)
-      (bind server server server x x y true tt
-      (asks server x true (λ node here. sym (alive_is server.post node here.post ∙ up)))
-      (says_this _ server x y wrote))
-
-  pub restart_down : (old new : ServerNode D) (n : ℕ) (x y : List ℕ) (on : Bool) → is_up old ≡ false
-      → Refines Posted (ComesBack server_name (kept_text names)) old.post new.post x y on
-      → live_of traffic_in new.post ≡ if on then Some no_traffic else None
+  -- by whether it is alive
+  pub restarts : (old new : ServerNode D) (n : ℕ) (x y : List ℕ) (on : Bool) → is_up old ≡ on
+      → StepsTo (Stands n) (Stands (answered_since on n))
+      (either (Says (λ _. line (codes "up"))) (Then (ComesBack server_name (kept_text names)) (λ _. Nothing)) on) old new x y tt
       → StepsTo (Stands n) (Stands (answered_since (is_up old) n)) (Restarts server_name (kept_text names)) old new x y tt
-  restart_down old new n x y on down one fresh =
-      subst (λ (on : Bool). StepsTo (Stands n) (Stands (answered_since on n)) (Restarts server_name (kept_text names)) old new x y tt)
-      (sym down)
-      (bind old old new x x y false tt
-      (asks old x false (λ node here. sym (alive_is old.post node here.post ∙ down)))
-      (bind old new new x y y on tt
-      (with_known (ComesBack server_name (kept_text names)) old new n 0 x y on one
-      (λ node after text. known_comes_back names node after text on) (λ had. answered_fresh new.post on fresh))
-      (nothing new y)))
-
-  pub came_up : (post : Post (ServerKeeper D) D) (node : Node (List Commit)) (x y : List ℕ) → is_on post ≡ true
-      → CameIf (lists medium) medium (is_on post) post server_name x y node
-  came_up (Up keeper) node x y on = tt
-  came_up (Down fallen) node x y on = absurd cc
-  came_up Between node x y on = absurd cc
+  restarts old new n x y on is step =
+      rw is
+      (bind old old new x x y on tt (asks old x on (λ node here. sym (alive_is old.post node here.post ∙ is))) step)
 
   lasts_in : (post : Post (ServerKeeper D) D) (node : Node (List Commit)) → Posted post node → Lasts (lists medium) medium post node
   lasts_in (Up keeper) node here = record {
     disk = servers.disk_of keeper.server;
     has = refl;
     count = here.count;
-    each = record { each = λ bytes there. inl ((keeps_images medium keeper.server here.count node.durable here.stands).each bytes there) };
+    each = record { each = λ bytes there. inl ((keeps_images here.stands).each bytes there) };
   }
   lasts_in (Down fallen) node here = record {
     disk = fallen.disk;
@@ -286,6 +229,10 @@ module _ {D : Type 0} (medium : Medium D) (names : List (List ℕ)) where
     each = record { each = holds_each (lists medium) medium (kept_text names) fallen node here };
   }
   lasts_in Between node here = absurd here
+
+  pub has_disk : (post : Post (ServerKeeper D) D) (node : Node (List Commit)) → Posted post node
+      → IsSome (posts.disk_of (lists medium).disk post)
+  has_disk post node here = rw (lasts_in post node here).has refl
 
   -- what its disk holds
   pub lasts : (server : ServerNode D) (node : Node (List Commit)) (n : ℕ) → ServerStands medium names server node n
@@ -297,168 +244,78 @@ module _ {D : Type 0} (medium : Medium D) (names : List (List ℕ)) where
       → node.alive ≡ is_up server
   up_is server node n here = alive_is server.post node here.post
 
-  -- ---- what it shows
-
-  tree_in : (post : Post (ServerKeeper D) D) (node : Node (List Commit)) → Posted post node → (it : Server D) → lent_in post ≡ Some it
-      → (node.alive ≡ true) × ((servers.state_of it).tree ≡ tree_after node.durable)
-  tree_in (Up keeper) node here it has = (
-    here.alive,
-    ap (λ (it : Server D). (servers.state_of it).tree) (sym (same_Some keeper.server it has))
-        ∙ ap (λ (s : State). s.tree) here.stands.has_state,
-  )
-  tree_in (Down fallen) node here it has = absurd cc
-  tree_in Between node here it has = absurd cc
-
-  down_in : (post : Post (ServerKeeper D) D) (node : Node (List Commit)) → Posted post node → lent_in post ≡ None → node.alive ≡ false
-  down_in (Up keeper) node here none = absurd cc
-  down_in (Down fallen) node here none = here.alive
-  down_in Between node here none = absurd here
-
-  pub shows_tree : (server : ServerNode D) (n : ℕ) (it : Server D) (x y : List ℕ) → lent_in server.post ≡ Some it
-      → y ≡ x ++ tree_text (servers.state_of it).tree
-      → StepsTo (Stands n) (Stands n) (Shows (λ commits. tree_text (tree_after commits))) server server x y tt
-  shows_tree server n it x y has wrote =
-      bind server server server x x y true tt (asks server x true (λ node here. sym (tree_in server.post node here.post it has).0))
-      (says server x y (λ node here. wrote ∙ ap (λ (t : Nodes). x ++ tree_text t) (tree_in server.post node here.post it has).1))
-
-  pub shows_down : (server : ServerNode D) (n : ℕ) (x y : List ℕ) → lent_in server.post ≡ None → y ≡ x ++ line (codes "down")
-      → StepsTo (Stands n) (Stands n) (Shows (λ commits. tree_text (tree_after commits))) server server x y tt
-  shows_down server n x y none wrote =
-      bind server server server x x y false tt (asks server x false (λ node here. sym (down_in server.post node here.post none)))
-      (says_this _ server x y wrote)
-
   -- ---- a request
 
-  is_live_in : (post : Post (ServerKeeper D) D) (node : Node (List Commit)) → Posted post node → is_on post ≡ true
-      → IsLive medium (record { post = post })
-  is_live_in (Up keeper) node here up = record { it = keeper.server; up = refl; synced = here.stands.synced }
-  is_live_in (Down fallen) node here up = absurd cc
-  is_live_in Between node here up = absurd cc
-
   -- a server that is alive takes requests
-  pub is_live : (server : ServerNode D) (node : Node (List Commit)) (n : ℕ) → is_up server ≡ true → ServerStands medium names server node n
-      → IsLive medium server
-  is_live server node n up here = is_live_in server.post node here.post up
+  pub is_live : (post : Post (ServerKeeper D) D) (node : Node (List Commit)) → Posted post node → is_on post ≡ true
+      → IsLive medium (record { post = post })
+  is_live (Up keeper) node here up = record { it = keeper.server; up = refl; synced = here.stands.synced }
+  is_live (Down fallen) node here up = absurd cc
+  is_live Between node here up = absurd cc
 
-  -- a server counts a request
-  counts_one : (was now : Server D) (n : ℕ) → (servers.traffic_of now).requests ≡ ((servers.traffic_of was).requests + 1) % 2 ^ 64
-      → (servers.traffic_of was).requests ≡ n % 2 ^ 64 → (servers.traffic_of now).requests ≡ (n + 1) % 2 ^ 64
-  counts_one was now n one had =
-      one ∙ ap (λ (requests : ℕ). (requests + 1) % 2 ^ 64) had ∙ mod-add-mod n (2 ^ 64) 1
-
-  module _ (was now : Server D) (asked reply : List ℕ) (it : Handles medium asked reply was now) where
-    -- one that has the records and the state that it had stands for what it stood for
-    pub stands_still : (node : Node (List Commit)) (n : ℕ) → servers.bodies_on medium now ≡ servers.bodies_on medium was
-        → servers.state_of now ≡ servers.state_of was
-        → ServerStands medium names (live was) node n → ServerStands medium names (live now) node (n + 1)
-    stands_still node n recorded made here = record {
+  module _ {was now : Server D} {asked reply : List ℕ} {node : Node (List Commit)} {n : ℕ} (it : Handles medium asked reply was now)
+      (here : ServerStands medium names (live was) node n) where
+    -- once more, with what it has now
+    stands_on : (change : List Commit → List Commit) (count : ℕ) → KeepsList medium (record { server = now }) count (change node.durable)
+        → NodeIsKnown names (changed change node) → ServerStands medium names (live now) (changed change node) (n + 1)
+    stands_on change count keeps known = record {
       post = record {
         alive = here.post.alive;
         sure = here.post.sure;
         counts = it.counts ∙ here.post.counts;
-        count = here.post.count;
-        stands = record {
+        count = count;
+        stands = keeps;
+      };
+      known = known;
+      answered =
+          it.requests ∙ ap (λ (requests : ℕ). (requests + 1) % 2 ^ 64) here.answered ∙ mod-add-mod n (2 ^ 64) 1;
+    }
+
+    -- one that has the records and the state that it had stands for what it stood for
+    pub stands_still : servers.bodies_on medium now ≡ servers.bodies_on medium was → servers.state_of now ≡ servers.state_of was
+        → ServerStands medium names (live now) node (n + 1)
+    stands_still recorded made =
+        stands_on (λ commits. commits) here.post.count (record {
           synced = it.synced;
           has_records = recorded ∙ here.post.stands.has_records;
           has_state = made ∙ here.post.stands.has_state;
           counted = here.post.stands.counted;
-        };
-      };
-      known = here.known;
-      answered = counts_one was now n it.requests here.answered;
-    }
+        })
+        here.known
 
     -- one that has one record more, of this commit, and the state after it, stands for a list with this commit
-    pub stands_longer : (node : Node (List Commit)) (n : ℕ) (commit : Commit) (label : Label) (acts : List Act)
+    pub stands_longer : {commit : Commit} {label : Label} {acts : List Act} → AreOf commit (tree_after node.durable) label acts
         → servers.bodies_on medium now ≡ servers.bodies_on medium was ++ record_spelling label acts ∷ []
-        → servers.state_of now ≡ after_commit (servers.state_of was) label acts
-        → AreOf commit (tree_after node.durable) label acts → IsKnown names commit → ServerStands medium names (live was) node n
+        → servers.state_of now ≡ after_commit (servers.state_of was) label acts → IsKnown names commit
         → ServerStands medium names (live now) (changed (add_commit commit) node) (n + 1)
-    stands_longer node n commit label acts recorded made are known here = record {
-      post = record {
-        alive = here.post.alive;
-        sure = here.post.sure;
-        counts = it.counts ∙ here.post.counts;
-        count = here.post.count + 1;
-        stands = record {
+    stands_longer {commit} {label} {acts} are recorded made known =
+        stands_on (add_commit commit) (here.post.count + 1) (record {
           synced = it.synced;
           has_records =
               recorded ∙ ap (λ (bodies : List (List ℕ)). bodies ++ record_spelling label acts ∷ []) here.post.stands.has_records
-              ∙ sym (record_is node.durable commit label acts are);
+              ∙ sym (record_is node.durable are);
           has_state =
-              made ∙ ap (λ (s : State). after_commit s label acts) here.post.stands.has_state
-              ∙ sym (state_is node.durable commit label acts are);
+              made ∙ ap (λ (s : State). after_commit s label acts) here.post.stands.has_state ∙ sym (state_is node.durable are);
           counted = ap (λ (k : ℕ). k + 1) here.post.stands.counted ∙ sym (length-append node.durable (commit ∷ []));
-        };
-      };
-      known = record {
-        durable = all_more (IsKnown names) node.durable commit here.known.durable known;
-        doubt = here.known.doubt;
-        longer = subst (IsLongerIfAny (add_commit commit node.durable)) (sym here.post.sure) tt;
-      };
-      answered = counts_one was now n it.requests here.answered;
-    }
-
--- ---- an append that failed
-
--- the event is over
-pub over_is : {D : Type 0} (medium : Medium D) (names : List (List ℕ)) (change : List Commit → List Commit) (node : Node (List Commit))
-    (new : Post (ServerKeeper D) D) (x y : List ℕ) (fault : JournalFault) (halt : Halt) → halt ≡ Over
-    → Answered {T = Unit {0}}
-    (StepsFrom (PostStands (lists medium) medium (kept_text names)) (Appends server_name change) node new x y) (Err fault) (Err halt)
-    → StepsFrom (PostStands (lists medium) medium (kept_text names)) (Appends server_name change) node new x y false
-over_is medium names change node new x y fault halt is answered =
-    subst
-    (λ (h : Halt).
-    Answered {T = Unit {0}}
-    (StepsFrom (PostStands (lists medium) medium (kept_text names)) (Appends server_name change) node new x y) (Err fault) (Err h))
-    is answered
-
-pub doubts_too : {D : Type 0} (medium : Medium D) (names : List (List ℕ)) (change : List Commit → List Commit) (was : ServerKeeper D)
-    (count : ℕ) (one other : List ℕ) → one ≡ other
-    → Doubts (lists medium) (kept_text names) change was (record { count = count; lines = other })
-    → Doubts (lists medium) (kept_text names) change was (record { count = count; lines = one })
-doubts_too medium names change was count one other same doubts =
-    record { count = doubts.count; lines = λ n commits keeps. same ∙ doubts.lines n commits keeps }
-
--- a server that is alive has not as many commits as can be counted
-few_in : {D : Type 0} (medium : Medium D) (names : List (List ℕ)) (post : Post (ServerKeeper D) D) (node : Node (List Commit))
-    → PostStands (lists medium) medium (kept_text names) post node → count_in post + 1 < 2 ^ 64
-few_in medium names (Up keeper) node here = few_commits medium keeper.server here.stands.synced
-few_in medium names (Down fallen) node here = omega arith
-few_in medium names Between node here = omega arith
-
-pub few_there : {D : Type 0} (medium : Medium D) (server : ServerNode D) → ServerIsSound medium server → count_of server + 1 < 2 ^ 64
-few_there medium server sound = few_in medium sound.names server.post sound.node sound.stands.post
+        })
+        (record {
+          durable = all_push (IsKnown names) node.durable commit known here.known.durable;
+          doubt = here.known.doubt;
+          longer = subst (IsLongerIfAny (add_commit commit node.durable)) (sym here.post.sure) tt;
+        })
 
 -- ---- how it handles a request
 
-module _ {D : Type 0} (medium : Medium D) (old : ServerNode D) (was now : ServerKeeper D) (given asked : List ℕ) (is : old.post ≡ Up was)
-    (same : given ≡ asked) (result : Result (Vec ℕ Global) JournalFault) where
-  abbrev at : Post (ServerKeeper D) D → ServerNode D
-  at post = record { post = post }
-
-  pub handled_by : IfOk result (λ reply. Handles medium given reply.items was.server now.server)
-      → IfOk result (λ reply. Handled medium asked reply.items old (at (Up now)))
-  handled_by =
-      if_ok result (λ reply by. record {
-        was = was.server;
-        now = now.server;
-        old_is = ap at is;
-        new_is = refl;
-        by = subst (λ (bytes : List ℕ). Handles medium bytes reply.items was.server now.server) same by;
-      })
-
-  pub refused_by : IfErr result (λ fault. Refuses medium given fault was.server now.server)
-      → IfErr result (λ fault. Refused medium asked fault old (at (Up now)))
-  refused_by =
-      if_err result (λ fault by. record {
-        was = was.server;
-        now = now.server;
-        old_is = ap at is;
-        new_is = refl;
-        by = subst (λ (bytes : List ℕ). Refuses medium bytes fault was.server now.server) same by;
-      })
+pub lives : {D : Type 0} (By : List ℕ → Server D → Server D → Type 0) {old : ServerNode D} {was now : ServerKeeper D}
+    {given asked : List ℕ} → old.post ≡ Up was → given ≡ asked → By given was.server now.server
+    → Lives (By asked) old (record { post = Up now })
+lives By {was = was} {now = now} is same by = record {
+  was = was.server;
+  now = now.server;
+  old_is = ap (λ (post : Post _ _). record { post = post }) is;
+  new_is = refl;
+  by = subst (λ (bytes : List ℕ). By bytes was.server now.server) same by;
+}
 
 -- one that was never started stands for some node
 pub is_standing : {D : Type 0} (medium : Medium D) (server : ServerNode D) → IsUnopened medium server
@@ -467,8 +324,7 @@ is_standing medium server never = record {
   says = kept_text [];
   node = unopened [] (counts_on medium never.disk);
   stands =
-      subst (λ (post : Post _ _). PostStands (lists medium) medium (kept_text []) post (unopened [] (counts_on medium never.disk)))
-      (sym never.down) (unopened_stands medium [] never.disk 0 never.empty).post;
+      rw never.down (unopened_stands medium [] never.disk 0 never.empty).post;
 }
 
 -- ---- one client more is declared

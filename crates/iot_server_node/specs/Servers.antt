@@ -210,21 +210,21 @@ pub record IsLive {D : Type 0} (medium : Medium D) (server : ServerNode D) : Typ
   pub up : server ≡ live it
   pub synced : servers.IsSynced medium it
 
--- a live server has handled a request, and replied
-pub record Handled {D : Type 0} (medium : Medium D) (asked reply : List ℕ) (old new : ServerNode D) : Type 0 where
+-- a live server did this, and is alive still
+pub record Lives {D : Type 0} (By : Server D → Server D → Type 0) (old new : ServerNode D) : Type 0 where
   pub was : Server D
   pub now : Server D
   pub old_is : old ≡ live was
   pub new_is : new ≡ live now
-  pub by : Handles medium asked reply was now
+  pub by : By was now
 
--- a live server gave no reply
-pub record Refused {D : Type 0} (medium : Medium D) (asked : List ℕ) (fault : JournalFault) (old new : ServerNode D) : Type 0 where
-  pub was : Server D
-  pub now : Server D
-  pub old_is : old ≡ live was
-  pub new_is : new ≡ live now
-  pub by : Refuses medium asked fault was now
+-- it has handled a request, and replied
+abbrev pub Handled : {D : Type 0} → Medium D → (asked reply : List ℕ) → (old new : ServerNode D) → Type 0
+Handled medium asked reply = Lives (Handles medium asked reply)
+
+-- it gave no reply
+abbrev pub Refused : {D : Type 0} → Medium D → (asked : List ℕ) → JournalFault → (old new : ServerNode D) → Type 0
+Refused medium asked fault = Lives (Refuses medium asked fault)
 
 -- A live server that was to append a commit gives up for this fault, with this in doubt: if that changes the list of the node so, it is
 -- what a node does that stops in an append.

@@ -1,16 +1,13 @@
-use Rattle.iot_node.proofs.PostsLaws.{post_arms_up, post_arms_down, armed_once}
+use Rattle.iot_node.proofs.PostsLaws.{post_arms_up, post_arms_down}
 use Rattle.iot_node.proofs.post.Post.arm.Goals as goal
 
 pub returns-in-Up-clause-step : goal.returns-in-Up-clause-step
 returns-in-Up-clause-step g c place says =
-    rw c.in-Up.is (post_arms_up (g.K.Keeper.keeping place) g.D.Disk.medium says c.in-Up.keeper c.arm.new.self c.args.calls c.args.pick
-    c.args.name.now c.args.out.now
-    c.say_stop.new.out (c.arm.ensures.stands place) (c.arm.ensures.counts place) c.in_ok-say_stop.ensures.says)
+    rw c.in-Up.is (post_arms_up (g.K.Keeper.keeping place) g.D.Disk.medium says c.args.name.now (c.arm.ensures.stands place)
+    (c.arm.ensures.counts place) c.in_ok-say_stop.ensures.says)
 
 pub returns-in-Down-clause-step : goal.returns-in-Down-clause-step
 returns-in-Down-clause-step g c place says =
-    rw c.in-Down.is (post_arms_down (g.K.Keeper.keeping place) g.D.Disk.medium says c.in-Down.fallen.disk c.arm-in-Down.new.self
-    c.in-Down.fallen.doubt c.args.calls c.args.pick
-    c.args.name.now c.args.out.now c.say_stop.new.out c.arm-in-Down.ensures.images
-    (armed_once g.D.Disk.medium c.args.calls c.args.pick c.in-Down.fallen.disk c.arm-in-Down.new.self c.arm-in-Down.ensures.faults
-    c.arm-in-Down.ensures.arms) c.in_ok-say_stop.ensures.says)
+    rw c.in-Down.is (post_arms_down (g.K.Keeper.keeping place) g.D.Disk.medium says c.args.name.now c.arm-in-Down.ensures.images
+    (record { is = λ i. record { faults = c.arm-in-Down.ensures.faults i; arms = c.arm-in-Down.ensures.arms i } })
+    c.in_ok-say_stop.ensures.says)

@@ -1,35 +1,22 @@
-use Rattle.std.proofs.Common.{sym, ◌∙◌}
-use Rattle.iot_node.proofs.PostsLaws.{post_opens, post_open_stops, was_ready, no_doubt, lasts_up, start_counts, was_stopped}
+use Rattle.std.proofs.Common.{inr, refl, sym, ◌∙◌}
+use Rattle.iot_machine.specs.Stops.{OpensNode}
+use Rattle.iot_node.proofs.PostsLaws.{post_opens, post_stops_again, lasts_up}
 use Rattle.iot_node.proofs.post.Post.open.Goals as goal
 
 pub returns-in-Ok-clause-step : goal.returns-in-Ok-clause-step
 returns-in-Ok-clause-step g c says =
-    let was = was_ready g.D.Disk.medium c.args.self.now c.in-Down.field-0 c.requires.ready (sym c.replace.ensures.value ∙ c.in-Down.is) in
-    rw (was, c.settle.ensures) (post_opens (g.K.Keeper.keeping c.args.place) g.D.Disk.medium says c.in-Down.field-0.disk c.in-Ok.keeper
-    c.args.name.now
-    c.args.out.now c.in-Ok.ensures.comes
+    rw c.settle.ensures (post_opens (g.K.Keeper.keeping c.args.place) g.D.Disk.medium says c.args.name.now
+    (sym c.replace.ensures.value ∙ c.in-Down.is) c.requires.ready c.in-Ok.ensures.comes
     (g.met.D.Disk.reads_is_image c.in-Down.field-0.disk))
 
 pub returns-in-Ok-clause-lasts : goal.returns-in-Ok-clause-lasts
 returns-in-Ok-clause-lasts g c says node here =
-    rw c.settle.ensures (lasts_up (g.K.Keeper.keeping c.args.place) g.D.Disk.medium says c.args.self.now c.in-Down.field-0
-    c.in-Down.field-0.disk node (sym c.replace.ensures.value ∙ c.in-Down.is) here (g.met.D.Disk.reads_is_image c.in-Down.field-0.disk)
-    c.in-Ok.keeper c.in-Ok.ensures.comes)
+    rw c.settle.ensures (lasts_up (g.K.Keeper.keeping c.args.place) g.D.Disk.medium says c.in-Down.field-0.disk node
+    (sym c.replace.ensures.value ∙ c.in-Down.is) here (g.met.D.Disk.reads_is_image c.in-Down.field-0.disk) c.in-Ok.ensures.comes)
 
 pub returns-in_ok-say_refused-in-Err-clause-step : goal.returns-in_ok-say_refused-in-Err-clause-step
 returns-in_ok-say_refused-in-Err-clause-step g c says =
-    let is = sym c.replace.ensures.value ∙ c.in-Down.is in
-    let image = g.met.D.Disk.reads_is_image c.in-Down.field-0.disk in
-    let stands = c.requires.stands in
-    let counts = start_counts (g.K.Keeper.keeping c.args.place) g.D.Disk.medium stands.says c.args.self.now c.in-Down.field-0
-    c.in-Down.field-0.disk stands.node is stands.stands image
-    c.in-Err.disk c.in-Err.fault c.in-Err.ensures.fails in
-    rw (
-      was_ready g.D.Disk.medium c.args.self.now c.in-Down.field-0 c.requires.ready is,
-      c.settle-in-Err.ensures,
-      no_doubt g.D.Disk.medium c.args.self.now c.in-Down.field-0 c.requires.ready is,
-    )
-    (post_open_stops (g.K.Keeper.keeping c.args.place) g.D.Disk.medium says c.in-Down.field-0.disk c.in-Err.disk c.args.name.now
-    c.args.out.now c.say_refused.new.out image
-    c.in-Err.ensures.fails.images (was_stopped _ _ _ c.in_ok-say_refused-in-Err.ensures.stopped counts)
-    c.in_ok-say_refused-in-Err.ensures.says)
+    rw c.settle-in-Err.ensures (post_stops_again (g.K.Keeper.keeping c.args.place) g.D.Disk.medium says (OpensNode c.args.name.now)
+    c.args.name.now (sym c.replace.ensures.value ∙ c.in-Down.is) c.requires.stands
+    (g.met.D.Disk.reads_is_image c.in-Down.field-0.disk) refl c.in-Err.ensures.fails
+    c.in_ok-say_refused-in-Err.ensures.stopped (λ node n is. inr (refl, refl, is)) c.in_ok-say_refused-in-Err.ensures.says)

@@ -1,6 +1,6 @@
 use Rattle.std.proofs.Common.{Err, ap, ◌∙◌}
 use Rattle.iot_disk.specs.declared.faults.JournalFault.{JournalFault}
-use Rattle.iot_node.proofs.PostsLaws.{post_goes, post_stops, was_failed}
+use Rattle.iot_node.proofs.PostsLaws.{post_goes, post_stops}
 use Rattle.iot_node.proofs.post.Post.take.Goals as goal
 
 pub returns-in-Ok-clause-step : goal.returns-in-Ok-clause-step
@@ -12,8 +12,6 @@ returns-in-Ok-clause-step g c place old new says change node is here appended do
 
 pub returns-in_ok-say_stopped-in-Stopped-clause-step : goal.returns-in_ok-say_stopped-in-Stopped-clause-step
 returns-in_ok-say_stopped-in-Stopped-clause-step g c place old new says change node is here appended doubts =
-    let failed = was_failed (g.K.Keeper.keeping place) g.D.Disk.medium change node.durable old new c.args.answer
-    (c.in-Err.is ∙ ap (λ (f : JournalFault). Err f) c.in-Stopped.is) appended in
+    let failed = rw (c.in-Err.is ∙ ap (λ (f : JournalFault). Err f) c.in-Stopped.is) at appended in
     rw (c.fall.ensures.down place new is) (post_stops (g.K.Keeper.keeping place) g.D.Disk.medium says old new c.args.name.now change node
-    c.args.doubt c.args.out.now
-    c.say_stopped.new.out here failed.0 failed.1 doubts c.in_ok-say_stopped-in-Stopped.ensures.says)
+    c.args.doubt c.args.out.now c.say_stopped.new.out here failed doubts c.in_ok-say_stopped-in-Stopped.ensures.says)

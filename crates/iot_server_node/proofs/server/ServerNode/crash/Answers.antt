@@ -1,17 +1,14 @@
-use Rattle.iot_machine.specs.Serving.{server_name, kept_text}
-use Rattle.iot_machine.specs.Stops.{Crashes}
+use Rattle.iot_machine.specs.Serving.{kept_text}
 use Rattle.iot_server_node.specs.Servers.{disk_of}
-use Rattle.iot_server_node.proofs.KeepersLaws.{on_ok_both}
+use Rattle.iot_server_node.proofs.KeepersLaws.{if_ok_both}
 use Rattle.iot_server_node.proofs.ServersLaws.{with_known, known_crash, answered_off, keeps_same}
 use Rattle.iot_server_node.proofs.server.ServerNode.crash.Goals as goal
 
 pub returns-clause-step : goal.returns-clause-step
 returns-clause-step g c =
-    on_ok_both c.crash.result
-    (λ step down names n.
-    with_known g.D.Disk.medium names (Crashes server_name) c.args.self.now (record { post = c.crash.new.self }) n n c.args.out.now
-    c.crash.new.out tt (step 0 (kept_text names)) (λ node after text. known_crash names node after text tt)
-    (λ had. answered_off c.crash.new.self n down))
+    if_ok_both c.crash.result
+    (λ done step down names n.
+    with_known g.D.Disk.medium names (step 0 (kept_text names)) (known_crash names) (λ had. answered_off c.crash.new.self n down))
     c.crash.ensures.step c.crash.ensures.down
 
 pub returns-clause-disk : goal.returns-clause-disk

@@ -1,18 +1,20 @@
 use Rattle.std.proofs.Common.{◌+◌, ◌++◌, ℕ, List, ap, ◌∙◌}
 use Rattle.iot_machine.specs.Serving.{kept_text}
 use Rattle.iot_server_node.specs.Messages.{printed_under}
-use Rattle.iot_server_node.proofs.ServersLaws.{over_is, doubts_too}
 use Rattle.iot_server_node.proofs.server.ServerNode.give_up.Goals as goal
 
 pub returns-in-Over-clause-step : goal.returns-in-Over-clause-step
 returns-in-Over-clause-step g c names = record {
   step = λ was now change node on here appended doubts.
-      over_is g.D.Disk.medium names change node c.take.new.self c.args.out.now c.take.new.out c.args.fault c.in-Err.halt c.in-Over.is
-      (c.in-Err.ensures.step 0 was now (kept_text names) change node on here appended
-      (doubts_too g.D.Disk.medium names change was c.args.before _ _
-      (c.in_ok-say_under.ensures
-      ∙ ap (λ (text : List ℕ). text ++ printed_under (c.args.before + 1) c.args.message.now.handed) c.new-lines.ensures)
-      doubts));
+      let answered =
+      c.in-Err.ensures.step 0 was now (kept_text names) change node on here appended (record {
+        count = doubts.count;
+        lines = λ n commits keeps.
+            c.in_ok-say_under.ensures
+            ∙ ap (λ (text : List ℕ). text ++ printed_under (c.args.before + 1) c.args.message.now.handed) c.new-lines.ensures
+            ∙ doubts.lines n commits keeps;
+      }) in
+      rw c.in-Over.is at answered;
 }
 
 pub returns-in-Over-clause-disk : goal.returns-in-Over-clause-disk

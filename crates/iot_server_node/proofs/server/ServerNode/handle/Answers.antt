@@ -1,12 +1,14 @@
-use Rattle.iot_server_node.proofs.ServersLaws.{handled_by, refused_by}
+use Rattle.std.proofs.lemmas.Result.{IfOk-weaker, IfErr-weaker}
+use Rattle.iot_server_node.specs.Keepers.{Handles, Refuses}
+use Rattle.iot_server_node.proofs.ServersLaws.{lives}
 use Rattle.iot_server_node.proofs.server.ServerNode.handle.Goals as goal
 
 pub returns-clause-handled : goal.returns-clause-handled
 returns-clause-handled g c =
-    handled_by g.D.Disk.medium c.args.self.now c.in-Up.keeper c.handle.new.self _ _ c.in-Up.is c.deref.ensures.value c.handle.result
-    c.handle.ensures.handled
+    IfOk-weaker c.handle.result _ _
+    (λ reply. lives (λ asked. Handles g.D.Disk.medium asked reply.items) c.in-Up.is c.deref.ensures.value) c.handle.ensures.handled
 
 pub returns-clause-refused : goal.returns-clause-refused
 returns-clause-refused g c =
-    refused_by g.D.Disk.medium c.args.self.now c.in-Up.keeper c.handle.new.self _ _ c.in-Up.is c.deref.ensures.value c.handle.result
+    IfErr-weaker c.handle.result _ _ (λ fault. lives (λ asked. Refuses g.D.Disk.medium asked fault) c.in-Up.is c.deref.ensures.value)
     c.handle.ensures.refused

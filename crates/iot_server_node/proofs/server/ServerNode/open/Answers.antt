@@ -1,5 +1,4 @@
-use Rattle.iot_machine.specs.Serving.{server_name, kept_text}
-use Rattle.iot_machine.specs.Stops.{OpensNode}
+use Rattle.iot_machine.specs.Serving.{kept_text}
 use Rattle.iot_server_node.proofs.KeepersLaws.{if_ok_both}
 use Rattle.iot_server_node.proofs.ServersLaws.{is_standing, with_known, known_opens, answered_fresh}
 use Rattle.iot_server_node.proofs.BeginningLaws.{commits_last}
@@ -12,9 +11,7 @@ pub returns-clause-step : goal.returns-clause-step
 returns-clause-step g c =
     if_ok_both c.open.result
     (λ on step fresh names n.
-    with_known g.D.Disk.medium names (OpensNode server_name) c.args.self.now (record { post = c.open.new.self }) n 0 c.args.out.now
-    c.open.new.out on (step (kept_text names)) (λ node after text. known_opens names node after text on)
-    (λ had. answered_fresh c.open.new.self on fresh))
+    with_known g.D.Disk.medium names (step (kept_text names)) (known_opens names on) (λ had. answered_fresh c.open.new.self on fresh))
     c.open.ensures.step c.open.ensures.live
 
 pub returns-clause-records : goal.returns-clause-records

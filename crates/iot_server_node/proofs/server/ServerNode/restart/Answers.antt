@@ -1,7 +1,8 @@
-use Rattle.std.proofs.Common.{refl, sym, ◌∙◌}
+use Rattle.std.proofs.Common.{true, false, refl, sym, ◌∙◌}
 use Rattle.iot_machine.specs.Serving.{kept_text}
 use Rattle.iot_server_node.proofs.DecidingLaws.{decides, decides_up}
-use Rattle.iot_server_node.proofs.ServersLaws.{lasts, restart_up, restart_down}
+use Rattle.iot_server_node.proofs.ServersLaws.{lasts, restarts, with_known, known_comes_back, answered_fresh}
+use Rattle.iot_node.proofs.StepsToLaws.{bind, says_this, nothing}
 use Rattle.iot_server_node.proofs.BeginningLaws.{commits_last, commits_same}
 use Rattle.iot_server_node.proofs.server.ServerNode.restart.Goals as goal
 
@@ -15,15 +16,18 @@ returns-then-is_up-clause-lasts g c names n node here =
 
 pub returns-then-is_up-clause-step : goal.returns-then-is_up-clause-step
 returns-then-is_up-clause-step g c names n =
-    restart_up g.D.Disk.medium names c.args.self.now n c.args.out.now c.say.new.out (sym c.is_up.ensures ∙ c.if-is_up.true)
-    c.in_ok-say.ensures
+    restarts g.D.Disk.medium names c.args.self.now c.args.self.now n _ _ true (sym c.is_up.ensures ∙ c.if-is_up.true)
+    (says_this _ _ _ _ c.in_ok-say.ensures)
 
 pub returns-clause-step : goal.returns-clause-step
 returns-clause-step g c names n =
-    restart_down g.D.Disk.medium names c.args.self.now (record { post = c.come_back.new.self }) n c.args.out.now
-    c.come_back.new.out c.in_ok-come_back.field-0 (sym c.is_up.ensures ∙ c.if-is_up.false)
-    (c.in_ok-come_back.ensures.step (kept_text names))
-    c.in_ok-come_back.ensures.live
+    restarts g.D.Disk.medium names c.args.self.now (record { post = c.come_back.new.self }) n _ _ false
+    (sym c.is_up.ensures ∙ c.if-is_up.false)
+    (bind _ (record { post = c.come_back.new.self }) _ _ _ _ c.in_ok-come_back.field-0 tt
+    (with_known g.D.Disk.medium names (c.in_ok-come_back.ensures.step (kept_text names))
+    (known_comes_back names c.in_ok-come_back.field-0)
+    (λ had. answered_fresh c.come_back.new.self c.in_ok-come_back.field-0 c.in_ok-come_back.ensures.live))
+    (nothing _ _))
 
 pub returns-then-is_up-clause-decided : goal.returns-then-is_up-clause-decided
 returns-then-is_up-clause-decided g c =

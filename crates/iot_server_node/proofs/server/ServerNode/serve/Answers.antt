@@ -1,79 +1,66 @@
-use Rattle.std.proofs.Common.{arith, ◌∙◌}
+use Rattle.std.proofs.Common.{arith, ap, ◌∙◌}
 use Rattle.iot_server_node.specs.Messages.{committed_since}
 use Rattle.iot_server_node.proofs.KeepersLaws.{always_err}
 use Rattle.iot_server_node.proofs.LendingLaws.{lends, lends_always, lends_lasts}
 use Rattle.iot_server_node.proofs.JudgesLaws.{judges, judges_stopped, judges_lasts}
-use Rattle.iot_server_node.proofs.ServersLaws.{is_live, few_there, answered_off}
+use Rattle.iot_server_node.proofs.ServersLaws.{is_live, answered_off}
+use Rattle.iot_server_node.proofs.RecordsLaws.{few_commits}
+use Rattle.iot_server_node.specs.Servers.{count_of}
 use Rattle.iot_server_node.proofs.BeginningLaws.{handled_records, refused_records}
 use Rattle.iot_server_node.proofs.server.ServerNode.serve.Goals as goal
 
 pub handle-requires-clause-synced : goal.handle-requires-clause-synced
 handle-requires-clause-synced g c =
-    is_live g.D.Disk.medium c.requires.sound.names c.args.self.now c.requires.sound.node c.requires.sound.requests c.requires.up
-    c.requires.sound.stands
+    is_live g.D.Disk.medium c.requires.sound.names c.args.self.now.post c.requires.sound.node c.requires.sound.stands.post c.requires.up
 
 pub give_up-requires-clause-few : goal.give_up-requires-clause-few
 give_up-requires-clause-few g c =
-    let few = few_there g.D.Disk.medium c.args.self.now c.requires.sound in
-    omega (arith, c.number-before.ensures, few)
+    let sound = c.requires.sound in
+    let live = is_live g.D.Disk.medium sound.names c.args.self.now.post sound.node sound.stands.post c.requires.up in
+    omega (arith, c.number-before.ensures, ap count_of live.up, few_commits g.D.Disk.medium live.it live.synced)
 
 pub returns-in-Ok-clause-lends : goal.returns-in-Ok-clause-lends
 returns-in-Ok-clause-lends g c client held want names asks =
-    lends g.D.Disk.medium names c.args.message.now.request.items c.args.message.now.handed client held want
-    (omega (arith, c.args.message.now.request.ok, c.args.message.now.request.small)) asks
-    (record { reply = c.in-Ok.reply; committed = c.committed_by.result }) c.args.self.now c.handle.new.self c.args.out.now
+    lends g.D.Disk.medium c.args.message.now held asks names (record { reply = c.in-Ok.reply; committed = c.committed_by.result })
     c.requires.sound c.in-Ok.ensures.handled
     (c.committed_by.ensures ∙ (λ i. committed_since (c.number-before.ensures i) (c.number.ensures i)))
 
 pub returns-in-Ok-clause-judges : goal.returns-in-Ok-clause-judges
 returns-in-Ok-clause-judges g c it names hands named =
-    judges g.D.Disk.medium c.args.message.now it (omega (arith, c.args.message.now.request.ok, c.args.message.now.request.small)) hands
-    names named (record { reply = c.in-Ok.reply; committed = c.committed_by.result }) c.args.self.now c.handle.new.self c.args.out.now
+    judges hands g.D.Disk.medium names named (record { reply = c.in-Ok.reply; committed = c.committed_by.result }) c.requires.sound
     c.in-Ok.ensures.handled
     (c.committed_by.ensures ∙ (λ i. committed_since (c.number-before.ensures i) (c.number.ensures i)))
 
 pub returns-in_ok-give_up-in-Err-clause-lends : goal.returns-in_ok-give_up-in-Err-clause-lends
 returns-in_ok-give_up-in-Err-clause-lends g c client held want names asks n =
-    absurd
-    (lends_always g.D.Disk.medium names c.args.message.now.request.items c.args.message.now.handed client held want
-    (omega (arith, c.args.message.now.request.ok, c.args.message.now.request.small)) asks c.in-Err.fault c.args.self.now
-    c.handle.new.self c.in_ok-give_up-in-Err.ensures.stopped c.in-Err.ensures.refused)
+    absurd (lends_always g.D.Disk.medium c.args.message.now held asks c.in_ok-give_up-in-Err.ensures.stopped c.in-Err.ensures.refused)
 
 pub returns-in_ok-give_up-in-Err-clause-judges : goal.returns-in_ok-give_up-in-Err-clause-judges
 returns-in_ok-give_up-in-Err-clause-judges g c it names hands named =
-    judges_stopped g.D.Disk.medium c.args.message.now it
-    (omega (arith, c.args.message.now.request.ok, c.args.message.now.request.small)) hands names named c.in-Err.fault c.args.self.now
-    c.handle.new.self c.give_up.new.self c.number-before.result c.args.out.now c.give_up.new.out
-    c.in_ok-give_up-in-Err.ensures.stopped c.in-Err.ensures.refused c.number-before.ensures (c.in_ok-give_up-in-Err.ensures.step names)
-    (λ n. answered_off c.give_up.new.self.post n c.in_ok-give_up-in-Err.ensures.down)
+    judges_stopped hands g.D.Disk.medium names named c.in_ok-give_up-in-Err.ensures.stopped c.in-Err.ensures.refused c.number-before.ensures
+    (c.in_ok-give_up-in-Err.ensures.step names) (λ n. answered_off c.give_up.new.self.post n c.in_ok-give_up-in-Err.ensures.down)
 
 pub returns-in_err-give_up-in-Err-clause-lends_lasts : goal.returns-in_err-give_up-in-Err-clause-lends_lasts
 returns-in_err-give_up-in-Err-clause-lends_lasts g c =
     always_err c.from_residual.result
     (λ halt client held want names n node asks here.
-    lends_lasts g.D.Disk.medium names c.args.message.now.request.items c.args.message.now.handed client held want
-    (omega (arith, c.args.message.now.request.ok, c.args.message.now.request.small)) asks c.in-Err.fault c.args.self.now
-    c.handle.new.self c.give_up.new.self node n c.in-Err.ensures.refused c.give_up.ensures.disk here)
+    lends_lasts g.D.Disk.medium c.args.message.now held asks c.in-Err.fault node c.in-Err.ensures.refused c.give_up.ensures.disk here)
 
 pub returns-in_err-give_up-in-Err-clause-judges_lasts : goal.returns-in_err-give_up-in-Err-clause-judges_lasts
 returns-in_err-give_up-in-Err-clause-judges_lasts g c =
     always_err c.from_residual.result
-    (λ halt it names n node hands here.
-    judges_lasts g.D.Disk.medium c.args.message.now it
-    (omega (arith, c.args.message.now.request.ok, c.args.message.now.request.small)) hands names c.in-Err.fault c.args.self.now
-    c.handle.new.self c.give_up.new.self node n c.in-Err.ensures.refused c.give_up.ensures.disk here)
+    (λ halt it names n node hands here. judges_lasts hands c.in-Err.fault node c.in-Err.ensures.refused c.give_up.ensures.disk here)
 
 pub returns-in-Ok-clause-records : goal.returns-in-Ok-clause-records
 returns-in-Ok-clause-records g c =
-    handled_records g.D.Disk.medium g.met.D.Disk.reads_is_image c.args.message.now.request.items c.args.self.now c.handle.new.self
-    c.handle.new.self c.requires.sound c.in-Ok.reply.items c.in-Ok.ensures.handled
+    handled_records g.D.Disk.medium g.met.D.Disk.reads_is_image c.requires.sound c.in-Ok.ensures.handled
 
 pub returns-in_ok-give_up-in-Err-clause-records : goal.returns-in_ok-give_up-in-Err-clause-records
 returns-in_ok-give_up-in-Err-clause-records g c =
-    refused_records g.D.Disk.medium g.met.D.Disk.reads_is_image c.args.message.now.request.items c.args.self.now c.handle.new.self
-    c.give_up.new.self c.requires.sound c.in-Err.fault c.in-Err.ensures.refused c.give_up.ensures.disk
+    refused_records g.D.Disk.medium g.met.D.Disk.reads_is_image c.args.message.now.request.items c.in-Err.fault c.give_up.new.self
+    c.requires.sound c.in-Err.ensures.refused c.give_up.ensures.disk
 
 pub returns-in_err-give_up-in-Err-clause-records : goal.returns-in_err-give_up-in-Err-clause-records
 returns-in_err-give_up-in-Err-clause-records g c =
-    refused_records g.D.Disk.medium g.met.D.Disk.reads_is_image c.args.message.now.request.items c.args.self.now c.handle.new.self
-    c.give_up.new.self c.requires.sound c.in-Err.fault c.in-Err.ensures.refused c.give_up.ensures.disk
+    refused_records g.D.Disk.medium g.met.D.Disk.reads_is_image c.args.message.now.request.items c.in-Err.fault c.give_up.new.self
+    c.requires.sound c.in-Err.ensures.refused c.give_up.ensures.disk
