@@ -193,16 +193,16 @@ module _ {D : Type 0} (medium : Medium D) (laptop : Laptop D) (post : Post (Seat
 
   -- ---- a crash
 
-  pub crashes : (called x y : List ℕ) → called ≡ laptop.name → Refines Posted (Crashes called) laptop.post post x y tt
+  pub crashes : (x y : List ℕ) → Refines Posted (Crashes laptop.name) laptop.post post x y tt
       → is_on post ≡ false → (scripts : List Declared) → Refines (ClientStands medium scripts) CrashesClient laptop next x y tt
-  crashes called x y same it off scripts =
+  crashes x y it off scripts =
       refines
       (bind laptop laptop next x x y laptop.name tt (asks laptop x laptop.name (same_name medium scripts laptop))
-      (at_node medium laptop post Crashes (λ _. laptop.name) called x y tt it (λ m here. (same, node_stands medium scripts laptop m here))
+      (at_node medium laptop post Crashes (λ _. laptop.name) x y tt it (λ m here. (refl, node_stands medium scripts laptop m here))
       (λ m here n text step stands.
       fallen_at medium scripts laptop m (same_name medium scripts laptop m here) (same_link medium scripts laptop m here) post n stands
       (on_is (seating medium laptop.place) medium no_text post n stands ∙ off)
-      ((crashes_within called m.node n text tt step).each (AreNamed scripts) (may_be_named medium scripts laptop m here)))))
+      ((crashes_within laptop.name m.node n text tt step).each (AreNamed scripts) (may_be_named medium scripts laptop m here)))))
 
   -- ---- its disk is armed
 
@@ -219,13 +219,13 @@ module _ {D : Type 0} (medium : Medium D) (laptop : Laptop D) (post : Post (Seat
         fallen_at medium scripts laptop m here.name here.link post (armed calls pick m.node) stands here.alive
         (record { is = here.named.is; may_be = here.named.may_be })
 
-    pub arms : (called x y : List ℕ) → called ≡ laptop.name → Refines Posted (ArmsDisk called calls pick) laptop.post post x y tt
+    pub arms : (x y : List ℕ) → Refines Posted (ArmsDisk laptop.name calls pick) laptop.post post x y tt
         → (scripts : List Declared) → Refines (ClientStands medium scripts) (ArmsClient calls pick) laptop next x y tt
-    arms called x y same it scripts =
+    arms x y it scripts =
         refines
         (bind laptop laptop next x x y laptop.name tt (asks laptop x laptop.name (same_name medium scripts laptop))
-        (at_node medium laptop post (λ name. ArmsDisk name calls pick) (λ _. laptop.name) called x y tt it
-        (λ m here. (same, node_stands medium scripts laptop m here))
+        (at_node medium laptop post (λ name. ArmsDisk name calls pick) (λ _. laptop.name) x y tt it
+        (λ m here. (refl, node_stands medium scripts laptop m here))
         (λ m here n text step stands.
         subst (λ (n : Node ClientState). ClientStands medium scripts next (record m { node = n })) (sym step.1)
         (arms_by scripts m here (subst (Posted post) step.1 stands)))))
@@ -291,8 +291,8 @@ module _ {D : Type 0} (medium : Medium D) (laptop : Laptop D) (new : IsUnopened 
     stands = rw new.down (new_node medium new.disk new.empty laptop.place);
   }
 
-  module _ (post : Post (Seated D) D) (called x y : List ℕ) (on : Bool) (same : called ≡ laptop.name)
-      (it : Refines (PostStands (seating medium laptop.place) medium no_text) (OpensNode called) laptop.post post x y on)
+  module _ (post : Post (Seated D) D) (x y : List ℕ) (on : Bool)
+      (it : Refines (PostStands (seating medium laptop.place) medium no_text) (OpensNode laptop.name) laptop.post post x y on)
       (live : live_by post ≡ None) where
     -- what was started knows nothing
     started_idle : is_on post ≡ true → (state_by post).running ≡ None
@@ -301,7 +301,7 @@ module _ {D : Type 0} (medium : Medium D) (laptop : Laptop D) (new : IsUnopened 
         let s = it.step opens_standing.node opens_standing.stands in
         let kept = kept_up medium laptop.place post s.1 s.4 (on_is (seating medium laptop.place) medium no_text post s.1 s.4 ∙ up) in
         none_runs (base s.1.durable) (state_by post).running s.1.durable.running
-        (ap (λ (state : ClientState). state.running) (opens_states called opens_standing.node s.1 s.0 on s.3).durable) kept.running
+        (ap (λ (state : ClientState). state.running) (opens_states laptop.name opens_standing.node s.1 s.0 on s.3).durable) kept.running
 
     opens_at : (scripts : List Declared) (m : machine.Client) (n : Node ClientState) → FallenStands medium scripts laptop m
         → PostStands (seating medium laptop.place) medium no_text post n → (b : Bool) → is_on post ≡ b
@@ -321,13 +321,13 @@ module _ {D : Type 0} (medium : Medium D) (laptop : Laptop D) (new : IsUnopened 
         → Refines (ClientStands medium scripts) OpensClient laptop (record laptop { post = post }) x y on
     opens scripts =
         refines
-        (at_node medium laptop post OpensNode (λ m. m.name) called x y on it
-        (λ m here. (same ∙ same_name medium scripts laptop m here, node_stands medium scripts laptop m here))
+        (at_node medium laptop post OpensNode (λ m. m.name) x y on it
+        (λ m here. (same_name medium scripts laptop m here, node_stands medium scripts laptop m here))
         (λ m here n text step stands.
         let down : FallenStands medium scripts laptop m =
         fallen_stands medium scripts laptop m (ap (λ (p : Post (Seated D) D). is_on p) new.down) here in
         opens_at scripts m n down stands (is_on post) refl
-        (possibly_same m.node n (opens_states called m.node n text on step) down.named)))
+        (possibly_same m.node n (opens_states laptop.name m.node n text on step) down.named)))
 
 -- ---- what is known besides
 

@@ -176,13 +176,13 @@ refines steps = record { step = steps.step }
 -- by its name it is one of the machine's
 pub at_node : {D A : Type 0} (medium : Medium D) (laptop : Laptop D) (post : Post (Seated D) D)
     {before after : Laptop D → machine.Client → Type 0} (call : List ℕ → Call (Node ClientState) A)
-    (names : machine.Client → List ℕ) (called x y : List ℕ) (a : A)
-    → Refines (PostStands (seating medium laptop.place) medium no_text) (call called) laptop.post post x y a
-    → ((m : machine.Client) → before laptop m → (called ≡ names m) × NodeStands medium laptop m)
-    → ((m : machine.Client) → before laptop m → (n : Node ClientState) (text : List ℕ) → call called m.node text a n
+    (names : machine.Client → List ℕ) (x y : List ℕ) (a : A)
+    → Refines (PostStands (seating medium laptop.place) medium no_text) (call laptop.name) laptop.post post x y a
+    → ((m : machine.Client) → before laptop m → (laptop.name ≡ names m) × NodeStands medium laptop m)
+    → ((m : machine.Client) → before laptop m → (n : Node ClientState) (text : List ℕ) → call laptop.name m.node text a n
     → PostStands (seating medium laptop.place) medium no_text post n → after (record laptop { post = post }) (record m { node = n }))
     → StepsTo before after (λ m. At machine.node (call (names m)) m) laptop (record laptop { post = post }) x y a
-at_node medium laptop post call names called x y a it here each = record {
+at_node medium laptop post call names x y a it here each = record {
   step = λ m known.
       let s = it.step m.node (here m known).1 in (
         s.0,

@@ -58,6 +58,16 @@ stop_said : (name : List ℕ) (node n : Node ClientState) (text : List ℕ) → 
 stop_said name node n text (inl it) = absurd (not_both (sym it.0))
 stop_said name node n text (inr stop) = stop.0
 
+-- its node came back over this post, or stopped again
+pub record CameBack {D : Type 0} (medium : Medium D) (old : Laptop D) (post : Post (Seated D) D) (x y : List ℕ) (on : Bool) : Type
+    0 where
+  pub off : is_alive old ≡ false
+  pub steps : Refines (PostStands (seating medium old.place) medium no_text) (ComesBack old.name no_text) old.post post x y on
+  pub is : is_on post ≡ on
+  pub live : posts.live_of besides post ≡ (if on then Some None else None)
+  pub came : (node : Node ClientState) → PostStands (seating medium old.place) medium no_text old.post node
+      → CameIf (seating medium old.place) medium on old.post old.name x y node
+
 module _ {D : Type 0} (medium : Medium D) (old : Laptop D) where
   -- one that is alive is left as it is
   pub says_up : (x z : List ℕ) → is_alive old ≡ true → z ≡ x ++ line (codes "up") → (scripts : List Declared)
@@ -74,113 +84,96 @@ module _ {D : Type 0} (medium : Medium D) (old : Laptop D) where
     stands = node_stands medium stands.scripts old stands.machine stands.stands;
   }
 
-  module _ (post : Post (Seated D) D) (called x y : List ℕ) (same : called ≡ old.name) (off : is_alive old ≡ false) (on : Bool)
-      (came_back : Refines (PostStands (seating medium old.place) medium no_text) (ComesBack called no_text) old.post post x y on)
-      (is : is_on post ≡ on) (live : posts.live_of besides post ≡ (if on then Some None else None)) where
+  module _ (post : Post (Seated D) D) (x y : List ℕ) where
     abbrev mid : Laptop D
     mid = record old { post = post }
 
     abbrev Posted : Post (Seated D) D → Node ClientState → Type 0
     Posted = PostStands (seating medium old.place) medium no_text
 
-    abbrev after_on : Bool → Post (Seated D) D → List ℕ → Type 0
-    after_on on post y = Refines Posted (ComesBack called no_text) old.post post x y on
+    alive_is : {on : Bool} → CameBack medium old post x y on → (n : Node ClientState) → Posted post n → n.alive ≡ on
+    alive_is back n stands = on_is (seating medium old.place) medium no_text post n stands ∙ back.is
 
     -- what it does when its node is back, or has stopped again, makes the whole of its restart
-    comes : (scripts : List Declared) (stands : Laptop D → machine.Client → Type 0)
+    comes : (on : Bool) → CameBack medium old post x y on → (scripts : List Declared) (stands : Laptop D → machine.Client → Type 0)
         → ((m : machine.Client) → FallenStands medium scripts old m → (n : Node ClientState) → Posted post n
         → Possibly (AreNamed scripts) n → stands mid (record m { node = n }))
         → (new : Laptop D) (z : List ℕ) → StepsTo stands (ClientStands medium scripts) (goes_on CutsOff on) mid new y z tt
         → Refines (ClientStands medium scripts) RestartsClient old new x z tt
-    comes scripts stands each new z rest =
+    comes on back scripts stands each new z rest =
         let whole : StepsTo (FallenStands medium scripts) (ClientStands medium scripts) RestartsClient old new x z tt =
         bind old old new x x z false tt (asks old x false (λ m down. sym down.alive))
         (bind old old new x x z old.name tt (asks old x old.name (λ m down. down.name))
         (bind {mid = stands} old mid new x y z on tt
-        (at_node medium old post (λ name. ComesBack name no_text) (λ _. old.name) called x y on came_back (λ m down. (same, down.node))
+        (at_node medium old post (λ name. ComesBack name no_text) (λ _. old.name) x y on back.steps (λ m down. (refl, down.node))
         (λ m down n text step there.
-        each m down n there ((comes_within called no_text m.node n text on step).each (AreNamed scripts) down.named)))
+        each m down n there ((comes_within old.name no_text m.node n text on step).each (AreNamed scripts) down.named)))
         rest)) in
-        record { step = λ m here. whole.step m (fallen_stands medium scripts old m off here) }
+        record { step = λ m here. whole.step m (fallen_stands medium scripts old m back.off here) }
 
     -- ---- it has stopped again
 
-    pub stops_if : on ≡ false → (scripts : List Declared)
-        → Refines (ClientStands medium scripts) RestartsClient old mid x y tt
-    stops_if none scripts =
-        comes scripts (ClientStands medium scripts)
-        (λ m down n stands named.
-        fallen_at medium scripts old m down.name down.link post n stands
-        (on_is (seating medium old.place) medium no_text post n stands ∙ is ∙ none) named)
-        mid y
-        (subst (λ (b : Bool). StepsTo (ClientStands medium scripts) (ClientStands medium scripts) (goes_on CutsOff b) mid mid y y tt)
-        (sym none) (nothing mid y))
+    module _ (back : CameBack medium old post x y false) where
+      pub stops_again : (scripts : List Declared) → Refines (ClientStands medium scripts) RestartsClient old mid x y tt
+      stops_again scripts =
+          comes false back scripts (ClientStands medium scripts)
+          (λ m down n stands named. fallen_at medium scripts old m down.name down.link post n stands (alive_is back n stands) named)
+          mid y (nothing mid y)
 
-    pub came_again_if : on ≡ false → (scripts : List Declared) (m : machine.Client) → ClientStands medium scripts old m
-        → Came medium old x y m
-    came_again_if none scripts m here =
-        let it = subst (λ (b : Bool). after_on b post y) none came_back in
-        let s = it.step m.node (fallen_stands medium scripts old m off here).node in
-        record {
-          on = false;
-          mid = y;
-          rest = [];
-          came = tt;
-          whole = sym (append-nil y);
-          stopped = λ _.
-              s.2 ∙ ap (λ (t : List ℕ). x ++ t) (stop_said called m.node s.1 s.0 s.3 ∙ ap (λ (n : List ℕ). stopped_line n) same);
-        }
+      pub came_again : (scripts : List Declared) (m : machine.Client) → ClientStands medium scripts old m → Came medium old x y m
+      came_again scripts m here =
+          let s = back.steps.step m.node (fallen_stands medium scripts old m back.off here).node in
+          record {
+            on = false;
+            mid = y;
+            rest = [];
+            came = tt;
+            whole = sym (append-nil y);
+            stopped = λ _. s.2 ∙ ap (λ (t : List ℕ). x ++ t) (stop_said old.name m.node s.1 s.0 s.3);
+          }
 
     -- ---- it is back
 
-    module _ (back_on : on ≡ true) where
+    module _ (back : CameBack medium old post x y true) where
       returned : (scripts : List Declared) (m : machine.Client) → FallenStands medium scripts old m → (n : Node ClientState)
           → Posted post n → Possibly (AreNamed scripts) n → ReturnedStands medium scripts mid (record m { node = n })
       returned scripts m down n stands named = record {
         name = down.name;
         link = down.link;
-        alive = on_is (seating medium old.place) medium no_text post n stands ∙ is ∙ back_on;
+        alive = alive_is back n stands;
         node = stands;
-        live = live_fresh post on live;
+        live = live_fresh post true back.live;
         named = named.is;
       }
 
       returned_at : (scripts : List Declared) (m : machine.Client) → FallenStands medium scripts old m
           → (n : Node ClientState) × ReturnedStands medium scripts mid (record m { node = n })
       returned_at scripts m down =
-          let s = came_back.step m.node down.node in (
+          let s = back.steps.step m.node down.node in (
             s.1,
-            returned scripts m down s.1 s.4 ((comes_within called no_text m.node s.1 s.0 on s.3).each (AreNamed scripts) down.named),
+            returned scripts m down s.1 s.4 ((comes_within old.name no_text m.node s.1 s.0 true s.3).each (AreNamed scripts) down.named),
           )
 
-      pub returned_if : StandsAnyhow medium old → Returned medium mid
-      returned_if stands =
-          let down = fallen_stands medium stands.scripts old stands.machine off stands.stands in
+      pub is_back : StandsAnyhow medium old → Returned medium mid
+      is_back stands =
+          let down = fallen_stands medium stands.scripts old stands.machine back.off stands.stands in
           record { scripts = stands.scripts; machine = _; stands = (returned_at stands.scripts stands.machine down).1 }
 
       module _ (new : Laptop D) (z : List ℕ)
           (cut : (scripts : List Declared)
           → StepsTo (ReturnedStands medium scripts) (ClientStands medium scripts) CutsOff mid new y z tt) where
-        pub comes_if : (scripts : List Declared) → Refines (ClientStands medium scripts) RestartsClient old new x z tt
-        comes_if scripts =
-            comes scripts (ReturnedStands medium scripts) (returned scripts) new z
-            (subst (λ (b : Bool). StepsTo (ReturnedStands medium scripts) (ClientStands medium scripts) (goes_on CutsOff b) mid new y z tt)
-            (sym back_on) (cut scripts))
+        pub comes_back : (scripts : List Declared) → Refines (ClientStands medium scripts) RestartsClient old new x z tt
+        comes_back scripts = comes true back scripts (ReturnedStands medium scripts) (returned scripts) new z (cut scripts)
 
-        pub came_if : ((node : Node ClientState) → Posted old.post node
-            → CameIf (seating medium old.place) medium on old.post called x y node)
-            → (scripts : List Declared) (m : machine.Client) → ClientStands medium scripts old m → Came medium old x z m
-        came_if came scripts m here =
-            let down : FallenStands medium scripts old m = fallen_stands medium scripts old m off here in
+        pub came_back : (scripts : List Declared) (m : machine.Client) → ClientStands medium scripts old m → Came medium old x z m
+        came_back scripts m here =
+            let down : FallenStands medium scripts old m = fallen_stands medium scripts old m back.off here in
             let t = (cut scripts).step _ (returned_at scripts m down).1 in
             record {
               on = true;
               mid = y;
               rest = t.0;
-              came =
-                  subst (λ (n : List ℕ). CameIf (seating medium old.place) medium true old.post n x y m.node) same
-                  (subst (λ (b : Bool). CameIf (seating medium old.place) medium b old.post called x y m.node) back_on
-                  (came m.node down.node));
+              came = back.came m.node down.node;
               whole = t.2;
               stopped = λ never. absurd (not_both never);
             }
