@@ -5,7 +5,8 @@ use Rattle.std.proofs.Common.{refl, sym, ap, subst, ◌∙◌, length-append}
 use Rattle.std.specs.Prelude.{IfOk, OnOk, IsErrOf}
 use Rattle.std.proofs.lemmas.List.{append-nil}
 use Rattle.std.proofs.lemmas.Result.{IfOk-at_ok}
-use Rattle.iot_tree.specs.Tree.{Nodes}
+use Rattle.iot_tree.specs.Tree.{Nodes, IsTree}
+use Rattle.iot_limits.specs.Spelled.{IsSpelledTree}
 use Rattle.iot_tree.specs.declared.labels.OnConflict.{OnConflict as OnConflictNamed}
 use Rattle.iot_lang.specs.Scripts.{IsScript}
 use Rattle.iot_changes.specs.Spelling.{change_spelling}
@@ -54,8 +55,7 @@ use Rattle.iot_laptop.specs.declared.laptop.Laptop.{Laptop}
 use Rattle.iot_laptop.specs.declared.seated.Seated.{Seated}
 use Rattle.iot_client.proofs.SpelledLaws.{tree_spelled}
 use Rattle.iot_laptop.proofs.RepliesLaws.{brought_tree}
-use Rattle.iot_laptop.proofs.KeptStatesLaws.{KeptLive, live_then, held_live, begun_live, fetched_live, left_live, repaired_live}
-use Rattle.iot_laptop.proofs.KeptStatesLaws.{KeepsNamed, hold_named, begin_named, fetch_named, leave_named, repair_named}
+use Rattle.iot_laptop.proofs.KeptStatesLaws.{KeptLive, live_then, begun_live, left_live, repaired_live}
 use Rattle.iot_laptop.proofs.NodesLaws.{not_both, up_stands, awake_at, fallen_at}
 
 -- an answer that was done
@@ -107,14 +107,22 @@ pub record Before {D : Type 0} (medium : Medium D) (laptop : Laptop D) (was : Cl
   pub up : UpStands (seating medium laptop.place) medium no_text (record { client = was }) m.node
   pub named : AreNamed scripts m.node.durable
 
+-- it was to append this change, and what is known besides if it did
+pub record Noted {D T : Type 0} (medium : Medium D) (was now : Client D) (answer : Result T ClientFault) (change : Change)
+    (live : Option Live) : Type 0 where
+  pub notes : OnOk answer (Notes change was now)
+  pub lives : OnOk answer (live_of now ≡ live)
+  pub stops : IsErrOf answer Stopped → CutsOff change (state_of was) (bodies_on medium was) (medium.may_leave (disk_of now))
+
 -- what is known of a change by it: if it was done, and if it was stopped
 pub record Fits {D T : Type 0} (medium : Medium D) (was now : Client D) (answer : Result T ClientFault) (scripts : List Declared)
     (next : ClientState) (first : Bool) : Type 0 where
-  pub ok : OnOk answer ((change : Change) × Notes change was now × KeptLive (after (state_of was) change) (live_of now) first next)
+  pub live : Option Live
+  pub ok : OnOk answer
+      ((change : Change) × Notes change was now × KeptLive scripts (after (state_of was) change) (live_of now) first next)
   pub cut : IsErrOf answer Stopped → (change : Change)
       × CutsOff change (state_of was) (bodies_on medium was) (medium.may_leave (disk_of now))
-      × StateKept (after (state_of was) change) next
-  pub named : AreNamed scripts next
+      × KeptLive scripts (after (state_of was) change) live first next
 
 -- each image is what the client keeps, without the record or with it
 either_image : {D : Type 0} (medium : Medium D) (was now : Client D) → IsTied medium was → (change : Change) (m next : ClientState)
@@ -165,7 +173,7 @@ appended_by medium place was now (Ok t) scripts m change first fits tied counts 
 appended_by medium place was now (Err Stopped) scripts m change first fits tied counts arms =
     let cut = fits.cut refl in (
       (λ n seat. record {
-        each = either_image medium was now seat.tied cut.0 m (change m) cut.1 seat.kept cut.2 n seat.counted;
+        each = either_image medium was now seat.tied cut.0 m (change m) cut.1 seat.kept cut.2.kept n seat.counted;
       }),
       record { faults = counts; arms = arms },
     )
@@ -214,6 +222,7 @@ module _ {D T : Type 0} {medium : Medium D} {laptop : Laptop D} {was now : Clien
           let s = (answered m here (Ok t) same).1 in
           let n : Node ClientState = changed change m.node in
           let went : s.1 ≡ n = elim s.3 [ inl it ↦ it.2 | inr stop ↦ absurd (not_both stop.1) ] in
+          let it = IfOk-at_ok _ (IfOk-at_ok _ same call.goes.answers) known.1.ok in
           let is : new ≡ record laptop { post = Up (record { client = now }) } = IfOk-at_ok _ same call.goes.same in (
             [],
             record m { node = n },
@@ -222,7 +231,7 @@ module _ {D T : Type 0} {medium : Medium D} {laptop : Laptop D} {was now : Clien
             subst (λ (l : Laptop D). LaptopStands medium scripts l (record m { node = n; first = class m.first })) (sym is)
                 (awake_at medium scripts laptop m known.0.name known.0.link (Up (record { client = now })) n
                 (subst (λ (l : Laptop D). Posted l.post n) is (subst (Posted new.post) went s.4)) known.0.alive (class m.first)
-                (IfOk-at_ok _ (IfOk-at_ok _ same call.goes.answers) known.1.ok).2.runs known.1.named),
+                it.2.runs it.2.named),
           );
     }
 
@@ -246,7 +255,7 @@ module _ {D T : Type 0} {medium : Medium D} {laptop : Laptop D} {was now : Clien
             },
             subst (λ (l : Laptop D). ClientStands medium scripts l (record m { node = s.1 })) (sym call.goes.rest)
                 (fallen_at medium scripts laptop m known.0.name known.0.link new.post s.1 s.4 down
-                (appends_possibly laptop.name change m.node s.1 s.0 false (λ _. known.1.named)
+                (appends_possibly laptop.name change m.node s.1 s.0 false (λ _. (known.1.cut (answer_stopped same)).2.named)
                 (possibly_sure m.node known.0.up.sure known.0.named) s.3)),
           );
     }
@@ -274,17 +283,18 @@ module _ {D T : Type 0} {medium : Medium D} {laptop : Laptop D} {was now : Clien
       subst (λ (p : Post (Seated D) D). StateStands (state_by p) (live_by p) m.first m.node.durable) call.is here.state
 
   known_was : (scripts : List Declared) (m : machine.Client) → LaptopStands medium scripts laptop m
-      → KeptLive s (live_of was) m.first m.node.durable
+      → KeptLive scripts s (live_of was) m.first m.node.durable
   known_was scripts m here = record {
     kept = (before scripts m here).up.stands.kept;
     runs = live_then s.running (live_of was) m.first m.node.durable.running (stands_was scripts m here).running;
+    named = here.named;
   }
 
   -- ---- a change of the client of the machine
 
   -- it notes this change, or stops in that
   pub notes_alone : (scripts : List Declared) (change : ClientState → ClientState)
-      → ((m : machine.Client) → LaptopStands medium scripts laptop m → KeptLive s (live_of was) m.first m.node.durable
+      → ((m : machine.Client) → LaptopStands medium scripts laptop m → KeptLive scripts s (live_of was) m.first m.node.durable
       → Fits medium was now answer scripts (change m.node.durable) m.first)
       → EndsAlone medium scripts (NotesAlone change) laptop new x y (done result)
   notes_alone scripts change each = record { is = by result refl }
@@ -301,7 +311,7 @@ module _ {D T : Type 0} {medium : Medium D} {laptop : Laptop D} {was now : Clien
 
   -- it begins, in this class, or stops in that
   starts_alone : (scripts : List Declared) (script : Declared) (option : OnConflict Declared) (first : Bool)
-      → ((m : machine.Client) → LaptopStands medium scripts laptop m → KeptLive s (live_of was) m.first m.node.durable
+      → ((m : machine.Client) → LaptopStands medium scripts laptop m → KeptLive scripts s (live_of was) m.first m.node.durable
       → Fits medium was now answer scripts (begin script option m.node.durable) first)
       → EndsAlone medium scripts (StartsAlone script option first) laptop new x y (done result)
   starts_alone scripts script option first each = record { is = by result refl }
@@ -324,78 +334,54 @@ module _ {D T : Type 0} {medium : Medium D} {laptop : Laptop D} {was now : Clien
 
   -- one change, done or cut off
   pub fits_with : (scripts : List Declared) (next : ClientState) (first : Bool) (change : Change) (live : Option Live)
-      → OnOk answer (Notes change was now) → OnOk answer (live_of now ≡ live) → (IsErrOf answer Stopped → cuts change)
-      → (CanFollow s change → KeptLive (after s change) live first next) → AreNamed scripts next
+      → Noted medium was now answer change live → (CanFollow s change → KeptLive scripts (after s change) live first next)
       → Fits medium was now answer scripts next first
-  fits_with scripts next first change live notes lives stops known named = record {
+  fits_with scripts next first change live noted known = record {
+    live = live;
     ok = each_ok answer (λ t ok.
-        let note = IfOk-at_ok _ ok notes in (
+        let note = IfOk-at_ok _ ok noted.notes in (
           change,
           note,
-          subst (λ (l : Option Live). KeptLive (after s change) l first next) (sym (IfOk-at_ok _ ok lives)) (known note.follows),
+          subst (λ (l : Option Live). KeptLive scripts (after s change) l first next) (sym (IfOk-at_ok _ ok noted.lives))
+              (known note.follows),
         ));
-    cut = λ stopped. let cut = stops stopped in (change, cut, (known cut.follows).kept);
-    named = named;
+    cut = λ stopped. let cut = noted.stops stopped in (change, cut, known cut.follows);
   }
 
   -- the same of each client for which it stood
   pub alone : (scripts : List Declared) (other : ClientState → ClientState) (change : Change) (live : Option Live)
-      → OnOk answer (Notes change was now) → OnOk answer (live_of now ≡ live) → (IsErrOf answer Stopped → cuts change)
-      → ((m : machine.Client) → KeptLive s (live_of was) m.first m.node.durable → CanFollow s change
-      → KeptLive (after s change) live m.first (other m.node.durable))
-      → KeepsNamed scripts other → EndsAlone medium scripts (NotesAlone other) laptop new x y (done result)
-  alone scripts other change live notes lives stops known named =
-      notes_alone scripts other (λ m here was.
-      fits_with scripts (other m.node.durable) m.first change live notes lives stops (known m was) (named m.node.durable here.named))
+      → Noted medium was now answer change live
+      → ((m : machine.Client) → KeptLive scripts s (live_of was) m.first m.node.durable → CanFollow s change
+      → KeptLive scripts (after s change) live m.first (other m.node.durable))
+      → EndsAlone medium scripts (NotesAlone other) laptop new x y (done result)
+  alone scripts other change live noted known =
+      notes_alone scripts other (λ m here was. fits_with scripts (other m.node.durable) m.first change live noted (known m was))
 
-  -- ---- the first that waits leaves
-
-  pub leaves : OnOk answer (Notes Left was now) → OnOk answer (live_of now ≡ live_of was) → (IsErrOf answer Stopped → cuts Left)
-      → Changes medium leave laptop new x y (done result)
-  leaves notes lives stops scripts =
-      alone scripts leave Left (live_of was) notes lives stops (λ m. left_live s (live_of was) m.first m.node.durable) (leave_named scripts)
-
-  -- ---- trees that replies bring
+  -- the first that waits leaves
+  pub leaves : Noted medium was now answer Left (live_of was) → Changes medium leave laptop new x y (done result)
+  leaves noted scripts = alone scripts leave Left (live_of was) noted (λ m here. left_live here)
 
   -- the change by the tree that the reply spells
-  notes_by : (brought_by : Nodes → Change) (reply : List ℕ) → ReadsObjects reply → OnOk answer (Brings brought_by reply was now)
-      → (t : Nodes) → SpellsTree reply t → OnOk answer (Notes (brought_by t) was now)
-  notes_by brought_by reply only brings t spells =
-      each_ok answer (λ u ok.
-      let it = IfOk-at_ok _ ok brings in
-      subst (λ (tree : Nodes). Notes (brought_by tree) was now) (brought_tree reply it.tree t only it.brought spells) it.notes)
-
-  cuts_by : (brought_by : Nodes → Change) (reply : List ℕ) → ReadsObjects reply
+  pub brings : (brought_by : Nodes → Change) (other : Nodes → ClientState → ClientState) (live : Option Live) (reply : List ℕ)
+      → ReadsObjects reply → OnOk answer (Brings brought_by reply was now) → OnOk answer (live_of now ≡ live)
       → (IsErrOf answer Stopped → CutsOffByTree brought_by reply s (bodies_on medium was) (medium.may_leave (disk_of now)))
-      → (t : Nodes) → SpellsTree reply t → IsErrOf answer Stopped → cuts (brought_by t)
-  cuts_by brought_by reply only stops t spells stopped =
-      let it = stops stopped in
-      subst (λ (tree : Nodes). cuts (brought_by tree)) (brought_tree reply it.tree t only it.brought spells) it.cuts_off
+      → ((scripts : List Declared) (first : Bool) (m : ClientState) → KeptLive scripts s (live_of was) first m → (t : Nodes)
+      → CanFollow s (brought_by t) → IsTree t → IsSpelledTree t → KeptLive scripts (after s (brought_by t)) live first (other t m))
+      → (t : Nodes) → SpellsTree reply t → Changes medium (other t) laptop new x y (done result)
+  brings brought_by other live reply only brought lives stops known t spells scripts =
+      alone scripts (other t) (brought_by t) live
+      (record {
+        notes = each_ok answer (λ u ok.
+            let it = IfOk-at_ok _ ok brought in
+            subst (λ (tree : Nodes). Notes (brought_by tree) was now) (brought_tree reply it.tree t only it.brought spells) it.notes);
+        lives = lives;
+        stops = λ stopped.
+            let it = stops stopped in
+            subst (λ (tree : Nodes). cuts (brought_by tree)) (brought_tree reply it.tree t only it.brought spells) it.cuts_off;
+      })
+      (λ m here follows. known scripts m.first m.node.durable here t follows spells.value.tree (tree_spelled t spells.value))
 
-  pub holds : (reply : List ℕ) → ReadsObjects reply → OnOk answer (Brings (λ tree. Held tree) reply was now)
-      → OnOk answer (live_of now ≡ None)
-      → (IsErrOf answer Stopped → CutsOffByTree (λ tree. Held tree) reply s (bodies_on medium was) (medium.may_leave (disk_of now)))
-      → (t : Nodes) → SpellsTree reply t → Changes medium (hold t) laptop new x y (done result)
-  holds reply only brings lives stops t spells scripts =
-      alone scripts (hold t) (Held t) None (notes_by (λ tree. Held tree) reply only brings t spells) lives
-      (cuts_by (λ tree. Held tree) reply only stops t spells)
-      (λ m here follows.
-      held_live s (live_of was) m.first m.node.durable here t follows spells.value.tree (tree_spelled t spells.value))
-      (hold_named scripts t)
-
-  pub fetches : (reply : List ℕ) → ReadsObjects reply → OnOk answer (Brings (λ tree. Fetched tree) reply was now)
-      → OnOk answer (live_of now ≡ live_of was)
-      → (IsErrOf answer Stopped → CutsOffByTree (λ tree. Fetched tree) reply s (bodies_on medium was) (medium.may_leave (disk_of now)))
-      → (t : Nodes) → SpellsTree reply t → Changes medium (fetch t) laptop new x y (done result)
-  fetches reply only brings lives stops t spells scripts =
-      alone scripts (fetch t) (Fetched t) (live_of was) (notes_by (λ tree. Fetched tree) reply only brings t spells) lives
-      (cuts_by (λ tree. Fetched tree) reply only stops t spells)
-      (λ m here follows.
-      fetched_live s (live_of was) m.first m.node.durable here t follows spells.value.tree (tree_spelled t spells.value))
-      (fetch_named scripts t)
-
-  -- ---- the next transaction
-
+  -- the next transaction begins
   pub begins : (number : T → ℕ) (script : Declared) (option : OnConflictNamed) (first : Bool) → IsScript script.code
       → IfOk answer (λ t. number t ≡ s.last + 1)
       → IfOk answer (λ t. Notes (Begun (number t) script.name option) was now)
@@ -406,21 +392,20 @@ module _ {D T : Type 0} {medium : Medium D} {laptop : Laptop D} {was now : Clien
       starts_alone scripts script on_conflict first (λ m here known.
       fits_with scripts (begin script on_conflict m.node.durable) first (Begun (s.last + 1) script.name option)
       (Some (record { first = first; code = script.code }))
-      (each_ok answer (λ t ok.
-      subst (λ (n : ℕ). Notes (Begun n script.name option) was now) (IfOk-at_ok (λ t. number t ≡ s.last + 1) ok numbers)
-      (IfOk-at_ok (λ t. Notes (Begun (number t) script.name option) was now) ok notes)))
-      lives stops
-      (λ follows.
-      begun_live s (live_of was) m.first m.node.durable known (s.last + 1) script option first on_conflict follows script_is same)
-      (begin_named scripts script on_conflict named has m.node.durable here.named))
+      (record {
+        notes = each_ok answer (λ t ok.
+            subst (λ (n : ℕ). Notes (Begun n script.name option) was now) (IfOk-at_ok (λ t. number t ≡ s.last + 1) ok numbers)
+            (IfOk-at_ok (λ t. Notes (Begun (number t) script.name option) was now) ok notes));
+        lives = lives;
+        stops = stops;
+      })
+      (λ follows. begun_live known (s.last + 1) script option first on_conflict follows script_is same named has))
 
-  -- ---- a repair
-
-  pub repairs : (name : List ℕ) → OnOk answer (Notes (Repaired name) was now) → OnOk answer (live_of now ≡ live_of was)
-      → (IsErrOf answer Stopped → cuts (Repaired name)) → Repairs medium name laptop new x y (done result)
-  repairs name notes lives stops scripts script named same =
-      alone scripts (repair script) (Repaired name) (live_of was) notes lives stops
-      (λ m here follows. repaired_live s (live_of was) m.first m.node.durable here name script same) (repair_named scripts script named)
+  -- a repair
+  pub repairs : (name : List ℕ) → Noted medium was now answer (Repaired name) (live_of was)
+      → Repairs medium name laptop new x y (done result)
+  repairs name noted scripts script named same =
+      alone scripts (repair script) (Repaired name) (live_of was) noted (λ m here follows. repaired_live here name script same named)
 
 -- ---- its disk
 

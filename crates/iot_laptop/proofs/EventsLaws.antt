@@ -1,5 +1,5 @@
 -- What befalls a laptop: its link, and a start, a crash and an armed disk of its node.
-use Rattle.std.proofs.Common.{◌≡◌, ◌⊎◌, ℕ, true, false, List, ◌++◌, Option, Some, inl, inr, refl, sym, ap, subst, ◌∙◌, Bool, [], None}
+use Rattle.std.proofs.Common.{◌≡◌, ◌⊎◌, ℕ, true, false, List, ◌++◌, Option, Some, inl, inr, refl, sym, ap, subst, ◌∙◌, Bool, [], None, rules}
 use Rattle.std.proofs.Common.{Result, Ok, Err, if◌then◌else◌}
 use Rattle.iot_kept.specs.States.{State, Transaction, opening}
 use Rattle.iot_client.specs.Calls.{second_class}
@@ -26,7 +26,7 @@ use Rattle.iot_laptop.specs.Laptops.{state_by, disk_by, FallenStands, live_by, I
 use Rattle.iot_laptop.specs.Seats.{seating, IsClientImage, besides}
 use Rattle.iot_laptop.specs.declared.laptop.Laptop.{Laptop}
 use Rattle.iot_laptop.specs.declared.seated.Seated.{Seated}
-use Rattle.iot_laptop.proofs.KeptStatesLaws.{LiveStands, live_then, second_live, idle_runs}
+use Rattle.iot_laptop.proofs.KeptStatesLaws.{live_then, second_live, idle_runs}
 use Rattle.iot_laptop.proofs.NodesLaws.{same_name, same_link, awake_at, on_is, kept_up, node_stands, may_be_named, fallen_stands, fallen_at}
 use Rattle.iot_laptop.proofs.NodesLaws.{refines, at_node}
 use Rattle.std.specs.Prelude.{IfOk}
@@ -59,20 +59,12 @@ module _ {D : Type 0} (medium : Medium D) (laptop : Laptop D) where
 
   over_link : (link : LinkState) (scripts : List Declared) (m : machine.Client) → LaptopStands medium scripts laptop m
       → LaptopStands medium scripts (record laptop { link = link }) (record m { link = link })
-  over_link link scripts m here = record {
-    name = here.name;
-    link = refl;
-    alive = here.alive;
-    node = here.node;
-    state = here.state;
-    named = here.named;
-  }
+  over_link link scripts m here = search rules
 
   linked : (link : LinkState) (scripts : List Declared) (m : machine.Client) → ClientStands medium scripts laptop m
       → ClientStands medium scripts (record laptop { link = link }) (record m { link = link })
   linked link scripts m (awake here) = awake (over_link link scripts m here)
-  linked link scripts m (fallen here) =
-      fallen (record { name = here.name; link = refl; alive = here.alive; node = here.node; named = here.named })
+  linked link scripts m (fallen here) = fallen (search rules)
 
   -- over another link it stands for some client too
   pub stands_over : (link : LinkState) → Stands medium laptop → Stands medium (record laptop { link = link })
@@ -128,9 +120,9 @@ module _ {D : Type 0} (medium : Medium D) (laptop : Laptop D) where
     second_stands scripts m here =
         awake_at medium scripts laptop m here.name here.link (Up (record { client = now })) m.node (second_node m here.node) here.alive
         false
-        (subst (λ (l : Option Live). LiveStands l false m.node.durable.running) (sym live)
-        (second_live (live_of was) m.first m.node.durable.running
-        (live_then (state_of was).running (live_of was) m.first m.node.durable.running here.state.running)))
+        (live
+        ∙ ap second_class (live_then (state_of was).running (live_of was) m.first m.node.durable.running here.state.running)
+        ∙ second_live m.first m.node.durable.running)
         here.named
 
     pub is_second : laptop.post ≡ Up (record { client = was })
@@ -212,8 +204,7 @@ module _ {D : Type 0} (medium : Medium D) (laptop : Laptop D) (post : Post (Seat
     arms_by scripts m (awake here) stands =
         awake
         (awake_at medium scripts laptop m here.name here.link post (armed calls pick m.node) stands here.alive m.first
-        (subst (λ (l : Option Live). LiveStands l m.first m.node.durable.running) (sym live)
-        (live_then _ (live_by laptop.post) m.first m.node.durable.running here.state.running))
+        (live ∙ live_then _ (live_by laptop.post) m.first m.node.durable.running here.state.running)
         here.named)
     arms_by scripts m (fallen here) stands =
         fallen_at medium scripts laptop m here.name here.link post (armed calls pick m.node) stands here.alive
@@ -310,8 +301,7 @@ module _ {D : Type 0} (medium : Medium D) (laptop : Laptop D) (new : IsUnopened 
         let alive = on_is (seating medium laptop.place) medium no_text post n stands ∙ up in
         awake
         (awake_at medium scripts laptop m here.name here.link post n stands alive m.first
-        (idle_runs (state_by post) (live_by post) m.first n.durable live (started_idle up)
-        (kept_up medium laptop.place post n stands alive))
+        (live ∙ idle_runs m.first (state_by post) n.durable (started_idle up) (kept_up medium laptop.place post n stands alive))
         named.is)
     opens_at scripts m n here stands false off named =
         fallen_at medium scripts laptop m here.name here.link post n stands

@@ -1,6 +1,6 @@
 -- What is known of a client by its node.
 use Rattle.std.proofs.Common.{◌≡◌, ℕ, Bool, true, false, List}
-use Rattle.std.proofs.Common.{Option, Some, None, refl, sym, ap, subst, ◌∙◌}
+use Rattle.std.proofs.Common.{Option, Some, None, refl, sym, ap, subst, ◌∙◌, rules}
 use Rattle.iot_kept.specs.States.{Transaction}
 use Rattle.iot_client.specs.Ties as client
 use Rattle.iot_client.specs.Ties.{Live, IsBegunIfAny, IsOwnRunIfAny, state_of}
@@ -24,13 +24,13 @@ use Rattle.iot_node.proofs.PostsLaws.{on_has}
 use Rattle.iot_machine.specs.Events.{no_text}
 use Rattle.iot_laptop.specs.Kept.{StateKept}
 use Rattle.iot_laptop.specs.Laptops.{LaptopStands, FallenStands, ClientStands, awake}
-use Rattle.iot_laptop.specs.Laptops.{fallen, RunningStandsIfAny, Stands, StandsAnyhow, IsLent}
+use Rattle.iot_laptop.specs.Laptops.{fallen, RunningStandsIfAny, StateStands, Stands, StandsAnyhow, IsLent}
 use Rattle.iot_laptop.specs.Laptops.{state_by, live_by, is_alive, state_in, live_in, NodeStands}
 use Rattle.iot_laptop.specs.Scripts.{AreNamed}
 use Rattle.iot_laptop.specs.Seats.{seating}
 use Rattle.iot_laptop.specs.declared.laptop.Laptop.{Laptop}
 use Rattle.iot_laptop.specs.declared.seated.Seated.{Seated}
-use Rattle.iot_laptop.proofs.KeptStatesLaws.{LiveStands, stands_with}
+use Rattle.iot_laptop.proofs.KeptStatesLaws.{live_with, stands_with}
 
 pub not_both : true ≡ false → ⊥
 not_both e = cc
@@ -138,18 +138,12 @@ module _ {D : Type 0} (medium : Medium D) where
 
     module _ (name : laptop.name ≡ m.name) (link : laptop.link ≡ m.link) (post : Post (Seated D) D) (n : Node ClientState)
         (stands : Posted post n) where
-      pub awake_at : n.alive ≡ true → (first : Bool) → LiveStands (live_by post) first n.durable.running → AreNamed scripts n.durable
+      pub awake_at : n.alive ≡ true → (first : Bool) → live_by post ≡ live_with first n.durable.running → AreNamed scripts n.durable
           → LaptopStands medium scripts (record laptop { post = post }) (record m { node = n; first = first })
-      awake_at up first runs named = record {
-        name = name;
-        link = link;
-        alive = up;
-        node = stands;
-        state =
-            stands_with (state_by post) (live_by post) first n.durable
-            (record { kept = kept_up medium laptop.place post n stands up; runs = runs });
-        named = named;
-      }
+      awake_at up first runs named =
+          let state : StateStands (state_by post) (live_by post) first n.durable =
+          stands_with (state_by post) (live_by post) first n.durable (kept_up medium laptop.place post n stands up) runs in
+          search rules
 
       pub fallen_at : n.alive ≡ false → Possibly (AreNamed scripts) n
           → ClientStands medium scripts (record laptop { post = post }) (record m { node = n })

@@ -219,13 +219,14 @@ module _ (held : Nodes) (item : Item) (first : clients.Item) (stands : ItemStand
       subst (λ (done : Resolution). ResolutionStands done (resolution_of plan t)) (sym (ran ∙ shape))
       (shaped_stands plan t agree.good (subst IsScript (sym same) script) tree)
 
-module _ (s : State) (live : Option Live) (class : Bool) (m : ClientState) (here : KeptLive s live class m) (plan : Plan)
-    (planned : head_plan m.held m.items ≡ Some plan) (code : Code) (same : plan.script.code ≡ code) (script : IsScript code) (t : Nodes)
-    (tree : IsTree t) (done : Resolution) (ran : IsHeadsRun s.held s.items code t done) where
+module _ {scripts : List Declared} {s : State} {live : Option Live} {class : Bool} {m : ClientState}
+    (here : KeptLive scripts s live class m) (plan : Plan) (planned : head_plan m.held m.items ≡ Some plan) (code : Code)
+    (same : plan.script.code ≡ code) (script : IsScript code) (t : Nodes) (tree : IsTree t) (done : Resolution)
+    (ran : IsHeadsRun s.held s.items code t done) where
   -- it is resolved as the machine resolves it
-  pub resolved_live : KeptLive (after s (Resolved done)) live class (reach (clients.Resolved (resolution_of plan t)) m)
+  pub resolved_live : KeptLive scripts (after s (Resolved done)) live class (reach (clients.Resolved (resolution_of plan t)) m)
   resolved_live =
-      reached_live s live class m here (stages.Resolved done) (clients.Resolved (resolution_of plan t))
+      reached_live here (stages.Resolved done) (clients.Resolved (resolution_of plan t))
       (λ item later first others some all stands.
       let ours : clients.plan_of s.held first ≡ Some plan =
       ap (λ (held : Nodes). clients.plan_of held first) here.kept.held ∙ ap (head_plan m.held) (sym all) ∙ planned in (

@@ -49,7 +49,7 @@ use Rattle.iot_laptop.specs.declared.laptop.Laptop.{Laptop}
 use Rattle.iot_laptop.specs.declared.seated.Seated.{Seated}
 use Rattle.iot_laptop.proofs.CallsLaws.{Called, Before, Fits, each_ok, goes_at, halts_at, fits_with}
 use Rattle.iot_laptop.proofs.EventsLaws.{live_fresh}
-use Rattle.iot_laptop.proofs.KeptStatesLaws.{idle_runs, cut_live, cut_named}
+use Rattle.iot_laptop.proofs.KeptStatesLaws.{live_with, cut_live}
 use Rattle.iot_laptop.proofs.NodesLaws.{not_both, on_is, kept_up, node_stands, fallen_stands, awake_stands, awake_at, fallen_at, refines}
 use Rattle.iot_laptop.proofs.NodesLaws.{at_node}
 
@@ -205,8 +205,8 @@ module _ {D : Type 0} (medium : Medium D) (laptop : Laptop D) where
   }
 
   none_found : (t : Nodes) (r : Option Transaction) (o : Option clients.Running) → running_name laptop r ≡ None → RunningKeptIfAny t r o
-      → (r ≡ None) × (o ≡ None)
-  none_found t None None none kept = (refl, refl)
+      → o ≡ None
+  none_found t None None none kept = refl
   none_found t None (Some it) none kept = absurd kept
   none_found t (Some running) o none kept = absurd cc
 
@@ -237,13 +237,13 @@ module _ {D : Type 0} (medium : Medium D) (laptop : Laptop D) where
     step = λ m here.
         let kept = kept_up medium laptop.place laptop.post m.node here.node here.alive in
         let none = none_found (base m.node.durable) (state_in laptop).running m.node.durable.running found kept.running in
-        cuts_by scripts m laptop x x None none.1 (
+        cuts_by scripts m laptop x x None none (
           [],
           m,
           sym (append-nil x),
           (refl, refl),
           awake (awake_at medium scripts laptop m here.name here.link laptop.post m.node here.node here.alive m.first
-              (idle_runs (state_in laptop) (live_in laptop) m.first m.node.durable here.live none.0 kept) here.named),
+              (here.live ∙ sym (ap (live_with m.first) none)) here.named),
         );
   }
 
@@ -276,9 +276,9 @@ module _ {D : Type 0} (medium : Medium D) (laptop : Laptop D) where
         let up = up_in scripts m here in
         let it = found_in scripts m here in (
           record { name = here.name; link = here.link; alive = here.alive; up = up; named = here.named },
-          fits_with call scripts (cut m.node.durable) m.first Cut None (each_ok answer (λ told ok. (cut_so it.own it.is told ok).1)) lives
-              stops (λ follows. cut_live (state_of was) m.node.durable up.stands.kept m.first)
-              (cut_named scripts m.node.durable here.named),
+          fits_with call scripts (cut m.node.durable) m.first Cut None
+              (record { notes = each_ok answer (λ told ok. (cut_so it.own it.is told ok).1); lives = lives; stops = stops })
+              (λ follows. cut_live (state_of was) m.node.durable up.stands.kept scripts m.first here.named),
         )
 
     -- what was found waits now, which is said

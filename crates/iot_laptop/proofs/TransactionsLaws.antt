@@ -35,9 +35,9 @@ use Rattle.iot_laptop.specs.declared.laptop.Laptop.{Laptop}
 use Rattle.iot_laptop.specs.declared.needs.Gone.{Gone}
 use Rattle.iot_laptop.specs.declared.seated.Seated.{Seated}
 use Rattle.iot_laptop.proofs.RepliesLaws.{brought_tree}
-use Rattle.iot_laptop.proofs.CallsLaws.{Called, each_ok, notes_alone, alone, answer_stopped, stands_was}
-use Rattle.iot_laptop.proofs.KeptStatesLaws.{KeptLive, ended_live, told_record, told_live, KeepsNamed, end_named, leave_named, reach_named}
-use Rattle.iot_laptop.proofs.KeptStatesLaws.{joined_waits, acted_live, act_named}
+use Rattle.iot_laptop.proofs.CallsLaws.{Called, Noted, each_ok, notes_alone, alone, answer_stopped, stands_was}
+use Rattle.iot_laptop.proofs.KeptStatesLaws.{KeptLive, ended_live, told_record, told_live}
+use Rattle.iot_laptop.proofs.KeptStatesLaws.{joined_waits, acted_live}
 use Rattle.iot_laptop.proofs.LaptopsLaws.{Running, running_is, so_far_is, may_end_is, next_is, acts_is}
 use Rattle.iot_laptop.proofs.NodesLaws.{own_in, at_post}
 use Rattle.iot_laptop.proofs.ResolutionLaws.{resolved_live}
@@ -76,13 +76,6 @@ record_as : (told : serving.Verdict) → verdict_change (noted_as told) ≡ told
 record_as (serving.Settled number) = refl
 record_as (serving.Conflict read question) = refl
 
--- what becomes of it then, by its option
-told_named : (scripts : List Declared) (told : serving.Verdict) (option : OnConflictNamed) → KeepsNamed scripts (told_change told option)
-told_named scripts (serving.Settled number) option = leave_named scripts
-told_named scripts (serving.Conflict read question) on.Abort = leave_named scripts
-told_named scripts (serving.Conflict read question) on.Manual = reach_named scripts clients.Manual
-told_named scripts (serving.Conflict read question) option = reach_named scripts clients.Conflict
-
 module _ {D T : Type 0} {medium : Medium D} {laptop : Laptop D} {was now : Client D} {answer : Result T ClientFault} {new : Laptop D}
     {x y : List ℕ} {result : Result T Halt} (call : Called medium laptop was now answer new x y result) where
   abbrev s : State
@@ -100,18 +93,20 @@ module _ {D T : Type 0} {medium : Medium D} {laptop : Laptop D} {was now : Clien
       subst (λ (p : Post (Seated D) D). head_option (state_by p).items ≡ Some option) call.is first in
       subst (λ (r : Result T Halt). EndsAlone medium scripts (NotesAlone (told_change told option)) laptop new x y (done r)) same
       (alone call scripts (told_change told option) (told_record told) (live_of was)
-      (each_ok answer (λ t ok.
-      subst (λ (change : Change). Notes change was now)
-      (ap verdict_change
-      (said_as (head_reads s.items) reply told (noted t) spelled only (IfOk-at_ok (λ u. noted_in reply ≡ Ok (noted u)) ok reads))
-      ∙ record_as told)
-      (IfOk-at_ok (λ u. Notes (verdict_change (noted u)) was now) ok notes)))
-      lives
-      (λ stopped.
-      let cut = stops stopped in
-      subst (λ (change : Change). CutsOff change s (bodies_on medium was) (medium.may_leave (disk_of now)))
-      (ap verdict_change (said_as (head_reads s.items) reply told cut.said spelled only cut.noted) ∙ record_as told) cut.cuts_off)
-      (λ m here. told_live s (live_of was) m.first m.node.durable here told option is_first) (told_named scripts told option))
+      (record {
+        notes = each_ok answer (λ t ok.
+            subst (λ (change : Change). Notes change was now)
+            (ap verdict_change
+            (said_as (head_reads s.items) reply told (noted t) spelled only (IfOk-at_ok (λ u. noted_in reply ≡ Ok (noted u)) ok reads))
+            ∙ record_as told)
+            (IfOk-at_ok (λ u. Notes (verdict_change (noted u)) was now) ok notes));
+        lives = lives;
+        stops = λ stopped.
+            let cut = stops stopped in
+            subst (λ (change : Change). CutsOff change s (bodies_on medium was) (medium.may_leave (disk_of now)))
+            (ap verdict_change (said_as (head_reads s.items) reply told cut.said spelled only cut.noted) ∙ record_as told) cut.cuts_off;
+      })
+      (λ m here. told_live here told option is_first))
 
   -- ---- a resolution
 
@@ -124,9 +119,10 @@ module _ {D T : Type 0} {medium : Medium D} {laptop : Laptop D} {was now : Clien
       let stage : clients.Stage = clients.Resolved (resolution_of plan t) in
       notes_alone call scripts (reach stage) (λ m here known.
       let live : (done : Resolution) → IsHeadsRun s.held s.items code t done
-      → KeptLive (after s (Resolved done)) (live_of was) m.first (reach stage m.node.durable) =
-      resolved_live s (live_of was) m.first m.node.durable known plan (plans m here) code same script t spells.value.tree in
+      → KeptLive scripts (after s (Resolved done)) (live_of was) m.first (reach stage m.node.durable) =
+      resolved_live known plan (plans m here) code same script t spells.value.tree in
       record {
+        live = live_of was;
         ok = each_ok answer (λ u ok.
             let it = IfOk-at_ok _ ok ran in
             let reruns : Reruns code t was now =
@@ -135,7 +131,7 @@ module _ {D T : Type 0} {medium : Medium D} {laptop : Laptop D} {was now : Clien
             in (
               Resolved reruns.done,
               reruns.notes,
-              subst (λ (l : Option Live). KeptLive (after s (Resolved reruns.done)) l m.first (reach stage m.node.durable))
+              subst (λ (l : Option Live). KeptLive scripts (after s (Resolved reruns.done)) l m.first (reach stage m.node.durable))
                   (sym (IfOk-at_ok _ ok lives)) (live reruns.done reruns.run),
             ));
         cut = λ stopped.
@@ -143,21 +139,18 @@ module _ {D T : Type 0} {medium : Medium D} {laptop : Laptop D} {was now : Clien
             let rerun : CutsOffRerun code t s (bodies_on medium was) (medium.may_leave (disk_of now)) =
             subst (λ (tree : Nodes). CutsOffRerun code tree s (bodies_on medium was) (medium.may_leave (disk_of now)))
             (brought_tree reply it.tree t only (only it.tree it.spelled) spells) it.reruns in
-            (Resolved rerun.done, rerun.cuts_off, (live rerun.done rerun.run).kept);
-        named = reach_named scripts stage m.node.durable here.named;
+            (Resolved rerun.done, rerun.cuts_off, live rerun.done rerun.run);
       })
 
   -- ---- the end
 
-  pub ends : may_end (state_in laptop) (live_in laptop) ≡ true → OnOk answer (Notes Ended was now) → OnOk answer (live_of now ≡ None)
-      → (IsErrOf answer Stopped → CutsOff Ended s (bodies_on medium was) (medium.may_leave (disk_of now)))
+  pub ends : may_end (state_in laptop) (live_in laptop) ≡ true → Noted medium was now answer Ended None
       → (r : Result T Halt) → result ≡ r → Changes medium clients.end laptop new x y (done r)
-  ends may notes lives stops r same scripts =
+  ends may noted r same scripts =
       let may_was : may_end s (live_of was) ≡ true =
       subst (λ (p : Post (Seated D) D). may_end (state_by p) (live_by p) ≡ true) call.is may in
       subst (λ (r : Result T Halt). EndsAlone medium scripts (NotesAlone clients.end) laptop new x y (done r)) same
-      (alone call scripts clients.end Ended None notes lives stops
-      (λ m here follows. ended_live s (live_of was) m.first m.node.durable here may_was) (end_named scripts))
+      (alone call scripts clients.end Ended None noted (λ m here follows. ended_live here may_was))
 
 -- what is told of it
 pub is_gone : {D : Type 0} {medium : Medium D} {laptop : Laptop D} {was : Client D} → laptop.post ≡ Up (record { client = was })
@@ -215,8 +208,8 @@ module _ {D : Type 0} {medium : Medium D} {laptop : Laptop D} {was now : Client 
       → (IsErrOf answer Stopped → CutsOff (Acted act) (state_of was) (bodies_on medium was) (medium.may_leave (disk_of now)))
       → Changes medium act_once laptop new x y (done result)
   acted_by live has act can next notes cuts scripts =
-      alone call scripts act_once (Acted act) (live_of was) notes lives cuts
-      (λ m here follows. acted_live (state_of was) (live_of was) m.first m.node.durable here live has act can next) (act_named scripts)
+      alone call scripts act_once (Acted act) (live_of was) (record { notes = notes; lives = lives; stops = cuts })
+      (λ m here follows. acted_live here live has act can next)
 
   -- it was done
   acted : (live : Option Live) → live_of was ≡ live → (acts : ℕ) (ended : Bool) → answer ≡ Ok (steps.Acted acts ended)
