@@ -1,7 +1,7 @@
 -- What a call of a laptop that appends a record makes of the client of the machine: its change, or a stop in it.
 use Rattle.std.proofs.Common.{◌≡◌, ◌⊎◌, ◌+◌, ℕ, Bool, true, false, List, [], ◌∷◌}
 use Rattle.std.proofs.Common.{◌++◌, length, Option, Some, None, Result, Ok, Err, inl, inr}
-use Rattle.std.proofs.Common.{refl, sym, ap, subst, ◌∙◌, length-append}
+use Rattle.std.proofs.Common.{refl, sym, ap, subst, ◌∙◌, length-append, rules}
 use Rattle.std.specs.Prelude.{IfOk, OnOk, IsErrOf}
 use Rattle.std.proofs.lemmas.List.{append-nil}
 use Rattle.std.proofs.lemmas.Result.{IfOk-at_ok}
@@ -269,13 +269,10 @@ module _ {D T : Type 0} {medium : Medium D} {laptop : Laptop D} {was now : Clien
   -- ---- what was so before
 
   before : (scripts : List Declared) (m : machine.Client) → LaptopStands medium scripts laptop m → Before medium laptop was scripts m
-  before scripts m here = record {
-    name = here.name;
-    link = here.link;
-    alive = here.alive;
-    up = up_stands medium scripts laptop m was call.is here;
-    named = here.named;
-  }
+  before scripts m here =
+      let up : UpStands (seating medium laptop.place) medium no_text (record { client = was }) m.node =
+      up_stands medium scripts laptop m was call.is here in
+      search rules
 
   pub stands_was : (scripts : List Declared) (m : machine.Client) → LaptopStands medium scripts laptop m
       → StateStands s (live_of was) m.first m.node.durable

@@ -101,18 +101,12 @@ module _ {D : Type 0} (medium : Medium D) (laptop : Laptop D) where
       (tied : IsTied medium now) where
     second_node : (m : machine.Client) → UpStands (seating medium laptop.place) medium no_text (record { client = was }) m.node
         → UpStands (seating medium laptop.place) medium no_text (record { client = now }) m.node
-    second_node m up = record {
-      alive = up.alive;
-      sure = up.sure;
-      counts = ap (counts_on medium) disk ∙ up.counts;
-      count = up.count;
-      stands = record {
-        place_is = place ∙ up.stands.place_is;
-        tied = tied;
-        counted = records ∙ up.stands.counted;
-        kept = subst (λ (s : State). StateKept s m.node.durable) (sym state) up.stands.kept;
-      };
-    }
+    second_node m up =
+        let counts : counts_on medium (disk_of now) ≡ m.node.counts = ap (counts_on medium) disk ∙ up.counts in
+        let placed : place_of now ≡ laptop.place = place ∙ up.stands.place_is in
+        let counted : records_of now ≡ up.count = records ∙ up.stands.counted in
+        let kept : StateKept (state_of now) m.node.durable = rw state up.stands.kept in
+        record { alive = up.alive; sure = up.sure; counts = counts; count = up.count; stands = search rules }
 
     second_stands : (scripts : List Declared) (m : machine.Client)
         → LaptopStands medium scripts (record laptop { post = Up (record { client = was }) }) m

@@ -376,27 +376,16 @@ module _ {scripts : List Declared} {s : State} {live : Option Live} {first : Boo
       by [] [] some all stand runs named =
           record { kept = with_queue s m here.kept [] [] s.running m.running tt runs; runs = here.runs; named = search rules }
       by (item ∷ items) (it ∷ ms) some all stand runs named =
-          let is = each item items it ms some all stand.0 in
+          let is : (option item.option ≡ option_named (o it.option)) × StageStands stage other × IsPlanned (o it.option) other =
+          each item items it ms some all stand.0 in
+          let here_stands : ItemStands s.held item it = stand.0 in
           let stands : ItemStands s.held (record item { option = option item.option; stage = stage })
-          (record it { option = o it.option; stage = other }) = record {
-            number = stand.0.number;
-            name = stand.0.name;
-            budget = stand.0.budget;
-            few = stand.0.few;
-            script = stand.0.script;
-            acts = stand.0.acts;
-            tree = stand.0.tree;
-            option = is.0;
-            stage = is.1;
-            planned = is.2;
-          } in
+          (record it { option = o it.option; stage = other }) = search rules in
+          let resolver : HasNamed scripts (o it.option) = keeps it.option named.0.resolver in
           record {
             kept = with_queue s m here.kept _ _ s.running m.running (stands, stand.1) runs;
             runs = here.runs;
-            named = record {
-              items = (record { script = named.0.script; resolver = keeps it.option named.0.resolver }, named.1);
-              running = here.named.running;
-            };
+            named = record { items = (record { script = named.0.script; resolver = resolver }, named.1); running = here.named.running };
           }
       by items ms some all stand runs named = absurd stand
 

@@ -84,13 +84,9 @@ pub record Running (r : Option Transaction) (live : Option Live) (class : Bool) 
 pub running_by : (r : Option Transaction) (live : Option Live) (first : Bool) (o : Option clients.Running) (it : clients.Running)
     → o ≡ Some it → RunningStandsIfAny r live first o → Running r live first it
 running_by r live first None it is stands = absurd cc
-running_by (Some running) (Some own) first (Some other) it is stands = record {
-  own = running;
-  besides = own;
-  is = refl;
-  lives = refl;
-  stands = subst (RunningStands running own first) (same_Some _ _ is) stands;
-}
+running_by (Some running) (Some own) first (Some other) it is stands =
+    let same = subst (RunningStands running own first) (same_Some _ _ is) stands in
+    record { own = running; besides = own; is = refl; lives = refl; stands = same }
 running_by r live first (Some other) it is stands = absurd stands
 
 -- ---- its next step

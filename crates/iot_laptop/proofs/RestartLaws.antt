@@ -1,7 +1,7 @@
 -- A restart of a laptop, which cuts off what ran, is a restart of the client of the machine.
 use Rattle.std.proofs.Common.{◌≡◌, ◌⊎◌, ℕ, Bool, true, false, List, [], ◌++◌, length}
 use Rattle.std.proofs.Common.{Option, Some, None, Result, Ok, Err, inl, inr}
-use Rattle.std.proofs.Common.{refl, sym, ap, subst, ◌∙◌, codes, if◌then◌else◌, arith}
+use Rattle.std.proofs.Common.{refl, sym, ap, subst, ◌∙◌, codes, if◌then◌else◌, arith, rules}
 use Rattle.std.specs.Prelude.{IfOk, OnOk, IsErrOf}
 use Rattle.std.proofs.lemmas.List.{append-nil}
 use Rattle.std.proofs.lemmas.Option.{same_Some}
@@ -41,7 +41,7 @@ use Rattle.iot_machine.specs.Events.{no_text, CutsOff, RestartsClient, cuts_off}
 use Rattle.iot_laptop.specs.Calls.{ReturnedStands, Returned, Came, running_name}
 use Rattle.iot_laptop.specs.Kept.{RunningKeptIfAny}
 use Rattle.iot_laptop.specs.Laptops.{LaptopStands, FallenStands, ClientStands, awake, fallen, StandsAnyhow, is_alive, disk_by}
-use Rattle.iot_laptop.specs.Laptops.{state_in, live_in, state_by}
+use Rattle.iot_laptop.specs.Laptops.{state_in, live_by, state_by}
 use Rattle.iot_laptop.specs.Messages.{name_of}
 use Rattle.iot_laptop.specs.Scripts.{AreNamed}
 use Rattle.iot_laptop.specs.Seats.{seating, besides}
@@ -137,14 +137,10 @@ module _ {D : Type 0} (medium : Medium D) (old : Laptop D) where
     module _ (back : CameBack medium old post x y true) where
       returned : (scripts : List Declared) (m : machine.Client) → FallenStands medium scripts old m → (n : Node ClientState)
           → Posted post n → Possibly (AreNamed scripts) n → ReturnedStands medium scripts mid (record m { node = n })
-      returned scripts m down n stands named = record {
-        name = down.name;
-        link = down.link;
-        alive = alive_is back n stands;
-        node = stands;
-        live = live_fresh post true back.live;
-        named = named.is;
-      }
+      returned scripts m down n stands named =
+          let alive : n.alive ≡ true = alive_is back n stands in
+          let live : live_by post ≡ None = live_fresh post true back.live in
+          search rules
 
       returned_at : (scripts : List Declared) (m : machine.Client) → FallenStands medium scripts old m
           → (n : Node ClientState) × ReturnedStands medium scripts mid (record m { node = n })
@@ -195,14 +191,10 @@ module _ {D : Type 0} (medium : Medium D) (laptop : Laptop D) where
       → running_name laptop r ≡ Some transaction → RunningKeptIfAny t r o → Found laptop.name transaction r o
   found_by transaction t None o name kept = absurd cc
   found_by transaction t (Some own) None name kept = absurd kept
-  found_by transaction t (Some own) (Some it) name kept = record {
-    own = own;
-    is = refl;
-    it = it;
-    runs = refl;
-    name = sym (same_Some _ _ name) ∙ ap (λ (n : ℕ). record { client = laptop.name; number = n }) kept.number;
-    acts = kept.count;
-  }
+  found_by transaction t (Some own) (Some it) name kept =
+      let named : transaction ≡ record { client = laptop.name; number = it.number } =
+      sym (same_Some _ _ name) ∙ ap (λ (n : ℕ). record { client = laptop.name; number = n }) kept.number in
+      record { own = own; is = refl; it = it; runs = refl; name = named; acts = kept.count }
 
   none_found : (t : Nodes) (r : Option Transaction) (o : Option clients.Running) → running_name laptop r ≡ None → RunningKeptIfAny t r o
       → o ≡ None

@@ -14,7 +14,7 @@ use Rattle.iot_changes.specs.declared.changes.Change.TheVariants.{Ended, Conflic
 use Rattle.iot_kept.specs.States.{State, acts_of}
 use Rattle.iot_kept.specs.Changes.{CanFollow, after}
 use Rattle.iot_client.specs.Calls.{Notes, CutsOff, CutsOffByVerdict, CutsOffRerun, CutsOffByRun, Reruns, Resolves, IsHeadsRun, may_end}
-use Rattle.iot_client.specs.Calls.{verdict_change, Ends, EndsIfAny, CutsOffNextIfAny, CanAct, next_acts, StepIsIfAny}
+use Rattle.iot_client.specs.Calls.{verdict_change, Ends, EndsIfAny, CutsOffNextIfAny, CutsOffNext, CanAct, next_acts, StepIsIfAny, StepIs}
 use Rattle.iot_client.specs.Messages.{ReadsObjects, ReadsNoted, noted_in, IsRefresh}
 use Rattle.iot_client.specs.Ties.{Live, IsOwnRunIfAny, state_of, live_of, disk_of, bodies_on, place_of}
 use Rattle.iot_client.specs.declared.client.Client.{Client}
@@ -211,22 +211,26 @@ module _ {D : Type 0} {medium : Medium D} {laptop : Laptop D} {was now : Client 
       alone call scripts act_once (Acted act) (live_of was) (record { notes = notes; lives = lives; stops = cuts })
       (λ m here follows. acted_live here live has act can next)
 
-  -- it was done
-  acted : (live : Option Live) → live_of was ≡ live → (acts : ℕ) (ended : Bool) → answer ≡ Ok (steps.Acted acts ended)
-      → StepIsIfAny was live (steps.Acted acts ended) now → Changes medium act_once laptop new x y (done result)
-  acted None has acts ended ok it = absurd it
-  acted (Some live) has acts ended ok it =
-      acted_by live has it.act it.can it.next (each_ok answer (λ t other. it.notes))
-      (λ stopped. absurd (not_stopped answer (steps.Acted acts ended) ok stopped))
+  step_of : (live : Option Live) (step : Step) → StepIsIfAny was live step now
+      → (own : Live) × (live ≡ Some own) × StepIs was own step now
+  step_of None step it = absurd it
+  step_of (Some own) step it = (own, refl, it)
 
-  -- it stopped in it
-  halted_act : (live : Option Live) → live_of was ≡ live → IsErrOf answer Stopped
-      → CutsOffNextIfAny live (state_of was) (bodies_on medium was) (medium.may_leave (disk_of now))
-      → Changes medium act_once laptop new x y (done result)
-  halted_act None has stopped cut = absurd cut
-  halted_act (Some live) has stopped cut =
-      acted_by live has cut.act cut.can cut.next (each_ok answer (λ t ok. absurd (not_stopped answer t ok stopped)))
-      (λ again. cut.cuts_off)
+  cut_of : (live : Option Live) → CutsOffNextIfAny live (state_of was) (bodies_on medium was) (medium.may_leave (disk_of now))
+      → (own : Live) × (live ≡ Some own) × CutsOffNext own (state_of was) (bodies_on medium was) (medium.may_leave (disk_of now))
+  cut_of None cut = absurd cut
+  cut_of (Some own) cut = (own, refl, cut)
+
+  -- the step that was done, of what ran
+  did : (step : Step) → result ≡ Ok step → (own : Live) × (live_of was ≡ Some own) × StepIs was own step now
+  did step ok =
+      step_of (live_of was) step
+      (IfOk-at_ok (λ step. StepIsIfAny was (live_of was) step now) (IfOk-at_ok _ ok call.goes.answers) does)
+
+  -- the act in which it stopped
+  halted : result ≡ Err Over → (own : Live) × (live_of was ≡ Some own)
+      × CutsOffNext own (state_of was) (bodies_on medium was) (medium.may_leave (disk_of now))
+  halted same = cut_of (live_of was) (stops (answer_stopped call same))
 
   stays : (step : Step) → result ≡ Ok step → now ≡ was → (new ≡ laptop) × (y ≡ x)
   stays step ok same = (
@@ -235,60 +239,37 @@ module _ {D : Type 0} {medium : Medium D} {laptop : Laptop D} {was now : Client 
     IfOk-at_ok _ ok call.goes.silent,
   )
 
-  fetch_is : (live : Option Live) → live ≡ live_of was → (request : List ℕ) (path : List (List ℕ)) → result ≡ Ok (steps.Fetch
-      request path)
-      → StepIsIfAny was live (steps.Fetch request path) now
-      → (new ≡ laptop) × (y ≡ x) × IsRefresh laptop.place (state_in laptop).held (wants.Path path) request × IsFirst laptop
-  fetch_is None has request path ok it = absurd it
-  fetch_is (Some live) has request path ok it =
-      let same = stays (steps.Fetch request path) ok it.1.stays in (
-        same.0,
-        same.1,
-        subst (λ (p : Post (Seated D) D). IsRefresh laptop.place (state_by p).held (wants.Path path) request) (sym call.is)
-            (subst (λ (p : ℕ). IsRefresh p (state_of was).held (wants.Path path) request) placed it.0),
-        subst (λ (p : Post (Seated D) D). IsFirstOf (live_by p)) (sym call.is) (subst IsFirstOf has it.1.first),
-      )
-
-  ended_same : (live : Option Live) (acts : ℕ) → StepIsIfAny was live (steps.AtEnd acts) now → now ≡ was
-  ended_same None acts it = absurd it
-  ended_same (Some live) acts it = it.2
-
-  limit_same : (live : Option Live) (acts : ℕ) → StepIsIfAny was live (steps.AtLimit acts) now → now ≡ was
-  limit_same None acts it = absurd it
-  limit_same (Some live) acts it = it.3
-
-  did : (step : Step) → result ≡ Ok step → StepIsIfAny was (live_of was) step now
-  did step ok = IfOk-at_ok (λ step. StepIsIfAny was (live_of was) step now) (IfOk-at_ok _ ok call.goes.answers) does
-
   pub steps_by : (r : Result Step Halt) → result ≡ r → Steps medium laptop new x y r
   steps_by (Ok (steps.Acted acts ended)) same =
+      let it = did (steps.Acted acts ended) same in
+      let ok : answer ≡ Ok (steps.Acted acts ended) = IfOk-at_ok _ same call.goes.answers in
       subst (λ (r : Result Step Halt). Changes medium act_once laptop new x y (done r)) same
-      (acted (live_of was) refl acts ended (IfOk-at_ok _ same call.goes.answers) (did (steps.Acted acts ended) same))
-  steps_by (Ok (steps.Fetch request path)) same = fetch_is (live_of was) refl request path same (did (steps.Fetch request path) same)
-  steps_by (Ok (steps.AtEnd acts)) same =
-      stays (steps.AtEnd acts) same (ended_same (live_of was) acts (did (steps.AtEnd acts) same))
-  steps_by (Ok (steps.AtLimit acts)) same =
-      stays (steps.AtLimit acts) same (limit_same (live_of was) acts (did (steps.AtLimit acts) same))
+      (acted_by it.0 it.1 it.2.act it.2.can it.2.next (each_ok answer (λ t other. it.2.notes))
+      (λ stopped. absurd (not_stopped answer (steps.Acted acts ended) ok stopped)))
+  steps_by (Ok (steps.Fetch request path)) same =
+      let it = did (steps.Fetch request path) same in
+      let kept = stays (steps.Fetch request path) same it.2.1.stays in (
+        kept.0,
+        kept.1,
+        subst (λ (p : Post (Seated D) D). IsRefresh laptop.place (state_by p).held (wants.Path path) request) (sym call.is)
+            (subst (λ (p : ℕ). IsRefresh p (state_of was).held (wants.Path path) request) placed it.2.0),
+        subst (λ (p : Post (Seated D) D). IsFirstOf (live_by p)) (sym call.is) (subst IsFirstOf (sym it.1) it.2.1.first),
+      )
+  steps_by (Ok (steps.AtEnd acts)) same = stays (steps.AtEnd acts) same (did (steps.AtEnd acts) same).2.2
+  steps_by (Ok (steps.AtLimit acts)) same = stays (steps.AtLimit acts) same (did (steps.AtLimit acts) same).2.3
   steps_by (Err NoMemory) same = λ scripts. record { is = tt }
   steps_by (Err Over) same =
-      let stopped = answer_stopped call same in
+      let it = halted same in
       subst (λ (r : Result Step Halt). Changes medium act_once laptop new x y (done r)) same
-      (halted_act (live_of was) refl stopped (stops stopped))
+      (acted_by it.0 it.1 it.2.act it.2.can it.2.next
+      (each_ok answer (λ t ok. absurd (not_stopped answer t ok (answer_stopped call same)))) (λ again. it.2.cuts_off))
 
   -- so is what the machine does next
-  next_did : (live : Option Live) → live_of was ≡ live → (step : Step) → StepIsIfAny was live step now
-      → IsNext medium laptop (next_as step)
-  next_did None has step it = absurd it
-  next_did (Some live) has step it = λ scripts m running here runs.
-      next_is was now m.first m.node.durable (stands_was call scripts m here) running runs live has step it
-
-  next_halted : (live : Option Live) → live_of was ≡ live
-      → CutsOffNextIfAny live (state_of was) (bodies_on medium was) (medium.may_leave (disk_of now)) → IsNext medium laptop Acts
-  next_halted None has cut = absurd cut
-  next_halted (Some live) has cut = λ scripts m running here runs.
-      acts_is was now m.first m.node.durable (stands_was call scripts m here) running runs live has cut.can
-
   pub next_by : (r : Result Step Halt) → result ≡ r → NextIs medium laptop r
-  next_by (Ok step) same = next_did (live_of was) refl step (did step same)
+  next_by (Ok step) same = λ scripts m running here runs.
+      let it = did step same in
+      next_is was now m.first m.node.durable (stands_was call scripts m here) running runs it.0 it.1 step it.2
   next_by (Err NoMemory) same = tt
-  next_by (Err Over) same = next_halted (live_of was) refl (stops (answer_stopped call same))
+  next_by (Err Over) same = λ scripts m running here runs.
+      let it = halted same in
+      acts_is was now m.first m.node.durable (stands_was call scripts m here) running runs it.0 it.1 it.2.can
