@@ -133,36 +133,29 @@ module _ {D : Type 0} (medium : Medium D) (laptop : Laptop D) where
 
   -- ---- an exchange that does not get through
 
-  -- over this link, what runs is second class
-  second_over : (link : LinkState) (new : Laptop D) → IsSecondNow medium (record laptop { link = link }) new
-      → Relinked medium (λ m. record m { link = link; first = false }) laptop new
-  second_over link new second = record {
+  -- after one in which the server stopped, what runs is second class
+  pub is_broken : (link : LinkState) (new : Laptop D) → link ≡ links.broken → IsSecondNow medium (record laptop { link = link }) new
+      → Relinked medium break laptop new
+  is_broken link new is second = record {
     place = second.place;
     state = second.state;
-    stands = λ scripts m here. second.stands scripts (record m { link = link }) (over_link link scripts m here);
+    stands = λ scripts m here.
+        subst (λ (l : LinkState). LaptopStands medium scripts new (record m { link = l; first = false })) is
+        (second.stands scripts (record m { link = link }) (over_link link scripts m here));
   }
 
-  second_after : (p : Passage) (new : Laptop D) → (p ≡ Both → ⊥)
-      → IsSecondNow medium (record laptop { link = after_exchange p laptop.link }) new
-      → Relinked medium (after_passage p) laptop new
-  second_after Away new not second = record { place = second.place; state = second.state; stands = second.stands }
-  second_after RequestLost new not second = second_over links.broken new second
-  second_after ReplyLost new not second = second_over links.broken new second
-  second_after Both new not second = absurd (not refl)
-
-  -- what runs is second class after it
+  -- and after any that did not get through
   pub is_over : (p : Passage) (link : LinkState) (new : Laptop D) → link ≡ after_exchange p laptop.link
       → (p ≡ Away) ⊎ ((p ≡ RequestLost) ⊎ (p ≡ ReplyLost))
       → IsSecondNow medium (record laptop { link = link }) new → Relinked medium (after_passage p) laptop new
-  is_over p link new is lost second =
-      second_after p new (not_through p lost)
-      (subst (λ (l : LinkState). IsSecondNow medium (record laptop { link = l }) new) is second)
-
-  -- and after one in which the server stopped
-  pub is_broken : (link : LinkState) (new : Laptop D) → link ≡ links.broken → IsSecondNow medium (record laptop { link = link }) new
-      → Relinked medium break laptop new
-  is_broken link new is second =
-      second_over links.broken new (subst (λ (l : LinkState). IsSecondNow medium (record laptop { link = l }) new) is second)
+  is_over Away link new is lost second = record {
+    place = second.place;
+    state = second.state;
+    stands = λ scripts m here. let linked : link ≡ m.link = is ∙ here.link in second.stands scripts m (search rules);
+  }
+  is_over RequestLost link new is lost second = is_broken link new is second
+  is_over ReplyLost link new is lost second = is_broken link new is second
+  is_over Both link new is lost second = absurd (not_through Both lost refl)
 
 -- ---- its node
 

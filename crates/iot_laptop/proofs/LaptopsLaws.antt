@@ -191,9 +191,6 @@ acts_next : (first : Bool) (away : Option Path) → (first ≡ true → away ≡
 acts_next true away known = ap (next_by true) (known refl)
 acts_next false away known = refl
 
-no_less : (n : ℕ) → n ≤ n
-no_less n = omega arith
-
 module _ {D : Type 0} (old new : Client D) (first : Bool) (m : ClientState) (here : StateStands (state_of old) (live_of old) first m)
     (it : clients.Running) (runs : m.running ≡ Some it) where
   abbrev s : State
@@ -231,7 +228,7 @@ module _ {D : Type 0} (old new : Client D) (first : Bool) (m : ClientState) (her
   step_by (steps.AtEnd acts) is = is_at_end first (base m) it (sym ends ∙ is.0)
   step_by (steps.AtLimit acts) is =
       is_at_limit first (base m) it (sym ends ∙ is.0)
-      (subst (λ (n : ℕ). ACT_LIMIT ≤ n) (sym is.2 ∙ counts) (no_less ACT_LIMIT))
+      (subst (λ (n : ℕ). ACT_LIMIT ≤ n) (sym is.2 ∙ counts) (omega arith))
 
   module _ (own : Live) (lives : live_of old ≡ Some own) where
     same_live : own ≡ known.besides

@@ -156,52 +156,38 @@ module _ (held : Nodes) (item : Item) (first : clients.Item) (stands : ItemStand
   abbrev local : Nodes
   local = after_acts held item.acts
 
-  own_plan : (p : plans.Plan) → plan_for item.script item.budget on.Reexec ≡ Some p → plan_by held first options.Reexec ≡ Some plan
-      → PlansAgree local p plan
-  own_plan p theirs ours =
-      let a = same_Some _ _ theirs in
-      let b = same_Some _ _ ours in
-      record {
-        name = ap (λ (p : plans.Plan). p.script) (sym a) ∙ stands.name ∙ ap (λ (plan : Plan). plan.script.name) b;
-        budget = ap (λ (p : plans.Plan). p.budget) (sym a) ∙ stands.budget ∙ ap (λ (plan : Plan). plan.budget) b;
-        files = ap (λ (p : plans.Plan). offered p.keeps local) (sym a) ∙ ap (λ (plan : Plan). plan.offered) b;
-        good = subst IsGoodPlan b (record { few = stands.few; rising = refl; good = tt });
-      }
+  as_planned : (a : plans.Plan) (b : Plan) → Some a ≡ Some p → Some b ≡ Some plan → PlansAgree local a b → PlansAgree local p plan
+  as_planned a b theirs ours agree =
+      subst (λ (p : plans.Plan). PlansAgree local p plan) (same_Some _ _ theirs)
+      (subst (PlansAgree local a) (same_Some _ _ ours) agree)
 
-  other_plan : (p : plans.Plan) (script : Declared) → plan_for item.script item.budget (on.Resolver script.name) ≡ Some p
-      → plan_by held first (options.Resolver script) ≡ Some plan → PlansAgree local p plan
-  other_plan p script theirs ours =
-      let a = same_Some _ _ theirs in
-      let b = same_Some _ _ ours in
-      record {
-        name = ap (λ (p : plans.Plan). p.script) (sym a) ∙ ap (λ (plan : Plan). plan.script.name) b;
-        budget = ap (λ (p : plans.Plan). p.budget) (sym a) ∙ ap (λ (plan : Plan). plan.budget) b;
-        files =
-            ap (λ (p : plans.Plan). offered p.keeps local) (sym a) ∙ ap files_of stands.tree ∙ ap (λ (plan : Plan). plan.offered) b;
-        good = subst IsGoodPlan b (record {
-          few = omega arith;
-          rising = (offers_files true (local_run held first).tree).rising;
-          good = tree_files_good (local_run held first).tree
-              (run_spelled first.script.code held first.budget stands.script spelled);
-        });
-      }
-
+  -- and one for which something is planned can be resolved
   agree_by : (o : OnConflict Declared) → item.option ≡ option_named o → plan_for item.script item.budget item.option ≡ Some p
-      → plan_by held first o ≡ Some plan → PlansAgree local p plan
-  agree_by options.Reexec is theirs ours =
-      own_plan p (ap (λ (option : OnConflictNamed). plan_for item.script item.budget option) (sym is) ∙ theirs) ours
-  agree_by (options.Resolver script) is theirs ours =
-      other_plan p script (ap (λ (option : OnConflictNamed). plan_for item.script item.budget option) (sym is) ∙ theirs) ours
+      → plan_by held first o ≡ Some plan → PlansAgree local p plan × CanResolve o
+  agree_by options.Reexec is theirs ours = (
+    as_planned _ _ (ap (λ (option : OnConflictNamed). plan_for item.script item.budget option) (sym is) ∙ theirs) ours (record {
+      name = stands.name;
+      budget = stands.budget;
+      files = refl;
+      good = record { few = stands.few; rising = refl; good = tt };
+    }),
+    tt,
+  )
+  agree_by (options.Resolver script) is theirs ours = (
+    as_planned _ _ (ap (λ (option : OnConflictNamed). plan_for item.script item.budget option) (sym is) ∙ theirs) ours (record {
+      name = refl;
+      budget = refl;
+      files = ap files_of stands.tree;
+      good = record {
+        few = omega arith;
+        rising = (offers_files true (local_run held first).tree).rising;
+        good = tree_files_good (local_run held first).tree (run_spelled first.script.code held first.budget stands.script spelled);
+      };
+    }),
+    tt,
+  )
   agree_by options.Abort is theirs ours = absurd cc
   agree_by options.Manual is theirs ours = absurd cc
-
--- one for which something is planned can be resolved
-can_if_planned : (held : Nodes) (first : clients.Item) (plan : Plan) (o : OnConflict Declared) → plan_by held first o ≡ Some plan
-    → CanResolve o
-can_if_planned held first plan options.Reexec is = tt
-can_if_planned held first plan (options.Resolver script) is = tt
-can_if_planned held first plan options.Abort is = absurd cc
-can_if_planned held first plan options.Manual is = absurd cc
 
 -- ---- the first that waits
 
@@ -209,15 +195,16 @@ module _ (held : Nodes) (item : Item) (first : clients.Item) (stands : ItemStand
     (plan : Plan) (ours : clients.plan_of held first ≡ Some plan) (code : Code) (same : plan.script.code ≡ code) (script : IsScript code)
     (t : Nodes) (tree : IsTree t) (done : Resolution) where
   run_by : (o : Option plans.Plan) → resolves.plan_of item ≡ o → IsPlannedRun o code (after_acts held item.acts) t done
-      → ResolutionStands done (resolution_of plan t)
+      → ResolutionStands done (resolution_of plan t) × CanResolve first.option
   run_by None theirs ran = absurd ran
   run_by (Some p) theirs ran =
-      let agree : PlansAgree (after_acts held item.acts) p plan =
-      agree_by held item first stands spelled p plan first.option stands.option theirs ours in
+      let agree = agree_by held item first stands spelled p plan first.option stands.option theirs ours in
       let shape : resolved p code (after_acts held item.acts) t ≡ shaped plan.script.name plan.budget plan.script.code plan.offered t =
-      (λ i. shaped (agree.name i) (agree.budget i) (sym same i) (agree.files i) t) in
-      subst (λ (done : Resolution). ResolutionStands done (resolution_of plan t)) (sym (ran ∙ shape))
-      (shaped_stands plan t agree.good (subst IsScript (sym same) script) tree)
+      (λ i. shaped (agree.0.name i) (agree.0.budget i) (sym same i) (agree.0.files i) t) in (
+        subst (λ (done : Resolution). ResolutionStands done (resolution_of plan t)) (sym (ran ∙ shape))
+            (shaped_stands plan t agree.0.good (subst IsScript (sym same) script) tree),
+        agree.1,
+      )
 
 module _ {scripts : List Declared} {s : State} {live : Option Live} {class : Bool} {m : ClientState}
     (here : KeptLive scripts s live class m) (plan : Plan) (planned : head_plan m.held m.items ≡ Some plan) (code : Code)
@@ -229,8 +216,6 @@ module _ {scripts : List Declared} {s : State} {live : Option Live} {class : Boo
       reached_live here (stages.Resolved done) (clients.Resolved (resolution_of plan t))
       (λ item later first others some all stands.
       let ours : clients.plan_of s.held first ≡ Some plan =
-      ap (λ (held : Nodes). clients.plan_of held first) here.kept.held ∙ ap (head_plan m.held) (sym all) ∙ planned in (
-        run_by s.held item first stands here.kept.spelled plan ours code same script t tree done _ refl
-            (subst (λ (items : List Item). IsHeadsRun s.held items code t done) some ran),
-        can_if_planned s.held first plan first.option ours,
-      ))
+      ap (λ (held : Nodes). clients.plan_of held first) here.kept.held ∙ ap (head_plan m.held) (sym all) ∙ planned in
+      run_by s.held item first stands here.kept.spelled plan ours code same script t tree done _ refl
+      (subst (λ (items : List Item). IsHeadsRun s.held items code t done) some ran))
