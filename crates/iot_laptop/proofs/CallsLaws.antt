@@ -89,13 +89,13 @@ pub record Called {D T : Type 0} (medium : Medium D) (laptop : Laptop D) (was no
   pub arms : medium.arms (disk_of now) ≡ medium.arms (disk_of was)
   pub goes : GoesOn medium (record laptop { post = Up (record { client = now }) }) new count answer x y result
 
-pub called : {D T : Type 0} {medium : Medium D} {answer : Result T ClientFault} {new : Laptop D} {count : ℕ} {x y : List ℕ}
-    {result : Result T Halt} (laptop : Laptop D) (was now : Client D)
+pub called : {D T : Type 0} {medium : Medium D} {laptop : Laptop D} {was now : Client D} {answer : Result T ClientFault} {new : Laptop D}
+    {count : ℕ} {x y : List ℕ} {result : Result T Halt} → laptop.post ≡ Up (record { client = was })
     → GoesOn medium (record laptop { post = Up (record { client = now }) }) new count answer x y result
-    → laptop.post ≡ Up (record { client = was }) → count ≡ records_in laptop → OnOk answer (IsTied medium now)
+    → count ≡ records_in laptop → OnOk answer (IsTied medium now)
     → CountsFault answer (medium.faults (disk_of was)) (medium.faults (disk_of now))
     → medium.arms (disk_of now) ≡ medium.arms (disk_of was) → Called medium laptop was now answer new x y result
-called {count = count} laptop was now goes is counted tied counts arms =
+called {count = count} is goes counted tied counts arms =
     record { count = count; is = is; counted = counted; tied = tied; counts = counts; arms = arms; goes = goes }
 
 -- what is known of a laptop before it, and of a client of the machine
@@ -190,10 +190,6 @@ module _ {D T : Type 0} {medium : Medium D} {laptop : Laptop D} {was now : Clien
   abbrev Posted : Post (Seated D) D → Node ClientState → Type 0
   Posted = PostStands (seating medium laptop.place) medium no_text
 
-  -- if its event is over, the call was stopped
-  pub answer_stopped : result ≡ Err Over → IsErrOf answer Stopped
-  answer_stopped same = call.goes.stopped (subst (λ (r : Result T Halt). IsErrOf r Over) (sym same) refl)
-
   -- ---- for each client of the machine of which this is known
 
   module _ (scripts : List Declared) (stands : Laptop D → machine.Client → Type 0) (change : ClientState → ClientState)
@@ -255,7 +251,7 @@ module _ {D T : Type 0} {medium : Medium D} {laptop : Laptop D} {was now : Clien
             },
             subst (λ (l : Laptop D). ClientStands medium scripts l (record m { node = s.1 })) (sym call.goes.rest)
                 (fallen_at medium scripts laptop m known.0.name known.0.link new.post s.1 s.4 down
-                (appends_possibly laptop.name change m.node s.1 s.0 false (λ _. (known.1.cut (answer_stopped same)).2.named)
+                (appends_possibly laptop.name change m.node s.1 s.0 false (λ _. (known.1.cut (call.goes.stopped same)).2.named)
                 (possibly_sure m.node known.0.up.sure known.0.named) s.3)),
           );
     }

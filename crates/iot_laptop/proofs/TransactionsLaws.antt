@@ -35,7 +35,7 @@ use Rattle.iot_laptop.specs.declared.laptop.Laptop.{Laptop}
 use Rattle.iot_laptop.specs.declared.needs.Gone.{Gone}
 use Rattle.iot_laptop.specs.declared.seated.Seated.{Seated}
 use Rattle.iot_laptop.proofs.RepliesLaws.{brought_tree}
-use Rattle.iot_laptop.proofs.CallsLaws.{Called, Noted, each_ok, notes_alone, alone, answer_stopped, stands_was}
+use Rattle.iot_laptop.proofs.CallsLaws.{Called, Noted, each_ok, notes_alone, alone, stands_was}
 use Rattle.iot_laptop.proofs.KeptStatesLaws.{KeptLive, ended_live, told_record, told_live}
 use Rattle.iot_laptop.proofs.KeptStatesLaws.{joined_waits, acted_live}
 use Rattle.iot_laptop.proofs.LaptopsLaws.{Running, running_is, so_far_is, may_end_is, next_is, acts_is}
@@ -191,11 +191,6 @@ waits_now was now notes =
 
 -- ---- single steps
 
-not_stopped : {T : Type 0} (answer : Result T ClientFault) (t : T) → answer ≡ Ok t → IsErrOf answer Stopped → ⊥
-not_stopped answer t is stopped =
-    let bad : IsErrOf (Ok t) Stopped = subst (λ (r : Result _ ClientFault). IsErrOf r Stopped) is stopped in
-    cc
-
 module _ {D : Type 0} {medium : Medium D} {laptop : Laptop D} {was now : Client D} {answer : Result Step ClientFault} {new : Laptop D}
     {x y : List ℕ} {result : Result Step Halt} (call : Called medium laptop was now answer new x y result)
     (placed : place_of was ≡ laptop.place) (does : IfOk answer (λ step. StepIsIfAny was (live_of was) step now))
@@ -230,7 +225,7 @@ module _ {D : Type 0} {medium : Medium D} {laptop : Laptop D} {was now : Client 
   -- the act in which it stopped
   halted : result ≡ Err Over → (own : Live) × (live_of was ≡ Some own)
       × CutsOffNext own (state_of was) (bodies_on medium was) (medium.may_leave (disk_of now))
-  halted same = cut_of (live_of was) (stops (answer_stopped call same))
+  halted same = cut_of (live_of was) (stops (call.goes.stopped same))
 
   stays : (step : Step) → result ≡ Ok step → now ≡ was → (new ≡ laptop) × (y ≡ x)
   stays step ok same = (
@@ -245,7 +240,7 @@ module _ {D : Type 0} {medium : Medium D} {laptop : Laptop D} {was now : Client 
       let ok : answer ≡ Ok (steps.Acted acts ended) = IfOk-at_ok _ same call.goes.answers in
       subst (λ (r : Result Step Halt). Changes medium act_once laptop new x y (done r)) same
       (acted_by it.0 it.1 it.2.act it.2.can it.2.next (each_ok answer (λ t other. it.2.notes))
-      (λ stopped. absurd (not_stopped answer (steps.Acted acts ended) ok stopped)))
+      (λ stopped. absurd cc))
   steps_by (Ok (steps.Fetch request path)) same =
       let it = did (steps.Fetch request path) same in
       let kept = stays (steps.Fetch request path) same it.2.1.stays in (
@@ -262,7 +257,7 @@ module _ {D : Type 0} {medium : Medium D} {laptop : Laptop D} {was now : Client 
       let it = halted same in
       subst (λ (r : Result Step Halt). Changes medium act_once laptop new x y (done r)) same
       (acted_by it.0 it.1 it.2.act it.2.can it.2.next
-      (each_ok answer (λ t ok. absurd (not_stopped answer t ok (answer_stopped call same)))) (λ again. it.2.cuts_off))
+      (each_ok answer (λ t ok. let stopped = call.goes.stopped same in absurd cc)) (λ again. it.2.cuts_off))
 
   -- so is what the machine does next
   pub next_by : (r : Result Step Halt) → result ≡ r → NextIs medium laptop r

@@ -10,15 +10,15 @@ use Rattle.iot_laptop.proofs.laptop.Laptop.end.Goals as goal
 
 pub returns-in-Ok-clause-does : goal.returns-in-Ok-clause-does
 returns-in-Ok-clause-does g c =
-    let call = called c.args.self.now c.in-Up.seated.client c.end-answer.new.self c.goes_on.ensures.goes
-    c.in-Up.is c.records-count.ensures c.end-answer.ensures.tied c.end-answer.ensures.counts c.end-answer.ensures.arms in
+    let call = called c.in-Up.is c.goes_on.ensures.goes c.records-count.ensures c.end-answer.ensures.tied
+    c.end-answer.ensures.counts c.end-answer.ensures.arms in
     ends call c.requires.over
     (record { notes = c.end-answer.ensures.notes; lives = c.end-answer.ensures.live; stops = c.end-answer.ensures.stopped }) _ c.in-Ok.is
 
 pub returns-in-Err-clause-does : goal.returns-in-Err-clause-does
 returns-in-Err-clause-does g c =
-    let call = called c.args.self.now c.in-Up.seated.client c.end-answer.new.self c.goes_on.ensures.goes
-    c.in-Up.is c.records-count.ensures c.end-answer.ensures.tied c.end-answer.ensures.counts c.end-answer.ensures.arms in
+    let call = called c.in-Up.is c.goes_on.ensures.goes c.records-count.ensures c.end-answer.ensures.tied
+    c.end-answer.ensures.counts c.end-answer.ensures.arms in
     ends call c.requires.over
     (record { notes = c.end-answer.ensures.notes; lives = c.end-answer.ensures.live; stops = c.end-answer.ensures.stopped }) _ c.in-Err.is
 

@@ -21,8 +21,8 @@ goes_on-requires-clause-fault g c =
 
 pub returns-clause-does : goal.returns-clause-does
 returns-clause-does g c =
-    let call = called c.args.self.now c.in-Up.seated.client c.resolve-answer.new.self c.goes_on.ensures.goes
-    c.in-Up.is c.records-count.ensures c.resolve-answer.ensures.tied c.resolve-answer.ensures.counts c.resolve-answer.ensures.arms in
+    let call = called c.in-Up.is c.goes_on.ensures.goes c.records-count.ensures c.resolve-answer.ensures.tied
+    c.resolve-answer.ensures.counts c.resolve-answer.ensures.arms in
     rw (sym (as_is c.goes_on.result))
     (resolves call c.args.reply.now c.args.script.value c.requires.script c.resolve-answer.ensures.only c.resolve-answer.ensures.resolves
     c.resolve-answer.ensures.live c.resolve-answer.ensures.stopped)
