@@ -56,7 +56,7 @@ use Rattle.iot_laptop.specs.declared.seated.Seated.{Seated}
 use Rattle.iot_client.proofs.SpelledLaws.{tree_spelled}
 use Rattle.iot_laptop.proofs.RepliesLaws.{brought_tree}
 use Rattle.iot_laptop.proofs.KeptStatesLaws.{KeptLive, live_then, begun_live, left_live, repaired_live}
-use Rattle.iot_laptop.proofs.NodesLaws.{not_both, up_stands, awake_at, fallen_at}
+use Rattle.iot_laptop.proofs.NodesLaws.{not_both, up_stands, awake_at, fallen_at, at_node}
 
 -- an answer that was done
 pub was_ok : {T : Type 0} (answer : Result T ClientFault) (t : T) → appended answer ≡ Ok t → answer ≡ Ok t
@@ -212,49 +212,34 @@ module _ {D T : Type 0} {medium : Medium D} {laptop : Laptop D} {was now : Clien
 
     -- it went on
     pub goes_at : (t : T) → result ≡ Ok t → StepsTo stands after_it (Writes change) laptop new x y true
-    goes_at t same = record {
-      step = λ m here.
-          let known = each m here in
-          let s = (answered m here (Ok t) same).1 in
-          let n : Node ClientState = changed change m.node in
-          let went : s.1 ≡ n = elim s.3 [ inl it ↦ it.2 | inr stop ↦ absurd (not_both stop.1) ] in
-          let it = IfOk-at_ok _ (IfOk-at_ok _ same call.goes.answers) known.1.ok in
-          let is : new ≡ record laptop { post = Up (record { client = now }) } = IfOk-at_ok _ same call.goes.same in (
-            [],
-            record m { node = n },
-            IfOk-at_ok _ same call.goes.silent ∙ sym (append-nil x),
-            record { inner = n; step = inl (refl, refl, refl); is = refl },
-            subst (λ (l : Laptop D). LaptopStands medium scripts l (record m { node = n; first = class m.first })) (sym is)
-                (awake_at medium scripts laptop m known.0.name known.0.link (Up (record { client = now })) n
-                (subst (λ (l : Laptop D). Posted l.post n) is (subst (Posted new.post) went s.4)) known.0.alive (class m.first)
-                it.2.runs it.2.named),
-          );
-    }
+    goes_at t same =
+        subst (λ (l : Laptop D). StepsTo stands after_it (Writes change) laptop l x y true) (sym call.goes.rest)
+        (at_node medium laptop new.post (λ name. Appends name change) (λ m. m.name) x y true
+        (λ m here. ((each m here).0.name, (answered m here (Ok t) same).1))
+        (λ m here n text step there.
+        let known = each m here in
+        let it = IfOk-at_ok _ (IfOk-at_ok _ same call.goes.answers) known.1.ok in
+        let live : live_by new.post ≡ live_of now = ap (λ (l : Laptop D). live_by l.post) (IfOk-at_ok _ same call.goes.same) in
+        let went : n ≡ changed change m.node = elim step [ inl it ↦ it.2 | inr stop ↦ absurd (not_both stop.1) ] in
+        subst (λ (n : Node ClientState). after_it (record laptop { post = new.post }) (record m { node = n })) (sym went)
+        (awake_at medium scripts laptop m known.0.name known.0.link new.post (changed change m.node)
+        (subst (Posted new.post) went there) known.0.alive (class m.first) (live ∙ it.2.runs) it.2.named)))
 
     -- or it stopped in that
     pub halts_at : result ≡ Err Over → StepsTo stands (ClientStands medium scripts) (Writes change) laptop new x y false
-    halts_at same = record {
-      step = λ m here.
-          let known = each m here in
-          let s = answered m here (Err Over) same in
-          let down : s.1.alive ≡ false = elim s.3 [
-            | inl it ↦ absurd (not_both (sym it.1))
-            | inr stop ↦ ap (λ (n : Node ClientState). n.alive) stop.2.is
-          ] in (
-            s.0,
-            record m { node = s.1 },
-            s.2,
-            record {
-              inner = s.1;
-              step = subst (λ (name : List ℕ). Appends name change m.node s.0 false s.1) known.0.name s.3;
-              is = refl;
-            },
-            subst (λ (l : Laptop D). ClientStands medium scripts l (record m { node = s.1 })) (sym call.goes.rest)
-                (fallen_at medium scripts laptop m known.0.name known.0.link new.post s.1 s.4 down
-                (appends_possibly laptop.name change m.node s.1 s.0 false (λ _. (known.1.cut (call.goes.stopped same)).2.named)
-                (possibly_sure m.node known.0.up.sure known.0.named) s.3)),
-          );
-    }
+    halts_at same =
+        subst (λ (l : Laptop D). StepsTo stands (ClientStands medium scripts) (Writes change) laptop l x y false) (sym call.goes.rest)
+        (at_node medium laptop new.post (λ name. Appends name change) (λ m. m.name) x y false
+        (λ m here. ((each m here).0.name, answered m here (Err Over) same))
+        (λ m here n text step there.
+        let known = each m here in
+        let down : n.alive ≡ false = elim step [
+          | inl it ↦ absurd (not_both (sym it.1))
+          | inr stop ↦ ap (λ (n : Node ClientState). n.alive) stop.2.is
+        ] in
+        fallen_at medium scripts laptop m known.0.name known.0.link new.post n there down
+        (appends_possibly laptop.name change m.node n text false (λ _. (known.1.cut (call.goes.stopped same)).2.named)
+        (possibly_sure m.node known.0.up.sure known.0.named) step)))
 
     notes_at : (t : T) → result ≡ Ok t → StepsTo stands after_it (NotesAlone change) laptop new x y (Some tt)
     notes_at t same = bind laptop new new x y y true (Some tt) (goes_at t same) (answers new new y (Some tt) (λ m here. here))

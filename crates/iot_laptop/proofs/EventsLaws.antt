@@ -177,7 +177,7 @@ module _ {D : Type 0} (medium : Medium D) (laptop : Laptop D) (post : Post (Seat
   crashes x y it off scripts =
       refines
       (bind laptop laptop next x x y laptop.name tt (asks laptop x laptop.name (same_name medium scripts laptop))
-      (at_node medium laptop post Crashes (λ _. laptop.name) x y tt it (λ m here. (refl, node_stands medium scripts laptop m here))
+      (at_node medium laptop post Crashes (λ _. laptop.name) x y tt (λ m here. (refl, it.step m.node (node_stands medium scripts laptop m here)))
       (λ m here n text step stands.
       fallen_at medium scripts laptop m (same_name medium scripts laptop m here) (same_link medium scripts laptop m here) post n stands
       (on_is (seating medium laptop.place) medium no_text post n stands ∙ off)
@@ -202,8 +202,8 @@ module _ {D : Type 0} (medium : Medium D) (laptop : Laptop D) (post : Post (Seat
     arms x y it scripts =
         refines
         (bind laptop laptop next x x y laptop.name tt (asks laptop x laptop.name (same_name medium scripts laptop))
-        (at_node medium laptop post (λ name. ArmsDisk name calls pick) (λ _. laptop.name) x y tt it
-        (λ m here. (refl, node_stands medium scripts laptop m here))
+        (at_node medium laptop post (λ name. ArmsDisk name calls pick) (λ _. laptop.name) x y tt
+        (λ m here. (refl, it.step m.node (node_stands medium scripts laptop m here)))
         (λ m here n text step stands.
         subst (λ (n : Node ClientState). ClientStands medium scripts next (record m { node = n })) (sym step.1)
         (arms_by scripts m here (subst (Posted post) step.1 stands)))))
@@ -298,8 +298,8 @@ module _ {D : Type 0} (medium : Medium D) (laptop : Laptop D) (new : IsUnopened 
         → Refines (ClientStands medium scripts) OpensClient laptop (record laptop { post = post }) x y on
     opens scripts =
         refines
-        (at_node medium laptop post OpensNode (λ m. m.name) x y on it
-        (λ m here. (same_name medium scripts laptop m here, node_stands medium scripts laptop m here))
+        (at_node medium laptop post OpensNode (λ m. m.name) x y on
+        (λ m here. (same_name medium scripts laptop m here, it.step m.node (node_stands medium scripts laptop m here)))
         (λ m here n text step stands.
         let down : FallenStands medium scripts laptop m =
         fallen_stands medium scripts laptop m (ap (λ (p : Post (Seated D) D). is_on p) new.down) here in

@@ -16,7 +16,7 @@ use Rattle.iot_machine.specs.Refining.{Refines}
 use Rattle.iot_machine.specs.Sound.{Possibly}
 use Rattle.iot_machine.proofs.PossiblyLaws.{possibly_sure}
 use Rattle.iot_node.specs.Keeping.{Keeping}
-use Rattle.iot_node.specs.Posts.{PostStands, UpStands, is_on}
+use Rattle.iot_node.specs.Posts.{PostStands, UpStands, StepsFrom, is_on}
 use Rattle.iot_node.specs.Steps.{StepsTo}
 use Rattle.iot_node.specs.declared.post.Post.{Post}
 use Rattle.iot_node.specs.declared.post.Post.TheVariants.{Up, Down, Between}
@@ -171,18 +171,18 @@ refines steps = record { step = steps.step }
 pub at_node : {D A : Type 0} (medium : Medium D) (laptop : Laptop D) (post : Post (Seated D) D)
     {before after : Laptop D → machine.Client → Type 0} (call : List ℕ → Call (Node ClientState) A)
     (names : machine.Client → List ℕ) (x y : List ℕ) (a : A)
-    → Refines (PostStands (seating medium laptop.place) medium no_text) (call laptop.name) laptop.post post x y a
-    → ((m : machine.Client) → before laptop m → (laptop.name ≡ names m) × NodeStands medium laptop m)
+    → ((m : machine.Client) → before laptop m → (laptop.name ≡ names m)
+    × StepsFrom (PostStands (seating medium laptop.place) medium no_text) (call laptop.name) m.node post x y a)
     → ((m : machine.Client) → before laptop m → (n : Node ClientState) (text : List ℕ) → call laptop.name m.node text a n
     → PostStands (seating medium laptop.place) medium no_text post n → after (record laptop { post = post }) (record m { node = n }))
     → StepsTo before after (λ m. At machine.node (call (names m)) m) laptop (record laptop { post = post }) x y a
-at_node medium laptop post call names x y a it here each = record {
-  step = λ m known.
-      let s = it.step m.node (here m known).1 in (
+at_node medium laptop post call names x y a it each = record {
+  step = λ m here.
+      let s = (it m here).1 in (
         s.0,
         record m { node = s.1 },
         s.2,
-        record { inner = s.1; step = subst (λ (name : List ℕ). call name m.node s.0 a s.1) (here m known).0 s.3; is = refl },
-        each m known s.1 s.0 s.3 s.4,
+        record { inner = s.1; step = subst (λ (name : List ℕ). call name m.node s.0 a s.1) (it m here).0 s.3; is = refl },
+        each m here s.1 s.0 s.3 s.4,
       );
 }

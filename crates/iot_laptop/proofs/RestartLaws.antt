@@ -105,7 +105,7 @@ module _ {D : Type 0} (medium : Medium D) (old : Laptop D) where
         bind old old new x x z false tt (asks old x false (λ m down. sym down.alive))
         (bind old old new x x z old.name tt (asks old x old.name (λ m down. down.name))
         (bind {mid = stands} old mid new x y z on tt
-        (at_node medium old post (λ name. ComesBack name no_text) (λ _. old.name) x y on back.steps (λ m down. (refl, down.node))
+        (at_node medium old post (λ name. ComesBack name no_text) (λ _. old.name) x y on (λ m down. (refl, back.steps.step m.node down.node))
         (λ m down n text step there.
         each m down n there ((comes_within old.name no_text m.node n text on step).each (AreNamed scripts) down.named)))
         rest)) in
