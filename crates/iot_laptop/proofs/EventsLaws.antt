@@ -1,9 +1,9 @@
 -- What befalls a laptop: its link, and a start, a crash and an armed disk of its node.
 use Rattle.std.proofs.Common.{◌≡◌, ◌⊎◌, ℕ, true, false, List, ◌++◌, Option, Some, inl, inr, refl, sym, ap, subst, ◌∙◌, Bool, [], None, rules}
 use Rattle.std.proofs.Common.{Result, Ok, Err, if◌then◌else◌}
-use Rattle.iot_kept.specs.States.{State, Transaction, opening}
+use Rattle.iot_kept.specs.States.{Transaction, opening}
 use Rattle.iot_client.specs.Calls.{second_class}
-use Rattle.iot_client.specs.Ties.{Live, IsTied, state_of, live_of, place_of, disk_of, records_of}
+use Rattle.iot_client.specs.Ties.{IsTied, state_of, live_of, place_of, disk_of, records_of}
 use Rattle.iot_client.specs.declared.client.Client.{Client}
 use Rattle.iot_disk.specs.Disk.{Medium}
 use Rattle.iot_link.specs.Links.{LinkState, after_exchange}
@@ -16,7 +16,7 @@ use Rattle.iot_machine.specs.Texts.{disconnect_line}
 use Rattle.iot_node.specs.Disks.{counts_on, IsEmpty}
 use Rattle.iot_node.specs.Posts.{UpStands, is_on, PostStands, Ready, IsStanding}
 use Rattle.iot_node.specs.declared.post.Post.{Post}
-use Rattle.iot_node.specs.declared.post.Post.TheVariants.{Up, Down, Between}
+use Rattle.iot_node.specs.declared.post.Post.TheVariants.{Up, Down}
 use Rattle.iot_node.proofs.StepsLaws.{does}
 use Rattle.iot_machine.specs.Events.{no_text, Disconnects, CrashesClient, ArmsClient}
 use Rattle.iot_machine.specs.Machine.{break}
@@ -40,7 +40,7 @@ use Rattle.iot_judging.proofs.SpelledTreesLaws.{far_root_spelled}
 use Rattle.iot_machine.specs.Nodes.{Node, armed, unopened}
 use Rattle.iot_machine.specs.Sound.{Possibly}
 use Rattle.iot_machine.specs.Stops.{Crashes, ArmsDisk, OpensNode}
-use Rattle.iot_machine.proofs.PossiblyLaws.{SameStates, possibly_same, opens_states, crashes_within}
+use Rattle.iot_machine.proofs.PossiblyLaws.{possibly_same, opens_states, crashes_within}
 use Rattle.iot_node.proofs.StepsToLaws.{bind, asks}
 use Rattle.iot_laptop.specs.Alone.{OpensClient}
 use Rattle.iot_laptop.specs.Scripts.{AreNamed}

@@ -4,7 +4,5 @@ pub mod KeptStatesLaws
 pub mod LaptopsLaws
 pub mod NodesLaws
 pub mod RepliesLaws
-pub mod ResolutionLaws
 pub mod RestartLaws
 pub mod SeatsLaws
-pub mod TransactionsLaws

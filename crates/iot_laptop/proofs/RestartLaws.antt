@@ -40,7 +40,7 @@ use Rattle.iot_node.proofs.StepsToLaws.{bind, asks, says, says_this, nothing}
 use Rattle.iot_machine.specs.Events.{no_text, CutsOff, RestartsClient, cuts_off}
 use Rattle.iot_laptop.specs.Calls.{ReturnedStands, Returned, Came, running_name}
 use Rattle.iot_laptop.specs.Kept.{RunningKeptIfAny}
-use Rattle.iot_laptop.specs.Laptops.{LaptopStands, FallenStands, ClientStands, awake, fallen, StandsAnyhow, is_alive, disk_by}
+use Rattle.iot_laptop.specs.Laptops.{LaptopStands, FallenStands, ClientStands, awake, StandsAnyhow, is_alive, disk_by}
 use Rattle.iot_laptop.specs.Laptops.{state_in, live_by, state_by}
 use Rattle.iot_laptop.specs.Messages.{name_of}
 use Rattle.iot_laptop.specs.Scripts.{AreNamed}

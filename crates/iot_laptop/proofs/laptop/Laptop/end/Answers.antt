@@ -5,7 +5,7 @@ use Rattle.iot_client.specs.Ties.{state_of, live_of}
 use Rattle.iot_laptop.specs.Laptops.{state_in, waits_of}
 use Rattle.iot_laptop.specs.declared.laptop.Laptop.{Laptop}
 use Rattle.iot_laptop.proofs.CallsLaws.{called}
-use Rattle.iot_laptop.proofs.TransactionsLaws.{ends, is_gone, is_done, waits_now}
+use Rattle.iot_laptop.proofs.CallsLaws.{ends, is_gone, is_done, waits_now}
 use Rattle.iot_laptop.proofs.laptop.Laptop.end.Goals as goal
 
 pub returns-in-Ok-clause-does : goal.returns-in-Ok-clause-does

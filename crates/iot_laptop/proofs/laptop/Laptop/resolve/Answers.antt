@@ -7,7 +7,7 @@ use Rattle.iot_node.specs.declared.post.Post.{Post}
 use Rattle.iot_laptop.specs.Laptops.{state_by}
 use Rattle.iot_laptop.proofs.CallsLaws.{called, as_is}
 use Rattle.iot_laptop.proofs.RepliesLaws.{none_bad, whole_read}
-use Rattle.iot_laptop.proofs.TransactionsLaws.{resolves}
+use Rattle.iot_laptop.proofs.CallsLaws.{resolves}
 use Rattle.iot_laptop.proofs.laptop.Laptop.resolve.Goals as goal
 
 pub goes_on-requires-clause-fault : goal.goes_on-requires-clause-fault

@@ -1,5 +1,5 @@
 use Rattle.iot_laptop.proofs.CallsLaws.{called}
-use Rattle.iot_laptop.proofs.TransactionsLaws.{settles}
+use Rattle.iot_laptop.proofs.CallsLaws.{settles}
 use Rattle.iot_laptop.proofs.laptop.Laptop.settle.Goals as goal
 
 pub returns-in-Ok-clause-does : goal.returns-in-Ok-clause-does

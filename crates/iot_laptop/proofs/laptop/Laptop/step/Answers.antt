@@ -1,7 +1,7 @@
 use Rattle.std.proofs.Common.{refl}
 use Rattle.iot_laptop.proofs.CallsLaws.{called}
 use Rattle.iot_laptop.proofs.NodesLaws.{lent_at}
-use Rattle.iot_laptop.proofs.TransactionsLaws.{steps_by, next_by}
+use Rattle.iot_laptop.proofs.CallsLaws.{steps_by, next_by}
 use Rattle.iot_laptop.proofs.laptop.Laptop.step.Goals as goal
 
 pub returns-clause-next : goal.returns-clause-next
