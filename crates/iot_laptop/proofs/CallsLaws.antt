@@ -34,7 +34,7 @@ use Rattle.iot_machine.specs.Transactions.{Writes}
 use Rattle.iot_machine.proofs.PossiblyLaws.{possibly_sure, appends_possibly}
 use Rattle.iot_node.specs.Disks.{KeepsDisk}
 use Rattle.iot_node.specs.Keeping.{Appended}
-use Rattle.iot_node.specs.Posts.{PostStands, UpStands, StepsFrom, Answered, is_on}
+use Rattle.iot_node.specs.Posts.{UpStands, StepsFrom, Answered, is_on}
 use Rattle.iot_node.specs.Steps.{StepsTo, EndsBy}
 use Rattle.iot_node.specs.declared.halt.Halt.{Halt}
 use Rattle.iot_node.specs.declared.halt.Halt.TheVariants.{NoMemory, Over}
@@ -55,7 +55,7 @@ use Rattle.iot_laptop.specs.declared.seated.Seated.{Seated}
 use Rattle.iot_client.proofs.SpelledLaws.{tree_spelled}
 use Rattle.iot_laptop.proofs.RepliesLaws.{brought_tree}
 use Rattle.iot_laptop.proofs.KeptStatesLaws.{KeptLive, live_then, begun_live, left_live, repaired_live, ended_live, told_record, told_live}
-use Rattle.iot_laptop.proofs.NodesLaws.{not_both, up_stands, awake_at, fallen_at, at_node, own_in, at_post}
+use Rattle.iot_laptop.proofs.NodesLaws.{Posted, not_both, up_stands, awake_at, fallen_at, at_node, own_in, at_post}
 use Rattle.iot_tree.specs.declared.acts.Read.{Read}
 use Rattle.iot_queue.specs.declared.items.Resolution.{Resolution}
 use Rattle.iot_lang.specs.Code.{Code}
@@ -235,9 +235,6 @@ module _ {D T : Type 0} {medium : Medium D} {laptop : Laptop D} {was now : Clien
   abbrev cuts : Change → Type 0
   cuts change = CutsOff change s (bodies_on medium was) (medium.may_leave (disk_of now))
 
-  abbrev Posted : Post (Seated D) D → Node ClientState → Type 0
-  Posted = PostStands (seating medium laptop.place) medium no_text
-
   -- ---- for each client of the machine of which this is known
 
   module _ (scripts : List Declared) (stands : Laptop D → machine.Client → Type 0) (change : ClientState → ClientState)
@@ -248,10 +245,10 @@ module _ {D T : Type 0} {medium : Medium D} {laptop : Laptop D} {was now : Clien
     after_it l m = LaptopStands medium scripts l (record m { first = class m.first })
 
     answered : (m : machine.Client) → stands laptop m → (r : Result T Halt) → result ≡ r
-        → Answered (StepsFrom Posted (Appends laptop.name change) m.node new.post x y) (appended answer) r
+        → Answered (StepsFrom (Posted medium laptop) (Appends laptop.name change) m.node new.post x y) (appended answer) r
     answered m here r same =
         let known = each m here in
-        subst (λ (r : Result T Halt). Answered (StepsFrom Posted (Appends laptop.name change) m.node new.post x y) (appended answer) r)
+        subst (λ (r : Result T Halt). Answered (StepsFrom (Posted medium laptop) (Appends laptop.name change) m.node new.post x y) (appended answer) r)
         same
         (call.goes.step (record { client = was }) (record { client = now }) change m.node refl known.0.up
         (appended_by medium laptop.place was now answer scripts m.node.durable change (class m.first) known.1 call.tied call.counts
@@ -271,7 +268,7 @@ module _ {D T : Type 0} {medium : Medium D} {laptop : Laptop D} {was now : Clien
         let went : n ≡ changed change m.node = elim step [ inl it ↦ it.2 | inr stop ↦ absurd (not_both stop.1) ] in
         subst (λ (n : Node ClientState). after_it (record laptop { post = new.post }) (record m { node = n })) (sym went)
         (awake_at medium scripts laptop m known.0.name known.0.link new.post (changed change m.node)
-        (subst (Posted new.post) went there) known.0.alive (class m.first) (live ∙ it.2.runs) it.2.named)))
+        (subst (Posted medium laptop new.post) went there) known.0.alive (class m.first) (live ∙ it.2.runs) it.2.named)))
 
     -- or it stopped in that
     pub halts_at : result ≡ Err Over → StepsTo stands (ClientStands medium scripts) (Writes change) laptop new x y false

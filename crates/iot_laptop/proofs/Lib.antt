@@ -1,5 +1,4 @@
 pub mod CallsLaws
-pub mod EventsLaws
 pub mod KeptStatesLaws
 pub mod LaptopsLaws
 pub mod NodesLaws

@@ -39,6 +39,10 @@ not_both e = cc
 pub at_post : {D : Type 0} (laptop : Laptop D) (post : Post (Seated D) D) → laptop.post ≡ post → record laptop { post = post } ≡ laptop
 at_post laptop post is = ap (λ (p : Post _ _). record laptop { post = p }) (sym is)
 
+-- a laptop with this post is over this node
+abbrev pub Posted : {D : Type 0} → Medium D → Laptop D → Post (Seated D) D → Node ClientState → Type 0
+Posted medium laptop = PostStands (seating medium laptop.place) medium no_text
+
 -- a node is alive exactly if the machine's is
 pub on_is : {K S D : Type 0} (keeping : Keeping K S D) (medium : Medium D) (says : S → S → List ℕ) (post : Post K D) (node : Node S)
     → PostStands keeping medium says post node → node.alive ≡ is_on post
@@ -63,8 +67,6 @@ kept_up medium place Between node here up = absurd here
 
 module _ {D : Type 0} (medium : Medium D) where
   module _ (scripts : List Declared) (laptop : Laptop D) (m : machine.Client) where
-    abbrev Posted : Post (Seated D) D → Node ClientState → Type 0
-    Posted = PostStands (seating medium laptop.place) medium no_text
 
     node_is : NodeStands medium laptop m → m.node.alive ≡ is_alive laptop
     node_is here = on_is (seating medium laptop.place) medium no_text laptop.post m.node here
@@ -99,7 +101,7 @@ module _ {D : Type 0} (medium : Medium D) where
     -- it is the keeper of its node
     pub up_stands : (it : Client D) → laptop.post ≡ Up (record { client = it }) → LaptopStands medium scripts laptop m
         → UpStands (seating medium laptop.place) medium no_text (record { client = it }) m.node
-    up_stands it is here = subst (λ (p : Post (Seated D) D). Posted p m.node) is here.node
+    up_stands it is here = subst (λ (p : Post (Seated D) D). Posted medium laptop p m.node) is here.node
 
     up_at : LaptopStands medium scripts laptop m → (seated : Seated D) × (laptop.post ≡ Up seated)
     up_at here = on_has laptop.post (is_awake here)
@@ -137,7 +139,7 @@ module _ {D : Type 0} (medium : Medium D) where
     -- ---- over another post
 
     module _ (name : laptop.name ≡ m.name) (link : laptop.link ≡ m.link) (post : Post (Seated D) D) (n : Node ClientState)
-        (stands : Posted post n) where
+        (stands : Posted medium laptop post n) where
       pub awake_at : n.alive ≡ true → (first : Bool) → live_by post ≡ live_with first n.durable.running → AreNamed scripts n.durable
           → LaptopStands medium scripts (record laptop { post = post }) (record m { node = n; first = first })
       awake_at up first runs named =
@@ -172,9 +174,9 @@ pub at_node : {D A : Type 0} (medium : Medium D) (laptop : Laptop D) (post : Pos
     {before after : Laptop D → machine.Client → Type 0} (call : List ℕ → Call (Node ClientState) A)
     (names : machine.Client → List ℕ) (x y : List ℕ) (a : A)
     → ((m : machine.Client) → before laptop m → (laptop.name ≡ names m)
-    × StepsFrom (PostStands (seating medium laptop.place) medium no_text) (call laptop.name) m.node post x y a)
+    × StepsFrom (Posted medium laptop) (call laptop.name) m.node post x y a)
     → ((m : machine.Client) → before laptop m → (n : Node ClientState) (text : List ℕ) → call laptop.name m.node text a n
-    → PostStands (seating medium laptop.place) medium no_text post n → after (record laptop { post = post }) (record m { node = n }))
+    → Posted medium laptop post n → after (record laptop { post = post }) (record m { node = n }))
     → StepsTo before after (λ m. At machine.node (call (names m)) m) laptop (record laptop { post = post }) x y a
 at_node medium laptop post call names x y a it each = record {
   step = λ m here.

@@ -1,6 +1,6 @@
 use Rattle.std.proofs.lemmas.Result.{IfOk-weaker}
 use Rattle.iot_machine.specs.Events.{no_text}
-use Rattle.iot_laptop.proofs.EventsLaws.{arms, live_again}
+use Rattle.iot_laptop.proofs.RestartLaws.{arms, live_again}
 use Rattle.iot_laptop.proofs.laptop.Laptop.arm.Goals as goal
 
 pub returns-clause-step : goal.returns-clause-step

@@ -1,7 +1,7 @@
 use Rattle.std.proofs.lemmas.Result.{IfOk-weaker}
 use Rattle.iot_link.specs.Links.{arming}
 use Rattle.iot_machine.specs.Texts.{lose_line}
-use Rattle.iot_laptop.proofs.EventsLaws.{relinks}
+use Rattle.iot_laptop.proofs.RestartLaws.{relinks}
 use Rattle.iot_laptop.proofs.laptop.Laptop.lose.Goals as goal
 
 pub returns-clause-step : goal.returns-clause-step

@@ -1,5 +1,5 @@
 use Rattle.iot_machine.specs.Events.{no_text}
-use Rattle.iot_laptop.proofs.EventsLaws.{if_two, opens, opens_ready, opens_standing, live_fresh}
+use Rattle.iot_laptop.proofs.RestartLaws.{if_two, opens, opens_ready, opens_standing, live_fresh}
 use Rattle.iot_laptop.proofs.laptop.Laptop.open.Goals as goal
 
 pub open-requires-clause-ready : goal.open-requires-clause-ready
