@@ -54,7 +54,7 @@ use Rattle.iot_laptop.specs.declared.laptop.Laptop.{Laptop}
 use Rattle.iot_laptop.specs.declared.seated.Seated.{Seated}
 use Rattle.iot_client.proofs.SpelledLaws.{tree_spelled}
 use Rattle.iot_laptop.proofs.RepliesLaws.{brought_tree}
-use Rattle.iot_laptop.proofs.KeptStatesLaws.{KeptLive, live_then, begun_live, left_live, repaired_live, ended_live, told_record, told_live}
+use Rattle.iot_laptop.proofs.KeptStatesLaws.{KeptLive, live_then, begun_live, left_live, repaired_live, ended_live, noted_as, told_live}
 use Rattle.iot_laptop.proofs.NodesLaws.{Posted, not_both, up_stands, awake_at, fallen_at, at_node, own_in, at_post}
 use Rattle.iot_tree.specs.declared.acts.Read.{Read}
 use Rattle.iot_queue.specs.declared.items.Resolution.{Resolution}
@@ -206,11 +206,6 @@ appended_by medium place was now (Err other) scripts m change first fits tied co
 
 -- ---- what is said of the first that waits
 
--- of a transaction that was submitted
-abbrev noted_as : serving.Verdict → NotedIn
-noted_as (serving.Settled number) = noteds.Settled number
-noted_as (serving.Conflict read question) = noteds.Conflict read
-
 said_as : (reads : List Read) (reply : List ℕ) (told : serving.Verdict) (said : NotedIn) → SpellsVerdict reads reply told
     → ReadsNoted reply → noted_in reply ≡ Ok said → said ≡ noted_as told
 said_as reads reply (serving.Settled number) said (inl spells) only read =
@@ -219,11 +214,6 @@ said_as reads reply (serving.Settled number) said (inr spells) only read =
     let is : noted_in reply ≡ Ok (noteds.Settled number) = only (replies.Already number) spells in cc
 said_as reads reply (serving.Conflict place question) said spells only read =
     let is : noted_in reply ≡ Ok (noteds.Conflict place) = only (replies.Conflict place spells.1.answer) spells.1.spelled in cc
-
--- the change that is noted of it
-record_as : (told : serving.Verdict) → verdict_change (noted_as told) ≡ told_record told
-record_as (serving.Settled number) = refl
-record_as (serving.Conflict read question) = refl
 
 -- ---- a call of this laptop
 
@@ -441,19 +431,18 @@ module _ {D T : Type 0} {medium : Medium D} {laptop : Laptop D} {was now : Clien
       let is_first : head_option s.items ≡ Some option =
       subst (λ (p : Post (Seated D) D). head_option (state_by p).items ≡ Some option) call.is first in
       subst (λ (r : Result T Halt). EndsAlone medium scripts (NotesAlone (told_change told option)) laptop new x y (done r)) same
-      (alone scripts (told_change told option) (told_record told) (live_of was)
+      (alone scripts (told_change told option) (verdict_change (noted_as told)) (live_of was)
       (record {
         notes = each_ok answer (λ t ok.
             subst (λ (change : Change). Notes change was now)
             (ap verdict_change
-            (said_as (head_reads s.items) reply told (noted t) spelled only (IfOk-at_ok (λ u. noted_in reply ≡ Ok (noted u)) ok reads))
-            ∙ record_as told)
+            (said_as (head_reads s.items) reply told (noted t) spelled only (IfOk-at_ok (λ u. noted_in reply ≡ Ok (noted u)) ok reads)))
             (IfOk-at_ok (λ u. Notes (verdict_change (noted u)) was now) ok notes));
         lives = lives;
         stops = λ stopped.
             let cut = stops stopped in
             subst (λ (change : Change). CutsOff change s (bodies_on medium was) (medium.may_leave (disk_of now)))
-            (ap verdict_change (said_as (head_reads s.items) reply told cut.said spelled only cut.noted) ∙ record_as told) cut.cuts_off;
+            (ap verdict_change (said_as (head_reads s.items) reply told cut.said spelled only cut.noted)) cut.cuts_off;
       })
       (λ m here. told_live here told option is_first))
 

@@ -29,7 +29,9 @@ use Rattle.iot_kept.specs.Changes as records
 use Rattle.iot_kept.specs.Changes.{CanFollow, HeadIs, MayLeave, after, ended, left, stays_in, stage_by, conflicted, repaired}
 use Rattle.iot_kept.specs.Changes.{with_acts}
 use Rattle.iot_client.specs.Ties.{Live, count}
-use Rattle.iot_client.specs.Calls.{CanAct, next_acts, has_ended, may_end, second_class, IsPlannedRun, IsHeadsRun}
+use Rattle.iot_client.specs.declared.noted.Noted.{Noted as NotedIn}
+use Rattle.iot_client.specs.declared.noted.Noted.TheVariants as noteds
+use Rattle.iot_client.specs.Calls.{verdict_change, CanAct, next_acts, has_ended, may_end, second_class, IsPlannedRun, IsHeadsRun}
 use Rattle.iot_machine.specs.Clients as clients
 use Rattle.iot_machine.specs.Clients.{Declared, ClientState, base, so_far, plain_run, begin, fetch, anew, act_once, one_more, cut_by, cut}
 use Rattle.iot_machine.specs.Clients.{leave, leave_by, change_first, with_first, local_run, item_of, joined, end, hold, reach}
@@ -204,9 +206,6 @@ acts_more : (acts : List Act) (act : Act) (t : Nodes) → after_acts t (acts ++ 
 acts_more [] act t = refl
 acts_more (first ∷ later) act t = acts_more later act (after_update t first.update)
 
-one_act : (act other : Act) → act ∷ [] ≡ other ∷ [] → act ≡ other
-one_act act other e = cc
-
 -- the act is the next one of the run
 more_kept : (t : Nodes) (running : Transaction) (it : clients.Running) (act : Act) → RunningKept t running it → it.acts < ACT_LIMIT
     → (so_far t it).ended ≡ false → drop it.acts (plain_run it.script t (it.acts + 1)).acts ≡ act ∷ []
@@ -214,11 +213,11 @@ more_kept : (t : Nodes) (running : Transaction) (it : clients.Running) (act : Ac
 more_kept t running it act kept within on next =
     let more : HasOneMore it.acts (so_far t it) (plain_run it.script t (it.acts + 1)) =
     has_one_more it.script.code empty t it.acts on in
-    let same : more.act ≡ act =
-    one_act more.act act
-    (sym (drop-append_seam (so_far t it).acts (more.act ∷ []))
+    let one : more.act ∷ [] ≡ act ∷ [] =
+    sym (drop-append_seam (so_far t it).acts (more.act ∷ []))
     ∙ ap (λ (n : ℕ). drop n ((so_far t it).acts ++ more.act ∷ [])) more.count
-    ∙ ap (drop it.acts) (sym more.acts) ∙ next) in
+    ∙ ap (drop it.acts) (sym more.acts) ∙ next in
+    let same : more.act ≡ act = cc in
     record {
       number = kept.number;
       name = kept.name;
@@ -295,27 +294,7 @@ module _ (s : State) (m : ClientState) (here : StateKept s m) where
     named = record { items = cut_off_named scripts m.items m.running named.items named.running; running = tt };
   }
 
-module _ (s : State) (live : Live) (first : Bool) (m : ClientState) (here : StateStands s (Some live) first m) (act : Act)
-    (can : CanAct s live) (next : next_acts s live.code ≡ act ∷ []) where
-  more_run : (it : clients.Running) (runs : m.running ≡ Some it) (running : Transaction) → RunningKept (base m) running it
-      → RunningKept (base m) (record running { acts = running.acts ++ act ∷ [] }) (one_more it)
-  more_run it runs running kept =
-      let known : Running s.running (Some live) first it = running_is s (Some live) first m here it runs in
-      let same : live ≡ known.besides = same_Some live known.besides known.lives in
-      let many : count s ≡ it.acts = counted s (Some live) first m here it runs in
-      more_kept (base m) running it act kept (subst (λ (n : ℕ). n < ACT_LIMIT) many can.within)
-      (sym (ended_is s (Some live) first m here it runs) ∙ ap (λ (l : Live). has_ended s l.code) (sym same) ∙ can.goes_on)
-      (ap (λ (n : ℕ). drop n (plain_run it.script (base m) (n + 1)).acts) (sym many)
-      ∙ ap (λ (ran : Ran). drop (count s) ran.acts) (sym (run_is s (Some live) first m here it runs (count s + 1)))
-      ∙ ap (λ (l : Live). next_acts s l.code) (sym same) ∙ next)
-
-  more_by : (r : Option Transaction) (o : Option clients.Running) → o ≡ m.running → RunningKeptIfAny (base m) r o
-      → RunningKeptIfAny (base m) (with_acts (λ acts. acts ++ act ∷ []) r) (option_map one_more o)
-  more_by None None is kept = tt
-  more_by (Some running) (Some it) is kept = more_run it (sym is) running kept
-  more_by r o is kept = absurd kept
-
-abbrev pub OneFile : Type 0
+abbrev OneFile : Type 0
 OneFile = Path × List ℕ
 
 -- ---- files that rise
@@ -469,10 +448,10 @@ module _ (held : Nodes) (item : Item) (first : clients.Item) (stands : ItemStand
         agree.1,
       )
 
--- what is noted of the first that was submitted
-abbrev pub told_record : serving.Verdict → Change
-told_record (serving.Settled number) = changes.Left
-told_record (serving.Conflict read question) = changes.Conflicted
+-- what is said of the first that was submitted
+abbrev pub noted_as : serving.Verdict → NotedIn
+noted_as (serving.Settled number) = noteds.Settled number
+noted_as (serving.Conflict read question) = noteds.Conflict read
 
 -- ---- a record each
 
@@ -517,13 +496,24 @@ module _ {scripts : List Declared} {s : State} {live : Option Live} {first : Boo
   pub acted_live : (own : Live) → live ≡ Some own → (act : Act) → CanAct s own → next_acts s own.code ≡ act ∷ []
       → KeptLive scripts (after s (changes.Acted act)) live first (act_once m)
   acted_live own lives act can next = record {
-    kept =
-        with_queue s m here.kept s.items m.items _ _ here.kept.items
-        (more_by s own first m (subst (λ (l : Option Live). StateStands s l first m) lives stands_so) act can next
-        s.running m.running refl here.kept.running);
+    kept = with_queue s m here.kept s.items m.items _ _ here.kept.items (by s.running m.running refl here.kept.running);
     runs = here.runs ∙ same_live (λ acts. acts + 1) first m.running;
     named = record { items = here.named.items; running = acts_named scripts (λ acts. acts + 1) m.running here.named.running };
   }
+    where
+      by : (r : Option Transaction) (o : Option clients.Running) → m.running ≡ o → RunningKeptIfAny (base m) r o
+          → RunningKeptIfAny (base m) (with_acts (λ acts. acts ++ act ∷ []) r) (option_map one_more o)
+      by None None is kept = tt
+      by (Some running) (Some it) is kept =
+          let known : Running s.running live first it = running_is s live first m stands_so it is in
+          let same : own ≡ known.besides = same_Some own known.besides (sym lives ∙ known.lives) in
+          let many : count s ≡ it.acts = counted s live first m stands_so it is in
+          more_kept (base m) running it act kept (subst (λ (n : ℕ). n < ACT_LIMIT) many can.within)
+          (sym (ended_is s live first m stands_so it is) ∙ ap (λ (l : Live). has_ended s l.code) (sym same) ∙ can.goes_on)
+          (ap (λ (n : ℕ). drop n (plain_run it.script (base m) (n + 1)).acts) (sym many)
+          ∙ ap (λ (ran : Ran). drop (count s) ran.acts) (sym (run_is s live first m stands_so it is (count s + 1)))
+          ∙ ap (λ (l : Live). next_acts s l.code) (sym same) ∙ next)
+      by r o is kept = absurd kept
 
   pub ended_live : may_end s live ≡ true → KeptLive scripts (after s changes.Ended) None first (end m)
   ended_live may = record {
@@ -581,35 +571,31 @@ module _ {scripts : List Declared} {s : State} {live : Option Live} {first : Boo
       changed_live (λ _. on.Resolver name) (λ _. options.Resolver script) stages.Conflict clients.Conflict (λ o has. named)
       (λ item later it after some all stands. (ap (λ (n : List ℕ). on.Resolver n) (sym is), tt, tt))
 
-  left_head : (item : Item) (items : List Item) → HeadStands s.held item items m.items
-      → KeptLive scripts (record s { held = after_acts s.held item.acts; items = items }) live first (leave m)
-  left_head item items head =
-      subst
-      (λ (ms : List clients.Item). KeptLive scripts (record s { held = after_acts s.held item.acts; items = items }) live first
-      (leave_by ms m))
-      (sym head.split)
-      (record {
-        kept = record {
-          held = head.stands.tree ∙ ap (λ (t : Nodes). (local_run t head.first).tree) here.kept.held;
-          items = head.rest;
-          running =
-              subst (λ (ms : List clients.Item). RunningKeptIfAny (base (leave_by ms m)) s.running m.running) head.split
-              (subst (λ (t : Nodes). RunningKeptIfAny t s.running m.running) (sym (base_stays m)) here.kept.running);
-          last = here.kept.last;
-          tree = subst IsTree (sym head.stands.tree) (run_tree head.first.script.code empty s.held head.first.budget here.kept.tree);
-          spelled = subst IsSpelledTree (sym head.stands.tree)
-              (run_spelled head.first.script.code s.held head.first.budget head.stands.script here.kept.spelled);
-        };
-        runs = here.runs;
-        named = record { items = (subst (AllNamed scripts) head.split here.named.items).1; running = here.named.running };
-      })
+  left_by : (queue : List Item) (ms : List clients.Item) → (queue ≡ [] → ⊥) → ItemsStand queue s.held ms
+      → RunningKeptIfAny (base (leave_by ms m)) s.running m.running → AllNamed scripts ms
+      → KeptLive scripts (left s queue) live first (leave_by ms m)
+  left_by [] ms some stand runs named = absurd (some refl)
+  left_by (item ∷ items) (it ∷ ms) some stand runs named = record {
+    kept = record {
+      held = stand.0.tree ∙ ap (λ (t : Nodes). (local_run t it).tree) here.kept.held;
+      items = stand.1;
+      running = runs;
+      last = here.kept.last;
+      tree = subst IsTree (sym stand.0.tree) (run_tree it.script.code empty s.held it.budget here.kept.tree);
+      spelled = subst IsSpelledTree (sym stand.0.tree) (run_spelled it.script.code s.held it.budget stand.0.script here.kept.spelled);
+    };
+    runs = here.runs;
+    named = record { items = named.1; running = here.named.running };
+  }
+  left_by queue ms some stand runs named = absurd stand
 
-  left_by : (queue : List Item) → queue ≡ s.items → (queue ≡ [] → ⊥) → KeptLive scripts (left s queue) live first (leave m)
-  left_by [] is some = absurd (some refl)
-  left_by (item ∷ items) is some = left_head item items (head_by s.items s.held m.items item items (sym is) here.kept.items)
+  left_so : (s.items ≡ [] → ⊥) → KeptLive scripts (left s s.items) live first (leave m)
+  left_so some =
+      left_by s.items m.items some here.kept.items
+      (subst (λ (t : Nodes). RunningKeptIfAny t s.running m.running) (sym (base_stays m)) here.kept.running) here.named.items
 
   pub left_live : CanFollow s changes.Left → KeptLive scripts (after s changes.Left) live first (leave m)
-  left_live can = left_by s.items refl (λ none. subst (λ (items : List Item). HeadIs MayLeave items) none can)
+  left_live can = left_so (λ none. subst (λ (items : List Item). HeadIs MayLeave items) none can)
 
   -- ---- what is said of the first that was submitted
 
@@ -627,7 +613,7 @@ module _ {scripts : List Declared} {s : State} {live : Option Live} {first : Boo
   conflicted_by read question on.Reexec is = in_conflict on.Reexec refl is
   conflicted_by read question (on.Resolver name) is = in_conflict (on.Resolver name) refl is
   conflicted_by read question on.Abort is =
-      left_by s.items refl (λ none. let e : None ≡ Some on.Abort = sym (ap head_option none) ∙ is in cc)
+      left_so (λ none. let e : None ≡ Some on.Abort = sym (ap head_option none) ∙ is in cc)
   conflicted_by read question on.Manual is =
       reached_live stages.Manual clients.Manual (λ item later it after some all stands. (tt, tt))
 
@@ -638,7 +624,7 @@ module _ {scripts : List Declared} {s : State} {live : Option Live} {first : Boo
 
   -- what becomes of it, by its option
   pub told_live : (told : serving.Verdict) (option : OnConflictNamed) → head_option s.items ≡ Some option
-      → CanFollow s (told_record told) → KeptLive scripts (after s (told_record told)) live first (told_change told option m)
+      → CanFollow s (verdict_change (noted_as told)) → KeptLive scripts (after s (verdict_change (noted_as told))) live first (told_change told option m)
   told_live (serving.Settled number) option is can = left_live can
   told_live (serving.Conflict read question) option is can =
       subst (λ (next : State). KeptLive scripts next live first (told_change (serving.Conflict read question) option m))

@@ -588,15 +588,9 @@ module _ {D : Type 0} (medium : Medium D) (laptop : Laptop D) where
 
 -- ---- its disk
 
-rose_again : (before mid now : ℕ) → Rose before mid → Rose mid now → Rose before now
-rose_again before mid now one two = grind (arith, one, two)
-
 faults_then : (before between now : ℕ) → (between ≡ before) ⊎ Rose before between
     → (now ≡ between) ⊎ Rose between now → (now ≡ before) ⊎ Rose before now
-faults_then before between now (inl one) (inl two) = inl (two ∙ one)
-faults_then before between now (inl one) (inr two) = inr (subst (λ (n : ℕ). Rose n now) one two)
-faults_then before between now (inr one) (inl two) = inr (subst (λ (n : ℕ). Rose before n) (sym two) one)
-faults_then before between now (inr one) (inr two) = inr (rose_again before between now one two)
+faults_then before between now one two = grind (arith, one, two)
 
 pub keeps_then : {D : Type 0} (medium : Medium D) (old between new : Option D) → KeepsDisk medium old between → KeepsDisk medium between new
     → KeepsDisk medium old new
