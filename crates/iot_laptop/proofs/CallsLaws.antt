@@ -606,7 +606,7 @@ module _ {D : Type 0} {medium : Medium D} {laptop : Laptop D} {was now : Client 
   next_by (Err NoMemory) same = tt
   next_by (Err Over) same = λ scripts m running here runs.
       let it = halted same in
-      acts_is was now m.first m.node.durable (stands_was call scripts m here) running runs it.0 it.1 it.2.can
+      acts_is _ _ m.first m.node.durable (stands_was call scripts m here) running runs it.0 it.1 it.2.can
 
 -- ---- its disk
 

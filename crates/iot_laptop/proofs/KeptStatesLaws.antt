@@ -22,16 +22,15 @@ use Rattle.iot_queue.specs.Queues.{with_head, staged}
 use Rattle.iot_queue.specs.declared.items.Item.{Item}
 use Rattle.iot_queue.specs.declared.items.Stage.{Stage}
 use Rattle.iot_queue.specs.declared.items.Stage.TheVariants as stages
-use Rattle.iot_changes.specs.declared.changes.Change.{Change}
 use Rattle.iot_changes.specs.declared.changes.Change.TheVariants as changes
 use Rattle.iot_kept.specs.States.{Transaction, State, after_each}
 use Rattle.iot_kept.specs.Changes as records
 use Rattle.iot_kept.specs.Changes.{CanFollow, HeadIs, MayLeave, after, ended, left, stays_in, stage_by, conflicted, repaired}
 use Rattle.iot_kept.specs.Changes.{with_acts}
-use Rattle.iot_client.specs.Ties.{Live, count}
+use Rattle.iot_client.specs.Ties.{Live}
 use Rattle.iot_client.specs.declared.noted.Noted.{Noted as NotedIn}
 use Rattle.iot_client.specs.declared.noted.Noted.TheVariants as noteds
-use Rattle.iot_client.specs.Calls.{verdict_change, CanAct, next_acts, has_ended, may_end, second_class, IsPlannedRun, IsHeadsRun}
+use Rattle.iot_client.specs.Calls.{verdict_change, CanAct, next_acts, may_end, second_class, IsPlannedRun, IsHeadsRun}
 use Rattle.iot_machine.specs.Clients as clients
 use Rattle.iot_machine.specs.Clients.{Declared, ClientState, base, so_far, plain_run, begin, fetch, anew, act_once, one_more, cut_by, cut}
 use Rattle.iot_machine.specs.Clients.{leave, leave_by, change_first, with_first, local_run, item_of, joined, end, hold, reach}
@@ -49,7 +48,7 @@ use Rattle.iot_laptop.specs.Laptops.{ItemStands, ItemsStand, StageStands, Runnin
 use Rattle.iot_laptop.specs.Laptops.{StateKept, waits_of, ResolutionStands}
 use Rattle.iot_laptop.specs.Messages.{told_change}
 use Rattle.iot_laptop.specs.Scripts.{ItemIsNamed, RunIsNamedIfAny, AreNamed, IsNamed, HasNamed, option_named}
-use Rattle.iot_laptop.proofs.LaptopsLaws.{Running, HeadStands, head_by, base_of, running_is, run_is, counted, ended_is, over_waits}
+use Rattle.iot_laptop.proofs.LaptopsLaws.{base_of, counted, own_ends, own_next, over_waits}
 use Rattle.std.specs.FinMap.Entries.{same_entries}
 use Rattle.std.specs.Ordering.{eq_by_cmp}
 use Rattle.iot_text.specs.Paths.{path_cmp, IsPath}
@@ -505,14 +504,10 @@ module _ {scripts : List Declared} {s : State} {live : Option Live} {first : Boo
           → RunningKeptIfAny (base m) (with_acts (λ acts. acts ++ act ∷ []) r) (option_map one_more o)
       by None None is kept = tt
       by (Some running) (Some it) is kept =
-          let known : Running s.running live first it = running_is s live first m stands_so it is in
-          let same : own ≡ known.besides = same_Some own known.besides (sym lives ∙ known.lives) in
-          let many : count s ≡ it.acts = counted s live first m stands_so it is in
-          more_kept (base m) running it act kept (subst (λ (n : ℕ). n < ACT_LIMIT) many can.within)
-          (sym (ended_is s live first m stands_so it is) ∙ ap (λ (l : Live). has_ended s l.code) (sym same) ∙ can.goes_on)
-          (ap (λ (n : ℕ). drop n (plain_run it.script (base m) (n + 1)).acts) (sym many)
-          ∙ ap (λ (ran : Ran). drop (count s) ran.acts) (sym (run_is s live first m stands_so it is (count s + 1)))
-          ∙ ap (λ (l : Live). next_acts s l.code) (sym same) ∙ next)
+          more_kept (base m) running it act kept
+          (subst (λ (n : ℕ). n < ACT_LIMIT) (counted s live first m stands_so it is) can.within)
+          (sym (own_ends s live first m stands_so it is own lives) ∙ can.goes_on)
+          (sym (own_next s live first m stands_so it is own lives) ∙ next)
       by r o is kept = absurd kept
 
   pub ended_live : may_end s live ≡ true → KeptLive scripts (after s changes.Ended) None first (end m)
