@@ -238,8 +238,7 @@ module _ {D T : Type 0} {medium : Medium D} {laptop : Laptop D} {was now : Clien
         → Answered (StepsFrom (Posted medium laptop) (Appends laptop.name change) m.node new.post x y) (appended answer) r
     answered m here r same =
         let known = each m here in
-        subst (λ (r : Result T Halt). Answered (StepsFrom (Posted medium laptop) (Appends laptop.name change) m.node new.post x y) (appended answer) r)
-        same
+        rw (sym same)
         (call.goes.step (record { client = was }) (record { client = now }) change m.node refl known.0.up
         (appended_by medium laptop.place was now answer scripts m.node.durable change (class m.first) known.1 call.tied call.counts
         call.arms)
@@ -292,8 +291,7 @@ module _ {D T : Type 0} {medium : Medium D} {laptop : Laptop D} {was now : Clien
 
   pub stands_was : (scripts : List Declared) (m : machine.Client) → LaptopStands medium scripts laptop m
       → StateStands s (live_of was) m.first m.node.durable
-  stands_was scripts m here =
-      subst (λ (p : Post (Seated D) D). StateStands (state_by p) (live_by p) m.first m.node.durable) call.is here.state
+  stands_was scripts m here = rw call.is at here.state
 
   known_was : (scripts : List Declared) (m : machine.Client) → LaptopStands medium scripts laptop m
       → KeptLive scripts s (live_of was) m.first m.node.durable
@@ -424,14 +422,11 @@ module _ {D T : Type 0} {medium : Medium D} {laptop : Laptop D} {was now : Clien
   pub settles : (noted : T → NotedIn) (reply : List ℕ) → ReadsNoted reply → IfOk answer (λ t. noted_in reply ≡ Ok (noted t))
       → IfOk answer (λ t. Notes (verdict_change (noted t)) was now) → OnOk answer (live_of now ≡ live_of was)
       → (IsErrOf answer Stopped → CutsOffByVerdict reply s (bodies_on medium was) (medium.may_leave (disk_of now)))
-      → (r : Result T Halt) → result ≡ r → Settles medium reply laptop new x y (done r)
-  settles noted reply only reads notes lives stops r same told option spells first scripts =
-      let spelled : SpellsVerdict (head_reads s.items) reply told =
-      subst (λ (p : Post (Seated D) D). SpellsVerdict (head_reads (state_by p).items) reply told) call.is spells in
-      let is_first : head_option s.items ≡ Some option =
-      subst (λ (p : Post (Seated D) D). head_option (state_by p).items ≡ Some option) call.is first in
-      subst (λ (r : Result T Halt). EndsAlone medium scripts (NotesAlone (told_change told option)) laptop new x y (done r)) same
-      (alone scripts (told_change told option) (verdict_change (noted_as told)) (live_of was)
+      → Settles medium reply laptop new x y (done result)
+  settles noted reply only reads notes lives stops told option spells first scripts =
+      let spelled = rw call.is at spells in
+      let is_first = rw call.is at first in
+      alone scripts (told_change told option) (verdict_change (noted_as told)) (live_of was)
       (record {
         notes = each_ok answer (λ t ok.
             subst (λ (change : Change). Notes change was now)
@@ -444,7 +439,7 @@ module _ {D T : Type 0} {medium : Medium D} {laptop : Laptop D} {was now : Clien
             subst (λ (change : Change). CutsOff change s (bodies_on medium was) (medium.may_leave (disk_of now)))
             (ap verdict_change (said_as (head_reads s.items) reply told cut.said spelled only cut.noted)) cut.cuts_off;
       })
-      (λ m here. told_live here told option is_first))
+      (λ m here. told_live here told option is_first)
 
   -- ---- a resolution
 
@@ -463,10 +458,7 @@ module _ {D T : Type 0} {medium : Medium D} {laptop : Laptop D} {was now : Clien
         live = live_of was;
         ok = each_ok answer (λ u ok.
             let it = IfOk-at_ok _ ok ran in
-            let reruns : Reruns code t was now =
-            subst (λ (tree : Nodes). Reruns code tree was now) (brought_tree reply it.tree t only (only it.tree it.spelled) spells)
-            it.reruns
-            in (
+            let reruns = rw (brought_tree reply it.tree t only (only it.tree it.spelled) spells) at it.reruns in (
               Resolved reruns.done,
               reruns.notes,
               subst (λ (l : Option Live). KeptLive scripts (after s (Resolved reruns.done)) l m.first (reach stage m.node.durable))
@@ -474,20 +466,14 @@ module _ {D T : Type 0} {medium : Medium D} {laptop : Laptop D} {was now : Clien
             ));
         cut = λ stopped.
             let it = stops stopped in
-            let rerun : CutsOffRerun code t s (bodies_on medium was) (medium.may_leave (disk_of now)) =
-            subst (λ (tree : Nodes). CutsOffRerun code tree s (bodies_on medium was) (medium.may_leave (disk_of now)))
-            (brought_tree reply it.tree t only (only it.tree it.spelled) spells) it.reruns in
+            let rerun = rw (brought_tree reply it.tree t only (only it.tree it.spelled) spells) at it.reruns in
             (Resolved rerun.done, rerun.cuts_off, live rerun.done rerun.run);
       })
 
   -- it lets what ran wait
   pub ends : may_end (state_in laptop) (live_in laptop) ≡ true → Noted medium was now answer Ended None
-      → (r : Result T Halt) → result ≡ r → Changes medium clients.end laptop new x y (done r)
-  ends may noted r same scripts =
-      let may_was : may_end s (live_of was) ≡ true =
-      subst (λ (p : Post (Seated D) D). may_end (state_by p) (live_by p) ≡ true) call.is may in
-      subst (λ (r : Result T Halt). EndsAlone medium scripts (NotesAlone clients.end) laptop new x y (done r)) same
-      (alone scripts clients.end Ended None noted (λ m here follows. ended_live here may_was))
+      → Changes medium clients.end laptop new x y (done result)
+  ends may noted scripts = alone scripts clients.end Ended None noted (λ m here follows. ended_live here (rw call.is at may))
 
 -- ---- the end
 

@@ -483,41 +483,36 @@ module _ {D : Type 0} (medium : Medium D) (laptop : Laptop D) where
   none_found t (Some running) o none kept = absurd cc
 
   -- by what runs in the client of the machine
-  cuts_by : (scripts : List Declared) (m : machine.Client) (new : Laptop D) (x z : List ℕ) (o : Option clients.Running)
-      → m.node.durable.running ≡ o → StepsFrom (ClientStands medium scripts) (cuts_off o) m new x z tt
-      → StepsFrom (ClientStands medium scripts) CutsOff m new x z tt
-  cuts_by scripts m new x z o is s = (
-    s.0,
-    s.1,
-    s.2,
-    record {
-      mid = m;
-      front = [];
-      rest = s.0;
-      answer = m.node.durable.running;
-      first = (refl, refl, refl);
-      second = subst (λ (o : Option clients.Running). cuts_off o m s.0 tt s.1) (sym is) s.3;
-      whole = refl;
-    },
-    s.4,
-  )
+  cuts_by : (scripts : List Declared) (new : Laptop D) (x z : List ℕ)
+      → ((m : machine.Client) → ReturnedStands medium scripts laptop m → (o : Option clients.Running) × (m.node.durable.running ≡ o)
+      × StepsFrom (ClientStands medium scripts) (cuts_off o) m new x z tt)
+      → StepsTo (ReturnedStands medium scripts) (ClientStands medium scripts) CutsOff laptop new x z tt
+  cuts_by scripts new x z each = record {
+    step = λ m here.
+        let it = each m here in
+        let s = it.2 in
+        let rest = subst (λ (o : Option clients.Running). cuts_off o m s.0 tt s.1) (sym it.1) s.3 in (
+          s.0,
+          s.1,
+          s.2,
+          record { mid = m; front = []; rest = s.0; answer = _; first = (refl, refl, refl); second = rest; whole = refl },
+          s.4,
+        );
+  }
 
   -- it found nothing running
   pub cuts_nothing : (x : List ℕ) → running_name laptop (state_in laptop).running ≡ None → (scripts : List Declared)
       → StepsTo (ReturnedStands medium scripts) (ClientStands medium scripts) CutsOff laptop laptop x x tt
-  cuts_nothing x found scripts = record {
-    step = λ m here.
-        let kept = kept_up medium laptop.place laptop.post m.node here.node here.alive in
-        let none = none_found (base m.node.durable) (state_in laptop).running m.node.durable.running found kept.running in
-        cuts_by scripts m laptop x x None none (
-          [],
-          m,
-          sym (append-nil x),
-          (refl, refl),
-          awake (awake_at medium scripts laptop m here.name here.link laptop.post m.node here.node here.alive m.first
-              (here.live ∙ sym (ap (live_with m.first) none)) here.named),
-        );
-  }
+  cuts_nothing x found scripts =
+      cuts_by scripts laptop x x (λ m here.
+      let kept = kept_up medium laptop.place laptop.post m.node here.node here.alive in
+      let none = none_found (base m.node.durable) (state_in laptop).running m.node.durable.running found kept.running in (
+        None,
+        none,
+        ([], m, sym (append-nil x), (refl, refl), awake
+            (awake_at medium scripts laptop m here.name here.link laptop.post m.node here.node here.alive m.first
+            (here.live ∙ sym (ap (live_with m.first) none)) here.named)),
+      ))
 
   module _ {was now : Client D} {answer : Result (Option ℕ) ClientFault} {new : Laptop D} {x y : List ℕ}
       {result : Result (Option ℕ) Halt} (call : Called medium laptop was now answer new x y result)
@@ -526,15 +521,13 @@ module _ {D : Type 0} (medium : Medium D) (laptop : Laptop D) where
       (stops : IsErrOf answer Stopped → client.CutsOff Cut (state_of was) (bodies_on medium was) (medium.may_leave (disk_of now))) where
     up_in : (scripts : List Declared) (m : machine.Client) → ReturnedStands medium scripts laptop m
         → UpStands (seating medium laptop.place) medium no_text (record { client = was }) m.node
-    up_in scripts m here =
-        subst (λ (p : Post (Seated D) D). Posted medium laptop p m.node) call.is here.node
+    up_in scripts m here = rw call.is at here.node
 
     found_in : (scripts : List Declared) (m : machine.Client) → ReturnedStands medium scripts laptop m
         → Found laptop.name transaction (state_of was).running m.node.durable.running
     found_in scripts m here =
         found_by transaction (base m.node.durable) (state_of was).running m.node.durable.running
-        (subst (λ (p : Post (Seated D) D). running_name laptop (state_by p).running ≡ Some transaction) call.is found)
-        (up_in scripts m here).stands.kept.running
+        (rw call.is at found) (up_in scripts m here).stands.kept.running
 
     cut_so : (running : Transaction) → (state_of was).running ≡ Some running → (told : Option ℕ) → answer ≡ Ok told
         → (told ≡ Some (length running.acts)) × Notes Cut was now
@@ -557,34 +550,31 @@ module _ {D : Type 0} (medium : Medium D) (laptop : Laptop D) where
     pub cuts_off_now : (acts : ℕ) → result ≡ Ok (Some acts) → (z : List ℕ)
         → z ≡ y ++ cut_line (name_of transaction) acts → (scripts : List Declared)
         → StepsTo (ReturnedStands medium scripts) (ClientStands medium scripts) CutsOff laptop new x z tt
-    cuts_off_now acts same z wrote scripts = record {
-      step = λ m here.
-          let it = found_in scripts m here in
-          let many : acts ≡ it.it.acts =
-          same_Some _ _ (cut_so it.own it.is (Some acts) (IfOk-at_ok _ same call.goes.answers)).0 ∙ it.acts in
-          let steps : StepsTo (ReturnedStands medium scripts) (LaptopStands medium scripts) (cuts_off (Some it.it)) laptop new x z tt =
-          bind laptop new new x y z true tt (goes_at call scripts (ReturnedStands medium scripts) cut (λ b. b) (fits scripts) (Some acts)
-          same)
-          (says new y z (λ k there.
-          wrote ∙ ap (λ (w : List ℕ). y ++ w)
-          ((λ i. cut_line (name_of (it.name i)) (many i))
-          ∙ ap (λ (n : List ℕ). cut_line (transaction_name n it.it.number) it.it.acts)
-          (ap (λ (l : Laptop D). l.name) (sym call.goes.rest) ∙ there.name)))) in
-          let s = steps.step m here in
-          cuts_by scripts m new x z (Some it.it) it.runs (s.0, s.1, s.2, s.3, awake s.4);
-    }
+    cuts_off_now acts same z wrote scripts =
+        cuts_by scripts new x z (λ m here.
+        let it = found_in scripts m here in
+        let many : acts ≡ it.it.acts =
+        same_Some _ _ (cut_so it.own it.is (Some acts) (IfOk-at_ok _ same call.goes.answers)).0 ∙ it.acts in
+        let steps : StepsTo (ReturnedStands medium scripts) (LaptopStands medium scripts) (cuts_off (Some it.it)) laptop new x z tt =
+        bind laptop new new x y z true tt (goes_at call scripts (ReturnedStands medium scripts) cut (λ b. b) (fits scripts) (Some acts) same)
+        (says new y z (λ k there.
+        wrote ∙ ap (λ (w : List ℕ). y ++ w)
+        ((λ i. cut_line (name_of (it.name i)) (many i))
+        ∙ ap (λ (n : List ℕ). cut_line (transaction_name n it.it.number) it.it.acts)
+        (ap (λ (l : Laptop D). l.name) (sym call.goes.rest) ∙ there.name)))) in
+        let s = steps.step m here in
+        (Some it.it, it.runs, (s.0, s.1, s.2, s.3, awake s.4)))
 
     -- it has stopped in the cut
     pub cut_halts : result ≡ Err Over → (scripts : List Declared)
         → StepsTo (ReturnedStands medium scripts) (ClientStands medium scripts) CutsOff laptop new x y tt
-    cut_halts same scripts = record {
-      step = λ m here.
-          let it = found_in scripts m here in
-          let steps : StepsTo (ReturnedStands medium scripts) (ClientStands medium scripts) (cuts_off (Some it.it)) laptop new x y tt =
-          bind laptop new new x y y false tt (halts_at call scripts (ReturnedStands medium scripts) cut (λ b. b) (fits scripts) same)
-          (nothing new y) in
-          cuts_by scripts m new x y (Some it.it) it.runs (steps.step m here);
-    }
+    cut_halts same scripts =
+        cuts_by scripts new x y (λ m here.
+        let it = found_in scripts m here in
+        let steps : StepsTo (ReturnedStands medium scripts) (ClientStands medium scripts) (cuts_off (Some it.it)) laptop new x y tt =
+        bind laptop new new x y y false tt (halts_at call scripts (ReturnedStands medium scripts) cut (λ b. b) (fits scripts) same)
+        (nothing new y) in
+        (Some it.it, it.runs, steps.step m here))
 
 -- ---- its disk
 

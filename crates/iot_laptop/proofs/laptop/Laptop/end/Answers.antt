@@ -12,15 +12,15 @@ pub returns-in-Ok-clause-does : goal.returns-in-Ok-clause-does
 returns-in-Ok-clause-does g c =
     let call = called c.in-Up.is c.goes_on.ensures.goes c.records-count.ensures c.end-answer.ensures.tied
     c.end-answer.ensures.counts c.end-answer.ensures.arms in
-    ends call c.requires.over
-    (record { notes = c.end-answer.ensures.notes; lives = c.end-answer.ensures.live; stops = c.end-answer.ensures.stopped }) _ c.in-Ok.is
+    rw c.in-Ok.is at (ends call c.requires.over
+    (record { notes = c.end-answer.ensures.notes; lives = c.end-answer.ensures.live; stops = c.end-answer.ensures.stopped }))
 
 pub returns-in-Err-clause-does : goal.returns-in-Err-clause-does
 returns-in-Err-clause-does g c =
     let call = called c.in-Up.is c.goes_on.ensures.goes c.records-count.ensures c.end-answer.ensures.tied
     c.end-answer.ensures.counts c.end-answer.ensures.arms in
-    ends call c.requires.over
-    (record { notes = c.end-answer.ensures.notes; lives = c.end-answer.ensures.live; stops = c.end-answer.ensures.stopped }) _ c.in-Err.is
+    rw c.in-Err.is at (ends call c.requires.over
+    (record { notes = c.end-answer.ensures.notes; lives = c.end-answer.ensures.live; stops = c.end-answer.ensures.stopped }))
 
 pub returns-in-Ok-clause-gone : goal.returns-in-Ok-clause-gone
 returns-in-Ok-clause-gone g c =

@@ -6,12 +6,12 @@ pub returns-in-Ok-clause-does : goal.returns-in-Ok-clause-does
 returns-in-Ok-clause-does g c =
     let call = called c.in-Up.is c.goes_on.ensures.goes c.records-count.ensures c.take_verdict-answer.ensures.tied
     c.take_verdict-answer.ensures.counts c.take_verdict-answer.ensures.arms in
-    settles call (λ noted. noted) c.args.reply.now c.take_verdict-answer.ensures.only c.take_verdict-answer.ensures.noted
-    c.take_verdict-answer.ensures.notes c.take_verdict-answer.ensures.live c.take_verdict-answer.ensures.stopped _ c.in-Ok.is
+    rw c.in-Ok.is at (settles call (λ noted. noted) c.args.reply.now c.take_verdict-answer.ensures.only c.take_verdict-answer.ensures.noted
+    c.take_verdict-answer.ensures.notes c.take_verdict-answer.ensures.live c.take_verdict-answer.ensures.stopped)
 
 pub returns-in-Err-clause-does : goal.returns-in-Err-clause-does
 returns-in-Err-clause-does g c =
     let call = called c.in-Up.is c.goes_on.ensures.goes c.records-count.ensures c.take_verdict-answer.ensures.tied
     c.take_verdict-answer.ensures.counts c.take_verdict-answer.ensures.arms in
-    settles call (λ noted. noted) c.args.reply.now c.take_verdict-answer.ensures.only c.take_verdict-answer.ensures.noted
-    c.take_verdict-answer.ensures.notes c.take_verdict-answer.ensures.live c.take_verdict-answer.ensures.stopped _ c.in-Err.is
+    rw c.in-Err.is at (settles call (λ noted. noted) c.args.reply.now c.take_verdict-answer.ensures.only c.take_verdict-answer.ensures.noted
+    c.take_verdict-answer.ensures.notes c.take_verdict-answer.ensures.live c.take_verdict-answer.ensures.stopped)
