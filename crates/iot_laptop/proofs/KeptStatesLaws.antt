@@ -366,22 +366,18 @@ module _ (plan : Plan) (t : Nodes) (is_good : IsGoodPlan plan) (script : IsScrip
     abbrev code : Code
     code = plan.script.code
 
-    found_files_good : AreGood (found_by plan t)
-    found_files_good = among_good (found_in code (kept_files plan.offered) t plan.budget) plan.offered is_good.good
-
-    found_rising : IsTrue (is_sorted path_cmp (found_by plan t))
-    found_rising = (are_found code plan.offered t plan.budget).rising is_good.rising
-
     -- it is the machine's
     pub shaped_stands : ResolutionStands (shaped plan.script.name plan.budget code plan.offered t) (resolution_of plan t)
     shaped_stands = record {
       name = refl;
       budget = refl;
-      kept = files_are (found_by plan t) found_rising;
+      kept = files_are (found_by plan t) ((are_found code plan.offered t plan.budget).rising is_good.rising);
       script = script;
       acts = sym (ap (λ (ran : Ran). ran.acts) (are_found code plan.offered t plan.budget).same_run);
       tree = tree;
-      files = kept_spelled (found_by plan t) found_files_good;
+      files =
+          kept_spelled (found_by plan t)
+          (among_good (found_in code (kept_files plan.offered) t plan.budget) plan.offered is_good.good);
     }
 
 -- ---- the plan of the client and that of the machine
@@ -532,8 +528,8 @@ module _ {scripts : List Declared} {s : State} {live : Option Live} {first : Boo
     where
       by : (items : List Item) (ms : List clients.Item) → s.items ≡ items → m.items ≡ ms → ItemsStand items s.held ms
           → RunningKeptIfAny (clients.after_items m.held ms) s.running m.running → AllNamed scripts ms
-          → KeptLive scripts (record s { items = with_head (λ item. record item { option = option item.option; stage = stage }) items }) live
-          first (record m { items = with_first (λ it. record it { option = o it.option; stage = other }) ms })
+          → KeptLive scripts (record s { items = with_head (λ item. record item { option = option item.option; stage = stage }) items })
+          live first (record m { items = with_first (λ it. record it { option = o it.option; stage = other }) ms })
       by [] [] some all stand runs named =
           record { kept = with_queue s m here.kept [] [] s.running m.running tt runs; runs = here.runs; named = search rules }
       by (item ∷ items) (it ∷ ms) some all stand runs named =
@@ -619,7 +615,8 @@ module _ {scripts : List Declared} {s : State} {live : Option Live} {first : Boo
 
   -- what becomes of it, by its option
   pub told_live : (told : serving.Verdict) (option : OnConflictNamed) → head_option s.items ≡ Some option
-      → CanFollow s (verdict_change (noted_as told)) → KeptLive scripts (after s (verdict_change (noted_as told))) live first (told_change told option m)
+      → CanFollow s (verdict_change (noted_as told))
+      → KeptLive scripts (after s (verdict_change (noted_as told))) live first (told_change told option m)
   told_live (serving.Settled number) option is can = left_live can
   told_live (serving.Conflict read question) option is can =
       subst (λ (next : State). KeptLive scripts next live first (told_change (serving.Conflict read question) option m))

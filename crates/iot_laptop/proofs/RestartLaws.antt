@@ -49,7 +49,8 @@ use Rattle.iot_laptop.specs.declared.laptop.Laptop.{Laptop}
 use Rattle.iot_laptop.specs.declared.seated.Seated.{Seated}
 use Rattle.iot_laptop.proofs.CallsLaws.{Called, Before, Fits, each_ok, goes_at, halts_at, fits_with}
 use Rattle.iot_laptop.proofs.KeptStatesLaws.{live_with, cut_live, live_then, second_live, idle_runs}
-use Rattle.iot_laptop.proofs.NodesLaws.{Posted, not_both, on_is, kept_up, node_stands, fallen_stands, awake_stands, awake_at, fallen_at, refines}
+use Rattle.iot_laptop.proofs.NodesLaws.{Posted}
+use Rattle.iot_laptop.proofs.NodesLaws.{not_both, on_is, kept_up, node_stands, fallen_stands, awake_stands, awake_at, fallen_at, refines}
 use Rattle.iot_laptop.proofs.NodesLaws.{at_node, same_name, same_link, may_be_named}
 use Rattle.iot_link.specs.Links.{LinkState, after_exchange}
 use Rattle.iot_link.specs.declared.passages.Passage.{Passage}
@@ -115,21 +116,17 @@ module _ {D : Type 0} (medium : Medium D) (laptop : Laptop D) where
   module _ (was now : Client D) (state : state_of now ≡ state_of was) (place : place_of now ≡ place_of was)
       (disk : disk_of now ≡ disk_of was) (records : records_of now ≡ records_of was) (live : live_of now ≡ second_class (live_of was))
       (tied : IsTied medium now) where
-    second_node : (m : machine.Client) → UpStands (seating medium laptop.place) medium no_text (record { client = was }) m.node
-        → UpStands (seating medium laptop.place) medium no_text (record { client = now }) m.node
-    second_node m up =
-        let counts : counts_on medium (disk_of now) ≡ m.node.counts = ap (counts_on medium) disk ∙ up.counts in
-        let placed : place_of now ≡ laptop.place = place ∙ up.stands.place_is in
-        let counted : records_of now ≡ up.count = records ∙ up.stands.counted in
-        let kept : StateKept (state_of now) m.node.durable = rw state up.stands.kept in
-        record { alive = up.alive; sure = up.sure; counts = counts; count = up.count; stands = search rules }
-
     second_stands : (scripts : List Declared) (m : machine.Client)
         → LaptopStands medium scripts (record laptop { post = Up (record { client = was }) }) m
         → LaptopStands medium scripts (record laptop { post = Up (record { client = now }) }) (record m { first = false })
     second_stands scripts m here =
-        awake_at medium scripts laptop m here.name here.link (Up (record { client = now })) m.node (second_node m here.node) here.alive
-        false
+        let up = here.node in
+        let counts : counts_on medium (disk_of now) ≡ m.node.counts = ap (counts_on medium) disk ∙ up.counts in
+        let placed : place_of now ≡ laptop.place = place ∙ up.stands.place_is in
+        let counted : records_of now ≡ up.count = records ∙ up.stands.counted in
+        let kept : StateKept (state_of now) m.node.durable = rw state up.stands.kept in
+        awake_at medium scripts laptop m here.name here.link (Up (record { client = now })) m.node
+        (record { alive = up.alive; sure = up.sure; counts = counts; count = up.count; stands = search rules }) here.alive false
         (live
         ∙ ap second_class (live_then (state_of was).running (live_of was) m.first m.node.durable.running here.state.running)
         ∙ second_live m.first m.node.durable.running)
@@ -190,7 +187,8 @@ module _ {D : Type 0} (medium : Medium D) (laptop : Laptop D) (post : Post (Seat
   crashes x y it off scripts =
       refines
       (bind laptop laptop next x x y laptop.name tt (asks laptop x laptop.name (same_name medium scripts laptop))
-      (at_node medium laptop post Crashes (λ _. laptop.name) x y tt (λ m here. (refl, it.step m.node (node_stands medium scripts laptop m here)))
+      (at_node medium laptop post Crashes (λ _. laptop.name) x y tt
+      (λ m here. (refl, it.step m.node (node_stands medium scripts laptop m here)))
       (λ m here n text step stands.
       fallen_at medium scripts laptop m (same_name medium scripts laptop m here) (same_link medium scripts laptop m here) post n stands
       (on_is (seating medium laptop.place) medium no_text post n stands ∙ off)
@@ -200,7 +198,8 @@ module _ {D : Type 0} (medium : Medium D) (laptop : Laptop D) (post : Post (Seat
 
   module _ (calls : ℕ) (pick : Pick) (live : live_by post ≡ live_by laptop.post) where
     arms_by : (scripts : List Declared) (m : machine.Client) → ClientStands medium scripts laptop m
-        → Posted medium laptop post (armed calls pick m.node) → ClientStands medium scripts next (record m { node = armed calls pick m.node })
+        → Posted medium laptop post (armed calls pick m.node)
+        → ClientStands medium scripts next (record m { node = armed calls pick m.node })
     arms_by scripts m (awake here) stands =
         awake
         (awake_at medium scripts laptop m here.name here.link post (armed calls pick m.node) stands here.alive m.first
@@ -385,7 +384,8 @@ module _ {D : Type 0} (medium : Medium D) (old : Laptop D) where
         bind old old new x x z false tt (asks old x false (λ m down. sym down.alive))
         (bind old old new x x z old.name tt (asks old x old.name (λ m down. down.name))
         (bind {mid = stands} old mid new x y z on tt
-        (at_node medium old post (λ name. ComesBack name no_text) (λ _. old.name) x y on (λ m down. (refl, back.steps.step m.node down.node))
+        (at_node medium old post (λ name. ComesBack name no_text) (λ _. old.name) x y on
+        (λ m down. (refl, back.steps.step m.node down.node))
         (λ m down n text step there.
         each m down n there ((comes_within old.name no_text m.node n text on step).each (AreNamed scripts) down.named)))
         rest)) in
@@ -556,7 +556,8 @@ module _ {D : Type 0} (medium : Medium D) (laptop : Laptop D) where
         let many : acts ≡ it.it.acts =
         same_Some _ _ (cut_so it.own it.is (Some acts) (IfOk-at_ok _ same call.goes.answers)).0 ∙ it.acts in
         let steps : StepsTo (ReturnedStands medium scripts) (LaptopStands medium scripts) (cuts_off (Some it.it)) laptop new x z tt =
-        bind laptop new new x y z true tt (goes_at call scripts (ReturnedStands medium scripts) cut (λ b. b) (fits scripts) (Some acts) same)
+        bind laptop new new x y z true tt
+        (goes_at call scripts (ReturnedStands medium scripts) cut (λ b. b) (fits scripts) (Some acts) same)
         (says new y z (λ k there.
         wrote ∙ ap (λ (w : List ℕ). y ++ w)
         ((λ i. cut_line (name_of (it.name i)) (many i))
