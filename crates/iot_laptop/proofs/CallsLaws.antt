@@ -149,36 +149,6 @@ pub record Fits {D T : Type 0} (medium : Medium D) (was now : Client D) (answer 
       × CutsOff change (state_of was) (bodies_on medium was) (medium.may_leave (disk_of now))
       × KeptLive scripts (after (state_of was) change) live first next
 
--- each image is what the client keeps, without the record or with it
-either_image : {D : Type 0} (medium : Medium D) (was now : Client D) → IsTied medium was → (change : Change) (m next : ClientState)
-    → CutsOff change (state_of was) (bodies_on medium was) (medium.may_leave (disk_of now)) → StateKept (state_of was) m
-    → StateKept (after (state_of was) change) next → (n : ℕ) → records_of was ≡ n → (image : List ℕ) → medium.may_leave (disk_of
-    now) image
-    → IsClientImage image n m ⊎ IsClientImage image (n + 1) next
-either_image medium was now tied change m next cuts kept later n counted image left =
-    let bodies : List (List ℕ) = bodies_on medium was in
-    let leads : Leads bodies opening (state_of was) = tied.synced.leads in
-    let many : length bodies ≡ n = sym tied.synced.journal.count ∙ counted in
-    let is : IsRecord (change_spelling change) change = record { value = cuts.spelled; spelled = refl } in
-    elim (cuts.one_record.each image left) [
-      | inl before ↦ inl (record {
-        state = state_of was;
-        stands = record { bodies = bodies; read = before; leads = leads };
-        counted = many;
-        kept = kept;
-      })
-      | inr more ↦ inr (record {
-        state = after (state_of was) change;
-        stands = record {
-          bodies = bodies ++ change_spelling change ∷ [];
-          read = more;
-          leads = leads_push bodies opening (state_of was) (change_spelling change) change leads is cuts.follows;
-        };
-        counted = length-append bodies (change_spelling change ∷ []) ∙ ap (λ (k : ℕ). k + 1) many;
-        kept = later;
-      })
-    ]
-
 -- the call as one of the keeper of a node
 appended_by : {D T : Type 0} (medium : Medium D) (place : ℕ) (was now : Client D) (answer : Result T ClientFault)
     (scripts : List Declared) (m : ClientState) (change : ClientState → ClientState) (first : Bool)
@@ -196,9 +166,32 @@ appended_by medium place was now (Ok t) scripts m change first fits tied counts 
   same_counts medium (disk_of was) (disk_of now) counts arms,
 )
 appended_by medium place was now (Err Stopped) scripts m change first fits tied counts arms =
-    let cut = fits.cut refl in (
-      (λ n seat. record {
-        each = either_image medium was now seat.tied cut.0 m (change m) cut.1 seat.kept cut.2.kept n seat.counted;
+    let cut = fits.cut refl in
+    let bodies : List (List ℕ) = bodies_on medium was in (
+      -- each image is what the client keeps, without the record or with it
+      (λ n seat.
+      let leads : Leads bodies opening (state_of was) = seat.tied.synced.leads in
+      let many : length bodies ≡ n = sym seat.tied.synced.journal.count ∙ seat.counted in
+      let is : IsRecord (change_spelling cut.0) cut.0 = record { value = cut.1.spelled; spelled = refl } in
+      record {
+        each = λ image left. elim (cut.1.one_record.each image left) [
+          | inl before ↦ inl (record {
+            state = state_of was;
+            stands = record { bodies = bodies; read = before; leads = leads };
+            counted = many;
+            kept = seat.kept;
+          })
+          | inr more ↦ inr (record {
+            state = after (state_of was) cut.0;
+            stands = record {
+              bodies = bodies ++ change_spelling cut.0 ∷ [];
+              read = more;
+              leads = leads_push bodies opening (state_of was) (change_spelling cut.0) cut.0 leads is cut.1.follows;
+            };
+            counted = length-append bodies (change_spelling cut.0 ∷ []) ∙ ap (λ (k : ℕ). k + 1) many;
+            kept = cut.2.kept;
+          })
+        ];
       }),
       record { faults = counts; arms = arms },
     )
@@ -405,8 +398,8 @@ module _ {D T : Type 0} {medium : Medium D} {laptop : Laptop D} {was now : Clien
       (Some (record { first = first; code = script.code }))
       (record {
         notes = each_ok answer (λ t ok.
-            subst (λ (n : ℕ). Notes (Begun n script.name option) was now) (IfOk-at_ok (λ t. number t ≡ s.last + 1) ok numbers)
-            (IfOk-at_ok (λ t. Notes (Begun (number t) script.name option) was now) ok notes));
+            rw (IfOk-at_ok (λ t. number t ≡ s.last + 1) ok numbers)
+            at (IfOk-at_ok (λ t. Notes (Begun (number t) script.name option) was now) ok notes));
         lives = lives;
         stops = stops;
       })

@@ -356,33 +356,31 @@ shaped name budget code files t = record {
 }
 
 -- what is to be known of a plan
-pub record IsGoodPlan (plan : Plan) : Type 0 where
+record IsGoodPlan (plan : Plan) : Type 0 where
   pub few : plan.budget ≤ ACT_LIMIT
   pub rising : IsTrue (is_sorted path_cmp plan.offered)
   pub good : AreGood plan.offered
 
-module _ (plan : Plan) (t : Nodes) (is_good : IsGoodPlan plan) (script : IsScript plan.script.code) (tree : IsTree t)
-  where
-    abbrev code : Code
-    code = plan.script.code
-
-    -- it is the machine's
-    pub shaped_stands : ResolutionStands (shaped plan.script.name plan.budget code plan.offered t) (resolution_of plan t)
-    shaped_stands = record {
+-- it is the machine's
+shaped_stands : (plan : Plan) (t : Nodes) → IsGoodPlan plan → IsScript plan.script.code → IsTree t
+    → ResolutionStands (shaped plan.script.name plan.budget plan.script.code plan.offered t) (resolution_of plan t)
+shaped_stands plan t is_good script tree =
+    let found = are_found plan.script.code plan.offered t plan.budget in
+    record {
       name = refl;
       budget = refl;
-      kept = files_are (found_by plan t) ((are_found code plan.offered t plan.budget).rising is_good.rising);
+      kept = files_are (found_by plan t) (found.rising is_good.rising);
       script = script;
-      acts = sym (ap (λ (ran : Ran). ran.acts) (are_found code plan.offered t plan.budget).same_run);
+      acts = sym (ap (λ (ran : Ran). ran.acts) found.same_run);
       tree = tree;
       files =
           kept_spelled (found_by plan t)
-          (among_good (found_in code (kept_files plan.offered) t plan.budget) plan.offered is_good.good);
+          (among_good (found_in plan.script.code (kept_files plan.offered) t plan.budget) plan.offered is_good.good);
     }
 
 -- ---- the plan of the client and that of the machine
 
-pub record PlansAgree (local : Nodes) (p : plans.Plan) (plan : Plan) : Type 0 where
+record PlansAgree (local : Nodes) (p : plans.Plan) (plan : Plan) : Type 0 where
   pub name : p.script ≡ plan.script.name
   pub budget : p.budget ≡ plan.budget
   pub files : offered p.keeps local ≡ plan.offered
