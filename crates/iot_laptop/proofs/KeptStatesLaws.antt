@@ -183,16 +183,11 @@ module _ (scripts : List Declared) where
 -- one that begins is as its tree is, without acts
 new_kept : (t : Nodes) (running : Transaction) (it : clients.Running) → running.number ≡ it.number → running.script ≡ it.script.name
     → IsScript it.script.code → running.option ≡ option_named it.option → RunningKept t (record running { acts = [] }) (anew it)
-new_kept t running it same named script option = record {
-  number = same;
-  name = named;
-  script = script;
-  few = omega arith;
-  count = refl;
-  acts = ap (λ (ran : Ran). ran.acts) (exec_from_start empty it.script.code t 0);
-  tree = sym (nothing_done it.script.code empty t);
-  option = option;
-}
+new_kept t running it same named script option =
+    let few : 0 ≤ ACT_LIMIT = omega arith in
+    let acts : [] ≡ (so_far t (anew it)).acts = ap (λ (ran : Ran). ran.acts) (exec_from_start empty it.script.code t 0) in
+    let tree : t ≡ (so_far t (anew it)).tree = sym (nothing_done it.script.code empty t) in
+    search rules
 
 -- one that begins anew
 anew_kept : (t u : Nodes) (r : Option Transaction) (o : Option clients.Running) → RunningKeptIfAny t r o

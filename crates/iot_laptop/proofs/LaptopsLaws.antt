@@ -57,14 +57,6 @@ pub record HeadStands (t : Nodes) (item : Item) (items : List Item) (ms : List c
   pub stands : ItemStands t item first
   pub rest : ItemsStand items (after_acts t item.acts) later
 
-pub head_by : (queue : List Item) (t : Nodes) (ms : List clients.Item) (item : Item) (items : List Item) → queue ≡ item ∷ items
-    → ItemsStand queue t ms → HeadStands t item items ms
-head_by queue t ms item items is stand = by ms (subst (λ (q : List Item). ItemsStand q t ms) is stand)
-  where
-    by : (ms : List clients.Item) → ItemsStand (item ∷ items) t ms → HeadStands t item items ms
-    by [] stand = absurd stand
-    by (m ∷ ms) stand = record { first = m; later = ms; split = refl; stands = stand.0; rest = stand.1 }
-
 -- ---- the running transaction
 
 runs_by : (r : Option Transaction) (live : Option Live) (first : Bool) (o : Option clients.Running) → RunningStandsIfAny r live first o
@@ -130,7 +122,11 @@ module _ (s : State) (live : Option Live) (first : Bool) (m : ClientState) (here
   waits_is = waits_by s.items s.held m.items here.items
 
   pub head_stands : (item : Item) (items : List Item) → s.items ≡ item ∷ items → HeadStands s.held item items m.items
-  head_stands item items is = head_by s.items s.held m.items item items is here.items
+  head_stands item items is = by m.items (subst (λ (queue : List Item). ItemsStand queue s.held m.items) is here.items)
+    where
+      by : (ms : List clients.Item) → ItemsStand (item ∷ items) s.held ms → HeadStands s.held item items ms
+      by [] stand = absurd stand
+      by (m ∷ ms) stand = record { first = m; later = ms; split = refl; stands = stand.0; rest = stand.1 }
 
   module _ (it : clients.Running) (runs : m.running ≡ Some it) where
     pub running_is : Running s.running live first it
