@@ -1,5 +1,5 @@
 -- What a call of a laptop that appends a record makes of the client of the machine: its change, or a stop in it.
-use Rattle.std.proofs.Common.{◌≡◌, ◌⊎◌, ◌+◌, ℕ, Bool, true, false, List, [], ◌∷◌}
+use Rattle.std.proofs.Common.{◌≡◌, ◌+◌, ℕ, Bool, true, false, List, [], ◌∷◌}
 use Rattle.std.proofs.Common.{◌++◌, length, Option, Some, None, Result, Ok, Err, inl, inr}
 use Rattle.std.proofs.Common.{refl, sym, ap, subst, ◌∙◌, length-append, rules}
 use Rattle.std.specs.Prelude.{IfOk, OnOk, IsErrOf}
@@ -19,7 +19,7 @@ use Rattle.iot_kept.proofs.StandingLaws.{leads_push}
 use Rattle.iot_client.specs.Calls.{Notes, CutsOff, Brings, CutsOffByTree}
 use Rattle.iot_client.specs.Faults.{CountsFault}
 use Rattle.iot_client.specs.Messages.{ReadsObjects, ReadsNoted, noted_in, IsRefresh}
-use Rattle.iot_client.specs.Ties.{Live, IsTied, state_of, live_of, disk_of, bodies_on, records_of, IsOwnRunIfAny, place_of}
+use Rattle.iot_client.specs.Ties.{Live, IsTied, state_of, live_of, disk_of, bodies_on, IsOwnRunIfAny, place_of}
 use Rattle.iot_client.specs.declared.client.Client.{Client}
 use Rattle.iot_client.specs.declared.fault.ClientFault.{ClientFault}
 use Rattle.iot_client.specs.declared.fault.ClientFault.TheVariants.{Stopped}
@@ -49,7 +49,7 @@ use Rattle.iot_laptop.specs.Kept.{StateKept}
 use Rattle.iot_laptop.specs.Laptops.{LaptopStands, ClientStands, StateStands, state_by, live_by, records_in, records_by, disk_by}
 use Rattle.iot_laptop.specs.Messages.{SpellsTree, name_of, SpellsVerdict, told_change}
 use Rattle.iot_laptop.specs.Scripts.{AreNamed}
-use Rattle.iot_laptop.specs.Seats.{IsClientImage, seating}
+use Rattle.iot_laptop.specs.Seats.{seating}
 use Rattle.iot_laptop.specs.declared.laptop.Laptop.{Laptop}
 use Rattle.iot_laptop.specs.declared.seated.Seated.{Seated}
 use Rattle.iot_client.proofs.SpelledLaws.{tree_spelled}
@@ -60,7 +60,7 @@ use Rattle.iot_tree.specs.declared.acts.Read.{Read}
 use Rattle.iot_queue.specs.declared.items.Resolution.{Resolution}
 use Rattle.iot_lang.specs.Code.{Code}
 use Rattle.iot_exec.specs.declared.ran.Ran.{Ran}
-use Rattle.iot_client.specs.Calls.{CutsOffByVerdict, CutsOffRerun, CutsOffByRun, Reruns, Resolves, IsHeadsRun, may_end}
+use Rattle.iot_client.specs.Calls.{CutsOffByVerdict, CutsOffByRun, Resolves, IsHeadsRun, may_end}
 use Rattle.iot_client.specs.Calls.{verdict_change, Ends, EndsIfAny, CutsOffNextIfAny, CutsOffNext, CanAct, next_acts, StepIsIfAny, StepIs}
 use Rattle.iot_client.specs.declared.noted.Noted.{Noted as NotedIn}
 use Rattle.iot_machine.specs.Clients.{Plan, base, act_once, reach, at_stage, resolution_of, next_step, Acts}
@@ -170,29 +170,29 @@ appended_by medium place was now (Err Stopped) scripts m change first fits tied 
     let bodies : List (List ℕ) = bodies_on medium was in (
       -- each image is what the client keeps, without the record or with it
       (λ n seat.
-      let leads : Leads bodies opening (state_of was) = seat.tied.synced.leads in
-      let many : length bodies ≡ n = sym seat.tied.synced.journal.count ∙ seat.counted in
-      let is : IsRecord (change_spelling cut.0) cut.0 = record { value = cut.1.spelled; spelled = refl } in
-      record {
-        each = λ image left. elim (cut.1.one_record.each image left) [
-          | inl before ↦ inl (record {
-            state = state_of was;
-            stands = record { bodies = bodies; read = before; leads = leads };
-            counted = many;
-            kept = seat.kept;
-          })
-          | inr more ↦ inr (record {
-            state = after (state_of was) cut.0;
-            stands = record {
-              bodies = bodies ++ change_spelling cut.0 ∷ [];
-              read = more;
-              leads = leads_push bodies opening (state_of was) (change_spelling cut.0) cut.0 leads is cut.1.follows;
-            };
-            counted = length-append bodies (change_spelling cut.0 ∷ []) ∙ ap (λ (k : ℕ). k + 1) many;
-            kept = cut.2.kept;
-          })
-        ];
-      }),
+          let leads : Leads bodies opening (state_of was) = seat.tied.synced.leads in
+          let many : length bodies ≡ n = sym seat.tied.synced.journal.count ∙ seat.counted in
+          let is : IsRecord (change_spelling cut.0) cut.0 = record { value = cut.1.spelled; spelled = refl } in
+          record {
+            each = λ image left. elim (cut.1.one_record.each image left) [
+              | inl before ↦ inl (record {
+                state = state_of was;
+                stands = record { bodies = bodies; read = before; leads = leads };
+                counted = many;
+                kept = seat.kept;
+              })
+              | inr more ↦ inr (record {
+                state = after (state_of was) cut.0;
+                stands = record {
+                  bodies = bodies ++ change_spelling cut.0 ∷ [];
+                  read = more;
+                  leads = leads_push bodies opening (state_of was) (change_spelling cut.0) cut.0 leads is cut.1.follows;
+                };
+                counted = length-append bodies (change_spelling cut.0 ∷ []) ∙ ap (λ (k : ℕ). k + 1) many;
+                kept = cut.2.kept;
+              })
+            ];
+          }),
       record { faults = counts; arms = arms },
     )
 appended_by medium place was now (Err other) scripts m change first fits tied counts arms = tt

@@ -67,7 +67,6 @@ kept_up medium place Between node here up = absurd here
 
 module _ {D : Type 0} (medium : Medium D) where
   module _ (scripts : List Declared) (laptop : Laptop D) (m : machine.Client) where
-
     node_is : NodeStands medium laptop m → m.node.alive ≡ is_alive laptop
     node_is here = on_is (seating medium laptop.place) medium no_text laptop.post m.node here
 

@@ -509,9 +509,15 @@ module _ {D : Type 0} (medium : Medium D) (laptop : Laptop D) where
       let none = none_found (base m.node.durable) (state_in laptop).running m.node.durable.running found kept.running in (
         None,
         none,
-        ([], m, sym (append-nil x), (refl, refl), awake
-            (awake_at medium scripts laptop m here.name here.link laptop.post m.node here.node here.alive m.first
-            (here.live ∙ sym (ap (live_with m.first) none)) here.named)),
+        (
+          [],
+          m,
+          sym (append-nil x),
+          (refl, refl),
+          awake
+              (awake_at medium scripts laptop m here.name here.link laptop.post m.node here.node here.alive m.first
+              (here.live ∙ sym (ap (live_with m.first) none)) here.named),
+        ),
       ))
 
   module _ {was now : Client D} {answer : Result (Option ℕ) ClientFault} {new : Laptop D} {x y : List ℕ}
