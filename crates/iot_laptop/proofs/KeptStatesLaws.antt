@@ -212,20 +212,15 @@ more_kept t running it act kept within on next =
     ∙ ap (λ (n : ℕ). drop n ((so_far t it).acts ++ more.act ∷ [])) more.count
     ∙ ap (drop it.acts) (sym more.acts) ∙ next in
     let same : more.act ≡ act = cc in
-    record {
-      number = kept.number;
-      name = kept.name;
-      script = kept.script;
-      few = omega (arith, within);
-      count = length-append running.acts (act ∷ []) ∙ ap (λ (n : ℕ). n + 1) kept.count;
-      acts =
-          ap (λ (acts : List Act). acts ++ act ∷ []) kept.acts ∙ ap (λ (a : Act). (so_far t it).acts ++ a ∷ []) (sym same)
-          ∙ sym more.acts;
-      tree =
-          acts_more running.acts act t ∙ ap (λ (u : Nodes). after_update u act.update) kept.tree
-          ∙ ap (λ (a : Act). after_update (so_far t it).tree a.update) (sym same) ∙ sym more.tree;
-      option = kept.option;
-    }
+    let few : it.acts + 1 ≤ ACT_LIMIT = omega (arith, within) in
+    let count : length (running.acts ++ act ∷ []) ≡ it.acts + 1 =
+    length-append running.acts (act ∷ []) ∙ ap (λ (n : ℕ). n + 1) kept.count in
+    let acts : running.acts ++ act ∷ [] ≡ (so_far t (one_more it)).acts =
+    ap (λ (acts : List Act). acts ++ act ∷ []) kept.acts ∙ ap (λ (a : Act). (so_far t it).acts ++ a ∷ []) (sym same) ∙ sym more.acts in
+    let tree : after_acts t (running.acts ++ act ∷ []) ≡ (so_far t (one_more it)).tree =
+    acts_more running.acts act t ∙ ap (λ (u : Nodes). after_update u act.update) kept.tree
+    ∙ ap (λ (a : Act). after_update (so_far t it).tree a.update) (sym same) ∙ sym more.tree in
+    search rules
 
 -- one that does no more than it has done, as one that waits with this budget
 waits_item : (t : Nodes) (running : Transaction) (it : clients.Running) (budget n : ℕ) → RunningKept t running it → budget ≡ n

@@ -601,8 +601,7 @@ keeps_then medium old between new first second =
       arms = second.arms ∙ ap medium.arms (sym same) ∙ first.arms;
       faults =
           faults_then (medium.faults first.was) (medium.faults first.now) (medium.faults second.now) first.faults
-          (subst (λ d. (medium.faults second.now ≡ medium.faults d) ⊎ Rose (medium.faults d) (medium.faults second.now)) (sym same)
-          second.faults);
+          (rw (← same) at second.faults);
     }
 
 -- nothing was done
