@@ -1,4 +1,4 @@
--- What a call of a laptop that appends a record makes of the client of the machine: its change, or a stop in it.
+-- What a call of a laptop that appends a record makes of the client of the machine, by each call: its change, or a stop in it.
 use Rattle.std.proofs.Common.{◌≡◌, ◌+◌, ℕ, Bool, true, false, List, [], ◌∷◌}
 use Rattle.std.proofs.Common.{◌++◌, length, Option, Some, None, Result, Ok, Err, inl, inr}
 use Rattle.std.proofs.Common.{refl, sym, ap, subst, ◌∙◌, length-append, rules}

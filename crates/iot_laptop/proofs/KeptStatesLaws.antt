@@ -1,4 +1,5 @@
--- What a client keeps, as it is on a disk, and what is known besides of what runs, before and after each of its changes.
+-- What a client keeps, as it is on a disk, and what is known besides of what runs, before and after each of its changes; and that
+-- the resolution that it makes is the one that the machine plans.
 use Rattle.std.proofs.Common.{◌≡◌, ◌+◌, ◌<◌, ◌≤◌, ℕ, Bool, true, false, List, [], ◌∷◌, ◌++◌, drop, Option, Some, None, option_map}
 use Rattle.std.proofs.Common.{length, refl, sym, ap, subst, ◌∙◌, arith, length-append, rules, IsTrue, cond, if◌then◌else◌}
 use Rattle.std.proofs.Math.Seq.{drop-append_seam}

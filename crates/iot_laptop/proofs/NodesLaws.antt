@@ -151,11 +151,8 @@ module _ {D : Type 0} (medium : Medium D) where
       fallen_at down named = fallen (record { name = name; link = link; alive = down; node = stands; named = named })
 
   pub some_awake : (laptop : Laptop D) → StandsAnyhow medium laptop → is_alive laptop ≡ true → Stands medium laptop
-  some_awake laptop some up = record {
-    scripts = some.scripts;
-    machine = some.machine;
-    stands = awake_stands some.scripts laptop some.machine up some.stands;
-  }
+  some_awake laptop some up =
+      record { scripts = _; machine = _; stands = awake_stands some.scripts laptop some.machine up some.stands }
 
   -- what is known of the client of one that stands
   pub lent_at : (laptop : Laptop D) (it : Client D) → laptop.post ≡ Up (record { client = it }) → Stands medium laptop

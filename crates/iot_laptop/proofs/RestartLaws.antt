@@ -85,11 +85,8 @@ module _ {D : Type 0} (medium : Medium D) (laptop : Laptop D) where
 
   -- over another link it stands for some client too
   pub stands_over : (link : LinkState) → Stands medium laptop → Stands medium (record laptop { link = link })
-  stands_over link stands = record {
-    scripts = stands.scripts;
-    machine = record stands.machine { link = link };
-    stands = over_link link stands.scripts stands.machine stands.stands;
-  }
+  stands_over link stands =
+      record { scripts = _; machine = _; stands = over_link link stands.scripts stands.machine stands.stands }
 
   -- its link is made another one, and that is said
   pub relinks : (change : LinkState → LinkState) (line : List ℕ → List ℕ) (link : LinkState) (x y : List ℕ)
@@ -360,11 +357,8 @@ module _ {D : Type 0} (medium : Medium D) (old : Laptop D) where
       (says_this (line (codes "up")) old x z wrote))
 
   pub is_standing : StandsAnyhow medium old → IsStanding (seating medium old.place) medium old.post
-  is_standing stands = record {
-    says = no_text;
-    node = stands.machine.node;
-    stands = node_stands medium stands.scripts old stands.machine stands.stands;
-  }
+  is_standing stands =
+      record { says = _; node = _; stands = node_stands medium stands.scripts old stands.machine stands.stands }
 
   module _ (post : Post (Seated D) D) (x y : List ℕ) where
     abbrev mid : Laptop D
