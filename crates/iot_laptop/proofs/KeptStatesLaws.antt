@@ -309,9 +309,6 @@ rows_good ((p, Dir) ∷ rows) each = rows_good rows each.1
 rows_good ((p, FarDir) ∷ rows) each = rows_good rows each.1
 rows_good ((p, FarFile) ∷ rows) each = rows_good rows each.1
 
-pub tree_files_good : (t : Nodes) → IsSpelledTree t → AreGood (files_of t)
-tree_files_good t spelled = rows_good (entries t) (each_entry IsSpelledRow t spelled.each)
-
 -- those among them
 among_good : (paths : List Path) (files : List OneFile) → AreGood files → AreGood (files_among paths files)
 among_good paths [] good = tt
@@ -329,11 +326,6 @@ found_good (file ∷ files) good p bytes is = by (eq_by_cmp path_cmp p file.0) i
         → IsContents bytes
     by true is rest = subst IsContents (same_Some _ _ is) good.0.1
     by false is rest = rest is
-
-pub kept_spelled : (files : List OneFile) → AreGood files → AreSpelledFiles (kept_files files)
-kept_spelled files good = record {
-  each = λ p bytes is. found_good files good p bytes (sym (get-from_entries path_total files p) ∙ is);
-}
 
 -- ---- a resolution
 
@@ -364,9 +356,12 @@ shaped_stands plan t is_good script tree =
       script = script;
       acts = sym (ap (λ (ran : Ran). ran.acts) found.same_run);
       tree = tree;
-      files =
-          kept_spelled (found_by plan t)
-          (among_good (found_in plan.script.code (kept_files plan.offered) t plan.budget) plan.offered is_good.good);
+      files = record {
+        each = λ p bytes is.
+            found_good (found_by plan t)
+            (among_good (found_in plan.script.code (kept_files plan.offered) t plan.budget) plan.offered is_good.good) p bytes
+            (sym (get-from_entries path_total (found_by plan t) p) ∙ is);
+      };
     }
 
 -- ---- the plan of the client and that of the machine
@@ -407,7 +402,8 @@ module _ (held : Nodes) (item : Item) (first : clients.Item) (stands : ItemStand
       good = record {
         few = omega arith;
         rising = (offers_files true (local_run held first).tree).rising;
-        good = tree_files_good (local_run held first).tree (run_spelled first.script.code held first.budget stands.script spelled);
+        good = rows_good (entries (local_run held first).tree)
+            (each_entry IsSpelledRow _ (run_spelled first.script.code held first.budget stands.script spelled).each);
       };
     }),
     tt,

@@ -110,9 +110,6 @@ module _ {D : Type 0} (medium : Medium D) where
         let up = up_at here in possibly_sure m.node (up_stands up.0.client up.1 here).sure here.named
     may_be_named (fallen here) = here.named
 
-    begun_in : LaptopStands medium scripts laptop m → IsBegunIfAny (state_in laptop).running (live_in laptop)
-    begun_in here = begun_by (state_in laptop).running (live_in laptop) m.first m.node.durable.running here.state.running
-
     lent_stands : (it : Client D) → laptop.post ≡ Up (record { client = it }) → LaptopStands medium scripts laptop m
         → IsLent medium laptop it
     lent_stands it is here =
@@ -123,7 +120,7 @@ module _ {D : Type 0} (medium : Medium D) where
           live = sym (ap live_by is);
           place = up.stands.place_is;
           tied = up.stands.tied;
-          begun = subst (λ (p : Post (Seated D) D). IsBegunIfAny (state_by p).running (live_by p)) is (begun_in here);
+          begun = rw is at (begun_by (state_in laptop).running (live_in laptop) m.first m.node.durable.running here.state.running);
         }
 
     -- its acts are those of its script's run

@@ -332,11 +332,6 @@ live_fresh new on same = refl
 
 -- ---- a restart
 
-stop_said : (name : List ℕ) (node n : Node ClientState) (text : List ℕ) → ComesBack name no_text node text false n
-    → text ≡ stopped_line name
-stop_said name node n text (inl it) = absurd (not_both (sym it.0))
-stop_said name node n text (inr stop) = stop.0
-
 -- its node came back over this post, or stopped again
 pub record CameBack {D : Type 0} (medium : Medium D) (old : Laptop D) (post : Post (Seated D) D) (x y : List ℕ) (on : Bool) : Type
     0 where
@@ -397,13 +392,14 @@ module _ {D : Type 0} (medium : Medium D) (old : Laptop D) where
       pub came_again : (scripts : List Declared) (m : machine.Client) → ClientStands medium scripts old m → Came medium old x y m
       came_again scripts m here =
           let s = back.steps.step m.node (fallen_stands medium scripts old m back.off here).node in
+          let said : s.0 ≡ stopped_line old.name = elim s.3 [ inl it ↦ absurd (not_both (sym it.0)) | inr stop ↦ stop.0 ] in
           record {
             on = false;
             mid = y;
             rest = [];
             came = tt;
             whole = sym (append-nil y);
-            stopped = λ _. s.2 ∙ ap (λ (t : List ℕ). x ++ t) (stop_said old.name m.node s.1 s.0 s.3);
+            stopped = λ _. s.2 ∙ ap (λ (t : List ℕ). x ++ t) said;
           }
 
     -- ---- it is back
