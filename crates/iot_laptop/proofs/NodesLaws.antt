@@ -129,8 +129,7 @@ module _ {D : Type 0} (medium : Medium D) where
         let up = up_at here in
         let it = up.0.client in
         let lent = lent_stands it up.1 here in
-        subst (λ (p : Post (Seated D) D). IsOwnRunIfAny (state_by p) (live_by p)) (sym up.1)
-        (own (state_of it) (client.class_in it) it.interpreter lent.tied.runs lent.begun)
+        rw up.1 (own (state_of it) (client.class_in it) it.interpreter lent.tied.runs lent.begun)
 
     -- ---- over another post
 

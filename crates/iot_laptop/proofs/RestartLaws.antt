@@ -528,8 +528,7 @@ module _ {D : Type 0} (medium : Medium D) (laptop : Laptop D) where
     cut_so : (running : Transaction) → (state_of was).running ≡ Some running → (told : Option ℕ) → answer ≡ Ok told
         → (told ≡ Some (length running.acts)) × Notes Cut was now
     cut_so running is told ok =
-        subst (λ (r : Option Transaction). CutsIfAny r told was now) is
-        (IfOk-at_ok (λ told. CutsIfAny (state_of was).running told was now) ok cuts)
+        rw is at (IfOk-at_ok (λ told. CutsIfAny (state_of was).running told was now) ok cuts)
 
     fits : (scripts : List Declared) (m : machine.Client) → ReturnedStands medium scripts laptop m
         → Before medium laptop was scripts m × Fits medium was now answer scripts (cut m.node.durable) m.first
