@@ -1,20 +1,21 @@
--- What a client keeps, as it is on a disk, and what is known besides of what runs, before and after each of its changes.
+-- What a client keeps, as it is on a disk, and what is known besides of what runs, before and after each of its changes; and that
+-- the resolution that it makes is the one that the machine plans.
 use Rattle.std.proofs.Common.{◌≡◌, ◌+◌, ◌<◌, ◌≤◌, ℕ, Bool, true, false, List, [], ◌∷◌, ◌++◌, drop, Option, Some, None, option_map}
-use Rattle.std.proofs.Common.{length, refl, sym, ap, subst, ◌∙◌, arith, length-append}
+use Rattle.std.proofs.Common.{length, refl, sym, ap, subst, ◌∙◌, arith, length-append, rules, IsTrue, cond, if◌then◌else◌}
 use Rattle.std.proofs.Math.Seq.{drop-append_seam}
 use Rattle.std.proofs.lemmas.List.{append-nil}
-use Rattle.std.proofs.lemmas.Option.{same_Some}
+use Rattle.std.proofs.lemmas.Option.{same_Some, none-some}
 use Rattle.std.specs.Prelude.{IsSome}
-use Rattle.std.specs.FinMap.{empty}
-use Rattle.std.specs.List.{AllByRecursion}
-use Rattle.iot_tree.specs.Tree.{Nodes, IsTree}
+use Rattle.std.specs.FinMap.{empty, entries, entries_sorted, get-entries, get-from_entries, find, is_sorted}
+use Rattle.std.specs.List.{AllByRecursion, filter_map, cons_option}
+use Rattle.iot_tree.specs.Tree.{Nodes, IsTree, Path, Row}
 use Rattle.iot_tree.specs.declared.acts.Act.{Act}
 use Rattle.iot_tree.specs.declared.labels.OnConflict.{OnConflict as OnConflictNamed}
 use Rattle.iot_tree.specs.declared.limits.TheConstants.{ACT_LIMIT}
 use Rattle.iot_tree.specs.declared.questions.Question.{Question}
 use Rattle.iot_tree.specs.declared.labels.OnConflict.TheVariants as on
 use Rattle.iot_lang.specs.Scripts.{IsScript}
-use Rattle.iot_limits.specs.Spelled.{IsSpelledTree}
+use Rattle.iot_limits.specs.Spelled.{IsSpelledTree, IsSpelledRow, AreSpelledFiles}
 use Rattle.iot_acts.specs.Traces.{after_acts, after_update}
 use Rattle.iot_exec.specs.declared.ran.Ran.{Ran}
 use Rattle.iot_exec.proofs.PlaceLaws.{exec_from_start}
@@ -22,18 +23,19 @@ use Rattle.iot_queue.specs.Queues.{with_head, staged}
 use Rattle.iot_queue.specs.declared.items.Item.{Item}
 use Rattle.iot_queue.specs.declared.items.Stage.{Stage}
 use Rattle.iot_queue.specs.declared.items.Stage.TheVariants as stages
-use Rattle.iot_changes.specs.declared.changes.Change.{Change}
 use Rattle.iot_changes.specs.declared.changes.Change.TheVariants as changes
-use Rattle.iot_kept.specs.States.{Transaction, State, after_each, after_items}
+use Rattle.iot_kept.specs.States.{Transaction, State, after_each}
 use Rattle.iot_kept.specs.Changes as records
 use Rattle.iot_kept.specs.Changes.{CanFollow, HeadIs, MayLeave, after, ended, left, stays_in, stage_by, conflicted, repaired}
 use Rattle.iot_kept.specs.Changes.{with_acts}
-use Rattle.iot_client.specs.Ties.{Live, count}
-use Rattle.iot_client.specs.Calls.{CanAct, next_acts, has_ended, may_end, second_class}
+use Rattle.iot_client.specs.Ties.{Live}
+use Rattle.iot_client.specs.declared.noted.Noted.{Noted as NotedIn}
+use Rattle.iot_client.specs.declared.noted.Noted.TheVariants as noteds
+use Rattle.iot_client.specs.Calls.{verdict_change, CanAct, next_acts, may_end, second_class, IsPlannedRun, IsHeadsRun}
 use Rattle.iot_machine.specs.Clients as clients
 use Rattle.iot_machine.specs.Clients.{Declared, ClientState, base, so_far, plain_run, begin, fetch, anew, act_once, one_more, cut_by, cut}
 use Rattle.iot_machine.specs.Clients.{leave, leave_by, change_first, with_first, local_run, item_of, joined, end, hold, reach}
-use Rattle.iot_machine.specs.Clients.{at_stage, resolved_by, repair}
+use Rattle.iot_machine.specs.Clients.{at_stage, resolved_by, repair, Plan, plan_by, found_by, resolution_of}
 use Rattle.iot_machine.specs.Options as options
 use Rattle.iot_machine.specs.Options.{OnConflict}
 use Rattle.iot_machine.specs.Serving as serving
@@ -42,58 +44,66 @@ use Rattle.iot_judging.proofs.BudgetLaws.{HasOneMore, has_one_more, nothing_done
 use Rattle.iot_judging.proofs.JudgingLaws.{run_tree}
 use Rattle.iot_judging.proofs.NextLaws.{base_stays}
 use Rattle.iot_judging.proofs.SpelledTreesLaws.{run_spelled}
-use Rattle.iot_laptop.specs.Calls.{head_option}
+use Rattle.iot_laptop.specs.Calls.{head_option, head_plan}
 use Rattle.iot_laptop.specs.Laptops.{ItemStands, ItemsStand, StageStands, RunningStandsIfAny, StateStands, RunningKept, RunningKeptIfAny}
-use Rattle.iot_laptop.specs.Laptops.{StateKept, waits_of}
+use Rattle.iot_laptop.specs.Laptops.{StateKept, waits_of, ResolutionStands}
 use Rattle.iot_laptop.specs.Messages.{told_change}
 use Rattle.iot_laptop.specs.Scripts.{ItemIsNamed, RunIsNamedIfAny, AreNamed, IsNamed, HasNamed, option_named}
-use Rattle.iot_laptop.proofs.LaptopsLaws.{Running, HeadStands, head_by, base_of, running_is, run_is, counted, ended_is, over_waits}
+use Rattle.iot_laptop.proofs.LaptopsLaws.{base_of, counted, own_ends, own_next, over_waits}
+use Rattle.std.specs.FinMap.Entries.{same_entries}
+use Rattle.std.specs.Ordering.{eq_by_cmp}
+use Rattle.iot_text.specs.Paths.{path_cmp, IsPath}
+use Rattle.iot_text.proofs.PathsLaws.{path_total, path_same}
+use Rattle.iot_tree.specs.declared.nodes.Node.TheVariants.{Dir, File, FarDir, FarFile}
+use Rattle.iot_tree.proofs.EachLaws.{each_entry}
+use Rattle.iot_tree.proofs.RowLaws.{tested}
+use Rattle.iot_codec.specs.Rules.{IsContents}
+use Rattle.iot_lang.specs.Code.{Code}
+use Rattle.iot_exec.specs.Commands.{kept_files}
+use Rattle.iot_exec.specs.Files.{file_of, files_of}
+use Rattle.iot_exec.specs.Finding.{found_in, is_among, files_among}
+use Rattle.iot_exec.specs.Runs.{run}
+use Rattle.iot_exec.proofs.FindingLaws.{are_found}
+use Rattle.iot_queue.specs.declared.items.Resolution.{Resolution}
+use Rattle.iot_resolve.specs.Files.{offered}
+use Rattle.iot_resolve.specs.Plans as resolves
+use Rattle.iot_resolve.specs.Plans.{plan_for}
+use Rattle.iot_resolve.specs.Resolved.{resolved}
+use Rattle.iot_resolve.specs.declared.plan.Plan as plans
+use Rattle.iot_resolve.proofs.FilesLaws.{offers_files}
+use Rattle.iot_changes.specs.declared.changes.Change.TheVariants.{Resolved}
 
 -- ---- what is known besides of what runs
 
 -- its script and its class
-abbrev pub LiveStands : Option Live → (first : Bool) → Option clients.Running → Type 0
-LiveStands live first None = live ≡ None
-LiveStands None first (Some it) = ⊥
-LiveStands (Some own) first (Some it) = (own.code ≡ it.script.code) × (own.first ≡ first)
+abbrev pub live_with : (first : Bool) → Option clients.Running → Option Live
+live_with first o = option_map (λ it. record { first = first; code = it.script.code }) o
 
--- the state is what a client of the machine keeps, and that is known besides
-pub record KeptLive (s : State) (live : Option Live) (first : Bool) (m : ClientState) : Type 0 where
+-- among these scripts, the state is what a client of the machine keeps, and that is known besides
+pub record KeptLive (scripts : List Declared) (s : State) (live : Option Live) (first : Bool) (m : ClientState) : Type 0 where
   pub kept : StateKept s m
-  pub runs : LiveStands live first m.running
+  pub runs : live ≡ live_with first m.running
+  pub named : AreNamed scripts m
 
 pub live_then : (r : Option Transaction) (live : Option Live) (first : Bool) (o : Option clients.Running)
-    → RunningStandsIfAny r live first o → LiveStands live first o
+    → RunningStandsIfAny r live first o → live ≡ live_with first o
 live_then None live first None stands = stands
-live_then (Some running) (Some own) first (Some it) stands = (stands.code, stands.class)
+live_then (Some running) (Some own) first (Some it) stands = λ i. Some (record { first = stands.class i; code = stands.code i })
 live_then (Some running) None first (Some it) stands = absurd stands
 live_then r live first o stands = absurd stands
 
-runs_with : (t : Nodes) (r : Option Transaction) (live : Option Live) (first : Bool) (o : Option clients.Running)
-    → RunningKeptIfAny t r o → LiveStands live first o → RunningStandsIfAny r live first o
-runs_with t None live first None kept runs = runs
-runs_with t (Some running) (Some own) first (Some it) kept runs = record {
-  number = kept.number;
-  name = kept.name;
-  code = runs.0;
-  script = kept.script;
-  acts = kept.count;
-  option = kept.option;
-  class = runs.1;
-}
-runs_with t (Some running) None first (Some it) kept runs = absurd runs
-runs_with t r live first o kept runs = absurd kept
+runs_with : (t : Nodes) (r : Option Transaction) (first : Bool) (o : Option clients.Running) → RunningKeptIfAny t r o
+    → RunningStandsIfAny r (live_with first o) first o
+runs_with t None first None kept = refl
+runs_with t (Some running) first (Some it) kept = search (rules, kept.count)
+runs_with t r first o kept = absurd kept
 
 -- so it stands for one that is alive
-pub stands_with : (s : State) (live : Option Live) (first : Bool) (m : ClientState) → KeptLive s live first m → StateStands s live first m
-stands_with s live first m here = record {
-  held = here.kept.held;
-  items = here.kept.items;
-  running = runs_with (base m) s.running live first m.running here.kept.running here.runs;
-  last = here.kept.last;
-  tree = here.kept.tree;
-  spelled = here.kept.spelled;
-}
+pub stands_with : (s : State) (live : Option Live) (first : Bool) (m : ClientState) → StateKept s m → live ≡ live_with first m.running
+    → StateStands s live first m
+stands_with s live first m kept runs =
+    let running : RunningStandsIfAny s.running live first m.running = rw runs (runs_with (base m) s.running first m.running kept.running) in
+    search rules
 
 -- nothing runs
 idle_is : (t : Nodes) (r : Option Transaction) (o : Option clients.Running) → r ≡ None → RunningKeptIfAny t r o → o ≡ None
@@ -101,28 +111,19 @@ idle_is t None None none kept = refl
 idle_is t None (Some it) none kept = absurd kept
 idle_is t (Some running) o none kept = absurd cc
 
-pub idle_in : (s : State) (m : ClientState) → s.running ≡ None → StateKept s m → m.running ≡ None
-idle_in s m none kept = idle_is (base m) s.running m.running none kept.running
+pub idle_runs : (first : Bool) (s : State) (m : ClientState) → s.running ≡ None → StateKept s m → None ≡ live_with first m.running
+idle_runs first s m none kept = sym (ap (live_with first) (idle_is (base m) s.running m.running none kept.running))
 
-pub idle_runs : (s : State) (live : Option Live) (first : Bool) (m : ClientState) → live ≡ None → s.running ≡ None → StateKept s m
-    → LiveStands live first m.running
-idle_runs s live first m lives none kept =
-    subst (λ (o : Option clients.Running). LiveStands live first o) (sym (idle_in s m none kept)) lives
-
--- what runs is another one now, with the same script
-live_mapped : (change : clients.Running → clients.Running) → ((it : clients.Running) → (change it).script ≡ it.script)
-    → (live : Option Live) (first : Bool) (o : Option clients.Running) → LiveStands live first o
-    → LiveStands live first (option_map change o)
-live_mapped change same live first None runs = runs
-live_mapped change same None first (Some it) runs = absurd runs
-live_mapped change same (Some own) first (Some it) runs = (runs.0 ∙ ap (λ (d : Declared). d.code) (sym (same it)), runs.1)
+-- it has done another number of acts
+same_live : (acts : ℕ → ℕ) (first : Bool) (o : Option clients.Running)
+    → live_with first o ≡ live_with first (option_map (λ (it : clients.Running). record it { acts = acts it.acts }) o)
+same_live acts first None = refl
+same_live acts first (Some it) = refl
 
 -- it is second class now
-pub second_live : (live : Option Live) (first : Bool) (o : Option clients.Running) → LiveStands live first o
-    → LiveStands (second_class live) false o
-second_live live first None runs = ap second_class runs
-second_live None first (Some it) runs = absurd runs
-second_live (Some own) first (Some it) runs = (runs.0, refl)
+pub second_live : (first : Bool) (o : Option clients.Running) → second_class (live_with first o) ≡ live_with false o
+second_live first None = refl
+second_live first (Some it) = refl
 
 -- ---- the transactions that wait
 
@@ -145,36 +146,6 @@ joined_waits items r some = refl
 
 -- ---- the first that waits
 
--- the first is another one now, with the same acts of its own
-head_stays : (change : Item → Item) (other : clients.Item → clients.Item) (items : List Item) (t : Nodes) (ms : List clients.Item)
-    → ((item : Item) → (change item).acts ≡ item.acts)
-    → ((item : Item) (later : List Item) (m : clients.Item) (after : List clients.Item) → items ≡ item ∷ later → ms ≡ m ∷ after
-    → ItemStands t item m → ItemStands t (change item) (other m))
-    → ItemsStand items t ms → ItemsStand (with_head change items) t (with_first other ms)
-head_stays change other [] t [] same each stand = tt
-head_stays change other (item ∷ items) t (m ∷ ms) same each stand = (
-  each item items m ms refl refl stand.0,
-  subst (λ (acts : List Act). ItemsStand items (after_acts t acts) ms) (sym (same item)) stand.1,
-)
-head_stays change other items t ms same each stand = absurd stand
-
--- it has this option, and is at this stage
-changed_item : (t : Nodes) (item : Item) (m : clients.Item) → ItemStands t item m → (option : OnConflictNamed) (o : OnConflict Declared)
-    → option ≡ option_named o → (stage : Stage) (other : clients.Stage) → StageStands stage other → IsPlanned o other
-    → ItemStands t (record item { option = option; stage = stage }) (record m { option = o; stage = other })
-changed_item t item m stands option o is stage other same planned = record {
-  number = stands.number;
-  name = stands.name;
-  budget = stands.budget;
-  few = stands.few;
-  script = stands.script;
-  acts = stands.acts;
-  tree = stands.tree;
-  option = is;
-  stage = same;
-  planned = planned;
-}
-
 -- if one conflicts with such an option, it can be resolved
 can_resolve : (o : OnConflict Declared) → stage_by (option_named o) ≡ Some stages.Conflict → CanResolve o
 can_resolve options.Reexec is = tt
@@ -182,19 +153,7 @@ can_resolve (options.Resolver script) is = tt
 can_resolve options.Abort is = absurd cc
 can_resolve options.Manual is = absurd cc
 
-first_base : (change : clients.Item → clients.Item) (m : ClientState)
-    → ((t : Nodes) (item : clients.Item) → local_run t (change item) ≡ local_run t item) → base (change_first change m) ≡ base m
-first_base change m same = by m.items
-  where
-    by : (items : List clients.Item) → clients.after_items m.held (with_first change items) ≡ clients.after_items m.held items
-    by [] = refl
-    by (item ∷ items) = ap (λ (ran : Ran). clients.after_items ran.tree items) (same m.held item)
-
 -- ---- the scripts of a client's transactions
-
--- a change keeps that each is the one that its name names
-abbrev pub KeepsNamed : List Declared → (ClientState → ClientState) → Type 0
-KeepsNamed scripts change = (s : ClientState) → AreNamed scripts s → AreNamed scripts (change s)
 
 module _ (scripts : List Declared) where
   abbrev AllNamed : List clients.Item → Type 0
@@ -215,78 +174,21 @@ module _ (scripts : List Declared) where
   cut_off_named items (Some it) all run =
       all_named items (clients.waiting it.acts it) all (record { script = run.script; resolver = run.resolver })
 
-  more_named : (o : Option clients.Running) → RunIsNamedIfAny scripts o → RunIsNamedIfAny scripts (option_map one_more o)
-  more_named None run = tt
-  more_named (Some it) run = record { script = run.script; resolver = run.resolver }
-
-  anew_named : (o : Option clients.Running) → RunIsNamedIfAny scripts o → RunIsNamedIfAny scripts (option_map anew o)
-  anew_named None run = tt
-  anew_named (Some it) run = record { script = run.script; resolver = run.resolver }
-
-  first_named : (change : clients.Item → clients.Item) (items : List clients.Item)
-      → ((item : clients.Item) → ItemIsNamed scripts item → ItemIsNamed scripts (change item))
-      → AllNamed items → AllNamed (with_first change items)
-  first_named change [] each all = tt
-  first_named change (item ∷ items) each all = (each item all.0, all.1)
-
-  pub begin_named : (script : Declared) (option : OnConflict Declared) → IsNamed scripts script → HasNamed scripts option
-      → KeepsNamed scripts (begin script option)
-  begin_named script option is has s named = record { items = named.items; running = record { script = is; resolver = has } }
-
-  pub hold_named : (t : Nodes) → KeepsNamed scripts (hold t)
-  hold_named t s named = record { items = named.items; running = named.running }
-
-  pub fetch_named : (t : Nodes) → KeepsNamed scripts (fetch t)
-  fetch_named t s named = record { items = named.items; running = anew_named s.running named.running }
-
-  pub act_named : KeepsNamed scripts act_once
-  act_named s named = record { items = named.items; running = more_named s.running named.running }
-
-  pub end_named : KeepsNamed scripts end
-  end_named s named = record { items = joined_named s.items s.running named.items named.running; running = tt }
-
-  pub cut_named : KeepsNamed scripts cut
-  cut_named s named = record { items = cut_off_named s.items s.running named.items named.running; running = tt }
-
-  pub leave_named : KeepsNamed scripts leave
-  leave_named s named = by s.items named.items
-    where
-      by : (items : List clients.Item) → AllNamed items → AreNamed scripts (leave_by items s)
-      by [] all = named
-      by (item ∷ items) all = record { items = all.1; running = named.running }
-
-  pub reach_named : (stage : clients.Stage) → KeepsNamed scripts (reach stage)
-  reach_named stage s named = record {
-    items = first_named (at_stage stage) s.items (λ item is. record { script = is.script; resolver = is.resolver }) named.items;
-    running = named.running;
-  }
-
-  pub repair_named : (script : Declared) → IsNamed scripts script → KeepsNamed scripts (repair script)
-  repair_named script by s named = record {
-    items = first_named (resolved_by script) s.items (λ item is. record { script = is.script; resolver = by }) named.items;
-    running = named.running;
-  }
+  acts_named : (acts : ℕ → ℕ) (o : Option clients.Running) → RunIsNamedIfAny scripts o
+      → RunIsNamedIfAny scripts (option_map (λ (it : clients.Running). record it { acts = acts it.acts }) o)
+  acts_named acts None run = tt
+  acts_named acts (Some it) run = record { script = run.script; resolver = run.resolver }
 
 -- ---- the transaction that runs
 
 -- one that begins is as its tree is, without acts
 new_kept : (t : Nodes) (running : Transaction) (it : clients.Running) → running.number ≡ it.number → running.script ≡ it.script.name
     → IsScript it.script.code → running.option ≡ option_named it.option → RunningKept t (record running { acts = [] }) (anew it)
-new_kept t running it same named script option = record {
-  number = same;
-  name = named;
-  script = script;
-  few = omega arith;
-  count = refl;
-  acts = ap (λ (ran : Ran). ran.acts) (exec_from_start empty it.script.code t 0);
-  tree = sym (nothing_done it.script.code empty t);
-  option = option;
-}
-
-idle_kept : (t u : Nodes) (r : Option Transaction) (o : Option clients.Running) → r ≡ None → RunningKeptIfAny t r o → RunningKeptIfAny u r o
-idle_kept t u None None none kept = tt
-idle_kept t u None (Some it) none kept = absurd kept
-idle_kept t u (Some running) o none kept = absurd cc
+new_kept t running it same named script option =
+    let few : 0 ≤ ACT_LIMIT = omega arith in
+    let acts : [] ≡ (so_far t (anew it)).acts = ap (λ (ran : Ran). ran.acts) (exec_from_start empty it.script.code t 0) in
+    let tree : t ≡ (so_far t (anew it)).tree = sym (nothing_done it.script.code empty t) in
+    search rules
 
 -- one that begins anew
 anew_kept : (t u : Nodes) (r : Option Transaction) (o : Option clients.Running) → RunningKeptIfAny t r o
@@ -299,9 +201,6 @@ acts_more : (acts : List Act) (act : Act) (t : Nodes) → after_acts t (acts ++ 
 acts_more [] act t = refl
 acts_more (first ∷ later) act t = acts_more later act (after_update t first.update)
 
-one_act : (act other : Act) → act ∷ [] ≡ other ∷ [] → act ≡ other
-one_act act other e = cc
-
 -- the act is the next one of the run
 more_kept : (t : Nodes) (running : Transaction) (it : clients.Running) (act : Act) → RunningKept t running it → it.acts < ACT_LIMIT
     → (so_far t it).ended ≡ false → drop it.acts (plain_run it.script t (it.acts + 1)).acts ≡ act ∷ []
@@ -309,42 +208,29 @@ more_kept : (t : Nodes) (running : Transaction) (it : clients.Running) (act : Ac
 more_kept t running it act kept within on next =
     let more : HasOneMore it.acts (so_far t it) (plain_run it.script t (it.acts + 1)) =
     has_one_more it.script.code empty t it.acts on in
-    let same : more.act ≡ act =
-    one_act more.act act
-    (sym (drop-append_seam (so_far t it).acts (more.act ∷ []))
+    let one : more.act ∷ [] ≡ act ∷ [] =
+    sym (drop-append_seam (so_far t it).acts (more.act ∷ []))
     ∙ ap (λ (n : ℕ). drop n ((so_far t it).acts ++ more.act ∷ [])) more.count
-    ∙ ap (drop it.acts) (sym more.acts) ∙ next) in
-    record {
-      number = kept.number;
-      name = kept.name;
-      script = kept.script;
-      few = omega (arith, within);
-      count = length-append running.acts (act ∷ []) ∙ ap (λ (n : ℕ). n + 1) kept.count;
-      acts =
-          ap (λ (acts : List Act). acts ++ act ∷ []) kept.acts ∙ ap (λ (a : Act). (so_far t it).acts ++ a ∷ []) (sym same)
-          ∙ sym more.acts;
-      tree =
-          acts_more running.acts act t ∙ ap (λ (u : Nodes). after_update u act.update) kept.tree
-          ∙ ap (λ (a : Act). after_update (so_far t it).tree a.update) (sym same) ∙ sym more.tree;
-      option = kept.option;
-    }
+    ∙ ap (drop it.acts) (sym more.acts) ∙ next in
+    let same : more.act ≡ act = cc in
+    let few : it.acts + 1 ≤ ACT_LIMIT = omega (arith, within) in
+    let count : length (running.acts ++ act ∷ []) ≡ it.acts + 1 =
+    length-append running.acts (act ∷ []) ∙ ap (λ (n : ℕ). n + 1) kept.count in
+    let acts : running.acts ++ act ∷ [] ≡ (so_far t (one_more it)).acts =
+    ap (λ (acts : List Act). acts ++ act ∷ []) kept.acts ∙ ap (λ (a : Act). (so_far t it).acts ++ a ∷ []) (sym same) ∙ sym more.acts in
+    let tree : after_acts t (running.acts ++ act ∷ []) ≡ (so_far t (one_more it)).tree =
+    acts_more running.acts act t ∙ ap (λ (u : Nodes). after_update u act.update) kept.tree
+    ∙ ap (λ (a : Act). after_update (so_far t it).tree a.update) (sym same) ∙ sym more.tree in
+    search rules
 
 -- one that does no more than it has done, as one that waits with this budget
 waits_item : (t : Nodes) (running : Transaction) (it : clients.Running) (budget n : ℕ) → RunningKept t running it → budget ≡ n
     → n ≤ ACT_LIMIT → local_run t (clients.waiting n it) ≡ so_far t it
     → ItemStands t (records.waiting budget running) (clients.waiting n it)
-waits_item t running it budget n is same few run = record {
-  number = is.number;
-  name = is.name;
-  budget = same;
-  few = few;
-  script = is.script;
-  acts = is.acts ∙ ap (λ (ran : Ran). ran.acts) (sym run);
-  tree = is.tree ∙ ap (λ (ran : Ran). ran.tree) (sym run);
-  option = is.option;
-  stage = tt;
-  planned = tt;
-}
+waits_item t running it budget n is same few run =
+    let acts : running.acts ≡ (local_run t (clients.waiting n it)).acts = is.acts ∙ ap (λ (ran : Ran). ran.acts) (sym run) in
+    let tree : after_acts t running.acts ≡ (local_run t (clients.waiting n it)).tree = is.tree ∙ ap (λ (ran : Ran). ran.tree) (sym run) in
+    search rules
 
 -- ---- a state
 
@@ -353,27 +239,15 @@ module _ (s : State) (m : ClientState) (here : StateKept s m) where
   with_queue : (items : List Item) (ms : List clients.Item) (r : Option Transaction) (o : Option clients.Running)
       → ItemsStand items s.held ms → RunningKeptIfAny (clients.after_items m.held ms) r o
       → StateKept (record s { items = items; running = r }) (record m { items = ms; running = o })
-  with_queue items ms r o stand runs = record {
-    held = here.held;
-    items = stand;
-    running = runs;
-    last = here.last;
-    tree = here.tree;
-    spelled = here.spelled;
-  }
+  with_queue items ms r o stand runs = search rules
 
   -- another tree is held, and none waits
   with_tree : (t : Nodes) (r : Option Transaction) (o : Option clients.Running) → s.items ≡ [] → IsTree t → IsSpelledTree t
       → RunningKeptIfAny (clients.after_items t m.items) r o
       → StateKept (record s { held = t; running = r }) (record m { held = t; running = o })
-  with_tree t r o none tree spelled runs = record {
-    held = refl;
-    items = none_stand s.items s.held t m.items none here.items;
-    running = runs;
-    last = here.last;
-    tree = tree;
-    spelled = spelled;
-  }
+  with_tree t r o none tree spelled runs =
+      let stand : ItemsStand s.items t m.items = none_stand s.items s.held t m.items none here.items in
+      search rules
 
   -- one more waits, and none runs
   one_waits : (item : Item) (it : clients.Item) → ItemStands (base m) item it
@@ -402,172 +276,322 @@ module _ (s : State) (m : ClientState) (here : StateKept s m) where
       (waits_item (base m) running it (length running.acts) it.acts is is.count is.few refl)
   cut_items r o is = absurd is
 
-  pub cut_live : (first : Bool) → KeptLive (after s changes.Cut) None first (cut m)
-  cut_live first = record { kept = with_queue _ _ None None (cut_items s.running m.running here.running) tt; runs = refl }
+  pub cut_live : (scripts : List Declared) (first : Bool) → AreNamed scripts m
+      → KeptLive scripts (after s changes.Cut) None first (cut m)
+  cut_live scripts first named = record {
+    kept = with_queue _ _ None None (cut_items s.running m.running here.running) tt;
+    runs = refl;
+    named = record { items = cut_off_named scripts m.items m.running named.items named.running; running = tt };
+  }
 
-module _ (s : State) (live : Live) (first : Bool) (m : ClientState) (here : StateStands s (Some live) first m) (act : Act)
-    (can : CanAct s live) (next : next_acts s live.code ≡ act ∷ []) where
-  more_run : (it : clients.Running) (runs : m.running ≡ Some it) (running : Transaction) → RunningKept (base m) running it
-      → RunningKept (base m) (record running { acts = running.acts ++ act ∷ [] }) (one_more it)
-  more_run it runs running kept =
-      let known : Running s.running (Some live) first it = running_is s (Some live) first m here it runs in
-      let same : live ≡ known.besides = same_Some live known.besides known.lives in
-      let many : count s ≡ it.acts = counted s (Some live) first m here it runs in
-      more_kept (base m) running it act kept (subst (λ (n : ℕ). n < ACT_LIMIT) many can.within)
-      (sym (ended_is s (Some live) first m here it runs) ∙ ap (λ (l : Live). has_ended s l.code) (sym same) ∙ can.goes_on)
-      (ap (λ (n : ℕ). drop n (plain_run it.script (base m) (n + 1)).acts) (sym many)
-      ∙ ap (λ (ran : Ran). drop (count s) ran.acts) (sym (run_is s (Some live) first m here it runs (count s + 1)))
-      ∙ ap (λ (l : Live). next_acts s l.code) (sym same) ∙ next)
+abbrev OneFile : Type 0
+OneFile = Path × List ℕ
 
-  more_by : (r : Option Transaction) (o : Option clients.Running) → o ≡ m.running → RunningKeptIfAny (base m) r o
-      → RunningKeptIfAny (base m) (with_acts (λ acts. acts ++ act ∷ []) r) (option_map one_more o)
-  more_by None None is kept = tt
-  more_by (Some running) (Some it) is kept = more_run it (sym is) running kept
-  more_by r o is kept = absurd kept
+-- ---- files that rise
 
--- what is noted of the first that was submitted
-abbrev pub told_record : serving.Verdict → Change
-told_record (serving.Settled number) = changes.Left
-told_record (serving.Conflict read question) = changes.Conflicted
+-- they are the entries of their map
+pub files_are : (files : List OneFile) → IsTrue (is_sorted path_cmp files) → files ≡ entries (kept_files files)
+files_are files rising =
+    sym
+    (same_entries path_cmp path_total path_same (entries (kept_files files)) files (entries_sorted (kept_files files)) (tested _ rising)
+    (λ q. sym (get-entries (kept_files files) q) ∙ get-from_entries path_total files q))
+
+-- ---- files that have spellings
+
+abbrev pub AreGood : List OneFile → Type 0
+AreGood files = AllByRecursion (λ (file : OneFile). IsPath file.0 × IsContents file.1) files
+
+-- those of the rows of a tree that has one
+rows_good : (rows : List Row) → AllByRecursion (λ (row : Row). IsSpelledRow row.0 row.1) rows → AreGood (filter_map file_of rows)
+rows_good [] each = tt
+rows_good ((p, File bytes) ∷ rows) each = ((each.0.is_path, each.0.is_node), rows_good rows each.1)
+rows_good ((p, Dir) ∷ rows) each = rows_good rows each.1
+rows_good ((p, FarDir) ∷ rows) each = rows_good rows each.1
+rows_good ((p, FarFile) ∷ rows) each = rows_good rows each.1
+
+-- those among them
+among_good : (paths : List Path) (files : List OneFile) → AreGood files → AreGood (files_among paths files)
+among_good paths [] good = tt
+among_good paths (file ∷ files) good = by (is_among file.0 paths) (among_good paths files good.1)
+  where
+    by : (b : Bool) → AreGood (files_among paths files) → AreGood (cons_option (if b then Some file else None) (files_among paths files))
+    by true rest = (good.0, rest)
+    by false rest = rest
+
+found_good : (files : List OneFile) → AreGood files → (p : Path) (bytes : List ℕ) → find path_cmp p files ≡ Some bytes → IsContents bytes
+found_good [] good p bytes is = absurd (none-some _ is)
+found_good (file ∷ files) good p bytes is = by (eq_by_cmp path_cmp p file.0) is (found_good files good.1 p bytes)
+  where
+    by : (b : Bool) → cond b (Some file.1) (find path_cmp p files) ≡ Some bytes → (find path_cmp p files ≡ Some bytes → IsContents bytes)
+        → IsContents bytes
+    by true is rest = subst IsContents (same_Some _ _ is) good.0.1
+    by false is rest = rest is
+
+-- ---- a resolution
+
+-- what a plan comes to that has this name, this budget and this code, if these files are offered
+abbrev shaped : (name : List ℕ) (budget : ℕ) (code : Code) (files : List OneFile) (t : Nodes) → Resolution
+shaped name budget code files t = record {
+  script = name;
+  budget = budget;
+  kept = files_among (found_in code (kept_files files) t budget) files;
+  acts = (run code (kept_files files) t budget).acts;
+}
+
+-- what is to be known of a plan
+record IsGoodPlan (plan : Plan) : Type 0 where
+  pub few : plan.budget ≤ ACT_LIMIT
+  pub rising : IsTrue (is_sorted path_cmp plan.offered)
+  pub good : AreGood plan.offered
+
+-- it is the machine's
+shaped_stands : (plan : Plan) (t : Nodes) → IsGoodPlan plan → IsScript plan.script.code → IsTree t
+    → ResolutionStands (shaped plan.script.name plan.budget plan.script.code plan.offered t) (resolution_of plan t)
+shaped_stands plan t is_good script tree =
+    let found = are_found plan.script.code plan.offered t plan.budget in
+    record {
+      name = refl;
+      budget = refl;
+      kept = files_are (found_by plan t) (found.rising is_good.rising);
+      script = script;
+      acts = sym (ap (λ (ran : Ran). ran.acts) found.same_run);
+      tree = tree;
+      files = record {
+        each = λ p bytes is.
+            found_good (found_by plan t)
+            (among_good (found_in plan.script.code (kept_files plan.offered) t plan.budget) plan.offered is_good.good) p bytes
+            (sym (get-from_entries path_total (found_by plan t) p) ∙ is);
+      };
+    }
+
+-- ---- the plan of the client and that of the machine
+
+record PlansAgree (local : Nodes) (p : plans.Plan) (plan : Plan) : Type 0 where
+  pub name : p.script ≡ plan.script.name
+  pub budget : p.budget ≡ plan.budget
+  pub files : offered p.keeps local ≡ plan.offered
+  pub good : IsGoodPlan plan
+
+module _ (held : Nodes) (item : Item) (first : clients.Item) (stands : ItemStands held item first) (spelled : IsSpelledTree held)
+    (p : plans.Plan) (plan : Plan) where
+  abbrev local : Nodes
+  local = after_acts held item.acts
+
+  as_planned : (a : plans.Plan) (b : Plan) → Some a ≡ Some p → Some b ≡ Some plan → PlansAgree local a b → PlansAgree local p plan
+  as_planned a b theirs ours agree =
+      subst (λ (p : plans.Plan). PlansAgree local p plan) (same_Some _ _ theirs)
+      (subst (PlansAgree local a) (same_Some _ _ ours) agree)
+
+  -- and one for which something is planned can be resolved
+  agree_by : (o : OnConflict Declared) → item.option ≡ option_named o → plan_for item.script item.budget item.option ≡ Some p
+      → plan_by held first o ≡ Some plan → PlansAgree local p plan × CanResolve o
+  agree_by options.Reexec is theirs ours = (
+    as_planned _ _ (ap (λ (option : OnConflictNamed). plan_for item.script item.budget option) (sym is) ∙ theirs) ours (record {
+      name = stands.name;
+      budget = stands.budget;
+      files = refl;
+      good = record { few = stands.few; rising = refl; good = tt };
+    }),
+    tt,
+  )
+  agree_by (options.Resolver script) is theirs ours = (
+    as_planned _ _ (ap (λ (option : OnConflictNamed). plan_for item.script item.budget option) (sym is) ∙ theirs) ours (record {
+      name = refl;
+      budget = refl;
+      files = ap files_of stands.tree;
+      good = record {
+        few = omega arith;
+        rising = (offers_files true (local_run held first).tree).rising;
+        good = rows_good (entries (local_run held first).tree)
+            (each_entry IsSpelledRow _ (run_spelled first.script.code held first.budget stands.script spelled).each);
+      };
+    }),
+    tt,
+  )
+  agree_by options.Abort is theirs ours = absurd cc
+  agree_by options.Manual is theirs ours = absurd cc
+
+-- ---- the first that waits
+
+module _ (held : Nodes) (item : Item) (first : clients.Item) (stands : ItemStands held item first) (spelled : IsSpelledTree held)
+    (plan : Plan) (ours : clients.plan_of held first ≡ Some plan) (code : Code) (same : plan.script.code ≡ code) (script : IsScript code)
+    (t : Nodes) (tree : IsTree t) (done : Resolution) where
+  run_by : (o : Option plans.Plan) → resolves.plan_of item ≡ o → IsPlannedRun o code (after_acts held item.acts) t done
+      → ResolutionStands done (resolution_of plan t) × CanResolve first.option
+  run_by None theirs ran = absurd ran
+  run_by (Some p) theirs ran =
+      let agree = agree_by held item first stands spelled p plan first.option stands.option theirs ours in
+      let shape : resolved p code (after_acts held item.acts) t ≡ shaped plan.script.name plan.budget plan.script.code plan.offered t =
+      (λ i. shaped (agree.0.name i) (agree.0.budget i) (sym same i) (agree.0.files i) t) in (
+        subst (λ (done : Resolution). ResolutionStands done (resolution_of plan t)) (sym (ran ∙ shape))
+            (shaped_stands plan t agree.0.good (subst IsScript (sym same) script) tree),
+        agree.1,
+      )
+
+-- what is said of the first that was submitted
+abbrev pub noted_as : serving.Verdict → NotedIn
+noted_as (serving.Settled number) = noteds.Settled number
+noted_as (serving.Conflict read question) = noteds.Conflict read
 
 -- ---- a record each
 
-module _ (s : State) (live : Option Live) (first : Bool) (m : ClientState) (here : KeptLive s live first m) where
+module _ {scripts : List Declared} {s : State} {live : Option Live} {first : Bool} {m : ClientState}
+    (here : KeptLive scripts s live first m) where
+  pub stands_so : StateStands s live first m
+  stands_so = stands_with s live first m here.kept here.runs
+
   pub held_live : (t : Nodes) → CanFollow s (changes.Held t) → IsTree t → IsSpelledTree t
-      → KeptLive (after s (changes.Held t)) None first (hold t m)
+      → KeptLive scripts (after s (changes.Held t)) None first (hold t m)
   held_live t can tree spelled =
-      let kept : StateKept (after s (changes.Held t)) (hold t m) =
-      with_tree s m here.kept t s.running m.running can.1 tree spelled
-      (idle_kept (base m) (base (hold t m)) s.running m.running can.0 here.kept.running) in
-      record { kept = kept; runs = idle_runs (after s (changes.Held t)) None first (hold t m) refl can.0 kept }
+      let none : m.running ≡ None = idle_is (base m) s.running m.running can.0 here.kept.running in
+      record {
+        kept = with_tree s m here.kept t s.running m.running can.1 tree spelled (rw (can.0, none) tt);
+        runs = sym (ap (live_with first) none);
+        named = search rules;
+      }
 
   pub begun_live : (number : ℕ) (script : Declared) (option : OnConflictNamed) (class : Bool) (on_conflict : OnConflict Declared)
       → CanFollow s (changes.Begun number script.name option) → IsScript script.code → option ≡ option_named on_conflict
-      → KeptLive (after s (changes.Begun number script.name option)) (Some (record { first = class; code = script.code })) class
+      → IsNamed scripts script → HasNamed scripts on_conflict
+      → KeptLive scripts (after s (changes.Begun number script.name option)) (Some (record { first = class; code = script.code })) class
       (begin script on_conflict m)
-  begun_live number script option class on_conflict can is option_is =
+  begun_live number script option class on_conflict can is option_is named has =
       let same : number ≡ m.last + 1 = can.1 ∙ ap (λ (n : ℕ). n + 1) here.kept.last in
-      record {
-        kept = record {
-          held = here.kept.held;
-          items = here.kept.items;
-          running =
-              new_kept (base m) (record { number = number; script = script.name; option = option; acts = [] })
-              (record { number = m.last + 1; script = script; option = on_conflict; acts = 0 }) same refl is option_is;
-          last = same;
-          tree = here.kept.tree;
-          spelled = here.kept.spelled;
-        };
-        runs = (refl, refl);
-      }
+      let running : RunningKept (base m) (record { number = number; script = script.name; option = option; acts = [] })
+      (record { number = m.last + 1; script = script; option = on_conflict; acts = 0 }) =
+      new_kept (base m) (record { number = number; script = script.name; option = option; acts = [] })
+      (record { number = m.last + 1; script = script; option = on_conflict; acts = 0 }) same refl is option_is in
+      record { kept = search rules; runs = refl; named = search rules }
 
   pub fetched_live : (t : Nodes) → CanFollow s (changes.Fetched t) → IsTree t → IsSpelledTree t
-      → KeptLive (after s (changes.Fetched t)) live first (fetch t m)
+      → KeptLive scripts (after s (changes.Fetched t)) live first (fetch t m)
   fetched_live t can tree spelled = record {
     kept =
         with_tree s m here.kept t _ _ can.1 tree spelled
         (anew_kept (base m) (base (fetch t m)) s.running m.running here.kept.running);
-    runs = live_mapped anew (λ it. refl) live first m.running here.runs;
+    runs = here.runs ∙ same_live (λ _. 0) first m.running;
+    named = record { items = here.named.items; running = acts_named scripts (λ _. 0) m.running here.named.running };
   }
 
   pub acted_live : (own : Live) → live ≡ Some own → (act : Act) → CanAct s own → next_acts s own.code ≡ act ∷ []
-      → KeptLive (after s (changes.Acted act)) live first (act_once m)
+      → KeptLive scripts (after s (changes.Acted act)) live first (act_once m)
   acted_live own lives act can next = record {
-    kept =
-        with_queue s m here.kept s.items m.items _ _ here.kept.items
-        (more_by s own first m (subst (λ (l : Option Live). StateStands s l first m) lives (stands_with s live first m here)) act can next
-        s.running m.running refl here.kept.running);
-    runs = live_mapped one_more (λ it. refl) live first m.running here.runs;
+    kept = with_queue s m here.kept s.items m.items _ _ here.kept.items (by s.running m.running refl here.kept.running);
+    runs = here.runs ∙ same_live (λ acts. acts + 1) first m.running;
+    named = record { items = here.named.items; running = acts_named scripts (λ acts. acts + 1) m.running here.named.running };
   }
+    where
+      by : (r : Option Transaction) (o : Option clients.Running) → m.running ≡ o → RunningKeptIfAny (base m) r o
+          → RunningKeptIfAny (base m) (with_acts (λ acts. acts ++ act ∷ []) r) (option_map one_more o)
+      by None None is kept = tt
+      by (Some running) (Some it) is kept =
+          more_kept (base m) running it act kept
+          (subst (λ (n : ℕ). n < ACT_LIMIT) (counted s live first m stands_so it is) can.within)
+          (sym (own_ends s live first m stands_so it is own lives) ∙ can.goes_on)
+          (sym (own_next s live first m stands_so it is own lives) ∙ next)
+      by r o is kept = absurd kept
 
-  pub ended_live : may_end s live ≡ true → KeptLive (after s changes.Ended) None first (end m)
+  pub ended_live : may_end s live ≡ true → KeptLive scripts (after s changes.Ended) None first (end m)
   ended_live may = record {
     kept =
         with_queue s m here.kept _ _ None None
         (ended_items s m here.kept s.running m.running here.kept.running
-        (λ it runs. over_waits s live first m (stands_with s live first m here) it runs may)) tt;
+        (λ it runs. over_waits s live first m stands_so it runs may)) tt;
     runs = refl;
+    named = record { items = joined_named scripts m.items m.running here.named.items here.named.running; running = tt };
   }
 
-  -- the first is another one now
-  pub changed_live : (change : Item → Item) (other : clients.Item → clients.Item) → ((item : Item) → (change item).acts ≡ item.acts)
-      → ((t : Nodes) (item : clients.Item) → local_run t (other item) ≡ local_run t item)
-      → ((item : Item) (later : List Item) (first : clients.Item) (after : List clients.Item) → s.items ≡ item ∷ later
-      → m.items ≡ first ∷ after → ItemStands s.held item first → ItemStands s.held (change item) (other first))
-      → KeptLive (record s { items = with_head change s.items }) live first (change_first other m)
-  changed_live change other same ran each = record {
-    kept =
-        with_queue s m here.kept _ _ s.running m.running (head_stays change other s.items s.held m.items same each here.kept.items)
-        (subst (λ (t : Nodes). RunningKeptIfAny t s.running m.running) (sym (first_base other m ran)) here.kept.running);
-    runs = here.runs;
-  }
+  -- the first is at this stage, with this option
+  changed_live : (option : OnConflictNamed → OnConflictNamed) (o : OnConflict Declared → OnConflict Declared)
+      (stage : Stage) (other : clients.Stage) → ((it : OnConflict Declared) → HasNamed scripts it → HasNamed scripts (o it))
+      → ((item : Item) (later : List Item) (it : clients.Item) (after : List clients.Item) → s.items ≡ item ∷ later
+      → m.items ≡ it ∷ after → ItemStands s.held item it
+      → (option item.option ≡ option_named (o it.option)) × StageStands stage other × IsPlanned (o it.option) other)
+      → KeptLive scripts (record s { items = with_head (λ item. record item { option = option item.option; stage = stage }) s.items }) live
+      first (change_first (λ it. record it { option = o it.option; stage = other }) m)
+  changed_live option o stage other keeps each = by s.items m.items refl refl here.kept.items here.kept.running here.named.items
+    where
+      by : (items : List Item) (ms : List clients.Item) → s.items ≡ items → m.items ≡ ms → ItemsStand items s.held ms
+          → RunningKeptIfAny (clients.after_items m.held ms) s.running m.running → AllNamed scripts ms
+          → KeptLive scripts (record s { items = with_head (λ item. record item { option = option item.option; stage = stage }) items })
+          live first (record m { items = with_first (λ it. record it { option = o it.option; stage = other }) ms })
+      by [] [] some all stand runs named =
+          record { kept = with_queue s m here.kept [] [] s.running m.running tt runs; runs = here.runs; named = search rules }
+      by (item ∷ items) (it ∷ ms) some all stand runs named =
+          let is : (option item.option ≡ option_named (o it.option)) × StageStands stage other × IsPlanned (o it.option) other =
+          each item items it ms some all stand.0 in
+          let here_stands : ItemStands s.held item it = stand.0 in
+          let stands : ItemStands s.held (record item { option = option item.option; stage = stage })
+          (record it { option = o it.option; stage = other }) = search rules in
+          let resolver : HasNamed scripts (o it.option) = keeps it.option named.0.resolver in
+          record {
+            kept = with_queue s m here.kept _ _ s.running m.running (stands, stand.1) runs;
+            runs = here.runs;
+            named = record { items = (record { script = named.0.script; resolver = resolver }, named.1); running = here.named.running };
+          }
+      by items ms some all stand runs named = absurd stand
 
   -- the first is at this stage
   pub reached_live : (stage : Stage) (other : clients.Stage)
-      → ((item : Item) (later : List Item) (first : clients.Item) (after : List clients.Item) → s.items ≡ item ∷ later
-      → m.items ≡ first ∷ after → ItemStands s.held item first → StageStands stage other × IsPlanned first.option other)
-      → KeptLive (record s { items = with_head (staged stage) s.items }) live first (reach other m)
+      → ((item : Item) (later : List Item) (it : clients.Item) (after : List clients.Item) → s.items ≡ item ∷ later
+      → m.items ≡ it ∷ after → ItemStands s.held item it → StageStands stage other × IsPlanned it.option other)
+      → KeptLive scripts (record s { items = with_head (staged stage) s.items }) live first (reach other m)
   reached_live stage other each =
-      changed_live (staged stage) (at_stage other) (λ item. refl) (λ t item. refl) (λ item later first after some others stands.
-      let is = each item later first after some others stands in
-      changed_item s.held item first stands item.option first.option stands.option stage other is.0 is.1)
+      changed_live (λ o. o) (λ o. o) stage other (λ o has. has)
+      (λ item later it after some all stands. let is = each item later it after some all stands in (stands.option, is.0, is.1))
 
   -- the first is to be resolved by this script
-  pub repaired_live : (name : List ℕ) (script : Declared) → script.name ≡ name
-      → KeptLive (after s (changes.Repaired name)) live first (repair script m)
-  repaired_live name script is =
-      changed_live (repaired name) (resolved_by script) (λ item. refl) (λ t item. refl) (λ item later first after some others stands.
-      changed_item s.held item first stands (on.Resolver name) (options.Resolver script) (ap (λ (n : List ℕ). on.Resolver n) (sym is))
-      stages.Conflict clients.Conflict tt tt)
+  pub repaired_live : (name : List ℕ) (script : Declared) → script.name ≡ name → IsNamed scripts script
+      → KeptLive scripts (after s (changes.Repaired name)) live first (repair script m)
+  repaired_live name script is named =
+      changed_live (λ _. on.Resolver name) (λ _. options.Resolver script) stages.Conflict clients.Conflict (λ o has. named)
+      (λ item later it after some all stands. (ap (λ (n : List ℕ). on.Resolver n) (sym is), tt, tt))
 
-  left_head : (item : Item) (items : List Item) → HeadStands s.held item items m.items
-      → KeptLive (record s { held = after_acts s.held item.acts; items = items }) live first (leave m)
-  left_head item items head =
-      subst
-      (λ (ms : List clients.Item). KeptLive (record s { held = after_acts s.held item.acts; items = items }) live first
-      (leave_by ms m))
-      (sym head.split)
-      (record {
-        kept = record {
-          held = head.stands.tree ∙ ap (λ (t : Nodes). (local_run t head.first).tree) here.kept.held;
-          items = head.rest;
-          running =
-              subst (λ (ms : List clients.Item). RunningKeptIfAny (base (leave_by ms m)) s.running m.running) head.split
-              (subst (λ (t : Nodes). RunningKeptIfAny t s.running m.running) (sym (base_stays m)) here.kept.running);
-          last = here.kept.last;
-          tree = subst IsTree (sym head.stands.tree) (run_tree head.first.script.code empty s.held head.first.budget here.kept.tree);
-          spelled = subst IsSpelledTree (sym head.stands.tree)
-              (run_spelled head.first.script.code s.held head.first.budget head.stands.script here.kept.spelled);
-        };
-        runs = here.runs;
-      })
+  left_by : (queue : List Item) (ms : List clients.Item) → (queue ≡ [] → ⊥) → ItemsStand queue s.held ms
+      → RunningKeptIfAny (base (leave_by ms m)) s.running m.running → AllNamed scripts ms
+      → KeptLive scripts (left s queue) live first (leave_by ms m)
+  left_by [] ms some stand runs named = absurd (some refl)
+  left_by (item ∷ items) (it ∷ ms) some stand runs named = record {
+    kept = record {
+      held = stand.0.tree ∙ ap (λ (t : Nodes). (local_run t it).tree) here.kept.held;
+      items = stand.1;
+      running = runs;
+      last = here.kept.last;
+      tree = subst IsTree (sym stand.0.tree) (run_tree it.script.code empty s.held it.budget here.kept.tree);
+      spelled = subst IsSpelledTree (sym stand.0.tree) (run_spelled it.script.code s.held it.budget stand.0.script here.kept.spelled);
+    };
+    runs = here.runs;
+    named = record { items = named.1; running = here.named.running };
+  }
+  left_by queue ms some stand runs named = absurd stand
 
-  left_by : (queue : List Item) → queue ≡ s.items → (queue ≡ [] → ⊥) → KeptLive (left s queue) live first (leave m)
-  left_by [] is some = absurd (some refl)
-  left_by (item ∷ items) is some = left_head item items (head_by s.items s.held m.items item items (sym is) here.kept.items)
+  left_so : (s.items ≡ [] → ⊥) → KeptLive scripts (left s s.items) live first (leave m)
+  left_so some =
+      left_by s.items m.items some here.kept.items
+      (subst (λ (t : Nodes). RunningKeptIfAny t s.running m.running) (sym (base_stays m)) here.kept.running) here.named.items
 
-  pub left_live : CanFollow s changes.Left → KeptLive (after s changes.Left) live first (leave m)
-  left_live can = left_by s.items refl (λ none. subst (λ (items : List Item). HeadIs MayLeave items) none can)
+  pub left_live : CanFollow s changes.Left → KeptLive scripts (after s changes.Left) live first (leave m)
+  left_live can = left_so (λ none. subst (λ (items : List Item). HeadIs MayLeave items) none can)
 
   -- ---- what is said of the first that was submitted
 
   -- one that conflicts with such an option is to be resolved
   in_conflict : (option : OnConflictNamed) → stage_by option ≡ Some stages.Conflict → head_option s.items ≡ Some option
-      → KeptLive (record s { items = with_head (staged stages.Conflict) s.items }) live first (reach clients.Conflict m)
-  in_conflict option resolves is = reached_live stages.Conflict clients.Conflict (λ item later first after some others stands. (
+      → KeptLive scripts (record s { items = with_head (staged stages.Conflict) s.items }) live first (reach clients.Conflict m)
+  in_conflict option resolves is = reached_live stages.Conflict clients.Conflict (λ item later it after some all stands. (
     tt,
-    can_resolve first.option
+    can_resolve it.option
         (ap stage_by (sym stands.option ∙ same_Some item.option option (sym (ap head_option some) ∙ is)) ∙ resolves),
   ))
 
   conflicted_by : (read : ℕ) (question : Question) (option : OnConflictNamed) → head_option s.items ≡ Some option
-      → KeptLive (stays_in (stage_by option) s) live first (told_change (serving.Conflict read question) option m)
+      → KeptLive scripts (stays_in (stage_by option) s) live first (told_change (serving.Conflict read question) option m)
   conflicted_by read question on.Reexec is = in_conflict on.Reexec refl is
   conflicted_by read question (on.Resolver name) is = in_conflict (on.Resolver name) refl is
   conflicted_by read question on.Abort is =
-      left_by s.items refl (λ none. let e : None ≡ Some on.Abort = sym (ap head_option none) ∙ is in cc)
+      left_so (λ none. let e : None ≡ Some on.Abort = sym (ap head_option none) ∙ is in cc)
   conflicted_by read question on.Manual is =
-      reached_live stages.Manual clients.Manual (λ item later first after some others stands. (tt, tt))
+      reached_live stages.Manual clients.Manual (λ item later it after some all stands. (tt, tt))
 
   conflicted_as : (queue : List Item) (option : OnConflictNamed) → head_option queue ≡ Some option
       → conflicted s queue ≡ stays_in (stage_by option) s
@@ -576,8 +600,21 @@ module _ (s : State) (live : Option Live) (first : Bool) (m : ClientState) (here
 
   -- what becomes of it, by its option
   pub told_live : (told : serving.Verdict) (option : OnConflictNamed) → head_option s.items ≡ Some option
-      → CanFollow s (told_record told) → KeptLive (after s (told_record told)) live first (told_change told option m)
+      → CanFollow s (verdict_change (noted_as told))
+      → KeptLive scripts (after s (verdict_change (noted_as told))) live first (told_change told option m)
   told_live (serving.Settled number) option is can = left_live can
   told_live (serving.Conflict read question) option is can =
-      subst (λ (next : State). KeptLive next live first (told_change (serving.Conflict read question) option m))
+      subst (λ (next : State). KeptLive scripts next live first (told_change (serving.Conflict read question) option m))
       (sym (conflicted_as s.items option is)) (conflicted_by read question option is)
+
+  -- it is resolved as the machine resolves it
+  pub resolved_live : (plan : Plan) → head_plan m.held m.items ≡ Some plan → (code : Code) → plan.script.code ≡ code → IsScript code
+      → (t : Nodes) → IsTree t → (done : Resolution) → IsHeadsRun s.held s.items code t done
+      → KeptLive scripts (after s (Resolved done)) live first (reach (clients.Resolved (resolution_of plan t)) m)
+  resolved_live plan planned code same script t tree done ran =
+      reached_live (stages.Resolved done) (clients.Resolved (resolution_of plan t))
+      (λ item later it others some all stands.
+      let ours : clients.plan_of s.held it ≡ Some plan =
+      ap (λ (held : Nodes). clients.plan_of held it) here.kept.held ∙ ap (head_plan m.held) (sym all) ∙ planned in
+      run_by s.held item it stands here.kept.spelled plan ours code same script t tree done _ refl
+      (subst (λ (items : List Item). IsHeadsRun s.held items code t done) some ran))

@@ -14,7 +14,7 @@ use Rattle.iot_exec.specs.declared.ran.Ran.{Ran}
 use Rattle.iot_queue.specs.declared.items.Item.{Item}
 use Rattle.iot_kept.specs.States.{Transaction, State, acts_of, after_each, after_items, view}
 use Rattle.iot_client.specs.Ties.{Live, IsOwnRunIfAny, count, run_of}
-use Rattle.iot_client.specs.Calls.{has_ended, is_over_if_any, may_end}
+use Rattle.iot_client.specs.Calls.{has_ended, may_end}
 use Rattle.iot_machine.specs.Clients as clients
 use Rattle.iot_machine.specs.Clients.{ClientState, base, local_run, item_of, plain_run, so_far, view_by, next_away, next_by, next_step}
 use Rattle.iot_machine.specs.Transactions.{is_queued}
@@ -57,14 +57,6 @@ pub record HeadStands (t : Nodes) (item : Item) (items : List Item) (ms : List c
   pub stands : ItemStands t item first
   pub rest : ItemsStand items (after_acts t item.acts) later
 
-pub head_by : (queue : List Item) (t : Nodes) (ms : List clients.Item) (item : Item) (items : List Item) → queue ≡ item ∷ items
-    → ItemsStand queue t ms → HeadStands t item items ms
-head_by queue t ms item items is stand = by ms (subst (λ (q : List Item). ItemsStand q t ms) is stand)
-  where
-    by : (ms : List clients.Item) → ItemsStand (item ∷ items) t ms → HeadStands t item items ms
-    by [] stand = absurd stand
-    by (m ∷ ms) stand = record { first = m; later = ms; split = refl; stands = stand.0; rest = stand.1 }
-
 -- ---- the running transaction
 
 runs_by : (r : Option Transaction) (live : Option Live) (first : Bool) (o : Option clients.Running) → RunningStandsIfAny r live first o
@@ -84,13 +76,9 @@ pub record Running (r : Option Transaction) (live : Option Live) (class : Bool) 
 pub running_by : (r : Option Transaction) (live : Option Live) (first : Bool) (o : Option clients.Running) (it : clients.Running)
     → o ≡ Some it → RunningStandsIfAny r live first o → Running r live first it
 running_by r live first None it is stands = absurd cc
-running_by (Some running) (Some own) first (Some other) it is stands = record {
-  own = running;
-  besides = own;
-  is = refl;
-  lives = refl;
-  stands = subst (RunningStands running own first) (same_Some _ _ is) stands;
-}
+running_by (Some running) (Some own) first (Some other) it is stands =
+    let same = subst (RunningStands running own first) (same_Some _ _ is) stands in
+    record { own = running; besides = own; is = refl; lives = refl; stands = same }
 running_by r live first (Some other) it is stands = absurd stands
 
 -- ---- its next step
@@ -111,6 +99,16 @@ unended_by first t it true is may = absurd cc
 unended_by first t it false is may =
     subst IsUnended (sym (is_next first t it (sym is) (leb-false ACT_LIMIT it.acts may))) (next_unended first (next_away t it))
 
+missed_is : (acts : List Act) (n : ℕ) → missed (drop n acts) ≡ option_and_then (λ act. first_away act.reads) (slice_get acts n)
+missed_is [] zero = refl
+missed_is [] (suc n) = refl
+missed_is (act ∷ acts) zero = refl
+missed_is (act ∷ acts) (suc n) = missed_is acts n
+
+acts_next : (first : Bool) (away : Option Path) → (first ≡ true → away ≡ None) → next_by first away ≡ Acts
+acts_next true away known = ap (next_by true) (known refl)
+acts_next false away known = refl
+
 -- ---- a state
 
 module _ (s : State) (live : Option Live) (first : Bool) (m : ClientState) (here : StateStands s live first m) where
@@ -124,7 +122,11 @@ module _ (s : State) (live : Option Live) (first : Bool) (m : ClientState) (here
   waits_is = waits_by s.items s.held m.items here.items
 
   pub head_stands : (item : Item) (items : List Item) → s.items ≡ item ∷ items → HeadStands s.held item items m.items
-  head_stands item items is = head_by s.items s.held m.items item items is here.items
+  head_stands item items is = by m.items (subst (λ (queue : List Item). ItemsStand queue s.held m.items) is here.items)
+    where
+      by : (ms : List clients.Item) → ItemsStand (item ∷ items) s.held ms → HeadStands s.held item items ms
+      by [] stand = absurd stand
+      by (m ∷ ms) stand = record { first = m; later = ms; split = refl; stands = stand.0; rest = stand.1 }
 
   module _ (it : clients.Running) (runs : m.running ≡ Some it) where
     pub running_is : Running s.running live first it
@@ -143,9 +145,6 @@ module _ (s : State) (live : Option Live) (first : Bool) (m : ClientState) (here
 
     pub ended_is : has_ended s running_is.besides.code ≡ (so_far (base m) it).ended
     ended_is = ap (λ (ran : Ran). ran.ended) so_far_is
-
-    over_is : is_over_if_any s live ≡ (so_far (base m) it).ended
-    over_is = ap (is_over_if_any s) running_is.lives ∙ ended_is
 
     may_is : may_end s live ≡ (has_ended s running_is.besides.code || leb ACT_LIMIT it.acts)
     may_is =
@@ -169,6 +168,43 @@ module _ (s : State) (live : Option Live) (first : Bool) (m : ClientState) (here
     pub over_waits : may_end s live ≡ true → it.acts ≤ ACT_LIMIT → local_run (base m) (item_of it) ≡ so_far (base m) it
     over_waits may few = waits_by_end (has_ended s running_is.besides.code) ended_is (sym may_is ∙ may) few
 
+    -- ---- its next step, with this known besides
+
+    module _ (own : Live) (lives : live ≡ Some own) where
+      same_live : own ≡ running_is.besides
+      same_live = same_Some own running_is.besides (sym lives ∙ running_is.lives)
+
+      class : own.first ≡ first
+      class = ap (λ (l : Live). l.first) same_live ∙ running_is.stands.class
+
+      pub own_ends : has_ended s own.code ≡ (so_far (base m) it).ended
+      own_ends = ap (λ (l : Live). has_ended s l.code) same_live ∙ ended_is
+
+      pub own_next : next_acts s own.code ≡ drop it.acts (plain_run it.script (base m) (it.acts + 1)).acts
+      own_next =
+          ap (λ (l : Live). next_acts s l.code) same_live ∙ ap (λ (ran : Ran). drop (count s) ran.acts) (run_is (count s + 1))
+          ∙ ap (λ (n : ℕ). drop n (plain_run it.script (base m) (n + 1)).acts) counted
+
+      away : missed (next_acts s own.code) ≡ next_away (base m) it
+      away = ap missed own_next ∙ missed_is (plain_run it.script (base m) (it.acts + 1)).acts it.acts
+
+      on_to : has_ended s own.code ≡ false → count s < ACT_LIMIT → next_step first (base m) it ≡ next_by first (next_away (base m) it)
+      on_to on within = is_next first (base m) it (sym own_ends ∙ on) (subst (λ (n : ℕ). n < ACT_LIMIT) counted within)
+
+      -- one that can act does so next
+      pub acts_is : CanAct s own → next_step first (base m) it ≡ Acts
+      acts_is can = on_to can.goes_on can.within ∙ acts_next first (next_away (base m) it) (λ is. sym away ∙ can.known (class ∙ is))
+
+      fetches_is : (path : Path) → has_ended s own.code ≡ false → count s < ACT_LIMIT → own.first ≡ true
+          → missed (next_acts s own.code) ≡ Some path → next_step first (base m) it ≡ clients.Fetches path
+      fetches_is path on within is miss =
+          on_to on within ∙ ap (λ (f : Bool). next_by f (next_away (base m) it)) (sym class ∙ is)
+          ∙ ap (next_by true) (sym away ∙ miss)
+
+      at_limit_is : has_ended s own.code ≡ false → count s ≡ ACT_LIMIT → next_step first (base m) it ≡ clients.AtLimit
+      at_limit_is on full =
+          is_at_limit first (base m) it (sym own_ends ∙ on) (subst (λ (n : ℕ). ACT_LIMIT ≤ n) (sym full ∙ counted) (omega arith))
+
   -- ---- what it sees
 
   view_of : (r : Option Transaction) (o : Option clients.Running) → r ≡ s.running → o ≡ m.running → RunningStandsIfAny r live first o
@@ -183,67 +219,12 @@ module _ (s : State) (live : Option Live) (first : Bool) (m : ClientState) (here
   pub view_is : IsOwnRunIfAny s live → view s ≡ clients.view m
   view_is own = view_of s.running m.running refl refl here.running own
 
--- ---- its next step
-
-missed_is : (acts : List Act) (n : ℕ) → missed (drop n acts) ≡ option_and_then (λ act. first_away act.reads) (slice_get acts n)
-missed_is [] zero = refl
-missed_is [] (suc n) = refl
-missed_is (act ∷ acts) zero = refl
-missed_is (act ∷ acts) (suc n) = missed_is acts n
-
-acts_next : (first : Bool) (away : Option Path) → (first ≡ true → away ≡ None) → next_by first away ≡ Acts
-acts_next true away known = ap (next_by true) (known refl)
-acts_next false away known = refl
-
-no_less : (n : ℕ) → n ≤ n
-no_less n = omega arith
-
-module _ {D : Type 0} (old new : Client D) (first : Bool) (m : ClientState) (here : StateStands (state_of old) (live_of old) first m)
-    (it : clients.Running) (runs : m.running ≡ Some it) where
-  abbrev s : State
-  s = state_of old
-
-  abbrev known : Running s.running (live_of old) first it
-  known = running_is s (live_of old) first m here it runs
-
-  counts : count s ≡ it.acts
-  counts = counted s (live_of old) first m here it runs
-
-  ends : has_ended s known.besides.code ≡ (so_far (base m) it).ended
-  ends = ended_is s (live_of old) first m here it runs
-
-  away : missed (next_acts s known.besides.code) ≡ next_away (base m) it
-  away =
-      ap (λ (ran : Ran). missed (drop (count s) ran.acts)) (run_is s (live_of old) first m here it runs (count s + 1))
-      ∙ ap (λ (n : ℕ). missed (drop n (plain_run it.script (base m) (n + 1)).acts)) counts
-      ∙ missed_is (plain_run it.script (base m) (it.acts + 1)).acts it.acts
-
-  on_to : has_ended s known.besides.code ≡ false → count s < ACT_LIMIT
-      → next_step first (base m) it ≡ next_by first (next_away (base m) it)
-  on_to on within = is_next first (base m) it (sym ends ∙ on) (subst (λ (n : ℕ). n < ACT_LIMIT) counts within)
-
-  acts_by : CanAct s known.besides → next_step first (base m) it ≡ Acts
-  acts_by can =
-      on_to can.goes_on can.within
-      ∙ acts_next first (next_away (base m) it) (λ is. sym away ∙ can.known (known.stands.class ∙ is))
-
-  step_by : (step : Step) → StepIs old known.besides step new → next_step first (base m) it ≡ next_as step
-  step_by (steps.Acted acts over) is = acts_by is.can
-  step_by (steps.Fetch request path) is =
-      on_to is.1.goes_on is.1.within ∙ ap (λ (f : Bool). next_by f (next_away (base m) it)) (sym known.stands.class ∙ is.1.first)
-      ∙ ap (next_by true) (sym away ∙ is.1.miss)
-  step_by (steps.AtEnd acts) is = is_at_end first (base m) it (sym ends ∙ is.0)
-  step_by (steps.AtLimit acts) is =
-      is_at_limit first (base m) it (sym ends ∙ is.0)
-      (subst (λ (n : ℕ). ACT_LIMIT ≤ n) (sym is.2 ∙ counts) (no_less ACT_LIMIT))
-
-  module _ (own : Live) (lives : live_of old ≡ Some own) where
-    same_live : own ≡ known.besides
-    same_live = same_Some own known.besides (sym lives ∙ known.lives)
-
-    pub next_is : (step : Step) → StepIs old own step new → next_step first (base m) it ≡ next_as step
-    next_is step is = step_by step (subst (λ (l : Live). StepIs old l step new) same_live is)
-
-    -- one that can act does so next
-    pub acts_is : CanAct s own → next_step first (base m) it ≡ Acts
-    acts_is can = acts_by (subst (CanAct s) same_live can)
+pub next_is : {D : Type 0} (old new : Client D) (first : Bool) (m : ClientState) (here : StateStands (state_of old) (live_of old) first m)
+    (it : clients.Running) (runs : m.running ≡ Some it) (own : Live) → live_of old ≡ Some own → (step : Step) → StepIs old own step new
+    → next_step first (base m) it ≡ next_as step
+next_is old new first m here it runs own lives (steps.Acted acts over) is = acts_is _ _ first m here it runs own lives is.can
+next_is old new first m here it runs own lives (steps.Fetch request path) is =
+    fetches_is _ _ first m here it runs own lives path is.1.goes_on is.1.within is.1.first is.1.miss
+next_is old new first m here it runs own lives (steps.AtEnd acts) is =
+    is_at_end first (base m) it (sym (own_ends _ _ first m here it runs own lives) ∙ is.0)
+next_is old new first m here it runs own lives (steps.AtLimit acts) is = at_limit_is _ _ first m here it runs own lives is.0 is.2

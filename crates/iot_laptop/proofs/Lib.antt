@@ -1,10 +1,7 @@
 pub mod CallsLaws
-pub mod EventsLaws
 pub mod KeptStatesLaws
 pub mod LaptopsLaws
 pub mod NodesLaws
 pub mod RepliesLaws
-pub mod ResolutionLaws
 pub mod RestartLaws
 pub mod SeatsLaws
-pub mod TransactionsLaws

@@ -1,6 +1,6 @@
 -- What is known of a client by its node.
 use Rattle.std.proofs.Common.{◌≡◌, ℕ, Bool, true, false, List}
-use Rattle.std.proofs.Common.{Option, Some, None, refl, sym, ap, subst, ◌∙◌}
+use Rattle.std.proofs.Common.{Option, Some, None, refl, sym, ap, subst, ◌∙◌, rules}
 use Rattle.iot_kept.specs.States.{Transaction}
 use Rattle.iot_client.specs.Ties as client
 use Rattle.iot_client.specs.Ties.{Live, IsBegunIfAny, IsOwnRunIfAny, state_of}
@@ -16,7 +16,7 @@ use Rattle.iot_machine.specs.Refining.{Refines}
 use Rattle.iot_machine.specs.Sound.{Possibly}
 use Rattle.iot_machine.proofs.PossiblyLaws.{possibly_sure}
 use Rattle.iot_node.specs.Keeping.{Keeping}
-use Rattle.iot_node.specs.Posts.{PostStands, UpStands, is_on}
+use Rattle.iot_node.specs.Posts.{PostStands, UpStands, StepsFrom, is_on}
 use Rattle.iot_node.specs.Steps.{StepsTo}
 use Rattle.iot_node.specs.declared.post.Post.{Post}
 use Rattle.iot_node.specs.declared.post.Post.TheVariants.{Up, Down, Between}
@@ -24,13 +24,13 @@ use Rattle.iot_node.proofs.PostsLaws.{on_has}
 use Rattle.iot_machine.specs.Events.{no_text}
 use Rattle.iot_laptop.specs.Kept.{StateKept}
 use Rattle.iot_laptop.specs.Laptops.{LaptopStands, FallenStands, ClientStands, awake}
-use Rattle.iot_laptop.specs.Laptops.{fallen, RunningStandsIfAny, Stands, StandsAnyhow, IsLent}
+use Rattle.iot_laptop.specs.Laptops.{fallen, RunningStandsIfAny, StateStands, Stands, StandsAnyhow, IsLent}
 use Rattle.iot_laptop.specs.Laptops.{state_by, live_by, is_alive, state_in, live_in, NodeStands}
 use Rattle.iot_laptop.specs.Scripts.{AreNamed}
 use Rattle.iot_laptop.specs.Seats.{seating}
 use Rattle.iot_laptop.specs.declared.laptop.Laptop.{Laptop}
 use Rattle.iot_laptop.specs.declared.seated.Seated.{Seated}
-use Rattle.iot_laptop.proofs.KeptStatesLaws.{LiveStands, stands_with}
+use Rattle.iot_laptop.proofs.KeptStatesLaws.{live_with, stands_with}
 
 pub not_both : true ≡ false → ⊥
 not_both e = cc
@@ -38,6 +38,10 @@ not_both e = cc
 -- a laptop with this post is the laptop
 pub at_post : {D : Type 0} (laptop : Laptop D) (post : Post (Seated D) D) → laptop.post ≡ post → record laptop { post = post } ≡ laptop
 at_post laptop post is = ap (λ (p : Post _ _). record laptop { post = p }) (sym is)
+
+-- a laptop with this post is over this node
+abbrev pub Posted : {D : Type 0} → Medium D → Laptop D → Post (Seated D) D → Node ClientState → Type 0
+Posted medium laptop = PostStands (seating medium laptop.place) medium no_text
 
 -- a node is alive exactly if the machine's is
 pub on_is : {K S D : Type 0} (keeping : Keeping K S D) (medium : Medium D) (says : S → S → List ℕ) (post : Post K D) (node : Node S)
@@ -63,9 +67,6 @@ kept_up medium place Between node here up = absurd here
 
 module _ {D : Type 0} (medium : Medium D) where
   module _ (scripts : List Declared) (laptop : Laptop D) (m : machine.Client) where
-    abbrev Posted : Post (Seated D) D → Node ClientState → Type 0
-    Posted = PostStands (seating medium laptop.place) medium no_text
-
     node_is : NodeStands medium laptop m → m.node.alive ≡ is_alive laptop
     node_is here = on_is (seating medium laptop.place) medium no_text laptop.post m.node here
 
@@ -99,7 +100,7 @@ module _ {D : Type 0} (medium : Medium D) where
     -- it is the keeper of its node
     pub up_stands : (it : Client D) → laptop.post ≡ Up (record { client = it }) → LaptopStands medium scripts laptop m
         → UpStands (seating medium laptop.place) medium no_text (record { client = it }) m.node
-    up_stands it is here = subst (λ (p : Post (Seated D) D). Posted p m.node) is here.node
+    up_stands it is here = subst (λ (p : Post (Seated D) D). Posted medium laptop p m.node) is here.node
 
     up_at : LaptopStands medium scripts laptop m → (seated : Seated D) × (laptop.post ≡ Up seated)
     up_at here = on_has laptop.post (is_awake here)
@@ -108,9 +109,6 @@ module _ {D : Type 0} (medium : Medium D) where
     may_be_named (awake here) =
         let up = up_at here in possibly_sure m.node (up_stands up.0.client up.1 here).sure here.named
     may_be_named (fallen here) = here.named
-
-    begun_in : LaptopStands medium scripts laptop m → IsBegunIfAny (state_in laptop).running (live_in laptop)
-    begun_in here = begun_by (state_in laptop).running (live_in laptop) m.first m.node.durable.running here.state.running
 
     lent_stands : (it : Client D) → laptop.post ≡ Up (record { client = it }) → LaptopStands medium scripts laptop m
         → IsLent medium laptop it
@@ -122,7 +120,7 @@ module _ {D : Type 0} (medium : Medium D) where
           live = sym (ap live_by is);
           place = up.stands.place_is;
           tied = up.stands.tied;
-          begun = subst (λ (p : Post (Seated D) D). IsBegunIfAny (state_by p).running (live_by p)) is (begun_in here);
+          begun = rw is at (begun_by (state_in laptop).running (live_in laptop) m.first m.node.durable.running here.state.running);
         }
 
     -- its acts are those of its script's run
@@ -131,36 +129,26 @@ module _ {D : Type 0} (medium : Medium D) where
         let up = up_at here in
         let it = up.0.client in
         let lent = lent_stands it up.1 here in
-        subst (λ (p : Post (Seated D) D). IsOwnRunIfAny (state_by p) (live_by p)) (sym up.1)
-        (own (state_of it) (client.class_in it) it.interpreter lent.tied.runs lent.begun)
+        rw up.1 (own (state_of it) (client.class_in it) it.interpreter lent.tied.runs lent.begun)
 
     -- ---- over another post
 
     module _ (name : laptop.name ≡ m.name) (link : laptop.link ≡ m.link) (post : Post (Seated D) D) (n : Node ClientState)
-        (stands : Posted post n) where
-      pub awake_at : n.alive ≡ true → (first : Bool) → LiveStands (live_by post) first n.durable.running → AreNamed scripts n.durable
+        (stands : Posted medium laptop post n) where
+      pub awake_at : n.alive ≡ true → (first : Bool) → live_by post ≡ live_with first n.durable.running → AreNamed scripts n.durable
           → LaptopStands medium scripts (record laptop { post = post }) (record m { node = n; first = first })
-      awake_at up first runs named = record {
-        name = name;
-        link = link;
-        alive = up;
-        node = stands;
-        state =
-            stands_with (state_by post) (live_by post) first n.durable
-            (record { kept = kept_up medium laptop.place post n stands up; runs = runs });
-        named = named;
-      }
+      awake_at up first runs named =
+          let state : StateStands (state_by post) (live_by post) first n.durable =
+          stands_with (state_by post) (live_by post) first n.durable (kept_up medium laptop.place post n stands up) runs in
+          search rules
 
       pub fallen_at : n.alive ≡ false → Possibly (AreNamed scripts) n
           → ClientStands medium scripts (record laptop { post = post }) (record m { node = n })
       fallen_at down named = fallen (record { name = name; link = link; alive = down; node = stands; named = named })
 
   pub some_awake : (laptop : Laptop D) → StandsAnyhow medium laptop → is_alive laptop ≡ true → Stands medium laptop
-  some_awake laptop some up = record {
-    scripts = some.scripts;
-    machine = some.machine;
-    stands = awake_stands some.scripts laptop some.machine up some.stands;
-  }
+  some_awake laptop some up =
+      record { scripts = _; machine = _; stands = awake_stands some.scripts laptop some.machine up some.stands }
 
   -- what is known of the client of one that stands
   pub lent_at : (laptop : Laptop D) (it : Client D) → laptop.post ≡ Up (record { client = it }) → Stands medium laptop
@@ -176,19 +164,19 @@ refines steps = record { step = steps.step }
 -- by its name it is one of the machine's
 pub at_node : {D A : Type 0} (medium : Medium D) (laptop : Laptop D) (post : Post (Seated D) D)
     {before after : Laptop D → machine.Client → Type 0} (call : List ℕ → Call (Node ClientState) A)
-    (names : machine.Client → List ℕ) (called x y : List ℕ) (a : A)
-    → Refines (PostStands (seating medium laptop.place) medium no_text) (call called) laptop.post post x y a
-    → ((m : machine.Client) → before laptop m → (called ≡ names m) × NodeStands medium laptop m)
-    → ((m : machine.Client) → before laptop m → (n : Node ClientState) (text : List ℕ) → call called m.node text a n
-    → PostStands (seating medium laptop.place) medium no_text post n → after (record laptop { post = post }) (record m { node = n }))
+    (names : machine.Client → List ℕ) (x y : List ℕ) (a : A)
+    → ((m : machine.Client) → before laptop m → (laptop.name ≡ names m)
+    × StepsFrom (Posted medium laptop) (call laptop.name) m.node post x y a)
+    → ((m : machine.Client) → before laptop m → (n : Node ClientState) (text : List ℕ) → call laptop.name m.node text a n
+    → Posted medium laptop post n → after (record laptop { post = post }) (record m { node = n }))
     → StepsTo before after (λ m. At machine.node (call (names m)) m) laptop (record laptop { post = post }) x y a
-at_node medium laptop post call names called x y a it here each = record {
-  step = λ m known.
-      let s = it.step m.node (here m known).1 in (
+at_node medium laptop post call names x y a it each = record {
+  step = λ m here.
+      let s = (it m here).1 in (
         s.0,
         record m { node = s.1 },
         s.2,
-        record { inner = s.1; step = subst (λ (name : List ℕ). call name m.node s.0 a s.1) (here m known).0 s.3; is = refl },
-        each m known s.1 s.0 s.3 s.4,
+        record { inner = s.1; step = subst (λ (name : List ℕ). call name m.node s.0 a s.1) (it m here).0 s.3; is = refl },
+        each m here s.1 s.0 s.3 s.4,
       );
 }

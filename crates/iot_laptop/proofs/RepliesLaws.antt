@@ -1,25 +1,23 @@
 -- What the server's replies bring and say, and what is so of the transaction that it says it of.
-use Rattle.std.proofs.Common.{◌≡◌, ℕ, Bool, true, List, [], ◌∷◌, length, Some, Result, Ok, Err, if◌then◌else◌, refl, sym, ap, ◌∙◌, zero}
+use Rattle.std.proofs.Common.{◌≡◌, ℕ, Bool, true, List, [], ◌∷◌, length, Some, Result, Ok, Err, if◌then◌else◌, refl, ap, ◌∙◌, zero}
 use Rattle.std.proofs.Common.{suc, ◌-◌, ◌<◌, slice_get, None, inl, inr, arith}
 use Rattle.std.specs.Prelude.{IfErr}
 use Rattle.std.specs.Cmp.Derive.{both_true}
-use Rattle.std.specs.FinMap.{get, entries, get-entries}
+use Rattle.std.specs.FinMap.{get, entries}
 use Rattle.std.specs.List.{AllByRecursion, list_all}
 use Rattle.iot_tree.specs.Snapshots.{is_known}
 use Rattle.iot_tree.specs.Tree.{Path, Nodes, Row, IsWhole}
 use Rattle.iot_tree.specs.declared.nodes.Node.{Node}
 use Rattle.iot_tree.specs.declared.nodes.Node.TheVariants.{Dir, File, FarDir, FarFile}
-use Rattle.iot_tree.proofs.EachLaws.{found_row, each_entry}
-use Rattle.iot_codec.specs.Rules.{IsNode, IsRow, IsTreeOfRows}
-use Rattle.iot_limits.specs.Spelled.{IsSpelledNode, IsSpelledRow, IsSpelledTree}
+use Rattle.iot_tree.proofs.EachLaws.{each_entry}
 use Rattle.iot_queue.specs.declared.items.Item.{Item}
-use Rattle.iot_client.specs.Calls.{empty_queue, EndsBy, RefusesReply}
+use Rattle.iot_client.specs.Calls.{empty_queue, RefusesReply}
 use Rattle.iot_client.specs.Faults.{MayFail}
 use Rattle.iot_client.specs.Messages.{objects_in, ReadsObjects, is_known_row, is_whole, whole_tree, whole_in}
 use Rattle.iot_kept.specs.Changes.{HeadIs}
 use Rattle.iot_client.specs.declared.client.Client.{Client}
 use Rattle.iot_client.specs.declared.fault.ClientFault.{ClientFault}
-use Rattle.iot_laptop.specs.Messages.{SpellsTree, BringsTree, Spells, SpellsVerdict, IsVerdict}
+use Rattle.iot_laptop.specs.Messages.{SpellsTree, Spells, SpellsVerdict, IsVerdict}
 use Rattle.std.proofs.lemmas.Option.{slice_get_within, same_Some}
 use Rattle.iot_tree.specs.declared.acts.Read.{Read}
 use Rattle.iot_tree.specs.declared.questions.Answer.{Answer}

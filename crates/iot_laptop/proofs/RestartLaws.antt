@@ -1,35 +1,35 @@
--- A restart of a laptop, which cuts off what ran, is a restart of the client of the machine.
+-- What befalls a laptop: its link, and a start, a crash, a restart and an armed disk of its node.
 use Rattle.std.proofs.Common.{◌≡◌, ◌⊎◌, ℕ, Bool, true, false, List, [], ◌++◌, length}
 use Rattle.std.proofs.Common.{Option, Some, None, Result, Ok, Err, inl, inr}
-use Rattle.std.proofs.Common.{refl, sym, ap, subst, ◌∙◌, codes, if◌then◌else◌, arith}
+use Rattle.std.proofs.Common.{refl, sym, ap, subst, ◌∙◌, codes, if◌then◌else◌, arith, rules}
 use Rattle.std.specs.Prelude.{IfOk, OnOk, IsErrOf}
 use Rattle.std.proofs.lemmas.List.{append-nil}
 use Rattle.std.proofs.lemmas.Option.{same_Some}
 use Rattle.std.proofs.lemmas.Result.{IfOk-at_ok}
 use Rattle.iot_count.specs.Counts.{Rose}
-use Rattle.iot_tree.specs.Tree.{Nodes}
+use Rattle.iot_tree.specs.Tree.{Nodes, IsTree, root_alone}
 use Rattle.iot_changes.specs.declared.changes.Change.TheVariants.{Cut}
-use Rattle.iot_kept.specs.States.{Transaction}
-use Rattle.iot_client.specs.Calls.{Notes, CutsIfAny}
+use Rattle.iot_kept.specs.States.{Transaction, opening}
+use Rattle.iot_client.specs.Calls.{Notes, CutsIfAny, second_class}
 use Rattle.iot_client.specs.Calls as client
-use Rattle.iot_client.specs.Ties.{state_of, live_of, disk_of, bodies_on}
+use Rattle.iot_client.specs.Ties.{state_of, live_of, disk_of, bodies_on, IsTied, place_of, records_of}
 use Rattle.iot_client.specs.declared.client.Client.{Client}
 use Rattle.iot_client.specs.declared.fault.ClientFault.{ClientFault}
 use Rattle.iot_client.specs.declared.fault.ClientFault.TheVariants.{Stopped}
 use Rattle.iot_disk.specs.Disk.{Medium}
-use Rattle.iot_machine.specs.Calls.{goes_on}
+use Rattle.iot_machine.specs.Calls.{goes_on, Does}
 use Rattle.iot_machine.specs.Clients as clients
-use Rattle.iot_machine.specs.Clients.{Declared, ClientState, base, cut}
+use Rattle.iot_machine.specs.Clients.{Declared, ClientState, base, cut, new_client}
 use Rattle.iot_machine.specs.Machine as machine
-use Rattle.iot_machine.specs.Nodes.{Node}
+use Rattle.iot_machine.specs.Nodes.{Node, armed, unopened}
 use Rattle.iot_machine.specs.Refining.{Refines}
 use Rattle.iot_machine.specs.Sound.{Possibly}
-use Rattle.iot_machine.specs.Stops.{ComesBack}
-use Rattle.iot_machine.specs.Texts.{line, stopped_line, cut_line, transaction_name}
-use Rattle.iot_machine.proofs.PossiblyLaws.{comes_within}
-use Rattle.iot_node.specs.Disks.{KeepsDisk}
+use Rattle.iot_machine.specs.Stops.{ComesBack, Crashes, ArmsDisk, OpensNode}
+use Rattle.iot_machine.specs.Texts.{line, stopped_line, cut_line, transaction_name, disconnect_line}
+use Rattle.iot_machine.proofs.PossiblyLaws.{comes_within, possibly_same, opens_states, crashes_within}
+use Rattle.iot_node.specs.Disks.{KeepsDisk, counts_on, IsEmpty}
 use Rattle.iot_node.specs.Posts as posts
-use Rattle.iot_node.specs.Posts.{is_on, PostStands, UpStands, StepsFrom, IsStanding, CameIf}
+use Rattle.iot_node.specs.Posts.{is_on, PostStands, UpStands, StepsFrom, IsStanding, CameIf, Ready}
 use Rattle.iot_node.specs.Steps.{StepsTo}
 use Rattle.iot_node.specs.declared.halt.Halt.{Halt}
 use Rattle.iot_node.specs.declared.halt.Halt.TheVariants.{Over}
@@ -37,26 +37,310 @@ use Rattle.iot_node.specs.declared.lines.Transaction as names
 use Rattle.iot_node.specs.declared.post.Post.{Post}
 use Rattle.iot_node.specs.declared.post.Post.TheVariants.{Up, Down, Between}
 use Rattle.iot_node.proofs.StepsToLaws.{bind, asks, says, says_this, nothing}
-use Rattle.iot_machine.specs.Events.{no_text, CutsOff, RestartsClient, cuts_off}
+use Rattle.iot_machine.specs.Events.{no_text, CutsOff, RestartsClient, cuts_off, Disconnects, CrashesClient, ArmsClient}
 use Rattle.iot_laptop.specs.Calls.{ReturnedStands, Returned, Came, running_name}
-use Rattle.iot_laptop.specs.Kept.{RunningKeptIfAny}
-use Rattle.iot_laptop.specs.Laptops.{LaptopStands, FallenStands, ClientStands, awake, fallen, StandsAnyhow, is_alive, disk_by}
-use Rattle.iot_laptop.specs.Laptops.{state_in, live_in, state_by}
+use Rattle.iot_laptop.specs.Kept.{RunningKeptIfAny, StateKept}
+use Rattle.iot_laptop.specs.Laptops.{LaptopStands, FallenStands, ClientStands, awake, StandsAnyhow, is_alive, disk_by}
+use Rattle.iot_laptop.specs.Laptops.{state_in, live_by, state_by, fallen, Stands, Relinked, IsSecondNow, IsCutLink, after_passage}
 use Rattle.iot_laptop.specs.Messages.{name_of}
 use Rattle.iot_laptop.specs.Scripts.{AreNamed}
-use Rattle.iot_laptop.specs.Seats.{seating, besides}
+use Rattle.iot_laptop.specs.Seats.{seating, besides, IsClientImage}
 use Rattle.iot_laptop.specs.declared.laptop.Laptop.{Laptop}
 use Rattle.iot_laptop.specs.declared.seated.Seated.{Seated}
 use Rattle.iot_laptop.proofs.CallsLaws.{Called, Before, Fits, each_ok, goes_at, halts_at, fits_with}
-use Rattle.iot_laptop.proofs.EventsLaws.{live_fresh}
-use Rattle.iot_laptop.proofs.KeptStatesLaws.{idle_runs, cut_live, cut_named}
+use Rattle.iot_laptop.proofs.KeptStatesLaws.{live_with, cut_live, live_then, second_live, idle_runs}
+use Rattle.iot_laptop.proofs.NodesLaws.{Posted}
 use Rattle.iot_laptop.proofs.NodesLaws.{not_both, on_is, kept_up, node_stands, fallen_stands, awake_stands, awake_at, fallen_at, refines}
-use Rattle.iot_laptop.proofs.NodesLaws.{at_node}
+use Rattle.iot_laptop.proofs.NodesLaws.{at_node, same_name, same_link, may_be_named}
+use Rattle.iot_link.specs.Links.{LinkState, after_exchange}
+use Rattle.iot_link.specs.declared.passages.Passage.{Passage}
+use Rattle.iot_link.specs.declared.passages.Passage.TheVariants.{Away, RequestLost, ReplyLost, Both}
+use Rattle.iot_node.proofs.StepsLaws.{does}
+use Rattle.iot_machine.specs.Machine.{break}
+use Rattle.iot_laptop.specs.Laptops.{IsUnopened, unopened_laptop}
+use Rattle.iot_disk.specs.declared.disk.Pick.{Pick}
+use Rattle.iot_journal.specs.Decoding.{decoded}
+use Rattle.iot_tree.specs.declared.nodes.Node.TheVariants.{FarDir}
+use Rattle.iot_tree.proofs.RowLaws.{root_rows, root_map}
+use Rattle.iot_judging.proofs.SpelledTreesLaws.{far_root_spelled}
+use Rattle.iot_laptop.specs.Alone.{OpensClient}
+use Rattle.iot_link.specs.Links as links
 
-stop_said : (name : List ℕ) (node n : Node ClientState) (text : List ℕ) → ComesBack name no_text node text false n
-    → text ≡ stopped_line name
-stop_said name node n text (inl it) = absurd (not_both (sym it.0))
-stop_said name node n text (inr stop) = stop.0
+pub not_through : (p : Passage) → (p ≡ Away) ⊎ ((p ≡ RequestLost) ⊎ (p ≡ ReplyLost)) → p ≡ Both → ⊥
+not_through p (inl is) both = cc
+not_through p (inr (inl is)) both = cc
+not_through p (inr (inr is)) both = cc
+
+module _ {D : Type 0} (medium : Medium D) (laptop : Laptop D) where
+  -- ---- another link
+
+  over_link : (link : LinkState) (scripts : List Declared) (m : machine.Client) → LaptopStands medium scripts laptop m
+      → LaptopStands medium scripts (record laptop { link = link }) (record m { link = link })
+  over_link link scripts m here = search rules
+
+  linked : (link : LinkState) (scripts : List Declared) (m : machine.Client) → ClientStands medium scripts laptop m
+      → ClientStands medium scripts (record laptop { link = link }) (record m { link = link })
+  linked link scripts m (awake here) = awake (over_link link scripts m here)
+  linked link scripts m (fallen here) = fallen (search rules)
+
+  -- over another link it stands for some client too
+  pub stands_over : (link : LinkState) → Stands medium laptop → Stands medium (record laptop { link = link })
+  stands_over link stands =
+      record { scripts = _; machine = _; stands = over_link link stands.scripts stands.machine stands.stands }
+
+  -- its link is made another one, and that is said
+  pub relinks : (change : LinkState → LinkState) (line : List ℕ → List ℕ) (link : LinkState) (x y : List ℕ)
+      → link ≡ change laptop.link → y ≡ x ++ line laptop.name → (scripts : List Declared)
+      → Refines (ClientStands medium scripts) (Does (λ m. line m.name) (λ m. record m { link = change m.link }))
+      laptop (record laptop { link = link }) x y tt
+  relinks change line link x y is wrote scripts =
+      does laptop (record laptop { link = link }) x y (λ m here. (
+        wrote ∙ ap (λ (n : List ℕ). x ++ line n) (same_name medium scripts laptop m here),
+        subst (λ (l : LinkState). ClientStands medium scripts (record laptop { link = link }) (record m { link = l }))
+            (is ∙ ap change (same_link medium scripts laptop m here)) (linked link scripts m here),
+      ))
+
+  pub disconnects : (mid : Laptop D) (x y : List ℕ) → IsCutLink medium laptop mid → y ≡ x ++ disconnect_line mid.name
+      → (scripts : List Declared) → Refines (ClientStands medium scripts) Disconnects laptop mid x y tt
+  disconnects mid x y cut wrote scripts =
+      does laptop mid x y (λ m here. (
+        wrote ∙ ap (λ (n : List ℕ). x ++ disconnect_line n) (cut.name ∙ same_name medium scripts laptop m here),
+        cut.stands scripts m here,
+      ))
+
+  -- ---- second class
+
+  module _ (was now : Client D) (state : state_of now ≡ state_of was) (place : place_of now ≡ place_of was)
+      (disk : disk_of now ≡ disk_of was) (records : records_of now ≡ records_of was) (live : live_of now ≡ second_class (live_of was))
+      (tied : IsTied medium now) where
+    second_stands : (scripts : List Declared) (m : machine.Client)
+        → LaptopStands medium scripts (record laptop { post = Up (record { client = was }) }) m
+        → LaptopStands medium scripts (record laptop { post = Up (record { client = now }) }) (record m { first = false })
+    second_stands scripts m here =
+        let up = here.node in
+        let counts : counts_on medium (disk_of now) ≡ m.node.counts = ap (counts_on medium) disk ∙ up.counts in
+        let placed : place_of now ≡ laptop.place = place ∙ up.stands.place_is in
+        let counted : records_of now ≡ up.count = records ∙ up.stands.counted in
+        let kept : StateKept (state_of now) m.node.durable = rw state up.stands.kept in
+        awake_at medium scripts laptop m here.name here.link (Up (record { client = now })) m.node
+        (record { alive = up.alive; sure = up.sure; counts = counts; count = up.count; stands = search rules }) here.alive false
+        (live
+        ∙ ap second_class (live_then (state_of was).running (live_of was) m.first m.node.durable.running here.state.running)
+        ∙ second_live m.first m.node.durable.running)
+        here.named
+
+    pub is_second : laptop.post ≡ Up (record { client = was })
+        → IsSecondNow medium laptop (record laptop { post = Up (record { client = now }) })
+    is_second is = record {
+      place = refl;
+      state = state ∙ sym (ap state_by is);
+      link = refl;
+      disk = ap Some disk ∙ sym (ap (λ (p : Post (Seated D) D). disk_by p) is);
+      alive = sym (ap (λ (p : Post (Seated D) D). is_on p) is);
+      stands = λ scripts m here.
+          second_stands scripts m (subst (λ (p : Post (Seated D) D). LaptopStands medium scripts (record laptop { post = p }) m) is here);
+    }
+
+  -- ---- an exchange that does not get through
+
+  -- after one in which the server stopped, what runs is second class
+  pub is_broken : (link : LinkState) (new : Laptop D) → link ≡ links.broken → IsSecondNow medium (record laptop { link = link }) new
+      → Relinked medium break laptop new
+  is_broken link new is second = record {
+    place = second.place;
+    state = second.state;
+    stands = λ scripts m here.
+        subst (λ (l : LinkState). LaptopStands medium scripts new (record m { link = l; first = false })) is
+        (second.stands scripts (record m { link = link }) (over_link link scripts m here));
+  }
+
+  -- and after any that did not get through
+  pub is_over : (p : Passage) (link : LinkState) (new : Laptop D) → link ≡ after_exchange p laptop.link
+      → (p ≡ Away) ⊎ ((p ≡ RequestLost) ⊎ (p ≡ ReplyLost))
+      → IsSecondNow medium (record laptop { link = link }) new → Relinked medium (after_passage p) laptop new
+  is_over Away link new is lost second = record {
+    place = second.place;
+    state = second.state;
+    stands = λ scripts m here. let linked : link ≡ m.link = is ∙ here.link in second.stands scripts m (search rules);
+  }
+  is_over RequestLost link new is lost second = is_broken link new is second
+  is_over ReplyLost link new is lost second = is_broken link new is second
+  is_over Both link new is lost second = absurd (not_through Both lost refl)
+
+-- ---- its node
+
+pub if_two : {T E : Type 0} {P Q R : T → Type 0} (r : Result T E) → IfOk r P → IfOk r Q → ((t : T) → P t → Q t → R t) → IfOk r R
+if_two (Ok t) p q both = both t p q
+if_two (Err e) p q both = tt
+
+module _ {D : Type 0} (medium : Medium D) (laptop : Laptop D) (post : Post (Seated D) D) where
+  abbrev next : Laptop D
+  next = record laptop { post = post }
+
+  -- ---- a crash
+
+  pub crashes : (x y : List ℕ) → Refines (Posted medium laptop) (Crashes laptop.name) laptop.post post x y tt
+      → is_on post ≡ false → (scripts : List Declared) → Refines (ClientStands medium scripts) CrashesClient laptop next x y tt
+  crashes x y it off scripts =
+      refines
+      (bind laptop laptop next x x y laptop.name tt (asks laptop x laptop.name (same_name medium scripts laptop))
+      (at_node medium laptop post Crashes (λ _. laptop.name) x y tt
+      (λ m here. (refl, it.step m.node (node_stands medium scripts laptop m here)))
+      (λ m here n text step stands.
+      fallen_at medium scripts laptop m (same_name medium scripts laptop m here) (same_link medium scripts laptop m here) post n stands
+      (on_is (seating medium laptop.place) medium no_text post n stands ∙ off)
+      ((crashes_within laptop.name m.node n text tt step).each (AreNamed scripts) (may_be_named medium scripts laptop m here)))))
+
+  -- ---- its disk is armed
+
+  module _ (calls : ℕ) (pick : Pick) (live : live_by post ≡ live_by laptop.post) where
+    arms_by : (scripts : List Declared) (m : machine.Client) → ClientStands medium scripts laptop m
+        → Posted medium laptop post (armed calls pick m.node)
+        → ClientStands medium scripts next (record m { node = armed calls pick m.node })
+    arms_by scripts m (awake here) stands =
+        awake
+        (awake_at medium scripts laptop m here.name here.link post (armed calls pick m.node) stands here.alive m.first
+        (live ∙ live_then _ (live_by laptop.post) m.first m.node.durable.running here.state.running)
+        here.named)
+    arms_by scripts m (fallen here) stands =
+        fallen_at medium scripts laptop m here.name here.link post (armed calls pick m.node) stands here.alive
+        (record { is = here.named.is; may_be = here.named.may_be })
+
+    pub arms : (x y : List ℕ) → Refines (Posted medium laptop) (ArmsDisk laptop.name calls pick) laptop.post post x y tt
+        → (scripts : List Declared) → Refines (ClientStands medium scripts) (ArmsClient calls pick) laptop next x y tt
+    arms x y it scripts =
+        refines
+        (bind laptop laptop next x x y laptop.name tt (asks laptop x laptop.name (same_name medium scripts laptop))
+        (at_node medium laptop post (λ name. ArmsDisk name calls pick) (λ _. laptop.name) x y tt
+        (λ m here. (refl, it.step m.node (node_stands medium scripts laptop m here)))
+        (λ m here n text step stands.
+        subst (λ (n : Node ClientState). ClientStands medium scripts next (record m { node = n })) (sym step.1)
+        (arms_by scripts m here (subst (Posted medium laptop post) step.1 stands)))))
+
+-- ---- a new laptop
+
+far_root_is_tree : IsTree (root_alone FarDir)
+far_root_is_tree = subst IsTree (root_map FarDir) (root_rows FarDir refl).tree
+
+new_kept : StateKept opening new_client
+new_kept = record { held = refl; items = tt; running = tt; last = refl; tree = far_root_is_tree; spelled = far_root_spelled }
+
+-- an empty disk is that of a client that knows nothing
+empty_image : (bytes : List ℕ) → bytes ≡ [] → IsClientImage bytes 0 new_client
+unfolding decoded
+empty_image bytes none = record {
+  state = opening;
+  stands = record { bodies = []; read = ap decoded none; leads = refl };
+  counted = refl;
+  kept = new_kept;
+}
+
+module _ {D : Type 0} (medium : Medium D) (disk : D) (empty : IsEmpty medium disk) (place : ℕ) where
+  new_node : PostStands (seating medium place) medium no_text (Down (record { disk = disk; doubt = None }))
+      (unopened new_client (counts_on medium disk))
+  new_node = record {
+    alive = refl;
+    counts = refl;
+    count = 0;
+    holds = record {
+      sure = refl;
+      each = record { each = λ image left. empty_image image (empty.synced.is image left ∙ empty.empty) };
+    };
+  }
+
+  pub new_stands : (name : List ℕ) (laptop : Laptop D) → laptop.name ≡ name → laptop.place ≡ place → laptop.link ≡ links.opened
+      → laptop.post ≡ Down (record { disk = disk; doubt = None })
+      → (scripts : List Declared) → FallenStands medium scripts laptop (unopened_laptop name (counts_on medium disk))
+  new_stands name laptop named placed linked is scripts = record {
+    name = named;
+    link = linked;
+    alive = refl;
+    node = rw (placed, is) new_node;
+    named = record { is = record { items = tt; running = tt }; may_be = tt };
+  }
+
+-- ---- it starts for the first time
+
+-- nothing runs
+none_runs : (t : Nodes) (r : Option Transaction) (o : Option clients.Running) → o ≡ None → RunningKeptIfAny t r o → r ≡ None
+none_runs t None o none kept = refl
+none_runs t (Some running) None none kept = absurd kept
+none_runs t (Some running) (Some it) none kept = absurd cc
+
+module _ {D : Type 0} (medium : Medium D) (laptop : Laptop D) (new : IsUnopened medium laptop) where
+  pub opens_ready : Ready medium laptop.post
+  opens_ready = rw new.down (refl, new.empty.synced)
+
+  pub opens_standing : IsStanding (seating medium laptop.place) medium laptop.post
+  opens_standing = record {
+    says = no_text;
+    node = unopened new_client (counts_on medium new.disk);
+    stands = rw new.down (new_node medium new.disk new.empty laptop.place);
+  }
+
+  module _ (post : Post (Seated D) D) (x y : List ℕ) (on : Bool)
+      (it : Refines (Posted medium laptop) (OpensNode laptop.name) laptop.post post x y on)
+      (live : live_by post ≡ None) where
+    -- what was started knows nothing
+    started_idle : is_on post ≡ true → (state_by post).running ≡ None
+    unfolding opens_standing
+    started_idle up =
+        let s = it.step opens_standing.node opens_standing.stands in
+        let kept = kept_up medium laptop.place post s.1 s.4 (on_is (seating medium laptop.place) medium no_text post s.1 s.4 ∙ up) in
+        none_runs (base s.1.durable) (state_by post).running s.1.durable.running
+        (ap (λ (state : ClientState). state.running) (opens_states laptop.name opens_standing.node s.1 s.0 on s.3).durable) kept.running
+
+    opens_at : (scripts : List Declared) (m : machine.Client) (n : Node ClientState) → FallenStands medium scripts laptop m
+        → Posted medium laptop post n → (b : Bool) → is_on post ≡ b
+        → Possibly (AreNamed scripts) n → ClientStands medium scripts (record laptop { post = post }) (record m { node = n })
+    opens_at scripts m n here stands true up named =
+        let alive = on_is (seating medium laptop.place) medium no_text post n stands ∙ up in
+        awake
+        (awake_at medium scripts laptop m here.name here.link post n stands alive m.first
+        (live ∙ idle_runs m.first (state_by post) n.durable (started_idle up) (kept_up medium laptop.place post n stands alive))
+        named.is)
+    opens_at scripts m n here stands false off named =
+        fallen_at medium scripts laptop m here.name here.link post n stands
+        (on_is (seating medium laptop.place) medium no_text post n stands ∙ off) named
+
+    pub opens : (scripts : List Declared)
+        → Refines (ClientStands medium scripts) OpensClient laptop (record laptop { post = post }) x y on
+    opens scripts =
+        refines
+        (at_node medium laptop post OpensNode (λ m. m.name) x y on
+        (λ m here. (same_name medium scripts laptop m here, it.step m.node (node_stands medium scripts laptop m here)))
+        (λ m here n text step stands.
+        let down : FallenStands medium scripts laptop m =
+        fallen_stands medium scripts laptop m (ap (λ (p : Post (Seated D) D). is_on p) new.down) here in
+        opens_at scripts m n down stands (is_on post) refl
+        (possibly_same m.node n (opens_states laptop.name m.node n text on step) down.named)))
+
+-- ---- what is known besides
+
+pub live_again : {D : Type 0} (old new : Post (Seated D) D) → posts.live_of besides new ≡ posts.live_of besides old → live_by new ≡
+    live_by old
+live_again (Up a) (Up b) same = same_Some _ _ same
+live_again (Up a) new same = absurd cc
+live_again old (Up b) same = absurd cc
+live_again old new same = refl
+
+pub live_fresh : {D : Type 0} (new : Post (Seated D) D) (on : Bool) → posts.live_of besides new ≡ (if on then Some None else None)
+    → live_by new ≡ None
+live_fresh (Up b) true same = same_Some _ _ same
+live_fresh (Up b) false same = absurd cc
+live_fresh new on same = refl
+
+-- ---- a restart
+
+-- its node came back over this post, or stopped again
+pub record CameBack {D : Type 0} (medium : Medium D) (old : Laptop D) (post : Post (Seated D) D) (x y : List ℕ) (on : Bool) : Type
+    0 where
+  pub off : is_alive old ≡ false
+  pub steps : Refines (Posted medium old) (ComesBack old.name no_text) old.post post x y on
+  pub is : is_on post ≡ on
+  pub live : posts.live_of besides post ≡ (if on then Some None else None)
+  pub came : (node : Node ClientState) → Posted medium old old.post node
+      → CameIf (seating medium old.place) medium on old.post old.name x y node
 
 module _ {D : Type 0} (medium : Medium D) (old : Laptop D) where
   -- one that is alive is left as it is
@@ -68,119 +352,94 @@ module _ {D : Type 0} (medium : Medium D) (old : Laptop D) where
       (says_this (line (codes "up")) old x z wrote))
 
   pub is_standing : StandsAnyhow medium old → IsStanding (seating medium old.place) medium old.post
-  is_standing stands = record {
-    says = no_text;
-    node = stands.machine.node;
-    stands = node_stands medium stands.scripts old stands.machine stands.stands;
-  }
+  is_standing stands =
+      record { says = _; node = _; stands = node_stands medium stands.scripts old stands.machine stands.stands }
 
-  module _ (post : Post (Seated D) D) (called x y : List ℕ) (same : called ≡ old.name) (off : is_alive old ≡ false) (on : Bool)
-      (came_back : Refines (PostStands (seating medium old.place) medium no_text) (ComesBack called no_text) old.post post x y on)
-      (is : is_on post ≡ on) (live : posts.live_of besides post ≡ (if on then Some None else None)) where
+  module _ (post : Post (Seated D) D) (x y : List ℕ) where
     abbrev mid : Laptop D
     mid = record old { post = post }
 
-    abbrev Posted : Post (Seated D) D → Node ClientState → Type 0
-    Posted = PostStands (seating medium old.place) medium no_text
-
-    abbrev after_on : Bool → Post (Seated D) D → List ℕ → Type 0
-    after_on on post y = Refines Posted (ComesBack called no_text) old.post post x y on
+    alive_is : {on : Bool} → CameBack medium old post x y on → (n : Node ClientState) → Posted medium old post n → n.alive ≡ on
+    alive_is back n stands = on_is (seating medium old.place) medium no_text post n stands ∙ back.is
 
     -- what it does when its node is back, or has stopped again, makes the whole of its restart
-    comes : (scripts : List Declared) (stands : Laptop D → machine.Client → Type 0)
-        → ((m : machine.Client) → FallenStands medium scripts old m → (n : Node ClientState) → Posted post n
+    comes : (on : Bool) → CameBack medium old post x y on → (scripts : List Declared) (stands : Laptop D → machine.Client → Type 0)
+        → ((m : machine.Client) → FallenStands medium scripts old m → (n : Node ClientState) → Posted medium old post n
         → Possibly (AreNamed scripts) n → stands mid (record m { node = n }))
         → (new : Laptop D) (z : List ℕ) → StepsTo stands (ClientStands medium scripts) (goes_on CutsOff on) mid new y z tt
         → Refines (ClientStands medium scripts) RestartsClient old new x z tt
-    comes scripts stands each new z rest =
+    comes on back scripts stands each new z rest =
         let whole : StepsTo (FallenStands medium scripts) (ClientStands medium scripts) RestartsClient old new x z tt =
         bind old old new x x z false tt (asks old x false (λ m down. sym down.alive))
         (bind old old new x x z old.name tt (asks old x old.name (λ m down. down.name))
         (bind {mid = stands} old mid new x y z on tt
-        (at_node medium old post (λ name. ComesBack name no_text) (λ _. old.name) called x y on came_back (λ m down. (same, down.node))
+        (at_node medium old post (λ name. ComesBack name no_text) (λ _. old.name) x y on
+        (λ m down. (refl, back.steps.step m.node down.node))
         (λ m down n text step there.
-        each m down n there ((comes_within called no_text m.node n text on step).each (AreNamed scripts) down.named)))
+        each m down n there ((comes_within old.name no_text m.node n text on step).each (AreNamed scripts) down.named)))
         rest)) in
-        record { step = λ m here. whole.step m (fallen_stands medium scripts old m off here) }
+        record { step = λ m here. whole.step m (fallen_stands medium scripts old m back.off here) }
 
     -- ---- it has stopped again
 
-    pub stops_if : on ≡ false → (scripts : List Declared)
-        → Refines (ClientStands medium scripts) RestartsClient old mid x y tt
-    stops_if none scripts =
-        comes scripts (ClientStands medium scripts)
-        (λ m down n stands named.
-        fallen_at medium scripts old m down.name down.link post n stands
-        (on_is (seating medium old.place) medium no_text post n stands ∙ is ∙ none) named)
-        mid y
-        (subst (λ (b : Bool). StepsTo (ClientStands medium scripts) (ClientStands medium scripts) (goes_on CutsOff b) mid mid y y tt)
-        (sym none) (nothing mid y))
+    module _ (back : CameBack medium old post x y false) where
+      pub stops_again : (scripts : List Declared) → Refines (ClientStands medium scripts) RestartsClient old mid x y tt
+      stops_again scripts =
+          comes false back scripts (ClientStands medium scripts)
+          (λ m down n stands named. fallen_at medium scripts old m down.name down.link post n stands (alive_is back n stands) named)
+          mid y (nothing mid y)
 
-    pub came_again_if : on ≡ false → (scripts : List Declared) (m : machine.Client) → ClientStands medium scripts old m
-        → Came medium old x y m
-    came_again_if none scripts m here =
-        let it = subst (λ (b : Bool). after_on b post y) none came_back in
-        let s = it.step m.node (fallen_stands medium scripts old m off here).node in
-        record {
-          on = false;
-          mid = y;
-          rest = [];
-          came = tt;
-          whole = sym (append-nil y);
-          stopped = λ _.
-              s.2 ∙ ap (λ (t : List ℕ). x ++ t) (stop_said called m.node s.1 s.0 s.3 ∙ ap (λ (n : List ℕ). stopped_line n) same);
-        }
+      pub came_again : (scripts : List Declared) (m : machine.Client) → ClientStands medium scripts old m → Came medium old x y m
+      came_again scripts m here =
+          let s = back.steps.step m.node (fallen_stands medium scripts old m back.off here).node in
+          let said : s.0 ≡ stopped_line old.name = elim s.3 [ inl it ↦ absurd (not_both (sym it.0)) | inr stop ↦ stop.0 ] in
+          record {
+            on = false;
+            mid = y;
+            rest = [];
+            came = tt;
+            whole = sym (append-nil y);
+            stopped = λ _. s.2 ∙ ap (λ (t : List ℕ). x ++ t) said;
+          }
 
     -- ---- it is back
 
-    module _ (back_on : on ≡ true) where
+    module _ (back : CameBack medium old post x y true) where
       returned : (scripts : List Declared) (m : machine.Client) → FallenStands medium scripts old m → (n : Node ClientState)
-          → Posted post n → Possibly (AreNamed scripts) n → ReturnedStands medium scripts mid (record m { node = n })
-      returned scripts m down n stands named = record {
-        name = down.name;
-        link = down.link;
-        alive = on_is (seating medium old.place) medium no_text post n stands ∙ is ∙ back_on;
-        node = stands;
-        live = live_fresh post on live;
-        named = named.is;
-      }
+          → Posted medium old post n → Possibly (AreNamed scripts) n → ReturnedStands medium scripts mid (record m { node = n })
+      returned scripts m down n stands named =
+          let alive : n.alive ≡ true = alive_is back n stands in
+          let live : live_by post ≡ None = live_fresh post true back.live in
+          search rules
 
       returned_at : (scripts : List Declared) (m : machine.Client) → FallenStands medium scripts old m
           → (n : Node ClientState) × ReturnedStands medium scripts mid (record m { node = n })
       returned_at scripts m down =
-          let s = came_back.step m.node down.node in (
+          let s = back.steps.step m.node down.node in (
             s.1,
-            returned scripts m down s.1 s.4 ((comes_within called no_text m.node s.1 s.0 on s.3).each (AreNamed scripts) down.named),
+            returned scripts m down s.1 s.4 ((comes_within old.name no_text m.node s.1 s.0 true s.3).each (AreNamed scripts) down.named),
           )
 
-      pub returned_if : StandsAnyhow medium old → Returned medium mid
-      returned_if stands =
-          let down = fallen_stands medium stands.scripts old stands.machine off stands.stands in
+      pub is_back : StandsAnyhow medium old → Returned medium mid
+      is_back stands =
+          let down = fallen_stands medium stands.scripts old stands.machine back.off stands.stands in
           record { scripts = stands.scripts; machine = _; stands = (returned_at stands.scripts stands.machine down).1 }
 
       module _ (new : Laptop D) (z : List ℕ)
           (cut : (scripts : List Declared)
           → StepsTo (ReturnedStands medium scripts) (ClientStands medium scripts) CutsOff mid new y z tt) where
-        pub comes_if : (scripts : List Declared) → Refines (ClientStands medium scripts) RestartsClient old new x z tt
-        comes_if scripts =
-            comes scripts (ReturnedStands medium scripts) (returned scripts) new z
-            (subst (λ (b : Bool). StepsTo (ReturnedStands medium scripts) (ClientStands medium scripts) (goes_on CutsOff b) mid new y z tt)
-            (sym back_on) (cut scripts))
+        pub comes_back : (scripts : List Declared) → Refines (ClientStands medium scripts) RestartsClient old new x z tt
+        comes_back scripts = comes true back scripts (ReturnedStands medium scripts) (returned scripts) new z (cut scripts)
 
-        pub came_if : ((node : Node ClientState) → Posted old.post node
-            → CameIf (seating medium old.place) medium on old.post called x y node)
-            → (scripts : List Declared) (m : machine.Client) → ClientStands medium scripts old m → Came medium old x z m
-        came_if came scripts m here =
-            let down : FallenStands medium scripts old m = fallen_stands medium scripts old m off here in
+        pub came_back : (scripts : List Declared) (m : machine.Client) → ClientStands medium scripts old m → Came medium old x z m
+        came_back scripts m here =
+            let down : FallenStands medium scripts old m = fallen_stands medium scripts old m back.off here in
             let t = (cut scripts).step _ (returned_at scripts m down).1 in
             record {
               on = true;
               mid = y;
               rest = t.0;
-              came =
-                  subst (λ (n : List ℕ). CameIf (seating medium old.place) medium true old.post n x y m.node) same
-                  (subst (λ (b : Bool). CameIf (seating medium old.place) medium b old.post called x y m.node) back_on
-                  (came m.node down.node));
+              came = back.came m.node down.node;
               whole = t.2;
               stopped = λ never. absurd (not_both never);
             }
@@ -202,57 +461,54 @@ module _ {D : Type 0} (medium : Medium D) (laptop : Laptop D) where
       → running_name laptop r ≡ Some transaction → RunningKeptIfAny t r o → Found laptop.name transaction r o
   found_by transaction t None o name kept = absurd cc
   found_by transaction t (Some own) None name kept = absurd kept
-  found_by transaction t (Some own) (Some it) name kept = record {
-    own = own;
-    is = refl;
-    it = it;
-    runs = refl;
-    name = sym (same_Some _ _ name) ∙ ap (λ (n : ℕ). record { client = laptop.name; number = n }) kept.number;
-    acts = kept.count;
-  }
+  found_by transaction t (Some own) (Some it) name kept =
+      let named : transaction ≡ record { client = laptop.name; number = it.number } =
+      sym (same_Some _ _ name) ∙ ap (λ (n : ℕ). record { client = laptop.name; number = n }) kept.number in
+      record { own = own; is = refl; it = it; runs = refl; name = named; acts = kept.count }
 
   none_found : (t : Nodes) (r : Option Transaction) (o : Option clients.Running) → running_name laptop r ≡ None → RunningKeptIfAny t r o
-      → (r ≡ None) × (o ≡ None)
-  none_found t None None none kept = (refl, refl)
+      → o ≡ None
+  none_found t None None none kept = refl
   none_found t None (Some it) none kept = absurd kept
   none_found t (Some running) o none kept = absurd cc
 
   -- by what runs in the client of the machine
-  cuts_by : (scripts : List Declared) (m : machine.Client) (new : Laptop D) (x z : List ℕ) (o : Option clients.Running)
-      → m.node.durable.running ≡ o → StepsFrom (ClientStands medium scripts) (cuts_off o) m new x z tt
-      → StepsFrom (ClientStands medium scripts) CutsOff m new x z tt
-  cuts_by scripts m new x z o is s = (
-    s.0,
-    s.1,
-    s.2,
-    record {
-      mid = m;
-      front = [];
-      rest = s.0;
-      answer = m.node.durable.running;
-      first = (refl, refl, refl);
-      second = subst (λ (o : Option clients.Running). cuts_off o m s.0 tt s.1) (sym is) s.3;
-      whole = refl;
-    },
-    s.4,
-  )
+  cuts_by : (scripts : List Declared) (new : Laptop D) (x z : List ℕ)
+      → ((m : machine.Client) → ReturnedStands medium scripts laptop m → (o : Option clients.Running) × (m.node.durable.running ≡ o)
+      × StepsFrom (ClientStands medium scripts) (cuts_off o) m new x z tt)
+      → StepsTo (ReturnedStands medium scripts) (ClientStands medium scripts) CutsOff laptop new x z tt
+  cuts_by scripts new x z each = record {
+    step = λ m here.
+        let it = each m here in
+        let s = it.2 in
+        let rest = subst (λ (o : Option clients.Running). cuts_off o m s.0 tt s.1) (sym it.1) s.3 in (
+          s.0,
+          s.1,
+          s.2,
+          record { mid = m; front = []; rest = s.0; answer = _; first = (refl, refl, refl); second = rest; whole = refl },
+          s.4,
+        );
+  }
 
   -- it found nothing running
   pub cuts_nothing : (x : List ℕ) → running_name laptop (state_in laptop).running ≡ None → (scripts : List Declared)
       → StepsTo (ReturnedStands medium scripts) (ClientStands medium scripts) CutsOff laptop laptop x x tt
-  cuts_nothing x found scripts = record {
-    step = λ m here.
-        let kept = kept_up medium laptop.place laptop.post m.node here.node here.alive in
-        let none = none_found (base m.node.durable) (state_in laptop).running m.node.durable.running found kept.running in
-        cuts_by scripts m laptop x x None none.1 (
+  cuts_nothing x found scripts =
+      cuts_by scripts laptop x x (λ m here.
+      let kept = kept_up medium laptop.place laptop.post m.node here.node here.alive in
+      let none = none_found (base m.node.durable) (state_in laptop).running m.node.durable.running found kept.running in (
+        None,
+        none,
+        (
           [],
           m,
           sym (append-nil x),
           (refl, refl),
-          awake (awake_at medium scripts laptop m here.name here.link laptop.post m.node here.node here.alive m.first
-              (idle_runs (state_in laptop) (live_in laptop) m.first m.node.durable here.live none.0 kept) here.named),
-        );
-  }
+          awake
+              (awake_at medium scripts laptop m here.name here.link laptop.post m.node here.node here.alive m.first
+              (here.live ∙ sym (ap (live_with m.first) none)) here.named),
+        ),
+      ))
 
   module _ {was now : Client D} {answer : Result (Option ℕ) ClientFault} {new : Laptop D} {x y : List ℕ}
       {result : Result (Option ℕ) Halt} (call : Called medium laptop was now answer new x y result)
@@ -261,21 +517,18 @@ module _ {D : Type 0} (medium : Medium D) (laptop : Laptop D) where
       (stops : IsErrOf answer Stopped → client.CutsOff Cut (state_of was) (bodies_on medium was) (medium.may_leave (disk_of now))) where
     up_in : (scripts : List Declared) (m : machine.Client) → ReturnedStands medium scripts laptop m
         → UpStands (seating medium laptop.place) medium no_text (record { client = was }) m.node
-    up_in scripts m here =
-        subst (λ (p : Post (Seated D) D). PostStands (seating medium laptop.place) medium no_text p m.node) call.is here.node
+    up_in scripts m here = rw call.is at here.node
 
     found_in : (scripts : List Declared) (m : machine.Client) → ReturnedStands medium scripts laptop m
         → Found laptop.name transaction (state_of was).running m.node.durable.running
     found_in scripts m here =
         found_by transaction (base m.node.durable) (state_of was).running m.node.durable.running
-        (subst (λ (p : Post (Seated D) D). running_name laptop (state_by p).running ≡ Some transaction) call.is found)
-        (up_in scripts m here).stands.kept.running
+        (rw call.is at found) (up_in scripts m here).stands.kept.running
 
     cut_so : (running : Transaction) → (state_of was).running ≡ Some running → (told : Option ℕ) → answer ≡ Ok told
         → (told ≡ Some (length running.acts)) × Notes Cut was now
     cut_so running is told ok =
-        subst (λ (r : Option Transaction). CutsIfAny r told was now) is
-        (IfOk-at_ok (λ told. CutsIfAny (state_of was).running told was now) ok cuts)
+        rw is at (IfOk-at_ok (λ told. CutsIfAny (state_of was).running told was now) ok cuts)
 
     fits : (scripts : List Declared) (m : machine.Client) → ReturnedStands medium scripts laptop m
         → Before medium laptop was scripts m × Fits medium was now answer scripts (cut m.node.durable) m.first
@@ -283,55 +536,47 @@ module _ {D : Type 0} (medium : Medium D) (laptop : Laptop D) where
         let up = up_in scripts m here in
         let it = found_in scripts m here in (
           record { name = here.name; link = here.link; alive = here.alive; up = up; named = here.named },
-          fits_with call scripts (cut m.node.durable) m.first Cut None (each_ok answer (λ told ok. (cut_so it.own it.is told ok).1)) lives
-              stops (λ follows. cut_live (state_of was) m.node.durable up.stands.kept m.first)
-              (cut_named scripts m.node.durable here.named),
+          fits_with call scripts (cut m.node.durable) m.first Cut None
+              (record { notes = each_ok answer (λ told ok. (cut_so it.own it.is told ok).1); lives = lives; stops = stops })
+              (λ follows. cut_live (state_of was) m.node.durable up.stands.kept scripts m.first here.named),
         )
 
     -- what was found waits now, which is said
     pub cuts_off_now : (acts : ℕ) → result ≡ Ok (Some acts) → (z : List ℕ)
         → z ≡ y ++ cut_line (name_of transaction) acts → (scripts : List Declared)
         → StepsTo (ReturnedStands medium scripts) (ClientStands medium scripts) CutsOff laptop new x z tt
-    cuts_off_now acts same z wrote scripts = record {
-      step = λ m here.
-          let it = found_in scripts m here in
-          let many : acts ≡ it.it.acts =
-          same_Some _ _ (cut_so it.own it.is (Some acts) (IfOk-at_ok _ same call.goes.answers)).0 ∙ it.acts in
-          let steps : StepsTo (ReturnedStands medium scripts) (LaptopStands medium scripts) (cuts_off (Some it.it)) laptop new x z tt =
-          bind laptop new new x y z true tt (goes_at call scripts (ReturnedStands medium scripts) cut (λ b. b) (fits scripts) (Some acts)
-          same)
-          (says new y z (λ k there.
-          wrote ∙ ap (λ (w : List ℕ). y ++ w)
-          ((λ i. cut_line (name_of (it.name i)) (many i))
-          ∙ ap (λ (n : List ℕ). cut_line (transaction_name n it.it.number) it.it.acts)
-          (ap (λ (l : Laptop D). l.name) (sym call.goes.rest) ∙ there.name)))) in
-          let s = steps.step m here in
-          cuts_by scripts m new x z (Some it.it) it.runs (s.0, s.1, s.2, s.3, awake s.4);
-    }
+    cuts_off_now acts same z wrote scripts =
+        cuts_by scripts new x z (λ m here.
+        let it = found_in scripts m here in
+        let many : acts ≡ it.it.acts =
+        same_Some _ _ (cut_so it.own it.is (Some acts) (IfOk-at_ok _ same call.goes.answers)).0 ∙ it.acts in
+        let steps : StepsTo (ReturnedStands medium scripts) (LaptopStands medium scripts) (cuts_off (Some it.it)) laptop new x z tt =
+        bind laptop new new x y z true tt
+        (goes_at call scripts (ReturnedStands medium scripts) cut (λ b. b) (fits scripts) (Some acts) same)
+        (says new y z (λ k there.
+        wrote ∙ ap (λ (w : List ℕ). y ++ w)
+        ((λ i. cut_line (name_of (it.name i)) (many i))
+        ∙ ap (λ (n : List ℕ). cut_line (transaction_name n it.it.number) it.it.acts)
+        (ap (λ (l : Laptop D). l.name) (sym call.goes.rest) ∙ there.name)))) in
+        let s = steps.step m here in
+        (Some it.it, it.runs, (s.0, s.1, s.2, s.3, awake s.4)))
 
     -- it has stopped in the cut
     pub cut_halts : result ≡ Err Over → (scripts : List Declared)
         → StepsTo (ReturnedStands medium scripts) (ClientStands medium scripts) CutsOff laptop new x y tt
-    cut_halts same scripts = record {
-      step = λ m here.
-          let it = found_in scripts m here in
-          let steps : StepsTo (ReturnedStands medium scripts) (ClientStands medium scripts) (cuts_off (Some it.it)) laptop new x y tt =
-          bind laptop new new x y y false tt (halts_at call scripts (ReturnedStands medium scripts) cut (λ b. b) (fits scripts) same)
-          (nothing new y) in
-          cuts_by scripts m new x y (Some it.it) it.runs (steps.step m here);
-    }
+    cut_halts same scripts =
+        cuts_by scripts new x y (λ m here.
+        let it = found_in scripts m here in
+        let steps : StepsTo (ReturnedStands medium scripts) (ClientStands medium scripts) (cuts_off (Some it.it)) laptop new x y tt =
+        bind laptop new new x y y false tt (halts_at call scripts (ReturnedStands medium scripts) cut (λ b. b) (fits scripts) same)
+        (nothing new y) in
+        (Some it.it, it.runs, steps.step m here))
 
 -- ---- its disk
 
-rose_again : (before mid now : ℕ) → Rose before mid → Rose mid now → Rose before now
-rose_again before mid now one two = grind (arith, one, two)
-
 faults_then : (before between now : ℕ) → (between ≡ before) ⊎ Rose before between
     → (now ≡ between) ⊎ Rose between now → (now ≡ before) ⊎ Rose before now
-faults_then before between now (inl one) (inl two) = inl (two ∙ one)
-faults_then before between now (inl one) (inr two) = inr (subst (λ (n : ℕ). Rose n now) one two)
-faults_then before between now (inr one) (inl two) = inr (subst (λ (n : ℕ). Rose before n) (sym two) one)
-faults_then before between now (inr one) (inr two) = inr (rose_again before between now one two)
+faults_then before between now one two = grind (arith, one, two)
 
 pub keeps_then : {D : Type 0} (medium : Medium D) (old between new : Option D) → KeepsDisk medium old between → KeepsDisk medium between new
     → KeepsDisk medium old new
@@ -345,8 +590,7 @@ keeps_then medium old between new first second =
       arms = second.arms ∙ ap medium.arms (sym same) ∙ first.arms;
       faults =
           faults_then (medium.faults first.was) (medium.faults first.now) (medium.faults second.now) first.faults
-          (subst (λ d. (medium.faults second.now ≡ medium.faults d) ⊎ Rose (medium.faults d) (medium.faults second.now)) (sym same)
-          second.faults);
+          (rw (← same) at second.faults);
     }
 
 -- nothing was done

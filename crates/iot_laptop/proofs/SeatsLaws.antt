@@ -18,9 +18,6 @@ use Rattle.iot_laptop.specs.Kept.{StateKept}
 use Rattle.iot_laptop.specs.Seats.{IsSeated, IsClientImage, seating}
 use Rattle.iot_laptop.specs.declared.seated.Seated.{Seated}
 
-one_list : (one other : List (List ℕ)) → Encodes one ≡ Encodes other → one ≡ other
-one_list one other e = cc
-
 -- images that decode as one does which is what the client keeps are that too
 same_images : (images : List ℕ → Type 0) (bytes : List ℕ) (count : ℕ) (m : ClientState) → EachDecodes images (decoded bytes)
     → IsClientImage bytes count m → EachIs images (λ image. IsClientImage image count m)
@@ -59,16 +56,15 @@ module _ {D : Type 0} (medium : Medium D) where
         → medium.faults (disk_of it) ≡ medium.faults disk → medium.arms (disk_of it) ≡ medium.arms disk
         → Comes (seating medium place) medium disk (record { client = it })
     seat_comes place it only read tied place_is decodes steady arms = record {
-      from = λ count m is. record {
-        place_is = place_is;
-        tied = tied;
-        counted =
-            tied.synced.journal.count
-            ∙ ap (λ (bodies : List (List ℕ)). length bodies)
-            (one_list (bodies_on medium it) is.stands.bodies (sym read ∙ is.stands.read))
-            ∙ is.counted;
-        kept = subst (λ (state : State). StateKept state m) (sym (only is.state is.stands)) is.kept;
-      };
+      from = λ count m is.
+          let encoded : Encodes (bodies_on medium it) ≡ Encodes is.stands.bodies = sym read ∙ is.stands.read in
+          let same : length (bodies_on medium it) ≡ length is.stands.bodies = cc in
+          record {
+            place_is = place_is;
+            tied = tied;
+            counted = tied.synced.journal.count ∙ same ∙ is.counted;
+            kept = subst (λ (state : State). StateKept state m) (sym (only is.state is.stands)) is.kept;
+          };
       images = λ count m is. same_images (medium.may_leave (disk_of it)) (medium.reads disk) count m decodes is;
       counts = same_counts medium disk (disk_of it) steady arms;
     }

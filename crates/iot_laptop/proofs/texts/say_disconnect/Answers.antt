@@ -4,9 +4,7 @@ use Rattle.iot_laptop.proofs.texts.say_disconnect.Goals as goal
 
 -- three texts, one after another
 in_turn : (a b c d one two three : List ℕ) → b ≡ a ++ one → c ≡ b ++ two → d ≡ c ++ three → d ≡ a ++ (one ++ (two ++ three))
-in_turn a b c d one two three first second third =
-    third ∙ ap (λ (text : List ℕ). text ++ three) (second ∙ ap (λ (text : List ℕ). text ++ two) first)
-    ∙ append_assoc (a ++ one) two three ∙ append_assoc a one (two ++ three)
+in_turn a b c d one two three first second third = rw (third, second, first) (simp append_assoc)
 
 pub returns : goal.returns
 returns c =

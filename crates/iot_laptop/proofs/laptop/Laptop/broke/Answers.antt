@@ -1,4 +1,4 @@
-use Rattle.iot_laptop.proofs.EventsLaws.{stands_over, is_broken}
+use Rattle.iot_laptop.proofs.RestartLaws.{stands_over, is_broken}
 use Rattle.iot_laptop.proofs.laptop.Laptop.broke.Goals as goal
 
 pub second-requires : goal.second-requires

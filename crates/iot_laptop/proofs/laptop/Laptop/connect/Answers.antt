@@ -2,7 +2,7 @@ use Rattle.std.proofs.Common.{true}
 use Rattle.std.proofs.lemmas.Result.{IfOk-weaker}
 use Rattle.iot_link.specs.Links.{connected}
 use Rattle.iot_machine.specs.Texts.{connect_line}
-use Rattle.iot_laptop.proofs.EventsLaws.{relinks}
+use Rattle.iot_laptop.proofs.RestartLaws.{relinks}
 use Rattle.iot_laptop.proofs.laptop.Laptop.connect.Goals as goal
 
 pub returns-clause-step : goal.returns-clause-step

@@ -1,12 +1,12 @@
 use Rattle.iot_machine.specs.Events.{no_text}
-use Rattle.iot_laptop.proofs.EventsLaws.{if_two, crashes}
+use Rattle.iot_laptop.proofs.RestartLaws.{if_two, crashes}
 use Rattle.iot_laptop.proofs.laptop.Laptop.crash.Goals as goal
 
 pub returns-clause-step : goal.returns-clause-step
 returns-clause-step g c =
     if_two c.crash.result c.crash.ensures.step c.crash.ensures.down (λ _ step off.
-    crashes g.D.Disk.medium c.args.self.now c.crash.new.self c.as_bytes.result.now c.args.out.now c.crash.new.out c.as_bytes.ensures.value
-    (step c.args.self.now.place no_text) off)
+    crashes g.D.Disk.medium c.args.self.now c.crash.new.self c.args.out.now c.crash.new.out
+    (rw c.as_bytes.ensures.value at (step c.args.self.now.place no_text)) off)
 
 pub returns-clause-disk : goal.returns-clause-disk
 returns-clause-disk g c = c.crash.ensures.disk c.args.self.now.place

@@ -5,7 +5,11 @@ use Rattle.iot_laptop.proofs.laptop.Laptop.discard.Goals as goal
 
 pub returns-clause-does : goal.returns-clause-does
 returns-clause-does g c =
-    let call = called c.args.self.now c.in-Up.seated.client c.discard-answer.new.self c.goes_on.ensures.goes
-    c.in-Up.is c.records-count.ensures c.discard-answer.ensures.tied c.discard-answer.ensures.counts c.discard-answer.ensures.arms in
+    let call = called c.in-Up.is c.goes_on.ensures.goes c.records-count.ensures c.discard-answer.ensures.tied
+    c.discard-answer.ensures.counts c.discard-answer.ensures.arms in
     rw (sym (as_is c.goes_on.result))
-    (leaves call c.discard-answer.ensures.notes c.discard-answer.ensures.live c.discard-answer.ensures.stopped)
+    (leaves call (record {
+      notes = c.discard-answer.ensures.notes;
+      lives = c.discard-answer.ensures.live;
+      stops = c.discard-answer.ensures.stopped;
+    }))

@@ -1,5 +1,5 @@
 use Rattle.std.proofs.lemmas.Result.{IfOk-weaker}
-use Rattle.iot_laptop.proofs.EventsLaws.{disconnects}
+use Rattle.iot_laptop.proofs.RestartLaws.{disconnects}
 use Rattle.iot_laptop.proofs.laptop.Laptop.disconnect.Goals as goal
 
 pub returns-clause-step : goal.returns-clause-step

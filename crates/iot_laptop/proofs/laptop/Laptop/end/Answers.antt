@@ -5,20 +5,22 @@ use Rattle.iot_client.specs.Ties.{state_of, live_of}
 use Rattle.iot_laptop.specs.Laptops.{state_in, waits_of}
 use Rattle.iot_laptop.specs.declared.laptop.Laptop.{Laptop}
 use Rattle.iot_laptop.proofs.CallsLaws.{called}
-use Rattle.iot_laptop.proofs.TransactionsLaws.{ends, is_gone, is_done, waits_now}
+use Rattle.iot_laptop.proofs.CallsLaws.{ends, is_gone, is_done, waits_now}
 use Rattle.iot_laptop.proofs.laptop.Laptop.end.Goals as goal
 
 pub returns-in-Ok-clause-does : goal.returns-in-Ok-clause-does
 returns-in-Ok-clause-does g c =
-    let call = called c.args.self.now c.in-Up.seated.client c.end-answer.new.self c.goes_on.ensures.goes
-    c.in-Up.is c.records-count.ensures c.end-answer.ensures.tied c.end-answer.ensures.counts c.end-answer.ensures.arms in
-    ends call c.requires.over c.end-answer.ensures.notes c.end-answer.ensures.live c.end-answer.ensures.stopped _ c.in-Ok.is
+    let call = called c.in-Up.is c.goes_on.ensures.goes c.records-count.ensures c.end-answer.ensures.tied
+    c.end-answer.ensures.counts c.end-answer.ensures.arms in
+    rw c.in-Ok.is at (ends call c.requires.over
+    (record { notes = c.end-answer.ensures.notes; lives = c.end-answer.ensures.live; stops = c.end-answer.ensures.stopped }))
 
 pub returns-in-Err-clause-does : goal.returns-in-Err-clause-does
 returns-in-Err-clause-does g c =
-    let call = called c.args.self.now c.in-Up.seated.client c.end-answer.new.self c.goes_on.ensures.goes
-    c.in-Up.is c.records-count.ensures c.end-answer.ensures.tied c.end-answer.ensures.counts c.end-answer.ensures.arms in
-    ends call c.requires.over c.end-answer.ensures.notes c.end-answer.ensures.live c.end-answer.ensures.stopped _ c.in-Err.is
+    let call = called c.in-Up.is c.goes_on.ensures.goes c.records-count.ensures c.end-answer.ensures.tied
+    c.end-answer.ensures.counts c.end-answer.ensures.arms in
+    rw c.in-Err.is at (ends call c.requires.over
+    (record { notes = c.end-answer.ensures.notes; lives = c.end-answer.ensures.live; stops = c.end-answer.ensures.stopped }))
 
 pub returns-in-Ok-clause-gone : goal.returns-in-Ok-clause-gone
 returns-in-Ok-clause-gone g c =

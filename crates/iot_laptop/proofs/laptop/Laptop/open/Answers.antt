@@ -1,5 +1,5 @@
 use Rattle.iot_machine.specs.Events.{no_text}
-use Rattle.iot_laptop.proofs.EventsLaws.{if_two, opens, opens_ready, opens_standing, live_fresh}
+use Rattle.iot_laptop.proofs.RestartLaws.{if_two, opens, opens_ready, opens_standing, live_fresh}
 use Rattle.iot_laptop.proofs.laptop.Laptop.open.Goals as goal
 
 pub open-requires-clause-ready : goal.open-requires-clause-ready
@@ -11,5 +11,5 @@ open-requires-clause-stands g c = opens_standing g.D.Disk.medium c.args.self.now
 pub returns-clause-step : goal.returns-clause-step
 returns-clause-step g c =
     if_two c.open.result c.open.ensures.step c.open.ensures.live (λ on step live scripts.
-    opens g.D.Disk.medium c.args.self.now c.requires c.open.new.self c.as_bytes.result.now c.args.out.now c.open.new.out on
-    c.as_bytes.ensures.value (step no_text) (live_fresh c.open.new.self on live) scripts)
+    opens g.D.Disk.medium c.args.self.now c.requires c.open.new.self c.args.out.now c.open.new.out on
+    (rw c.as_bytes.ensures.value at (step no_text)) (live_fresh c.open.new.self on live) scripts)

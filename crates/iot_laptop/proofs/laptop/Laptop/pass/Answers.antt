@@ -1,4 +1,4 @@
-use Rattle.iot_laptop.proofs.EventsLaws.{not_through, stands_over, is_over}
+use Rattle.iot_laptop.proofs.RestartLaws.{not_through, stands_over, is_over}
 use Rattle.iot_laptop.proofs.laptop.Laptop.pass.Goals as goal
 
 pub second-requires : goal.second-requires

@@ -5,7 +5,11 @@ use Rattle.iot_laptop.proofs.laptop.Laptop.repair.Goals as goal
 
 pub returns-clause-does : goal.returns-clause-does
 returns-clause-does g c =
-    let call = called c.args.self.now c.in-Up.seated.client c.repair-answer.new.self c.goes_on.ensures.goes
-    c.in-Up.is c.records-count.ensures c.repair-answer.ensures.tied c.repair-answer.ensures.counts c.repair-answer.ensures.arms in
+    let call = called c.in-Up.is c.goes_on.ensures.goes c.records-count.ensures c.repair-answer.ensures.tied
+    c.repair-answer.ensures.counts c.repair-answer.ensures.arms in
     rw (sym (as_is c.goes_on.result))
-    (repairs call c.args.script.now c.repair-answer.ensures.notes c.repair-answer.ensures.live c.repair-answer.ensures.stopped)
+    (repairs call c.args.script.now (record {
+      notes = c.repair-answer.ensures.notes;
+      lives = c.repair-answer.ensures.live;
+      stops = c.repair-answer.ensures.stopped;
+    }))

@@ -1,13 +1,10 @@
-use Rattle.std.proofs.Common.{◌≡◌, sym, subst}
-use Rattle.iot_kept.specs.Changes.{HeadIs}
+use Rattle.std.proofs.Common.{◌≡◌, sym}
 use Rattle.iot_queue.specs.declared.items.Item.{Item}
 use Rattle.iot_queue.specs.declared.items.Stage.TheVariants.{Conflict}
 use Rattle.iot_client.specs.Ties.{state_of}
-use Rattle.iot_node.specs.declared.post.Post.{Post}
-use Rattle.iot_laptop.specs.Laptops.{state_by}
 use Rattle.iot_laptop.proofs.CallsLaws.{called, as_is}
 use Rattle.iot_laptop.proofs.RepliesLaws.{none_bad, whole_read}
-use Rattle.iot_laptop.proofs.TransactionsLaws.{resolves}
+use Rattle.iot_laptop.proofs.CallsLaws.{resolves}
 use Rattle.iot_laptop.proofs.laptop.Laptop.resolve.Goals as goal
 
 pub goes_on-requires-clause-fault : goal.goes_on-requires-clause-fault
@@ -15,14 +12,13 @@ goes_on-requires-clause-fault g c =
     let brings = c.requires.brings in
     none_bad c.in-Up.seated.client c.resolve-answer.new.self _ brings.tree
     (whole_read c.args.reply.now brings.tree c.resolve-answer.ensures.only brings.is (c.requires.whole brings.tree brings.is))
-    (λ (item : Item). item.stage ≡ Conflict) (state_of c.in-Up.seated.client).items
-    (subst (λ (p : Post _ _). HeadIs (λ (item : Item). item.stage ≡ Conflict) (state_by p).items) c.in-Up.is c.requires.conflict)
+    (λ (item : Item). item.stage ≡ Conflict) (state_of c.in-Up.seated.client).items (rw c.in-Up.is at c.requires.conflict)
     c.resolve-answer.result c.resolve-answer.ensures.refuses
 
 pub returns-clause-does : goal.returns-clause-does
 returns-clause-does g c =
-    let call = called c.args.self.now c.in-Up.seated.client c.resolve-answer.new.self c.goes_on.ensures.goes
-    c.in-Up.is c.records-count.ensures c.resolve-answer.ensures.tied c.resolve-answer.ensures.counts c.resolve-answer.ensures.arms in
+    let call = called c.in-Up.is c.goes_on.ensures.goes c.records-count.ensures c.resolve-answer.ensures.tied
+    c.resolve-answer.ensures.counts c.resolve-answer.ensures.arms in
     rw (sym (as_is c.goes_on.result))
     (resolves call c.args.reply.now c.args.script.value c.requires.script c.resolve-answer.ensures.only c.resolve-answer.ensures.resolves
     c.resolve-answer.ensures.live c.resolve-answer.ensures.stopped)

@@ -1,8 +1,24 @@
-use Rattle.std.proofs.Common.{sym, ◌∙◌}
+use Rattle.std.proofs.Common.{◌≡◌, Bool, sym, subst, ◌∙◌}
 use Rattle.std.proofs.lemmas.Result.{IfOk-weaker}
 use Rattle.iot_machine.specs.Events.{no_text}
-use Rattle.iot_laptop.proofs.RestartLaws.{says_up, is_standing, stops_if, came_again_if, returned_if, comes_if, came_if, keeps_then}
+use Rattle.iot_laptop.proofs.RestartLaws.{CameBack}
+use Rattle.iot_laptop.proofs.RestartLaws.{says_up, is_standing, stops_again, came_again, is_back, comes_back, came_back, keeps_then}
+use Rattle.iot_laptop.proofs.laptop.Laptop.restart.Given.{Over}
+use Rattle.iot_laptop.proofs.laptop.Laptop.restart.Goals.{In_ok-come_back}
 use Rattle.iot_laptop.proofs.laptop.Laptop.restart.Goals as goal
+
+-- how its node came back, or did not
+back : (g : Over) (c : In_ok-come_back g) (on : Bool) → c.in_ok-come_back.field-0 ≡ on
+    → CameBack g.D.Disk.medium c.args.self.now c.come_back.new.self c.args.out.now c.come_back.new.out on
+back g c on is =
+    let called = c.as_bytes.ensures.value in
+    subst (CameBack g.D.Disk.medium c.args.self.now c.come_back.new.self c.args.out.now c.come_back.new.out) is (record {
+      off = sym c.is_alive.ensures ∙ c.if-is_alive.false;
+      steps = rw called at (c.in_ok-come_back.ensures.step no_text);
+      is = c.in_ok-come_back.ensures.on;
+      live = c.in_ok-come_back.ensures.live;
+      came = rw called at (c.in_ok-come_back.ensures.came no_text);
+    })
 
 pub returns-then-is_alive-clause-step : goal.returns-then-is_alive-clause-step
 returns-then-is_alive-clause-step g c =
@@ -13,45 +29,26 @@ come_back-requires-clause-stands g c = is_standing g.D.Disk.medium c.args.self.n
 
 pub returns-then-not-branch-clause-step : goal.returns-then-not-branch-clause-step
 returns-then-not-branch-clause-step g c =
-    stops_if g.D.Disk.medium c.args.self.now c.come_back.new.self c.as_bytes.result.now c.args.out.now c.come_back.new.out
-    c.as_bytes.ensures.value (sym c.is_alive.ensures ∙ c.if-is_alive.false) c.in_ok-come_back.field-0
-    (c.in_ok-come_back.ensures.step no_text) c.in_ok-come_back.ensures.on c.in_ok-come_back.ensures.live
-    c.if-not-branch.true
+    let on = back g (goal.at.returns-then-not-branch-clause-step g c).In_ok-come_back _ c.if-not-branch.true in
+    stops_again _ _ _ _ _ on
 
 pub returns-then-not-branch-clause-came : goal.returns-then-not-branch-clause-came
 returns-then-not-branch-clause-came g c = λ down.
-    came_again_if g.D.Disk.medium c.args.self.now c.come_back.new.self c.as_bytes.result.now c.args.out.now c.come_back.new.out
-    c.as_bytes.ensures.value (sym c.is_alive.ensures ∙ c.if-is_alive.false) c.in_ok-come_back.field-0
-    (c.in_ok-come_back.ensures.step no_text) c.in_ok-come_back.ensures.on c.in_ok-come_back.ensures.live
-    c.if-not-branch.true
+    let on = back g (goal.at.returns-then-not-branch-clause-came g c).In_ok-come_back _ c.if-not-branch.true in
+    came_again _ _ _ _ _ on
 
 pub cut_off-requires : goal.cut_off-requires
-cut_off-requires g c =
-    returned_if g.D.Disk.medium c.args.self.now c.come_back.new.self c.as_bytes.result.now c.args.out.now c.come_back.new.out
-    c.as_bytes.ensures.value (sym c.is_alive.ensures ∙ c.if-is_alive.false) c.in_ok-come_back.field-0
-    (c.in_ok-come_back.ensures.step no_text) c.in_ok-come_back.ensures.on c.in_ok-come_back.ensures.live
-    c.if-not-branch.false c.requires
+cut_off-requires g c = is_back _ _ _ _ _ (back g (goal.at.cut_off-requires g c).In_ok-come_back _ c.if-not-branch.false) c.requires
 
 pub returns-clause-step : goal.returns-clause-step
 returns-clause-step g c =
-    IfOk-weaker c.cut_off.result _ _
-    (λ _.
-    comes_if g.D.Disk.medium c.args.self.now c.come_back.new.self c.as_bytes.result.now c.args.out.now c.come_back.new.out
-    c.as_bytes.ensures.value (sym c.is_alive.ensures ∙ c.if-is_alive.false) c.in_ok-come_back.field-0
-    (c.in_ok-come_back.ensures.step no_text) c.in_ok-come_back.ensures.on c.in_ok-come_back.ensures.live
-    c.if-not-branch.false c.cut_off.new.self c.cut_off.new.out)
-    c.cut_off.ensures.cuts
+    let on = back g (goal.at.returns-clause-step g c).In_ok-come_back _ c.if-not-branch.false in
+    IfOk-weaker c.cut_off.result _ _ (λ _. comes_back _ _ _ _ _ on c.cut_off.new.self c.cut_off.new.out) c.cut_off.ensures.cuts
 
 pub returns-clause-came : goal.returns-clause-came
 returns-clause-came g c = λ down.
-    IfOk-weaker c.cut_off.result _ _
-    (λ _ cuts.
-    came_if g.D.Disk.medium c.args.self.now c.come_back.new.self c.as_bytes.result.now c.args.out.now c.come_back.new.out
-    c.as_bytes.ensures.value (sym c.is_alive.ensures ∙ c.if-is_alive.false) c.in_ok-come_back.field-0
-    (c.in_ok-come_back.ensures.step no_text) c.in_ok-come_back.ensures.on c.in_ok-come_back.ensures.live
-    c.if-not-branch.false c.cut_off.new.self c.cut_off.new.out cuts
-    (c.in_ok-come_back.ensures.came no_text))
-    c.cut_off.ensures.cuts
+    let on = back g (goal.at.returns-clause-came g c).In_ok-come_back _ c.if-not-branch.false in
+    IfOk-weaker c.cut_off.result _ _ (λ _. came_back _ _ _ _ _ on c.cut_off.new.self c.cut_off.new.out) c.cut_off.ensures.cuts
 
 pub returns-clause-disk : goal.returns-clause-disk
 returns-clause-disk g c = keeps_then g.D.Disk.medium _ _ _ c.come_back.ensures.disk c.cut_off.ensures.disk

@@ -1,4 +1,4 @@
-use Rattle.iot_laptop.proofs.EventsLaws.{is_second}
+use Rattle.iot_laptop.proofs.RestartLaws.{is_second}
 use Rattle.iot_laptop.proofs.laptop.Laptop.second.Goals as goal
 
 pub returns : goal.returns

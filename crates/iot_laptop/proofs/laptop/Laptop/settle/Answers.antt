@@ -1,19 +1,17 @@
 use Rattle.iot_laptop.proofs.CallsLaws.{called}
-use Rattle.iot_laptop.proofs.TransactionsLaws.{settles}
+use Rattle.iot_laptop.proofs.CallsLaws.{settles}
 use Rattle.iot_laptop.proofs.laptop.Laptop.settle.Goals as goal
 
 pub returns-in-Ok-clause-does : goal.returns-in-Ok-clause-does
 returns-in-Ok-clause-does g c =
-    let call = called c.args.self.now c.in-Up.seated.client c.take_verdict-answer.new.self c.goes_on.ensures.goes
-    c.in-Up.is c.records-count.ensures c.take_verdict-answer.ensures.tied c.take_verdict-answer.ensures.counts
-    c.take_verdict-answer.ensures.arms in
-    settles call (λ noted. noted) c.args.reply.now c.take_verdict-answer.ensures.only c.take_verdict-answer.ensures.noted
-    c.take_verdict-answer.ensures.notes c.take_verdict-answer.ensures.live c.take_verdict-answer.ensures.stopped _ c.in-Ok.is
+    let call = called c.in-Up.is c.goes_on.ensures.goes c.records-count.ensures c.take_verdict-answer.ensures.tied
+    c.take_verdict-answer.ensures.counts c.take_verdict-answer.ensures.arms in
+    rw c.in-Ok.is at (settles call (λ noted. noted) c.args.reply.now c.take_verdict-answer.ensures.only c.take_verdict-answer.ensures.noted
+    c.take_verdict-answer.ensures.notes c.take_verdict-answer.ensures.live c.take_verdict-answer.ensures.stopped)
 
 pub returns-in-Err-clause-does : goal.returns-in-Err-clause-does
 returns-in-Err-clause-does g c =
-    let call = called c.args.self.now c.in-Up.seated.client c.take_verdict-answer.new.self c.goes_on.ensures.goes
-    c.in-Up.is c.records-count.ensures c.take_verdict-answer.ensures.tied c.take_verdict-answer.ensures.counts
-    c.take_verdict-answer.ensures.arms in
-    settles call (λ noted. noted) c.args.reply.now c.take_verdict-answer.ensures.only c.take_verdict-answer.ensures.noted
-    c.take_verdict-answer.ensures.notes c.take_verdict-answer.ensures.live c.take_verdict-answer.ensures.stopped _ c.in-Err.is
+    let call = called c.in-Up.is c.goes_on.ensures.goes c.records-count.ensures c.take_verdict-answer.ensures.tied
+    c.take_verdict-answer.ensures.counts c.take_verdict-answer.ensures.arms in
+    rw c.in-Err.is at (settles call (λ noted. noted) c.args.reply.now c.take_verdict-answer.ensures.only c.take_verdict-answer.ensures.noted
+    c.take_verdict-answer.ensures.notes c.take_verdict-answer.ensures.live c.take_verdict-answer.ensures.stopped)

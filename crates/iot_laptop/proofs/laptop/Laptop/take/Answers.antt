@@ -1,13 +1,15 @@
-use Rattle.std.proofs.Common.{sym}
+use Rattle.std.proofs.Common.{sym, None}
+use Rattle.iot_changes.specs.declared.changes.Change.TheVariants.{Held}
+use Rattle.iot_machine.specs.Clients.{hold}
 use Rattle.iot_laptop.proofs.CallsLaws.{called, as_is}
-use Rattle.iot_laptop.proofs.CallsLaws.{holds}
+use Rattle.iot_laptop.proofs.CallsLaws.{brings}
+use Rattle.iot_laptop.proofs.KeptStatesLaws.{held_live}
 use Rattle.iot_laptop.proofs.laptop.Laptop.take.Goals as goal
 
 pub returns-clause-does : goal.returns-clause-does
 returns-clause-does g c =
-    let call = called c.args.self.now c.in-Up.seated.client c.take_objects-answer.new.self c.goes_on.ensures.goes
-    c.in-Up.is c.records-count.ensures c.take_objects-answer.ensures.tied c.take_objects-answer.ensures.counts
-    c.take_objects-answer.ensures.arms in
+    let call = called c.in-Up.is c.goes_on.ensures.goes c.records-count.ensures c.take_objects-answer.ensures.tied
+    c.take_objects-answer.ensures.counts c.take_objects-answer.ensures.arms in
     rw (sym (as_is c.goes_on.result))
-    (holds call c.args.reply.now c.take_objects-answer.ensures.only c.take_objects-answer.ensures.brings c.take_objects-answer.ensures.live
-    c.take_objects-answer.ensures.stopped)
+    (brings call (λ tree. Held tree) hold None c.args.reply.now c.take_objects-answer.ensures.only c.take_objects-answer.ensures.brings
+    c.take_objects-answer.ensures.live c.take_objects-answer.ensures.stopped (λ scripts first m here. held_live here))

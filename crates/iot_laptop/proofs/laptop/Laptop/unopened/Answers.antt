@@ -1,5 +1,5 @@
 use Rattle.std.proofs.Common.{refl}
-use Rattle.iot_laptop.proofs.EventsLaws.{new_stands}
+use Rattle.iot_laptop.proofs.RestartLaws.{new_stands}
 use Rattle.iot_laptop.proofs.laptop.Laptop.unopened.Goals as goal
 
 pub returns-clause-stands : goal.returns-clause-stands
