@@ -2,7 +2,6 @@
 use Rattle.std.proofs.Common.{◌≡◌, ℕ, ◌+◌, ◌<◌, suc, List, [], ◌∷◌, length, drop, slice_index_or}
 use Rattle.std.proofs.Common.{sym, ap, subst, ◌∙◌, add-one}
 use Rattle.std.proofs.Math.Seq.{drop-cons}
-use Rattle.iot_disk.specs.Disk.{Medium}
 use Rattle.iot_event.specs.Declarations.{AreDeclared, ClientEventIsDeclared}
 use Rattle.iot_event.specs.declared.event.ClientEvent.{ClientEvent}
 use Rattle.iot_event.specs.declared.event.ClientEvent.TheVariants as client_events
@@ -10,7 +9,7 @@ use Rattle.iot_event.specs.declared.event.Event.{Event}
 use Rattle.iot_event.specs.declared.event.Event.TheVariants as events
 use Rattle.iot_event.specs.declared.event.Task.TheVariants as tasks
 use Rattle.iot_world.specs.Allowed.{IsAllowed, MayBefall}
-use Rattle.iot_world.specs.World.{DeclaredOn, Opens, client_count, script_names}
+use Rattle.iot_world.specs.World.{DeclaredOn, client_count, script_names}
 use Rattle.iot_world.specs.declared.world.World.{World}
 
 -- what a client may be asked, if it says what it may say
@@ -46,10 +45,6 @@ pub declared_new : {D : Type 0} (world : World D) → client_count world ≡ 0 �
 declared_new world no_clients no_scripts events declared =
     subst (λ (n : ℕ). AreDeclared events n (script_names world)) (sym no_clients)
     (subst (AreDeclared events 0) (sym no_scripts) declared)
-
-pub declared_opened : {D : Type 0} (medium : Medium D) (disks : List D) (x y : List ℕ) (world : World D) → Opens medium disks x y world
-    → (events : List Event) → AreDeclared events 0 [] → DeclaredOn events world
-declared_opened medium disks x y world made = declared_new world made.no_clients made.no_scripts
 
 -- what is left of a list behind so many is the next one and what is behind it
 pub next_is : {A : Type 0} (xs : List A) (done : ℕ) (x : A) → done < length xs → x ≡ slice_index_or xs done x

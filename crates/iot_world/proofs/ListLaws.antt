@@ -9,25 +9,21 @@ module _ {W M : Type 0} (stands : W → M → Type 0) where
   pub each_set : (ws : List W) (ms : List M) (c : ℕ) (w : W) (m : M) → stands w m → Each stands ws ms
       → Each stands (slice_set ws c w) (slice_set ms c m)
   each_set [] [] c w m it all = tt
-  each_set [] (m' ∷ ms) c w m it all = absurd all
-  each_set (w' ∷ ws) [] c w m it all = absurd all
   each_set (w' ∷ ws) (m' ∷ ms) zero w m it all = (it, all.1)
   each_set (w' ∷ ws) (m' ∷ ms) (suc c) w m it all = (all.0, each_set ws ms c w m it all.1)
+  each_set ws ms c w m it all = absurd all
 
   pub each_push : (ws : List W) (ms : List M) (w : W) (m : M) → stands w m → Each stands ws ms
       → Each stands (ws ++ w ∷ []) (ms ++ m ∷ [])
   each_push [] [] w m it all = (it, tt)
-  each_push [] (m' ∷ ms) w m it all = absurd all
-  each_push (w' ∷ ws) [] w m it all = absurd all
   each_push (w' ∷ ws) (m' ∷ ms) w m it all = (all.0, each_push ws ms w m it all.1)
+  each_push ws ms w m it all = absurd all
 
   pub each_length : (ws : List W) (ms : List M) → Each stands ws ms → length ws ≡ length ms
   each_length [] [] all = refl
-  each_length [] (m ∷ ms) all = absurd all
-  each_length (w ∷ ws) [] all = absurd all
   each_length (w ∷ ws) (m ∷ ms) all = ap suc (each_length ws ms all.1)
+  each_length ws ms all = absurd all
 
-module _ {W M : Type 0} (stands : W → M → Type 0) where
   -- the elements at one place go together
   pub each_get : (ws : List W) (ms : List M) (c : ℕ) (w : W) (e : M) → slice_get ws c ≡ Some w → Each stands ws ms
       → stands w (slice_index_or ms c e)
@@ -41,6 +37,17 @@ module _ {W M : Type 0} (stands : W → M → Type 0) where
   get_inside (w' ∷ ws) [] c w at all = absurd all
   get_inside (w' ∷ ws) (m ∷ ms) zero w at all = omega arith
   get_inside (w' ∷ ws) (m ∷ ms) (suc c) w at all = let e : c < length ms = get_inside ws ms c w at all.1 in omega (arith, e)
+
+-- what each element has with itself, a list has with itself, and with one in which another stands at a place
+module _ {W : Type 0} (goes : W → W → Type 0) (here : (w : W) → goes w w) where
+  pub each_same : (ws : List W) → Each goes ws ws
+  each_same [] = tt
+  each_same (w ∷ ws) = (here w, each_same ws)
+
+  pub each_put : (ws : List W) (c : ℕ) (was now : W) → slice_get ws c ≡ Some was → goes was now → Each goes ws (slice_set ws c now)
+  each_put [] c was now get it = tt
+  each_put (w ∷ ws) zero was now get it = (rw (same_Some w was get) it, each_same ws)
+  each_put (w ∷ ws) (suc c) was now get it = (here w, each_put ws c was now get it)
 
 -- what is so of each element at its place is so of the list in which one is set that is so at its place
 pub each_place_set : {A : Type 0} (P : ℕ → A → Type 0) (xs : List A) (c : ℕ) (x : A)

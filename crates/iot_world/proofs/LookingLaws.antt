@@ -1,6 +1,6 @@
 -- What one sees of the list who looks in at a world is what the machine says.
-use Rattle.std.proofs.Common.{◌≡◌, ℕ, ◌<◌, true, false, List, [], ◌∷◌, ◌++◌, length, map, Option, Some, None, Bor}
-use Rattle.std.proofs.Common.{◌+◌, take, get_or, refl, sym, ap, subst, ◌∙◌, codes}
+use Rattle.std.proofs.Common.{◌≡◌, ℕ, ◌<◌, true, List, [], ◌∷◌, ◌++◌, length, map, Option, Some, Bor}
+use Rattle.std.proofs.Common.{◌+◌, take, get_or, refl, sym, ap, subst, ◌∙◌}
 use Rattle.std.proofs.lemmas.List.{length-map, map_more}
 use Rattle.std.proofs.lemmas.List.Elements.{All-from_recursion, All-map, All-weaker}
 use Rattle.std.specs.List.{AllByRecursion}
@@ -16,8 +16,8 @@ use Rattle.iot_machine.specs.Machine as machine
 use Rattle.iot_machine.specs.Machine.{Machine, Commit}
 use Rattle.iot_machine.specs.Recorded.{label_of, labels_of}
 use Rattle.iot_machine.specs.Sound.{IsListed}
-use Rattle.iot_machine.specs.Texts.{line, log_text}
-use Rattle.iot_node.proofs.StepsLaws.{bind, asks, says, says_this}
+use Rattle.iot_machine.specs.Texts.{log_text}
+use Rattle.iot_node.proofs.StepsLaws.{bind, asks, says}
 use Rattle.iot_server_node.specs.Servers.{IsServerOf}
 use Rattle.iot_laptop.specs.Laptops.{ClientStands}
 use Rattle.iot_laptop.specs.declared.laptop.Laptop.{Laptop}
@@ -61,12 +61,6 @@ module _ {D : Type 0} (medium : Medium D) where
       → (m : Machine) → StandsFor medium world m → IsServerOf it.now m.server m.requests
   lent_up world o it lent is m here = subst (λ (o : Option (Server D)). LendsServer o m) (ap option_copied is) (lent m here)
 
-  -- if none is lent it is down
-  pub lent_down : (world : World D) (o : Option (Bor (Server D)))
-      → ((m : Machine) → StandsFor medium world m → LendsServer (option_copied o) m) → o ≡ None
-      → (m : Machine) → StandsFor medium world m → m.server.alive ≡ false
-  lent_down world o lent is m here = subst (λ (o : Option (Server D)). LendsServer o m) (ap option_copied is) (lent m here)
-
   -- ---- the list
 
   listed_by : (m : Machine) (commits : List Commit) → AllByRecursion (IsListed m) commits → AreOf (names_in m) (labels_of commits)
@@ -98,9 +92,3 @@ module _ {D : Type 0} (medium : Medium D) where
         wrote
         ∙ ap (λ (ns : List (List ℕ)). x ++ log_text ns labels) (same ∙ names_are world m here)
         ∙ ap (λ (ls : List Label). x ++ log_text (names_in m) ls) (are ∙ (lent m here).labels)))
-
-    pub logs_down : ((m : Machine) → StandsFor medium world m → m.server.alive ≡ false) → y ≡ x ++ line (codes "down")
-        → Steps medium Logs world world x y tt
-    logs_down down wrote =
-        bind world world world x x y false tt (asks world x false (λ m here. sym (down m here)))
-        (says_this (line (codes "down")) world x y wrote)

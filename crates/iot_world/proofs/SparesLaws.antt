@@ -1,5 +1,5 @@
 -- How many of a world's disks are spare, and where they are.
-use Rattle.std.proofs.Common.{◌≡◌, ℕ, ◌+◌, List, [], ◌∷◌, ◌++◌, length, map, Option, Some, None, refl, ap, ◌∙◌, arith}
+use Rattle.std.proofs.Common.{◌≡◌, ◌+◌, List, [], ◌∷◌, ◌++◌, length, map, Option, Some, None, refl, ap, ◌∙◌, arith}
 use Rattle.std.proofs.lemmas.List.{length-append, length-map}
 use Rattle.iot_disk.specs.Disk.{Medium}
 use Rattle.iot_machine.specs.Machine.{Machine, Client}

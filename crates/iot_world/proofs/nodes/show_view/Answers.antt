@@ -1,5 +1,6 @@
 use Rattle.std.proofs.Common.{sym, ◌∙◌}
 use Rattle.iot_laptop.proofs.NodesLaws.{some_awake}
+use Rattle.iot_world.proofs.EventsLaws.{then_ok}
 use Rattle.iot_world.proofs.ShowingLaws.{shows, shows_down}
 use Rattle.iot_world.proofs.nodes.show_view.Goals as goal
 
@@ -13,5 +14,5 @@ returns-then-is_alive g c =
 
 pub returns : goal.returns
 returns g c =
-    shows_down g.D.Disk.medium c.args.laptop.now c.args.out.now c.say.new.out (sym c.is_alive.ensures ∙ c.if-is_alive.false)
-    c.in_ok-say.ensures
+    then_ok _ c.say.ensures
+    (shows_down g.D.Disk.medium c.args.laptop.now c.args.out.now c.say.new.out (sym c.is_alive.ensures ∙ c.if-is_alive.false))

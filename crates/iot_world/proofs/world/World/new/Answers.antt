@@ -1,5 +1,4 @@
 use Rattle.std.proofs.Common.{[], refl}
-use Rattle.iot_world.proofs.AllowedLaws.{declared_opened}
 use Rattle.iot_world.proofs.DisksLaws.{now_has}
 use Rattle.iot_world.proofs.OpeningLaws.{opens, opens_unarmed, gives_back}
 use Rattle.iot_world.proofs.world.World.new.Goals as goal
@@ -14,12 +13,6 @@ pub returns-in-Ok-clause-stands : goal.returns-in-Ok-clause-stands
 returns-in-Ok-clause-stands g c =
     let made = returns-in-Ok-clause-opens g c in
     record { machine = made.machine; stands = made.stands }
-
-pub returns-in-Ok-clause-has : goal.returns-in-Ok-clause-has
-returns-in-Ok-clause-has g c = (returns-in-Ok-clause-opens g c).has
-
-pub returns-in-Ok-clause-declared : goal.returns-in-Ok-clause-declared
-returns-in-Ok-clause-declared g c = declared_opened _ _ _ _ _ (returns-in-Ok-clause-opens g c)
 
 pub returns-in-Ok-clause-arms : goal.returns-in-Ok-clause-arms
 returns-in-Ok-clause-arms g c =

@@ -1,11 +1,7 @@
 use Rattle.std.proofs.Common.{length, ◌≤◌, subst}
-use Rattle.iot_world.proofs.ToldLaws.{tells_none, stands_at, tells_more, tells_all}
+use Rattle.iot_world.proofs.ToldLaws.{stands_at, tells_more, tells_all}
 use Rattle.iot_world.proofs.LendingLaws.{looked_up}
 use Rattle.iot_world.proofs.world.World.told.Goals as goal
-
-pub loop-laptop-init : goal.loop-laptop-init
-loop-laptop-init g c =
-    tells_none _ c.args.self.now c.new-json.result c.new-json.ensures.clients c.new-json.ensures.names
 
 pub tell-requires : goal.tell-requires
 tell-requires g c =
