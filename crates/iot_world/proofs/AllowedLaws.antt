@@ -14,20 +14,11 @@ use Rattle.iot_world.specs.declared.world.World.{World}
 
 -- what a client may be asked, if it says what it may say
 may_befall : (what : ClientEvent ℕ) (scripts : ℕ) → ClientEventIsDeclared what scripts → MayBefall what scripts
-may_befall (client_events.Node what) scripts declared = tt
-may_befall (client_events.Link what) scripts declared = tt
 may_befall (client_events.Task (tasks.Run script option)) scripts declared = declared
-may_befall (client_events.Task (tasks.Hoard path)) scripts declared = tt
-may_befall (client_events.Task tasks.Refresh) scripts declared = tt
 may_befall (client_events.Task (tasks.Begin script option)) scripts declared = declared
-may_befall (client_events.Task (tasks.Step count)) scripts declared = tt
-may_befall (client_events.Task tasks.End) scripts declared = tt
-may_befall (client_events.Task tasks.Sync) scripts declared = tt
-may_befall (client_events.Task tasks.Drain) scripts declared = tt
 may_befall (client_events.Task (tasks.Repair script)) scripts declared = declared
-may_befall (client_events.Task tasks.Discard) scripts declared = tt
-may_befall (client_events.Task tasks.Queue) scripts declared = tt
 may_befall (client_events.Task (tasks.Reads item)) scripts declared = declared.0
+may_befall what scripts declared = tt
 
 -- the first of events that are declared may come
 allowed_first : {D : Type 0} (event : Event) (later : List Event) (world : World D) → DeclaredOn (event ∷ later) world
@@ -36,8 +27,7 @@ allowed_first (events.Client name) later world declared = declared.0
 allowed_first (events.Script name code) later world declared = declared.1
 allowed_first (events.At client what) later world declared =
     (declared.0, may_befall what (length (script_names world)) declared.1)
-allowed_first (events.Server what) later world declared = tt
-allowed_first events.Log later world declared = tt
+allowed_first event later world declared = tt
 
 -- events that are declared after nothing are declared in a world that has nothing
 pub declared_new : {D : Type 0} (world : World D) → client_count world ≡ 0 → script_names world ≡ []

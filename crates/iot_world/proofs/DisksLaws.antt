@@ -106,8 +106,8 @@ module _ {D : Type 0} (medium : Medium D) where
   clients_follow ls os xs ys each all = absurd each
 
   -- so it is of a world with these
-  pub arms_with : {joins : ℕ} (old : World D) (server : ServerNode D) (clients : Vec (Laptop D) Global) (scripts : Vec DeclaredScript Global)
-      → Follows (disk_of old.server) (disk_of server) → Each ClientFollows old.clients.items clients.items
+  pub arms_with : {joins : ℕ} (old : World D) (server : ServerNode D) (clients : Vec (Laptop D) Global)
+      (scripts : Vec DeclaredScript Global) → Follows (disk_of old.server) (disk_of server) → Each ClientFollows old.clients.items clients.items
       → KeepsCommits medium old.server server
       → SameArms medium joins old (record old { server = server; clients = clients; scripts = scripts })
   arms_with old server clients scripts follows each commits = record {
@@ -120,7 +120,8 @@ module _ {D : Type 0} (medium : Medium D) where
   pub arms_same : {joins : ℕ} (old : World D) (clients : Vec (Laptop D) Global) (scripts : Vec DeclaredScript Global)
       → clients.items ≡ old.clients.items → SameArms medium joins old (record old { clients = clients; scripts = scripts })
   arms_same old clients scripts same =
-      arms_with old old.server clients scripts (here_follows (disk_of old.server)) (rw same (same_clients old.clients.items)) (commits_same medium _ _ refl)
+      arms_with old old.server clients scripts (here_follows (disk_of old.server)) (rw same (same_clients old.clients.items))
+      (commits_same medium _ _ refl)
 
   -- only the server has changed; or it has armed its disk, unless there was a fault
   module _ (old : World D) (server : ServerNode D) where
@@ -140,14 +141,11 @@ module _ {D : Type 0} (medium : Medium D) where
   pub now_has : (old new : Option D) → KeepsDisk medium old new → IsSome new
   now_has old new keeps = ap is_some keeps.new_has
 
-  pub has_kept : (old new : Option D) → KeepsDisk medium old new → IsSome old → IsSome new
-  has_kept old new keeps has = ap is_some keeps.new_has
-
   pub node_has : {T E : Type 0} (arms : Bool) (r : Result T E) (old new : Laptop D) → KeepsNode medium arms r old new → LaptopHasDisk old
       → LaptopHasDisk new
-  node_has false r old new keeps = has_kept (disk_in old) (disk_in new) keeps
+  node_has false r old new keeps = λ had. now_has (disk_in old) (disk_in new) keeps
   node_has true (Ok done) old new keeps = keeps
-  node_has true (Err fault) old new keeps = has_kept (disk_in old) (disk_in new) keeps
+  node_has true (Err fault) old new keeps = λ had. now_has (disk_in old) (disk_in new) keeps
 
   pub node_arms : {T E : Type 0} (arms : Bool) (r : Result T E) (was laptop : Laptop D) (P : Type 0) → KeepsNode medium arms r was laptop
       → (Follows (disk_in was) (disk_in laptop) → P) → UnlessArmed arms r P

@@ -1,7 +1,6 @@
 -- An event of a world is one of the machine's, and what was declared before it still is.
-use Rattle.std.proofs.Common.{◌≡◌, ℕ, ◌<◌, List, [], ◌++◌, length, Some, Result, Ok, Err, OnOk, slice_get, get_or}
-use Rattle.std.proofs.Common.{refl, sym, ap, ◌∙◌}
-use Rattle.std.proofs.lemmas.Option.{slice_get_read}
+use Rattle.std.proofs.Common.{◌≡◌, ℕ, List, [], ◌++◌, Result, Ok, Err, OnOk}
+use Rattle.std.proofs.Common.{sym, ap, ◌∙◌}
 use Rattle.iot_disk.specs.Disk.{Medium}
 use Rattle.iot_event.specs.declared.event.ClientEvent.{ClientEvent}
 use Rattle.iot_event.specs.declared.event.Event.{Event}
@@ -18,10 +17,6 @@ use Rattle.iot_world.specs.declared.world.World.{World}
 pub then_ok : {T E P Q : Type 0} (r : Result T E) → OnOk r P → (P → Q) → OnOk r Q
 then_ok (Ok done) it then_ = then_ it
 then_ok (Err fault) it then_ = tt
-
--- what was found at a place inside is there
-pub found : {A : Type 0} (xs : List A) (c : ℕ) (x : A) → c < length xs → x ≡ get_or xs c x → slice_get xs c ≡ Some x
-found xs c x inside value = slice_get_read xs (length xs) c x refl inside value
 
 -- a step that said its text apart, if that stands behind another then
 pub behind : {W M A : Type 0} {stands : W → M → Type 0} {call : Call M A} {u v : W} {a : A} (x y said : List ℕ)

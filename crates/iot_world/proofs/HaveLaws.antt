@@ -1,11 +1,11 @@
 -- What stands for a node has its disk, and what stands at a place in a world.
-use Rattle.std.proofs.Common.{◌≡◌, ℕ, true, List, Some, slice_get, refl, ap}
+use Rattle.std.proofs.Common.{◌≡◌, ℕ, true, List, refl, ap}
 use Rattle.std.specs.Prelude.{IsSome, is_some, Result, Ok, Err, IfErr, OnOk}
 use Rattle.iot_disk.specs.Disk.{Medium}
 use Rattle.iot_machine.specs.Calls.{Call}
 use Rattle.iot_machine.specs.Clients.{Declared}
 use Rattle.iot_machine.specs.Events.{names_in}
-use Rattle.iot_machine.specs.Machine.{Client, Commit, client_in}
+use Rattle.iot_machine.specs.Machine.{Client, Commit}
 use Rattle.iot_machine.specs.Nodes.{Node}
 use Rattle.iot_machine.specs.Refining.{Refines}
 use Rattle.iot_node.specs.Disks.{KeepsDisk}
@@ -22,9 +22,8 @@ use Rattle.iot_server_node.proofs.ServersLaws.{keeps_same}
 use Rattle.iot_laptop.specs.Laptops.{ClientStands, StandsAnyhow, disk_in}
 use Rattle.iot_laptop.specs.declared.laptop.Laptop.{Laptop}
 use Rattle.iot_laptop.proofs.NodesLaws.{node_stands}
-use Rattle.iot_world.specs.World.{StandsForSome, IsInside, LaptopHasDisk, KeepsNode}
+use Rattle.iot_world.specs.World.{StandsForSome, LaptopHasDisk, KeepsNode}
 use Rattle.iot_world.specs.declared.world.World.{World}
-use Rattle.iot_world.proofs.WorldsLaws.{client_here}
 
 post_has : {K S D : Type 0} (keeping : Keeping K S D) (medium : Medium D) (says : S → S → List ℕ) (post : Post K D) (node : Node S)
     → PostStands keeping medium says post node → IsSome (disk_of keeping.disk post)
@@ -38,9 +37,6 @@ module _ {D : Type 0} (medium : Medium D) where
   client_has : (scripts : List Declared) (laptop : Laptop D) (m : Client) → ClientStands medium scripts laptop m → LaptopHasDisk laptop
   client_has scripts laptop m here = post_has _ medium _ laptop.post m.node (node_stands medium scripts laptop m here)
 
-  pub laptop_has : (laptop : Laptop D) → StandsAnyhow medium laptop → LaptopHasDisk laptop
-  laptop_has laptop some = client_has some.scripts laptop some.machine some.stands
-
   -- after a step that may have armed it the laptop has it, and if memory ran out it is as it was
   pub armed_keeps : {T E A : Type 0} (call : Call Client A) (x y : List ℕ) (a : A) (r : Result T E) (old new : Laptop D)
       → StandsAnyhow medium old → IfErr r (λ _. new ≡ old)
@@ -48,12 +44,14 @@ module _ {D : Type 0} (medium : Medium D) where
   armed_keeps call x y a (Ok done) old new some same one = λ had.
       let s = (one some.scripts).step some.machine some.stands in client_has some.scripts new s.1 s.4
   armed_keeps call x y a (Err fault) old new some same one =
-      keeps_same medium (disk_in old) (disk_in new) (laptop_has old some) (ap (λ (l : Laptop D). disk_in l) same)
+      keeps_same medium (disk_in old) (disk_in new) (client_has some.scripts old some.machine some.stands)
+      (ap (λ (l : Laptop D). disk_in l) same)
 
   -- ---- the server
 
   pub server_after : {T E A : Type 0} (call : Call (Node (List Commit)) A) (x y : List ℕ) (a : A) (r : Result T E) (world : World D)
-      (new : ServerNode D) → StandsForSome medium world → IfErr r (λ _. KeepsDisk medium (servers.disk_of world.server) (servers.disk_of new))
+      (new : ServerNode D) → StandsForSome medium world
+      → IfErr r (λ _. KeepsDisk medium (servers.disk_of world.server) (servers.disk_of new))
       → OnOk r ((names : List (List ℕ)) (n : ℕ)
       → StepsTo (HavingAnswered medium names n) (HavingAnswered medium names n) call world.server new x y a)
       → HasDisk new
@@ -62,14 +60,3 @@ module _ {D : Type 0} (medium : Medium D) where
       let s = (one names some.machine.requests).step some.machine.server some.stands.server in
       laws.has_disk medium names new.post s.1 s.4.post
   server_after call x y a (Err fault) world new some keeps one = ap is_some keeps.new_has
-
-  -- ---- a world
-
-  -- the client at a place stands for one
-  pub stands_there : (world : World D) (c : ℕ) (laptop : Laptop D) → slice_get world.clients.items c ≡ Some laptop
-      → IsInside medium c world → StandsAnyhow medium laptop
-  stands_there world c laptop get some = record {
-    scripts = some.machine.scripts;
-    machine = client_in some.machine c;
-    stands = client_here medium world some.machine some.stands c laptop get;
-  }

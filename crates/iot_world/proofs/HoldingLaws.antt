@@ -1,5 +1,5 @@
 -- What the disks hold that a world gives back.
-use Rattle.std.proofs.Common.{◌≡◌, ◌⊎◌, ◌+◌, ℕ, suc, List, [], ◌∷◌, ◌++◌, length, map, Option, Some, None}
+use Rattle.std.proofs.Common.{◌≡◌, ◌+◌, ℕ, suc, List, [], ◌∷◌, ◌++◌, length, map, Option, Some, None}
 use Rattle.std.proofs.Common.{inl, inr, refl, sym, ap, subst, ◌∙◌, arith}
 use Rattle.std.proofs.lemmas.List.{length-append}
 use Rattle.std.proofs.lemmas.Option.{same_Some}
@@ -22,7 +22,6 @@ use Rattle.iot_server_node.specs.Keepers.{lists}
 use Rattle.iot_server_node.specs.Records.{IsImage}
 use Rattle.iot_server_node.specs.Servers as servers
 use Rattle.iot_server_node.specs.Servers.{ServerStands}
-use Rattle.iot_server_node.specs.declared.server.ServerNode.{ServerNode}
 use Rattle.iot_server_node.proofs.ServersLaws.{lasts}
 use Rattle.iot_laptop.specs.Laptops.{ClientStands, disk_in}
 use Rattle.iot_laptop.specs.Seats.{IsClientImage, seating}
@@ -30,7 +29,7 @@ use Rattle.iot_laptop.specs.declared.laptop.Laptop.{Laptop}
 use Rattle.iot_laptop.specs.declared.seated.Seated.{Seated}
 use Rattle.iot_laptop.proofs.NodesLaws.{node_stands}
 use Rattle.iot_laptop.proofs.SeatsLaws.{seat_images}
-use Rattle.iot_world.specs.Holding.{IsListed, Holds, HoldsList, IsKept, KeepsClient, DisksHold, counts_in}
+use Rattle.iot_world.specs.Holding.{IsListed, Holds, IsKept, KeepsClient, DisksHold, counts_in}
 use Rattle.iot_world.specs.World.{Each, StandsFor, Opens, KeepsDisks, with_first, with_clients, disks_of}
 use Rattle.iot_world.specs.declared.world.World.{World}
 use Rattle.iot_world.proofs.ListedLaws.{state_is}
@@ -50,19 +49,15 @@ module _ {K S D : Type 0} (keeping : Keeping K S D) (medium : Medium D) (Is : S 
       → ((image : List ℕ) → images image → HoldsEither keeping medium count node image) → Holds Is images node.durable node.doubt
   holds images count node each = by node.doubt refl
     where
-      sure : (image : List ℕ) → node.doubt ≡ None → HoldsEither keeping medium count node image → Is node.durable image
-      sure image none (inl it) = means node.durable image count it
-      sure image none (inr it) = let e : Some it.0 ≡ None = sym it.1 ∙ none in absurd cc
-
-      either : (image : List ℕ) (after : S) → node.doubt ≡ Some after → HoldsEither keeping medium count node image
-          → Is node.durable image ⊎ Is after image
-      either image after is (inl it) = inl (means node.durable image count it)
-      either image after is (inr it) =
-          inr (subst (λ (s : S). Is s image) (same_Some it.0 after (sym it.1 ∙ is)) (means it.0 image (count + 1) it.2))
-
       by : (doubt : Option S) → node.doubt ≡ doubt → Holds Is images node.durable doubt
-      by None is = λ image left. sure image is (each image left)
-      by (Some after) is = λ image left. either image after is (each image left)
+      by None is = λ image left. elim (each image left) [
+        | inl it ↦ means node.durable image count it
+        | inr it ↦ let e : Some it.0 ≡ None = sym it.1 ∙ is in absurd cc
+      ]
+      by (Some after) is = λ image left. elim (each image left) [
+        | inl it ↦ inl (means node.durable image count it)
+        | inr it ↦ inr (subst (λ (s : S). Is s image) (same_Some it.0 after (sym it.1 ∙ is)) (means it.0 image (count + 1) it.2))
+      ]
 
   has_held : (post : Post K D) (node : Node S) → Lasts keeping medium post node
       → HasHeld (λ disk. Holds Is (medium.may_leave disk) node.durable node.doubt) (disk_of keeping.disk post)
@@ -87,13 +82,6 @@ is_kept : (m : ClientState) (image : List ℕ) (count : ℕ) → IsClientImage i
 is_kept m image count is = subst (λ (s : State). StandFor image s) (state_is is.state m is.kept) is.stands
 
 module _ {D : Type 0} (medium : Medium D) where
-  -- ---- the server
-
-  server_holds : (names : List (List ℕ)) (it : ServerNode D) (node : Node (List Commit)) (n : ℕ) → ServerStands medium names it node n
-      → HasHeld (λ disk. HoldsList (medium.may_leave disk) node.durable node.doubt) (servers.disk_of it)
-  server_holds names it node n stands =
-      has_held (lists medium) medium IsListed is_listed it.post node (lasts medium names it node n stands)
-
   -- ---- a client
 
   client_lasts : (place : ℕ) (post : Post (Seated D) D) (node : Node ClientState)
@@ -130,8 +118,6 @@ module _ {D : Type 0} (medium : Medium D) where
   clients_hold : (scripts : List Declared) (laptops : List (Laptop D)) (ms : List machine.Client)
       → Each (ClientStands medium scripts) laptops ms → AreHeld laptops ms
   clients_hold scripts [] [] all = record { disks = []; are = λ rest. refl; each = tt; long = refl }
-  clients_hold scripts [] (m ∷ ms) all = absurd all
-  clients_hold scripts (laptop ∷ laptops) [] all = absurd all
   clients_hold scripts (laptop ∷ laptops) (m ∷ ms) all =
       let one = client_holds scripts laptop m all.0 in
       let others = clients_hold scripts laptops ms all.1 in
@@ -143,12 +129,14 @@ module _ {D : Type 0} (medium : Medium D) where
         each = (one.holds, others.each);
         long = ap suc others.long;
       }
+  clients_hold scripts laptops ms all = absurd all
 
   -- each disk holds what its node keeps, and those behind them are as they were handed in
   pub disks_hold : (disks : List D) (before world : World D) (m : Machine) (x y : List ℕ) → StandsFor medium world m
       → Opens medium disks x y before → KeepsDisks before world → DisksHold medium disks (disks_of world) m
   disks_hold disks before world m x y here opens same =
-      let server = server_holds (names_in m) world.server m.server m.requests here.server in
+      let lasting = lasts medium (names_in m) world.server m.server m.requests here.server in
+      let server = has_held (lists medium) medium IsListed is_listed world.server.post m.server lasting in
       let held = clients_hold m.scripts world.clients.items m.clients here.clients_ in
       record {
         server = server.disk;
@@ -187,12 +175,11 @@ module _ {D : Type 0} (medium : Medium D) where
       → Each (ClientStands medium scripts) laptops ms
       → map (counts_on medium) (with_clients laptops rest) ≡ map (λ (m : machine.Client). m.node.counts) ms ++ map (counts_on medium) rest
   clients_count scripts [] [] rest all = refl
-  clients_count scripts [] (m ∷ ms) rest all = absurd all
-  clients_count scripts (laptop ∷ laptops) [] rest all = absurd all
   clients_count scripts (laptop ∷ laptops) (m ∷ ms) rest all =
       first_counts (disk_in laptop) m.node.counts (with_clients laptops rest)
       (posts_count (seating medium laptop.place) medium no_text laptop.post m.node (node_stands medium scripts laptop m all.0))
       ∙ ap (λ (cs : List Counts). m.node.counts ∷ cs) (clients_count scripts laptops ms rest all.1)
+  clients_count scripts laptops ms rest all = absurd all
 
   -- they have counted what the machine's disks have
   pub disks_count : (world : World D) (m : Machine) → StandsFor medium world m → map (counts_on medium) (disks_of world) ≡ counts_in m

@@ -24,19 +24,32 @@ module _ {W M : Type 0} (stands : W → M → Type 0) where
   each_length (w ∷ ws) (m ∷ ms) all = ap suc (each_length ws ms all.1)
   each_length ws ms all = absurd all
 
+  -- what follows of each two of them, and what they have in common
+  pub each_map : (others : W → M → Type 0) → ((w : W) (m : M) → stands w m → others w m) → (ws : List W) (ms : List M) → Each stands ws ms
+      → Each others ws ms
+  each_map others then_ [] [] all = tt
+  each_map others then_ (w ∷ ws) (m ∷ ms) all = (then_ w m all.0, each_map others then_ ws ms all.1)
+  each_map others then_ ws ms all = absurd all
+
+  pub each_same_as : {A : Type 0} (f : W → A) (g : M → A) → ((w : W) (m : M) → stands w m → f w ≡ g m) → (ws : List W) (ms : List M)
+      → Each stands ws ms → map f ws ≡ map g ms
+  each_same_as f g same [] [] all = refl
+  each_same_as f g same (w ∷ ws) (m ∷ ms) all = λ i. same w m all.0 i ∷ each_same_as f g same ws ms all.1 i
+  each_same_as f g same ws ms all = absurd all
+
   -- the elements at one place go together
   pub each_get : (ws : List W) (ms : List M) (c : ℕ) (w : W) (e : M) → slice_get ws c ≡ Some w → Each stands ws ms
       → stands w (slice_index_or ms c e)
   each_get [] ms c w e at all = absurd cc
-  each_get (w' ∷ ws) [] c w e at all = absurd all
   each_get (w' ∷ ws) (m ∷ ms) zero w e at all = subst (λ (v : W). stands v m) (same_Some w' w at) all.0
   each_get (w' ∷ ws) (m ∷ ms) (suc c) w e at all = each_get ws ms c w e at all.1
+  each_get ws ms c w e at all = absurd all
 
   pub get_inside : (ws : List W) (ms : List M) (c : ℕ) (w : W) → slice_get ws c ≡ Some w → Each stands ws ms → c < length ms
   get_inside [] ms c w at all = absurd cc
-  get_inside (w' ∷ ws) [] c w at all = absurd all
   get_inside (w' ∷ ws) (m ∷ ms) zero w at all = omega arith
   get_inside (w' ∷ ws) (m ∷ ms) (suc c) w at all = let e : c < length ms = get_inside ws ms c w at all.1 in omega (arith, e)
+  get_inside ws ms c w at all = absurd all
 
 -- what each element has with itself, a list has with itself, and with one in which another stands at a place
 module _ {W : Type 0} (goes : W → W → Type 0) (here : (w : W) → goes w w) where

@@ -15,6 +15,7 @@ use Rattle.iot_laptop.specs.declared.laptop.Laptop.{Laptop}
 use Rattle.iot_exchange.specs.Scripts.{AreApart, script_of}
 use Rattle.iot_exchange.specs.declared.declared.DeclaredScript.{DeclaredScript}
 use Rattle.iot_world.specs.World.{Each}
+use Rattle.iot_world.proofs.ListLaws.{each_map}
 
 -- ---- one script more
 
@@ -45,10 +46,8 @@ module _ (scripts : List Declared) (one : Declared) where
   named_more script named = find_more (λ s. bytes_eq script.name s.name) scripts one script named
 
   has_more : (option : OnConflict Declared) → HasNamed scripts option → HasNamed (scripts ++ one ∷ []) option
-  has_more options.Reexec named = tt
   has_more (options.Resolver script) named = named_more script named
-  has_more options.Abort named = tt
-  has_more options.Manual named = tt
+  has_more option named = tt
 
   items_more : (items : List Item) → AllByRecursion (ItemIsNamed scripts) items → AllByRecursion (ItemIsNamed (scripts ++ one ∷ [])) items
   items_more [] named = tt
@@ -84,19 +83,13 @@ module _ (scripts : List Declared) (one : Declared) where
       link = here.link;
       alive = here.alive;
       node = here.node;
-      named = record {
-        is = state_more m.node.durable here.named.is;
-        may_be = if_more m.node.doubt here.named.may_be;
-      };
+      named = record { is = state_more m.node.durable here.named.is; may_be = if_more m.node.doubt here.named.may_be };
     })
 
     -- each client's transactions still have their scripts
     pub clients_more : (laptops : List (Laptop D)) (ms : List machine.Client) → Each (ClientStands medium scripts) laptops ms
         → Each (ClientStands medium (scripts ++ one ∷ [])) laptops ms
-    clients_more [] [] each = tt
-    clients_more [] (m ∷ ms) each = absurd each
-    clients_more (laptop ∷ laptops) [] each = absurd each
-    clients_more (laptop ∷ laptops) (m ∷ ms) each = (client_more laptop m each.0, clients_more laptops ms each.1)
+    clients_more = each_map (ClientStands medium scripts) (ClientStands medium (scripts ++ one ∷ [])) client_more
 
 -- ---- scripts with names of their own
 

@@ -14,11 +14,11 @@ use Rattle.iot_machine.specs.Clients.{view}
 use Rattle.iot_machine.specs.Json.{client_data}
 use Rattle.iot_machine.specs.Machine.{Machine, Client, client_in, no_client}
 use Rattle.iot_machine.specs.Recorded.{queue_kept}
-use Rattle.iot_laptop.specs.Laptops.{LaptopStands, StandsAnyhow, IsView, is_alive, state_in}
+use Rattle.iot_laptop.specs.Laptops.{LaptopStands, IsView, is_alive, state_in}
 use Rattle.iot_laptop.specs.declared.laptop.Laptop.{Laptop}
 use Rattle.iot_laptop.proofs.NodesLaws.{awake_stands}
 use Rattle.iot_world.specs.Looks.{HasTold, AddsTold, Tells}
-use Rattle.iot_world.specs.World.{StandsFor, StandsForSome}
+use Rattle.iot_world.specs.World.{StandsFor}
 use Rattle.iot_world.specs.declared.world.World.{World}
 use Rattle.iot_world.proofs.ListedLaws.{queue_are}
 use Rattle.iot_world.proofs.WorldsLaws.{same_length, inside_here, client_here}
@@ -33,25 +33,18 @@ live_is m up =
 
 module _ {D : Type 0} (medium : Medium D) where
   module _ (laptop : Laptop D) (old new : Json) (names : named new ≡ named old ++ laptop.name ∷ []) where
-    adds : (m : Client) (data_ : Data) → laptop.name ≡ m.name → data_ ≡ client_data m → shown new ≡ shown old ++ data_ ∷ []
-        → AddsTold m old new
-    adds m data_ same is told = record {
-      clients = told ∙ ap (λ (d : Data). shown old ++ d ∷ []) is;
-      names = names ∙ ap (λ (n : List ℕ). named old ++ n ∷ []) same;
-    }
-
     pub tells_live : (items : List Item) (t : Nodes) → is_alive laptop ≡ true → items ≡ (state_in laptop).items
         → IsView medium t laptop
         → shown new ≡ shown old ++ live_data laptop.name items t ∷ [] → Tells medium laptop old new
     tells_live items t up same sees told = λ scripts m here.
         let there : LaptopStands medium scripts laptop m = awake_stands medium scripts laptop m up here in
-        adds m (live_data laptop.name items t) there.name
-        (ap (λ (n : List ℕ). live_data n items t) there.name
-        ∙ ap (λ (is : List Item). live_data m.name is t)
-        (same ∙ queue_are (state_in laptop).items (state_in laptop).held m.node.durable there.state.held there.state.items)
-        ∙ ap (live_data m.name (queue_kept m.node.durable)) (sees scripts m there)
-        ∙ live_is m there.alive)
-        told
+        let kept = queue_are (state_in laptop).items (state_in laptop).held m.node.durable there.state.held there.state.items in
+        let is : live_data laptop.name items t ≡ client_data m =
+        (λ i. live_data (there.name i) ((same ∙ kept) i) (sees scripts m there i)) ∙ live_is m there.alive in
+        record {
+          clients = told ∙ ap (λ (d : Data). shown old ++ d ∷ []) is;
+          names = names ∙ ap (λ (n : List ℕ). named old ++ n ∷ []) there.name;
+        }
 
   -- ---- all clients
 
@@ -60,14 +53,6 @@ module _ {D : Type 0} (medium : Medium D) where
   TellsFirst world n json = (m : Machine) → StandsFor medium world m → HasTold (take n m.clients) json
 
   module _ (world : World D) (n : ℕ) (laptop : Laptop D) (get : slice_get world.clients.items n ≡ Some laptop) where
-    -- it stands for a client
-    pub stands_at : StandsForSome medium world → StandsAnyhow medium laptop
-    stands_at some = record {
-      scripts = some.machine.scripts;
-      machine = client_in some.machine n;
-      stands = client_here medium world some.machine some.stands n laptop get;
-    }
-
     -- one more
     pub tells_more : (old new : Json) → TellsFirst world n old → Tells medium laptop old new → TellsFirst world (n + 1) new
     tells_more old new so_far one = λ m here.

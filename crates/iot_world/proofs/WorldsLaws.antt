@@ -20,7 +20,7 @@ use Rattle.iot_node.specs.Steps.{StepsTo}
 use Rattle.iot_server_node.specs.Servers.{ServerStands, HavingAnswered, answered_since, is_up}
 use Rattle.iot_server_node.specs.declared.server.ServerNode.{ServerNode}
 use Rattle.iot_server_node.proofs.ServersLaws.{up_is}
-use Rattle.iot_laptop.specs.Laptops.{ClientStands}
+use Rattle.iot_laptop.specs.Laptops.{ClientStands, StandsAnyhow}
 use Rattle.iot_laptop.specs.declared.laptop.Laptop.{Laptop}
 use Rattle.iot_exchange.specs.Pairs.{two, AnyStands, IsStandingWith}
 use Rattle.iot_exchange.specs.Scripts as exchange
@@ -44,6 +44,9 @@ module _ {D : Type 0} (medium : Medium D) where
       pub client_here : ClientStands medium m.scripts laptop (client_in m c)
       client_here = each_get (ClientStands medium m.scripts) world.clients.items m.clients c laptop no_client get here.clients_
 
+      pub stands_there : StandsAnyhow medium laptop
+      stands_there = record { scripts = m.scripts; machine = client_in m c; stands = client_here }
+
       -- the client with the server
       pub pair_here : AnyStands medium (scripts_of world) (names_in m) c (two laptop world.server) ((pair_at c).get m)
       pair_here = record {
@@ -60,8 +63,7 @@ module _ {D : Type 0} (medium : Medium D) where
   pub task_stands : (world : World D) (c : ℕ) (laptop : Laptop D) (ss : List DeclaredScript) → slice_get world.clients.items c ≡ Some laptop
       → ss ≡ world.scripts.items → IsInside medium c world → IsStandingWith medium (exchange.scripts_of ss) (two laptop world.server)
   task_stands world c laptop ss get same some =
-      subst (λ (ss : List DeclaredScript). IsStandingWith medium (exchange.scripts_of ss) (two laptop world.server)) (sym same)
-      (record {
+      rw same (record {
         names = names_in some.machine;
         c = c;
         pair = (pair_at c).get some.machine;
@@ -125,11 +127,7 @@ module _ {D : Type 0} (medium : Medium D) where
           → StepsTo (AnyStands medium (exchange.scripts_of ss) names place) (AnyStands medium (exchange.scripts_of ss) names place)
           (IfUp (task_part (exchange.scripts_of ss) task)) (two was old.server) (two laptop server_) x y tt)
           → Steps medium (client_part (scripts_of old) c (client_events.Task task)) old now x y tt
-      at_task ss task x y same one = at_pair
-          (λ names.
-          subst (λ (ss : List DeclaredScript).
-          StepsTo (AnyStands medium (exchange.scripts_of ss) names c) (AnyStands medium (exchange.scripts_of ss) names c)
-          (IfUp (task_part (exchange.scripts_of ss) task)) (two was old.server) (two laptop server_) x y tt) same (one names c))
+      at_task ss task x y same one = at_pair (λ names. rw same at (one names c))
 
   -- so is what the client does alone
   pub at_client : {A : Type 0} {call : Call Client A} (old : World D) (clients : Vec (Laptop D) Global) (c : ℕ) (was laptop : Laptop D)
@@ -144,8 +142,8 @@ module _ {D : Type 0} (medium : Medium D) where
           (client_at c).set s.1 m,
           s.2,
           record { inner = s.1; step = s.3; is = refl },
-          put_there old old.server clients c was laptop get put m s.1 m.server m.requests here s.4 (same ∙ here.placed c was get) (keeps.is (client_in m c) s.1 s.0 a s.3)
-              here.server,
+          put_there old old.server clients c was laptop get put m s.1 m.server m.requests here s.4 (same ∙ here.placed c was get)
+              (keeps.is (client_in m c) s.1 s.0 a s.3) here.server,
         );
   }
 

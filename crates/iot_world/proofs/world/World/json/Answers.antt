@@ -1,12 +1,11 @@
 use Rattle.std.proofs.Common.{ap, ◌∙◌}
-use Rattle.iot_inspect.specs.Shown.{named}
 use Rattle.iot_store.specs.Store.{state_of}
 use Rattle.iot_world.proofs.LookingLaws.{lent_up, are_of}
 use Rattle.iot_world.proofs.world.World.json.Goals as goal
 
 pub finish-requires : goal.finish-requires
 finish-requires g c =
-    are_of _ c.args.self.now (named c.in_ok-json.json) c.labels.result.now c.in-Some.server.now c.requires
+    are_of _ _ _ _ c.in-Some.server.now c.requires
     (c.in_ok-json.ensures c.requires.machine c.requires.stands.stands).names
     (c.labels.ensures ∙ ap (λ s. (state_of s).labels) c.store.ensures)
-    (lent_up _ c.args.self.now c.server.result c.in-Some.server c.server.ensures.lent c.in-Some.is)
+    (lent_up _ _ _ _ c.server.ensures.lent c.in-Some.is)

@@ -5,8 +5,7 @@ use Rattle.iot_world.proofs.world.World.new.Goals as goal
 
 pub returns-in-Ok-clause-opens : goal.returns-in-Ok-clause-opens
 returns-in-Ok-clause-opens g c =
-    opens _ c.args.disks.items c.take_first.result c.take_first.new.disks.items c.take_first.ensures.items c.requires _
-    c.unopened-server.result c.args.out.now c.open.new.out c.in-Ok._on (c.unopened-server.ensures.stands [] 0) (c.in-Ok.ensures.step [] 0)
+    opens _ _ _ _ c.take_first.ensures.items c.requires _ _ _ _ _ (c.unopened-server.ensures.stands [] 0) (c.in-Ok.ensures.step [] 0)
     (now_has g.D.Disk.medium _ _ c.open.ensures.disk) c.new.ensures.items c.new-in-Ok.ensures.items refl c.take_first.ensures.room
 
 pub returns-in-Ok-clause-stands : goal.returns-in-Ok-clause-stands
@@ -16,12 +15,9 @@ returns-in-Ok-clause-stands g c =
 
 pub returns-in-Ok-clause-arms : goal.returns-in-Ok-clause-arms
 returns-in-Ok-clause-arms g c =
-    opens_unarmed g.D.Disk.medium c.args.disks.items c.take_first.result c.take_first.new.disks.items c.take_first.ensures.items c.requires
-    c.unopened-server.result c.open.new.self c.unopened-server.ensures.disk c.open.ensures.disk c.new.result.items
-    c.take_first.new.disks.items c.new.ensures.items refl
+    opens_unarmed _ _ _ _ c.take_first.ensures.items c.requires _ _ c.unopened-server.ensures.disk c.open.ensures.disk _ _ c.new.ensures.items refl
 
 pub returns-in-Err-clause-refused : goal.returns-in-Err-clause-refused
 returns-in-Err-clause-refused g c =
-    gives_back g.D.Disk.medium c.args.disks.items c.take_first.result c.take_first.new.disks.items c.take_first.ensures.items
-    c.requires c.unopened-server.result c.open.new.self c.unopened-server.ensures.disk c.open.ensures.disk _ c.into_disk.result
+    gives_back _ _ _ _ c.take_first.ensures.items c.requires _ _ c.unopened-server.ensures.disk c.open.ensures.disk _ _
     c.into_disk.ensures c.put_first.ensures.items (c.unopened-server.ensures.stands [] 0) c.open.ensures.records
