@@ -1,6 +1,6 @@
 -- What stands for a node has its disk, and what stands at a place in a world.
-use Rattle.std.proofs.Common.{◌≡◌, ℕ, true, List, refl, ap}
-use Rattle.std.specs.Prelude.{IsSome, is_some, Result, Ok, Err, IfErr, OnOk}
+use Rattle.std.proofs.Common.{◌≡◌, ℕ, true, List, ap}
+use Rattle.std.specs.Prelude.{is_some, Result, Ok, Err, IfErr, OnOk}
 use Rattle.iot_disk.specs.Disk.{Medium}
 use Rattle.iot_machine.specs.Calls.{Call}
 use Rattle.iot_machine.specs.Clients.{Declared}
@@ -9,11 +9,7 @@ use Rattle.iot_machine.specs.Machine.{Client, Commit}
 use Rattle.iot_machine.specs.Nodes.{Node}
 use Rattle.iot_machine.specs.Refining.{Refines}
 use Rattle.iot_node.specs.Disks.{KeepsDisk}
-use Rattle.iot_node.specs.Keeping.{Keeping}
-use Rattle.iot_node.specs.Posts.{PostStands, disk_of}
 use Rattle.iot_node.specs.Steps.{StepsTo}
-use Rattle.iot_node.specs.declared.post.Post.{Post}
-use Rattle.iot_node.specs.declared.post.Post.TheVariants.{Up, Down, Between}
 use Rattle.iot_server_node.specs.Servers.{HasDisk, HavingAnswered}
 use Rattle.iot_server_node.specs.declared.server.ServerNode.{ServerNode}
 use Rattle.iot_server_node.specs.Servers as servers
@@ -21,21 +17,15 @@ use Rattle.iot_server_node.proofs.ServersLaws as laws
 use Rattle.iot_server_node.proofs.ServersLaws.{keeps_same}
 use Rattle.iot_laptop.specs.Laptops.{ClientStands, StandsAnyhow, disk_in}
 use Rattle.iot_laptop.specs.declared.laptop.Laptop.{Laptop}
-use Rattle.iot_laptop.proofs.NodesLaws.{node_stands}
+use Rattle.iot_world.proofs.HoldingLaws.{client_holds}
 use Rattle.iot_world.specs.World.{StandsForSome, LaptopHasDisk, KeepsNode}
 use Rattle.iot_world.specs.declared.world.World.{World}
-
-post_has : {K S D : Type 0} (keeping : Keeping K S D) (medium : Medium D) (says : S → S → List ℕ) (post : Post K D) (node : Node S)
-    → PostStands keeping medium says post node → IsSome (disk_of keeping.disk post)
-post_has keeping medium says (Up keeper) node here = refl
-post_has keeping medium says (Down fallen) node here = refl
-post_has keeping medium says Between node here = absurd here
 
 module _ {D : Type 0} (medium : Medium D) where
   -- ---- a client
 
   client_has : (scripts : List Declared) (laptop : Laptop D) (m : Client) → ClientStands medium scripts laptop m → LaptopHasDisk laptop
-  client_has scripts laptop m here = post_has _ medium _ laptop.post m.node (node_stands medium scripts laptop m here)
+  client_has scripts laptop m here = ap is_some (client_holds medium scripts laptop m here).is
 
   -- after a step that may have armed it the laptop has it, and if memory ran out it is as it was
   pub armed_keeps : {T E A : Type 0} (call : Call Client A) (x y : List ℕ) (a : A) (r : Result T E) (old new : Laptop D)

@@ -1,6 +1,6 @@
 -- The clients that a world lends are the machine's.
 use Rattle.std.proofs.Common.{◌≡◌, ℕ, ◌<◌, ◌≤◌, List, length, Option, Some, None, sym, ap, subst, ◌∙◌, arith}
-use Rattle.std.proofs.Common.{slice_get, inl, inr, get_or, refl, true, false}
+use Rattle.std.proofs.Common.{slice_get, inl, inr, get_or, refl, false}
 use Rattle.std.proofs.lemmas.Option.{slice_get_read, same_Some}
 use Rattle.std.specs.Prelude.{IfSome}
 use Rattle.iot_kept.specs.States as kept
@@ -11,12 +11,12 @@ use Rattle.iot_disk.specs.Disk.{Medium}
 use Rattle.iot_machine.specs.Machine.{Machine, client_in}
 use Rattle.iot_node.specs.declared.post.Post.{Post}
 use Rattle.iot_node.specs.declared.post.Post.TheVariants.{Up}
-use Rattle.iot_laptop.specs.Laptops.{IsLent, LaptopStands, ClientStands, ItemsStand, RunningStandsIfAny}
-use Rattle.iot_laptop.specs.Laptops.{awake, fallen, lent_by, disk_by, state_in, live_in, disk_in, is_alive}
+use Rattle.iot_laptop.specs.Laptops.{IsLent, LaptopStands, ItemsStand, RunningStandsIfAny}
+use Rattle.iot_laptop.specs.Laptops.{lent_by, disk_by, state_in, live_in, disk_in, is_alive}
 use Rattle.iot_laptop.specs.declared.laptop.Laptop.{Laptop}
 use Rattle.iot_laptop.specs.declared.seated.Seated.{Seated}
 use Rattle.iot_laptop.proofs.LaptopsLaws.{view_is}
-use Rattle.iot_laptop.proofs.NodesLaws.{own_in, lent_at, awake_stands, is_awake}
+use Rattle.iot_laptop.proofs.NodesLaws.{own_in, lent_at, awake_stands, fallen_stands}
 use Rattle.iot_world.specs.World.{StandsFor, IsWorldOfSome, LendsClient, ClientIs, IsReady}
 use Rattle.iot_world.specs.declared.world.World.{World}
 use Rattle.iot_world.proofs.WorldsLaws.{same_length, inside_here, client_here}
@@ -72,15 +72,13 @@ module _ {D : Type 0} (medium : Medium D) where
         )
 
     lends_fallen : None ≡ lent_by laptop.post → (m : Machine) → StandsFor medium world m → LendsClient medium None place m
-    lends_fallen is m here = inr (by (client_here medium world m here place laptop get))
+    lends_fallen is m here =
+        let there = client_here medium world m here place laptop get in
+        inr (fallen_stands medium m.scripts laptop (client_in m place) (down_by laptop.post is) there).alive
       where
-        off_by : (post : Post (Seated D) D) → None ≡ lent_by post → is_alive (record laptop { post = post }) ≡ true → ⊥
-        off_by (Up seated) none up = absurd cc
-        off_by post none up = absurd cc
-
-        by : ClientStands medium m.scripts laptop (client_in m place) → (client_in m place).node.alive ≡ false
-        by (awake there) = absurd (off_by laptop.post is (is_awake medium m.scripts laptop (client_in m place) there))
-        by (fallen there) = there.alive
+        down_by : (post : Post (Seated D) D) → None ≡ lent_by post → is_alive (record laptop { post = post }) ≡ false
+        down_by (Up seated) none = absurd cc
+        down_by post none = refl
 
     -- whether it is alive or down
     pub lends_any : (o : Option (Client D)) → o ≡ lent_by laptop.post → (m : Machine) → StandsFor medium world m
