@@ -166,7 +166,7 @@ module _ {D : Type 0} (medium : Medium D) (name : List ℕ) (old : World D) (cli
             subst (λ (ks : List machine.Client). StandsFor medium joined (record m' { clients = ks }))
                 (sym (end_set m.clients (client_of name m) s.1))
                 (stands m here s.1 s.4
-                (opens_keeps.is (client_in m' c) s.1 s.0 starts.on s.3 ∙ ap (λ (k : machine.Client). k.name) is)),
+                ((opens_keeps name).at (client_in m' c) s.1 s.0 starts.on (ap (λ (k : machine.Client). k.name) is) s.3)),
           );
     }
       where

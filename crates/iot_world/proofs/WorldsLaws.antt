@@ -1,6 +1,6 @@
 -- One node of a world, or a client with the server, among all others: these stay.
 use Rattle.std.proofs.Common.{◌≡◌, ◌<◌, ℕ, Bool, true, false, List, [], length, map, Some, slice_get, slice_set, refl, sym, ap, subst, ◌∙◌}
-use Rattle.std.proofs.Common.{arith}
+use Rattle.std.proofs.Common.{arith, ◌++◌}
 use Rattle.std.proofs.lemmas.List.{length-set, append-nil}
 use Rattle.std.specs.Prelude.{Vec}
 use Rattle.std.specs.declared.alloc.Global.{Global}
@@ -8,7 +8,7 @@ use Rattle.std.proofs.lemmas.Option.{same_Some}
 use Rattle.iot_disk.specs.Disk.{Medium}
 use Rattle.iot_event.specs.declared.event.ClientEvent.TheVariants as client_events
 use Rattle.iot_event.specs.declared.event.Task.{Task}
-use Rattle.iot_machine.specs.Calls.{Call, At}
+use Rattle.iot_machine.specs.Calls.{Call, At, Lens}
 use Rattle.iot_machine.specs.Clients.{Declared}
 use Rattle.iot_machine.specs.Events.{names_in, counts_anew, RestartsServer, IfUp, task_part, client_part}
 use Rattle.iot_machine.specs.Machine.{Machine, Client, Commit, Pair, no_client, client_in, client_at, pair_at, server}
@@ -70,6 +70,16 @@ module _ {D : Type 0} (medium : Medium D) where
         stands = pair_here world some.machine some.stands c laptop get;
       })
 
+  -- ---- a part of the machine does something
+
+  at_part : {N A : Type 0} {call : Call N A} (part : Lens Machine N) (old new : World D) (x y : List ℕ) (a : A)
+      → ((m : Machine) → StandsFor medium old m
+      → (text : List ℕ) × (n : N) × (y ≡ x ++ text) × call (part.get m) text a n × StandsFor medium new (part.set n m))
+      → Steps medium (At part call) old new x y a
+  at_part part old new x y a one = record {
+    step = λ m here. let s = one m here in (s.0, part.set s.1 m, s.2, record { inner = s.1; step = s.3; is = refl }, s.4);
+  }
+
   -- ---- other clients stand there, and another server
 
   module _ (old : World D) (server_ : ServerNode D) (clients : Vec (Laptop D) Global) where
@@ -108,19 +118,11 @@ module _ {D : Type 0} (medium : Medium D) where
       at_pair : {A : Type 0} {call : Call Pair A} {x y : List ℕ} {a : A}
           → ((names : List (List ℕ)) → StepsTo (AnyStands medium (scripts_of old) names c) (AnyStands medium (scripts_of old) names c) call
           (two was old.server) (two laptop server_) x y a) → Steps medium (At (pair_at c) call) old now x y a
-      at_pair one = record {
-        step = λ m here.
-            let s = (one (names_in m)).step ((pair_at c).get m) (pair_here old m here c was get) in (
-              s.0,
-              (pair_at c).set s.1 m,
-              s.2,
-              record { inner = s.1; step = s.3; is = refl },
-              put_there m s.1.client s.1.server s.1.requests here
-                  (subst (λ (ss : List Declared). ClientStands medium ss laptop s.1.client) (sym here.scripts) s.4.client.is)
-                  s.4.client.place
-                  (same_Some _ _ (sym s.4.client.named ∙ name_at m.clients c (inside_here old m here c was get))) s.4.server,
-            );
-      }
+      at_pair {x = x} {y = y} {a = a} one = at_part (pair_at c) old now x y a (λ m here.
+          let s = (one (names_in m)).step ((pair_at c).get m) (pair_here old m here c was get) in
+          let is = subst (λ (ss : List Declared). ClientStands medium ss laptop s.1.client) (sym here.scripts) s.4.client.is in
+          let same = same_Some _ _ (sym s.4.client.named ∙ name_at m.clients c (inside_here old m here c was get)) in
+          (s.0, s.1, s.2, s.3, put_there m s.1.client s.1.server s.1.requests here is s.4.client.place same s.4.server))
 
       pub at_task : (ss : List DeclaredScript) (task : Task ℕ) (x y : List ℕ) → ss ≡ old.scripts.items
           → ((names : List (List ℕ)) (place : ℕ)
@@ -135,17 +137,11 @@ module _ {D : Type 0} (medium : Medium D) where
       → clients.items ≡ slice_set old.clients.items c laptop → laptop.place ≡ was.place
       → ((scripts : List Declared) → Refines (ClientStands medium scripts) call was laptop x y a)
       → Steps medium (At (client_at c) call) old (record old { clients = clients }) x y a
-  at_client old clients c was laptop x y a keeps get put same one = record {
-    step = λ m here.
-        let s = (one m.scripts).step (client_in m c) (client_here old m here c was get) in (
-          s.0,
-          (client_at c).set s.1 m,
-          s.2,
-          record { inner = s.1; step = s.3; is = refl },
-          put_there old old.server clients c was laptop get put m s.1 m.server m.requests here s.4 (same ∙ here.placed c was get)
-              (keeps.is (client_in m c) s.1 s.0 a s.3) here.server,
-        );
-  }
+  at_client old clients c was laptop x y a keeps get put same one = at_part (client_at c) old _ x y a (λ m here.
+      let s = (one m.scripts).step (client_in m c) (client_here old m here c was get) in
+      let named = (keeps (client_in m c).name).at (client_in m c) s.1 s.0 a refl s.3 in
+      let place = same ∙ here.placed c was get in
+      (s.0, s.1, s.2, s.3, put_there old old.server clients c was laptop get put m s.1 m.server m.requests here s.4 place named here.server))
 
   -- ---- the server
 
@@ -159,16 +155,9 @@ module _ {D : Type 0} (medium : Medium D) where
         → ((names : List (List ℕ)) (n : ℕ)
         → StepsTo (HavingAnswered medium names n) (HavingAnswered medium names n) call old.server server_ x y a)
         → Steps medium (At server call) old (record old { server = server_ }) x y a
-    at_server x y a one = record {
-      step = λ m here.
-          let s = (one (names_in m) m.requests).step m.server here.server in (
-            s.0,
-            server.set s.1 m,
-            s.2,
-            record { inner = s.1; step = s.3; is = refl },
-            served m s.1 m.requests here s.4,
-          );
-    }
+    at_server x y a one = at_part server old _ x y a (λ m here.
+        let s = (one (names_in m) m.requests).step m.server here.server in
+        (s.0, s.1, s.2, s.3, served m s.1 m.requests here s.4))
 
     -- it comes back, and counts anew unless it was alive
     pub restarts : (x y : List ℕ) → ((names : List (List ℕ)) (n : ℕ)
