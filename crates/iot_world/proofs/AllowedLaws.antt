@@ -33,8 +33,7 @@ allowed_first event later world declared = tt
 pub declared_new : {D : Type 0} (world : World D) → client_count world ≡ 0 → script_names world ≡ []
     → (events : List Event) → AreDeclared events 0 [] → DeclaredOn events world
 declared_new world no_clients no_scripts events declared =
-    subst (λ (n : ℕ). AreDeclared events n (script_names world)) (sym no_clients)
-    (subst (AreDeclared events 0) (sym no_scripts) declared)
+    rw (no_clients, no_scripts) declared
 
 -- what is left of a list behind so many is the next one and what is behind it
 pub next_is : {A : Type 0} (xs : List A) (done : ℕ) (x : A) → done < length xs → x ≡ slice_index_or xs done x

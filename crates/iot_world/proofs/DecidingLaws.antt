@@ -96,29 +96,21 @@ module _ {D : Type 0} (medium : Medium D) (place : ℕ) (name x mid y rest : Lis
     | inr it ↦ by_image (medium.may_leave disk) doubt name x mid y rest whole came.image (came.count + 1) it.0 came.left it.3 it.1
   ]
 
-  by_post : (post : Post (Seated D) D) (on : Bool) → CameIf (seating medium place) medium on post name x mid node
-      → (on ≡ false → y ≡ x ++ stopped_line name) → is_fallen post ≡ true → DecidesPost medium post name x y
-  by_post (Down fallen) on came stopped down = by_doubt fallen.disk fallen.doubt on came stopped
-  by_post post on came stopped down = tt
-
-decides_up : {D : Type 0} (medium : Medium D) (post : Post (Seated D) D) (name x y : List ℕ) → is_fallen post ≡ false
-    → DecidesPost medium post name x y
-decides_up medium (Down fallen) name x y up = absurd cc
-decides_up medium post name x y up = tt
-
 module _ {D : Type 0} (medium : Medium D) where
   -- by all images, as by the one from which it came
   pub decides_client : {T E : Type 0} (r : Result T E) (laptop : Laptop D) (x y : List ℕ) → StandsAnyhow medium laptop
       → (is_fallen laptop.post ≡ true → OnOk r ((scripts : List Declared) (m : Client) → ClientStands medium scripts laptop m
       → Came medium laptop x y m)) → OnOk r (DecidesClient medium x y laptop)
   decides_client (Err fault) laptop x y some came = tt
-  decides_client (Ok done) laptop x y some came = record { by_all = by (is_fallen laptop.post) refl; by_image = came }
+  decides_client (Ok done) laptop x y some came = record { by_all = by laptop.post refl; by_image = came }
     where
-      by : (down : Bool) → is_fallen laptop.post ≡ down → DecidesPost medium laptop.post laptop.name x y
-      by true down =
-          let it = came down some.scripts some.machine some.stands in
-          by_post medium laptop.place laptop.name x it.mid y it.rest some.machine.node it.whole laptop.post it.on it.came it.stopped down
-      by false up = decides_up medium laptop.post laptop.name x y up
+      by : (post : Post (Seated D) D) → laptop.post ≡ post → DecidesPost medium post laptop.name x y
+      by (Down fallen) is =
+          let it = came (ap (λ (p : Post (Seated D) D). is_fallen p) is) some.scripts some.machine some.stands in
+          by_doubt medium laptop.place laptop.name x it.mid y it.rest some.machine.node it.whole fallen.disk fallen.doubt it.on
+          (subst (λ (p : Post (Seated D) D). CameIf (seating medium laptop.place) medium it.on p laptop.name x it.mid some.machine.node) is
+          it.came) it.stopped
+      by post is = tt
 
   -- of the client at a place
   pub decides_here : (world : World D) (c : ℕ) (what : NodeEvent) (laptop : Laptop D) (x y : List ℕ)

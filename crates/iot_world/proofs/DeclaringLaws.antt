@@ -1,6 +1,7 @@
 -- A client or a script that is declared in a world is declared in the machine.
 use Rattle.std.proofs.Common.{◌≡◌, ℕ, suc, ◌+◌, Bool, true, false, List, [], ◌∷◌, ◌++◌, length, map, drop, slice_set}
 use Rattle.std.proofs.Common.{slice_index_or, append_assoc, Some, refl, sym, ap, subst, ◌∙◌, arith}
+use Rattle.std.proofs.Math.Seq.{get_or-append_seam, set-append_seam}
 use Rattle.std.proofs.lemmas.List.{append-nil, length-append, map-append}
 use Rattle.std.specs.List.{AllByRecursion}
 use Rattle.std.specs.Vec.{vec_len, vec_capacity}
@@ -26,25 +27,17 @@ use Rattle.iot_exchange.specs.Scripts as exchange
 use Rattle.iot_exchange.specs.Scripts.{AreApart}
 use Rattle.iot_exchange.specs.declared.declared.DeclaredScript.{DeclaredScript}
 use Rattle.iot_world.specs.World.{StandsFor, Steps, ArePlaced, KeepsDisks, SameArms, DeclaresClient, Starts, AddsScript}
-use Rattle.iot_world.specs.World.{client_count, script_names, said_of}
+use Rattle.iot_world.specs.World.{LaptopHasDisk, client_count, script_names, said_of}
 use Rattle.std.specs.Prelude.{Vec, is_some, Result, Ok, Err, OnOk}
 use Rattle.std.specs.declared.alloc.Global.{Global}
 use Rattle.iot_server_node.specs.Servers.{disk_of}
 use Rattle.iot_server_node.proofs.BeginningLaws.{commits_same}
 use Rattle.iot_world.specs.declared.world.World.{World}
-use Rattle.iot_world.proofs.DisksLaws.{has_push, pushed_with, here_follows, kept_follows, same_clients, clients_follow, unarmed_same}
+use Rattle.iot_machine.proofs.FollowsLaws.{all_push}
+use Rattle.iot_world.proofs.DisksLaws.{pushed_with, here_follows, kept_follows, same_clients, clients_follow, unarmed_same}
 use Rattle.iot_world.proofs.ListLaws.{each_push, each_place_push}
 use Rattle.iot_world.proofs.NamesLaws.{opens_keeps}
 use Rattle.iot_world.proofs.ScriptsLaws.{clients_more, apart_more, undeclared}
-
--- the one at the end is there
-end_at : {A : Type 0} (xs : List A) (x d : A) → slice_index_or (xs ++ x ∷ []) (length xs) d ≡ x
-end_at [] x d = refl
-end_at (y ∷ ys) x d = end_at ys x d
-
-end_set : {A : Type 0} (xs : List A) (x y : A) → slice_set (xs ++ x ∷ []) (length xs) y ≡ xs ++ y ∷ []
-end_set [] x y = refl
-end_set (z ∷ zs) x y = ap (λ (l : List _). z ∷ l) (end_set zs x y)
 
 -- A client joins: it is put at the end, on the first of the spare disks, and is looked up there; then another one stands at that place.
 module _ {D : Type 0} (medium : Medium D) (name : List ℕ) (old : World D) (clients : Vec (Laptop D) Global) (rest : Vec D Global) (disk : D)
@@ -55,10 +48,10 @@ module _ {D : Type 0} (medium : Medium D) (name : List ℕ) (old : World D) (cli
   joined = record old { clients = clients; spare = rest }
 
   changed : clients.items ≡ old.clients.items ++ next ∷ []
-  changed = put ∙ (λ i. slice_set (push i) (at i) next) ∙ end_set old.clients.items laptop next
+  changed = put ∙ (λ i. slice_set (push i) (at i) next) ∙ set-append_seam old.clients.items laptop [] next
 
   unchanged : was ≡ laptop
-  unchanged = found ∙ (λ i. slice_index_or (push i) (at i) was) ∙ end_at old.clients.items laptop was
+  unchanged = found ∙ (λ i. slice_index_or (push i) (at i) was) ∙ get_or-append_seam old.clients.items laptop [] was
 
   one_more : length clients.items ≡ length old.clients.items + 1
   one_more = ap length changed ∙ length-append old.clients.items (next ∷ [])
@@ -77,7 +70,7 @@ module _ {D : Type 0} (medium : Medium D) (name : List ℕ) (old : World D) (cli
     joined_keeps len capacity = record {
       has = λ has. record {
         server = has.server;
-        clients = rw changed (has_push old.clients.items next (ap is_some same.new_has) has.clients);
+        clients = rw changed (all_push LaptopHasDisk old.clients.items next (ap is_some same.new_has) has.clients);
         room = omega (arith, one_more, len, capacity, has.room);
       };
       spare = record { front = disk ∷ []; split = spare };
@@ -126,7 +119,7 @@ module _ {D : Type 0} (medium : Medium D) (name : List ℕ) (old : World D) (cli
       step = λ m here.
           let c : ℕ = length m.clients in
           let m' : Machine = add_client name m in
-          let is : client_in m' c ≡ client_of name m = end_at m.clients (client_of name m) no_client in
+          let is : client_in m' c ≡ client_of name m = get_or-append_seam m.clients (client_of name m) [] no_client in
           let there : ClientStands medium m.scripts was (client_in m' c) =
           subst (ClientStands medium m.scripts was)
           (ap (λ (cs : List Counts). unopened_laptop name (first_of cs)) (counts_are m here) ∙ sym is)
@@ -164,7 +157,7 @@ module _ {D : Type 0} (medium : Medium D) (name : List ℕ) (old : World D) (cli
               whole = refl;
             },
             subst (λ (ks : List machine.Client). StandsFor medium joined (record m' { clients = ks }))
-                (sym (end_set m.clients (client_of name m) s.1))
+                (sym (set-append_seam m.clients (client_of name m) [] s.1))
                 (stands m here s.1 s.4
                 ((opens_keeps name).at (client_in m' c) s.1 s.0 starts.on (ap (λ (k : machine.Client). k.name) is) s.3)),
           );

@@ -1,7 +1,7 @@
 -- The disks of a world, from one call to the next, and what is on them.
 use Rattle.std.proofs.Common.{◌≡◌, ℕ, ◌+◌, ◌<◌, Bool, true, false, List, [], ◌∷◌, ◌++◌, length, Option, Some, None}
 use Rattle.std.proofs.Common.{slice_get, slice_set, inl, refl, sym, ap, ◌∙◌, arith, append_assoc}
-use Rattle.std.proofs.lemmas.List.{length-append}
+use Rattle.std.proofs.lemmas.List.{length-append, length-set}
 use Rattle.std.specs.List.{AllByRecursion}
 use Rattle.std.specs.Prelude.{IsSome, is_some, Result, Ok, Err, IfErr, Vec}
 use Rattle.std.specs.declared.alloc.Global.{Global}
@@ -16,7 +16,9 @@ use Rattle.iot_world.specs.World.{with_first, with_clients, LaptopHasDisk, AreLa
 use Rattle.iot_world.specs.World.{Each, KeepsDisks, SameArms}
 use Rattle.iot_world.specs.Disks.{IsUnarmed}
 use Rattle.iot_world.specs.declared.world.World.{World}
-use Rattle.iot_world.proofs.ListLaws.{each_same, each_put, each_length}
+use Rattle.iot_world.proofs.ListLaws.{each_same, each_put}
+use Rattle.iot_machine.proofs.FollowsLaws.{all_set}
+use Rattle.std.proofs.Common.{slice_index_or, subst}
 use Rattle.iot_exchange.specs.declared.declared.DeclaredScript.{DeclaredScript}
 
 -- what is so of any answer is so unless a disk was armed
@@ -44,26 +46,16 @@ pushed_with (l ∷ ls) laptop spare = ap (with_first (disk_in l)) (pushed_with l
 
 -- ---- each node has its disk
 
-has_then : {D : Type 0} (laptops others : List (Laptop D)) → Each (λ was now. LaptopHasDisk was → LaptopHasDisk now) laptops others
-    → AllByRecursion LaptopHasDisk laptops → AllByRecursion LaptopHasDisk others
-has_then [] [] then_ all = tt
-has_then (l ∷ ls) (o ∷ os) then_ all = (then_.0 all.0, has_then ls os then_.1 all.1)
-has_then ls os then_ all = absurd then_
-
-pub has_push : {D : Type 0} (laptops : List (Laptop D)) (laptop : Laptop D) → LaptopHasDisk laptop → AllByRecursion LaptopHasDisk laptops
-    → AllByRecursion LaptopHasDisk (laptops ++ laptop ∷ [])
-has_push [] laptop has all = (has, tt)
-has_push (l ∷ ls) laptop has all = (all.0, has_push ls laptop has all.1)
-
--- other clients stand there, which have disks if those before had
-pub keeps_with : {D : Type 0} (old : World D) (clients : Vec (Laptop D) Global)
-    → Each (λ was now. LaptopHasDisk was → LaptopHasDisk now) old.clients.items clients.items
-    → KeepsDisks old (record old { clients = clients })
-keeps_with old clients each = record {
+-- another client stands at a place, which has a disk if the one before had
+pub put_keeps : {D : Type 0} (old : World D) (clients : Vec (Laptop D) Global) (c : ℕ) (was now : Laptop D)
+    → was ≡ slice_index_or old.clients.items c was → clients.items ≡ slice_set old.clients.items c now
+    → (LaptopHasDisk was → LaptopHasDisk now) → KeepsDisks old (record old { clients = clients })
+put_keeps old clients c was now value put then_ = record {
   has = λ has. record {
     server = has.server;
-    clients = has_then old.clients.items clients.items each has.clients;
-    room = rw (sym (each_length _ old.clients.items clients.items each)) has.room;
+    clients = rw put (all_set LaptopHasDisk old.clients.items c now was
+        (λ had. then_ (subst (λ (one : Laptop _). LaptopHasDisk one) (sym value) had)) has.clients);
+    room = omega (arith, has.room, ap length put, length-set old.clients.items c now);
   };
   spare = last_here old.spare.items;
 }

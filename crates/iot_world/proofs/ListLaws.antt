@@ -1,8 +1,7 @@
 -- Lists that are looked up and changed at a place, and lists that go together by place.
-use Rattle.std.proofs.Common.{◌≡◌, ℕ, zero, suc, ◌<◌, List, [], ◌∷◌, ◌++◌, length, map, refl, ap, subst, arith}
+use Rattle.std.proofs.Common.{◌≡◌, ℕ, zero, suc, List, [], ◌∷◌, ◌++◌, length, map, refl, ap, subst}
 use Rattle.std.proofs.Common.{slice_get, slice_index_or, slice_set, Some}
 use Rattle.std.proofs.lemmas.Option.{same_Some}
-use Rattle.iot_machine.specs.Machine.{Client, no_client}
 use Rattle.iot_world.specs.World.{Each}
 
 module _ {W M : Type 0} (stands : W → M → Type 0) where
@@ -45,12 +44,6 @@ module _ {W M : Type 0} (stands : W → M → Type 0) where
   each_get (w' ∷ ws) (m ∷ ms) (suc c) w e at all = each_get ws ms c w e at all.1
   each_get ws ms c w e at all = absurd all
 
-  pub get_inside : (ws : List W) (ms : List M) (c : ℕ) (w : W) → slice_get ws c ≡ Some w → Each stands ws ms → c < length ms
-  get_inside [] ms c w at all = absurd cc
-  get_inside (w' ∷ ws) (m ∷ ms) zero w at all = omega arith
-  get_inside (w' ∷ ws) (m ∷ ms) (suc c) w at all = let e : c < length ms = get_inside ws ms c w at all.1 in omega (arith, e)
-  get_inside ws ms c w at all = absurd all
-
 -- what each element has with itself, a list has with itself, and with one in which another stands at a place
 module _ {W : Type 0} (goes : W → W → Type 0) (here : (w : W) → goes w w) where
   pub each_same : (ws : List W) → Each goes ws ws
@@ -78,19 +71,3 @@ each_place_push P [] x all it zero y at = subst (P zero) (same_Some x y at) it
 each_place_push P [] x all it (suc n) y at = absurd cc
 each_place_push P (z ∷ zs) x all it zero y at = all zero y at
 each_place_push P (z ∷ zs) x all it (suc n) y at = each_place_push (λ n. P (suc n)) zs x (λ n y at. all (suc n) y at) it n y at
-
--- ---- the names of clients
-
--- another client of the same name leaves the names
-pub names_put : (clients : List Client) (c : ℕ) (client : Client) → client.name ≡ (slice_index_or clients c no_client).name
-    → map (λ (k : Client). k.name) (slice_set clients c client) ≡ map (λ (k : Client). k.name) clients
-names_put [] c client same = refl
-names_put (k ∷ ks) zero client same = ap (λ (n : List ℕ). n ∷ map (λ (k : Client). k.name) ks) same
-names_put (k ∷ ks) (suc c) client same = ap (λ (ns : List (List ℕ)). k.name ∷ ns) (names_put ks c client same)
-
--- the name of a client at a place inside
-pub name_at : (clients : List Client) (c : ℕ) → c < length clients
-    → slice_get (map (λ (k : Client). k.name) clients) c ≡ Some (slice_index_or clients c no_client).name
-name_at [] c within = absurd (omega arith)
-name_at (k ∷ ks) zero within = refl
-name_at (k ∷ ks) (suc c) within = name_at ks c (omega arith)

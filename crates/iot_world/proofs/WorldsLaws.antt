@@ -4,7 +4,7 @@ use Rattle.std.proofs.Common.{arith, ◌++◌}
 use Rattle.std.proofs.lemmas.List.{length-set, append-nil}
 use Rattle.std.specs.Prelude.{Vec}
 use Rattle.std.specs.declared.alloc.Global.{Global}
-use Rattle.std.proofs.lemmas.Option.{same_Some}
+use Rattle.std.proofs.lemmas.Option.{same_Some, slice_get-map, slice_get-get_or, slice_get_within}
 use Rattle.iot_disk.specs.Disk.{Medium}
 use Rattle.iot_event.specs.declared.event.ClientEvent.TheVariants as client_events
 use Rattle.iot_event.specs.declared.event.Task.{Task}
@@ -27,7 +27,9 @@ use Rattle.iot_exchange.specs.Scripts as exchange
 use Rattle.iot_exchange.specs.declared.declared.DeclaredScript.{DeclaredScript}
 use Rattle.iot_world.specs.World.{Each, ArePlaced, StandsFor, IsInside, Steps, scripts_of}
 use Rattle.iot_world.specs.declared.world.World.{World}
-use Rattle.iot_world.proofs.ListLaws.{each_get, each_set, each_length, get_inside, name_at, names_put, each_place_set}
+use Rattle.iot_world.proofs.ListLaws.{each_get, each_set, each_length, each_place_set}
+use Rattle.std.proofs.Math.Seq.{map-set_same}
+use Rattle.std.specs.Option.{option_map}
 use Rattle.iot_world.proofs.NamesLaws.{KeepsName}
 
 module _ {D : Type 0} (medium : Medium D) where
@@ -39,7 +41,12 @@ module _ {D : Type 0} (medium : Medium D) where
 
     module _ (c : ℕ) (laptop : Laptop D) (get : slice_get world.clients.items c ≡ Some laptop) where
       pub inside_here : c < length m.clients
-      inside_here = get_inside (ClientStands medium m.scripts) world.clients.items m.clients c laptop get here.clients_
+      inside_here = subst (λ n. c < n) same_length (slice_get_within world.clients.items c laptop get)
+
+      name_here : slice_get (names_in m) c ≡ Some (client_in m c).name
+      name_here =
+          slice_get-map (λ (k : Client). k.name) m.clients c
+          ∙ ap (option_map (λ (k : Client). k.name)) (slice_get-get_or m.clients c no_client inside_here)
 
       pub client_here : ClientStands medium m.scripts laptop (client_in m c)
       client_here = each_get (ClientStands medium m.scripts) world.clients.items m.clients c laptop no_client get here.clients_
@@ -54,7 +61,7 @@ module _ {D : Type 0} (medium : Medium D) where
         client = record {
           is = subst (λ (ss : List Declared). ClientStands medium ss laptop (client_in m c)) here.scripts client_here;
           place = here.placed c laptop get;
-          named = name_at m.clients c inside_here;
+          named = name_here;
           few = omega (arith, inside_here, same_length, here.eight);
         };
         server = here.server;
@@ -109,7 +116,7 @@ module _ {D : Type 0} (medium : Medium D) where
           → ServerStands medium (names_in m) server_ node n
           → StandsFor medium now (record m { server = node; requests = n; clients = slice_set m.clients c k })
       put_there m k node n here stands place name served =
-          stands_with m node n (slice_set m.clients c k) here (names_put m.clients c k name) served
+          stands_with m node n (slice_set m.clients c k) here (map-set_same (λ (k : Client). k.name) m.clients c k no_client name) served
           (rw put (each_set (ClientStands medium m.scripts) old.clients.items m.clients c laptop k stands here.clients_))
           (subst ArePlaced (sym put) (each_place_set (λ n (l : Laptop D). l.place ≡ n) old.clients.items c laptop here.placed place))
           (ap length put ∙ length-set old.clients.items c laptop)
@@ -121,7 +128,7 @@ module _ {D : Type 0} (medium : Medium D) where
       at_pair {x = x} {y = y} {a = a} one = at_part (pair_at c) old now x y a (λ m here.
           let s = (one (names_in m)).step ((pair_at c).get m) (pair_here old m here c was get) in
           let is = subst (λ (ss : List Declared). ClientStands medium ss laptop s.1.client) (sym here.scripts) s.4.client.is in
-          let same = same_Some _ _ (sym s.4.client.named ∙ name_at m.clients c (inside_here old m here c was get)) in
+          let same = same_Some _ _ (sym s.4.client.named ∙ name_here old m here c was get) in
           (s.0, s.1, s.2, s.3, put_there m s.1.client s.1.server s.1.requests here is s.4.client.place same s.4.server))
 
       pub at_task : (ss : List DeclaredScript) (task : Task ℕ) (x y : List ℕ) → ss ≡ old.scripts.items

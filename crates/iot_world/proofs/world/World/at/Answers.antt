@@ -1,10 +1,9 @@
 use Rattle.std.proofs.Common.{refl}
 use Rattle.iot_server_node.proofs.BeginningLaws.{commits_same, commits_kept}
 use Rattle.iot_world.proofs.DecidingLaws.{decides_here}
-use Rattle.iot_world.proofs.DisksLaws.{unless_armed, arms_with, put_client, keeps_with, node_arms, node_has, kept_follows, same_follows}
+use Rattle.iot_world.proofs.DisksLaws.{unless_armed, arms_with, put_client, put_keeps, node_arms, node_has, kept_follows, same_follows}
 use Rattle.iot_world.proofs.EventsLaws.{then_ok}
 use Rattle.iot_world.proofs.LendingLaws.{looked_up}
-use Rattle.iot_world.proofs.ListLaws.{each_put}
 use Rattle.iot_world.proofs.NamesLaws.{node_keeps, link_keeps}
 use Rattle.iot_world.proofs.WorldsLaws.{stands_there, at_client, at_task, task_stands}
 use Rattle.iot_world.proofs.world.World.at.Goals as goal
@@ -32,8 +31,7 @@ returns-in-Node-clause-decided g c =
 
 pub returns-in-Node-clause-disks : goal.returns-in-Node-clause-disks
 returns-in-Node-clause-disks g c =
-    let get = looked_up _ _ _ _ refl c.requires.inside.inside c.index_mut-laptop.ensures.value in
-    keeps_with _ _ (each_put _ (λ laptop had. had) _ c.args.client _ _ get (node_has g.D.Disk.medium _ _ _ _ c.befall.ensures.disk))
+    put_keeps _ _ c.args.client _ _ c.index_mut-laptop.ensures.value refl (node_has g.D.Disk.medium _ _ _ _ c.befall.ensures.disk)
 
 pub returns-in-Node-clause-arms : goal.returns-in-Node-clause-arms
 returns-in-Node-clause-arms g c =
