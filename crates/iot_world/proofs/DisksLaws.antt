@@ -99,8 +99,8 @@ module _ {D : Type 0} (medium : Medium D) where
 
   -- so it is of a world with these
   pub arms_with : {joins : ℕ} (old : World D) (server : ServerNode D) (clients : Vec (Laptop D) Global)
-      (scripts : Vec DeclaredScript Global) → Follows (disk_of old.server) (disk_of server) → Each ClientFollows old.clients.items clients.items
-      → KeepsCommits medium old.server server
+      (scripts : Vec DeclaredScript Global) → Follows (disk_of old.server) (disk_of server)
+      → Each ClientFollows old.clients.items clients.items → KeepsCommits medium old.server server
       → SameArms medium joins old (record old { server = server; clients = clients; scripts = scripts })
   arms_with old server clients scripts follows each commits = record {
     each = follows _ _ (clients_follow old.clients.items clients.items _ _ each (unarmed_same old.spare.items));

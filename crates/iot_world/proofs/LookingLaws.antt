@@ -1,9 +1,11 @@
 -- What one sees of the list who looks in at a world is what the machine says.
 use Rattle.std.proofs.Common.{◌≡◌, ℕ, ◌<◌, true, List, [], ◌∷◌, ◌++◌, length, map, Option, Some, Bor}
-use Rattle.std.proofs.Common.{◌+◌, take, get_or, sym, ap, subst, ◌∙◌}
+use Rattle.std.proofs.Common.{◌+◌, take, sym, ap, subst, ◌∙◌}
 use Rattle.std.proofs.lemmas.List.{length-map, map_more}
 use Rattle.std.proofs.lemmas.List.Elements.{All-from_recursion, All-map, All-weaker}
 use Rattle.std.specs.List.{AllByRecursion}
+use Rattle.std.proofs.Common.{slice_get}
+use Rattle.std.proofs.lemmas.Option.{get_or_from_slice_get, slice_get_within}
 use Rattle.std.specs.Option.{option_copied}
 use Rattle.iot_tree.specs.declared.labels.Label.{Label}
 use Rattle.iot_inspect.specs.Texts.{AreOf}
@@ -30,14 +32,13 @@ module _ {D : Type 0} (medium : Medium D) where
   -- ---- the names of the clients
 
   -- the names of so many, and of one more
-  pub names_more : (ls ws : List (Laptop D)) (n : ℕ) (laptop : Laptop D) (old new : List (List ℕ)) (name : List ℕ) → ws ≡ ls
-      → n < length ws → laptop ≡ get_or ws n laptop → name ≡ laptop.name → old ≡ map (λ (l : Laptop D). l.name) (take n ls)
+  pub names_more : (ls : List (Laptop D)) (n : ℕ) (laptop : Laptop D) (old new : List (List ℕ)) (name : List ℕ)
+      → slice_get ls n ≡ Some laptop → name ≡ laptop.name → old ≡ map (λ (l : Laptop D). l.name) (take n ls)
       → new ≡ old ++ name ∷ [] → new ≡ map (λ (l : Laptop D). l.name) (take (n + 1) ls)
-  names_more ls ws n laptop old new name same within value is so_far pushed =
-      pushed
-      ∙ (λ i. (so_far ∙ ap (λ ls. map (λ (l : Laptop D). l.name) (take n ls)) (sym same)) i ++ (is ∙ ap (λ (l : Laptop D). l.name) value) i ∷ [])
-      ∙ sym (map_more (λ (l : Laptop D). l.name) ws n laptop within)
-      ∙ ap (λ ls. map (λ (l : Laptop D). l.name) (take (n + 1) ls)) same
+  names_more ls n laptop old new name get is so_far pushed =
+      let here = ap (λ (l : Laptop D). l.name) (sym (get_or_from_slice_get ls n laptop laptop get)) in
+      pushed ∙ (λ i. so_far i ++ (is ∙ here) i ∷ [])
+      ∙ sym (map_more (λ (l : Laptop D). l.name) ls n laptop (slice_get_within ls n laptop get))
 
   pub names_are : (world : World D) (m : Machine) → StandsFor medium world m → client_names world ≡ names_in m
   names_are world m here =

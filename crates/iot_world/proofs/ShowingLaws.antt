@@ -32,9 +32,11 @@ module _ {D : Type 0} (medium : Medium D) (laptop : Laptop D) (x y : List ℕ) w
       → (scripts : List Declared) → Refines (ClientStands medium scripts) (node_part Show) laptop laptop x y tt
   shows t up is wrote scripts = shown scripts (λ m here.
       let there : LaptopStands medium scripts laptop m = awake_stands medium scripts laptop m up here in
-      bind laptop laptop laptop x x y true tt (asks laptop x true (λ n same. sym (ap (λ (n : Node ClientState). n.alive) same ∙ there.alive)))
+      bind laptop laptop laptop x x y true tt
+      (asks laptop x true (λ n same. sym (ap (λ (n : Node ClientState). n.alive) same ∙ there.alive)))
       (says laptop x y
-      (λ n same. wrote ∙ ap (λ (t : Nodes). x ++ tree_text t) (is scripts m there ∙ ap (λ (n : Node ClientState). view n.durable) (sym same)))))
+      (λ n same. wrote ∙ ap (λ (t : Nodes). x ++ tree_text t)
+      (is scripts m there ∙ ap (λ (n : Node ClientState). view n.durable) (sym same)))))
 
   -- one that is down shows nothing
   pub shows_down : is_alive laptop ≡ false → y ≡ x ++ line (codes "down")

@@ -147,8 +147,8 @@ module _ {D : Type 0} (medium : Medium D) where
   at_client old clients c was laptop x y a keeps get put same one = at_part (client_at c) old _ x y a (λ m here.
       let s = (one m.scripts).step (client_in m c) (client_here old m here c was get) in
       let named = (keeps (client_in m c).name).at (client_in m c) s.1 s.0 a refl s.3 in
-      let place = same ∙ here.placed c was get in
-      (s.0, s.1, s.2, s.3, put_there old old.server clients c was laptop get put m s.1 m.server m.requests here s.4 place named here.server))
+      let there = put_there old old.server clients c was laptop get put m s.1 m.server m.requests here s.4 in
+      (s.0, s.1, s.2, s.3, there (same ∙ here.placed c was get) named here.server))
 
   -- ---- the server
 

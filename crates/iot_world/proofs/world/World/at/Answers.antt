@@ -9,14 +9,17 @@ use Rattle.iot_world.proofs.WorldsLaws.{stands_there, at_client, at_task, task_s
 use Rattle.iot_world.proofs.world.World.at.Goals as goal
 
 pub befall-requires : goal.befall-requires
-befall-requires g c = stands_there _ _ _ c.requires.inside.stands _ _ (looked_up _ _ _ _ refl c.requires.inside.inside c.index_mut-laptop.ensures.value)
+befall-requires g c =
+    stands_there _ _ _ c.requires.inside.stands _ _ (looked_up _ _ _ _ refl c.requires.inside.inside c.index_mut-laptop.ensures.value)
 
 pub relink-requires : goal.relink-requires
-relink-requires g c = stands_there _ _ _ c.requires.inside.stands _ _ (looked_up _ _ _ _ refl c.requires.inside.inside c.index_mut-laptop.ensures.value)
+relink-requires g c =
+    stands_there _ _ _ c.requires.inside.stands _ _ (looked_up _ _ _ _ refl c.requires.inside.inside c.index_mut-laptop.ensures.value)
 
 pub perform-requires-clause-stands : goal.perform-requires-clause-stands
 perform-requires-clause-stands g c =
-    task_stands _ _ _ _ _ (looked_up _ _ _ _ refl c.requires.inside.inside c.index_mut-laptop.ensures.value) c.as_slice.ensures.value c.requires.inside
+    task_stands _ _ _ _ _ (looked_up _ _ _ _ refl c.requires.inside.inside c.index_mut-laptop.ensures.value)
+    c.as_slice.ensures.value c.requires.inside
 
 pub returns-in-Node-clause-step : goal.returns-in-Node-clause-step
 returns-in-Node-clause-step g c =

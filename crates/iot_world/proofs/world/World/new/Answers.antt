@@ -15,7 +15,8 @@ returns-in-Ok-clause-stands g c =
 
 pub returns-in-Ok-clause-arms : goal.returns-in-Ok-clause-arms
 returns-in-Ok-clause-arms g c =
-    opens_unarmed _ _ _ _ c.take_first.ensures.items c.requires _ _ c.unopened-server.ensures.disk c.open.ensures.disk _ _ c.new.ensures.items refl
+    opens_unarmed _ _ _ _ c.take_first.ensures.items c.requires _ _ c.unopened-server.ensures.disk c.open.ensures.disk _ _
+    c.new.ensures.items refl
 
 pub returns-in-Err-clause-refused : goal.returns-in-Err-clause-refused
 returns-in-Err-clause-refused g c =
