@@ -2,7 +2,6 @@
 use Rattle.std.proofs.Common.{◌≡◌, ℕ, ◌+◌, ◌<◌, suc, List, [], ◌∷◌, length, drop, slice_index_or}
 use Rattle.std.proofs.Common.{sym, ap, subst, ◌∙◌, add-one}
 use Rattle.std.proofs.Math.Seq.{drop-cons}
-use Rattle.iot_disk.specs.Disk.{Medium}
 use Rattle.iot_event.specs.Declarations.{AreDeclared, ClientEventIsDeclared}
 use Rattle.iot_event.specs.declared.event.ClientEvent.{ClientEvent}
 use Rattle.iot_event.specs.declared.event.ClientEvent.TheVariants as client_events
@@ -10,25 +9,16 @@ use Rattle.iot_event.specs.declared.event.Event.{Event}
 use Rattle.iot_event.specs.declared.event.Event.TheVariants as events
 use Rattle.iot_event.specs.declared.event.Task.TheVariants as tasks
 use Rattle.iot_world.specs.Allowed.{IsAllowed, MayBefall}
-use Rattle.iot_world.specs.World.{DeclaredOn, Opens, client_count, script_names}
+use Rattle.iot_world.specs.World.{DeclaredOn, client_count, script_names}
 use Rattle.iot_world.specs.declared.world.World.{World}
 
 -- what a client may be asked, if it says what it may say
 may_befall : (what : ClientEvent ℕ) (scripts : ℕ) → ClientEventIsDeclared what scripts → MayBefall what scripts
-may_befall (client_events.Node what) scripts declared = tt
-may_befall (client_events.Link what) scripts declared = tt
 may_befall (client_events.Task (tasks.Run script option)) scripts declared = declared
-may_befall (client_events.Task (tasks.Hoard path)) scripts declared = tt
-may_befall (client_events.Task tasks.Refresh) scripts declared = tt
 may_befall (client_events.Task (tasks.Begin script option)) scripts declared = declared
-may_befall (client_events.Task (tasks.Step count)) scripts declared = tt
-may_befall (client_events.Task tasks.End) scripts declared = tt
-may_befall (client_events.Task tasks.Sync) scripts declared = tt
-may_befall (client_events.Task tasks.Drain) scripts declared = tt
 may_befall (client_events.Task (tasks.Repair script)) scripts declared = declared
-may_befall (client_events.Task tasks.Discard) scripts declared = tt
-may_befall (client_events.Task tasks.Queue) scripts declared = tt
 may_befall (client_events.Task (tasks.Reads item)) scripts declared = declared.0
+may_befall what scripts declared = tt
 
 -- the first of events that are declared may come
 allowed_first : {D : Type 0} (event : Event) (later : List Event) (world : World D) → DeclaredOn (event ∷ later) world
@@ -37,19 +27,13 @@ allowed_first (events.Client name) later world declared = declared.0
 allowed_first (events.Script name code) later world declared = declared.1
 allowed_first (events.At client what) later world declared =
     (declared.0, may_befall what (length (script_names world)) declared.1)
-allowed_first (events.Server what) later world declared = tt
-allowed_first events.Log later world declared = tt
+allowed_first event later world declared = tt
 
 -- events that are declared after nothing are declared in a world that has nothing
 pub declared_new : {D : Type 0} (world : World D) → client_count world ≡ 0 → script_names world ≡ []
     → (events : List Event) → AreDeclared events 0 [] → DeclaredOn events world
 declared_new world no_clients no_scripts events declared =
-    subst (λ (n : ℕ). AreDeclared events n (script_names world)) (sym no_clients)
-    (subst (AreDeclared events 0) (sym no_scripts) declared)
-
-pub declared_opened : {D : Type 0} (medium : Medium D) (disks : List D) (x y : List ℕ) (world : World D) → Opens medium disks x y world
-    → (events : List Event) → AreDeclared events 0 [] → DeclaredOn events world
-declared_opened medium disks x y world made = declared_new world made.no_clients made.no_scripts
+    rw (no_clients, no_scripts) declared
 
 -- what is left of a list behind so many is the next one and what is behind it
 pub next_is : {A : Type 0} (xs : List A) (done : ℕ) (x : A) → done < length xs → x ≡ slice_index_or xs done x

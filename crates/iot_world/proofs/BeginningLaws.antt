@@ -1,5 +1,5 @@
 -- What each image of the first disk begins with.
-use Rattle.std.proofs.Common.{ℕ, List, ◌∷◌, ◌++◌, length, Option, None, Some, inl, inr, refl}
+use Rattle.std.proofs.Common.{ℕ, List, ◌++◌, length, Option, None, Some, inl, inr, refl}
 use Rattle.iot_disk.specs.Disk.{Medium}
 use Rattle.iot_machine.specs.Events.{names_in}
 use Rattle.iot_machine.specs.Machine.{Machine, Commit}

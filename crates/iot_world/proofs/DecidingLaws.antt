@@ -4,7 +4,6 @@ use Rattle.std.proofs.Common.{slice_get, inl, inr, refl, sym, ap, subst, ◌∙�
 use Rattle.std.proofs.lemmas.Bool.{le-leb, lt-leb}
 use Rattle.std.proofs.lemmas.List.{append-nil}
 use Rattle.iot_disk.specs.Disk.{Medium}
-use Rattle.iot_event.specs.declared.event.ClientEvent.{ClientEvent}
 use Rattle.iot_event.specs.declared.event.ClientEvent.TheVariants as client_events
 use Rattle.iot_event.specs.declared.event.Event.{Event}
 use Rattle.iot_event.specs.declared.event.Event.TheVariants as events
@@ -20,17 +19,18 @@ use Rattle.iot_node.specs.Keeping.{Keeping}
 use Rattle.iot_node.specs.Posts.{is_fallen, CameIf, back_said}
 use Rattle.iot_node.specs.declared.post.Doubt.{Doubt}
 use Rattle.iot_node.specs.declared.post.Post.{Post}
-use Rattle.iot_node.specs.declared.post.Post.TheVariants.{Up, Down, Between}
+use Rattle.iot_node.specs.declared.post.Post.TheVariants.{Down}
 use Rattle.iot_server_node.specs.Deciding as servers
 use Rattle.iot_server_node.specs.Deciding.{HasCount, Begins, DecidesBy, DecidesIfAny, DecidesServer}
 use Rattle.iot_server_node.specs.Keepers.{lists}
 use Rattle.iot_server_node.specs.declared.keeper.ServerKeeper.{ServerKeeper}
 use Rattle.iot_laptop.specs.Calls.{Came}
-use Rattle.iot_laptop.specs.Laptops.{ClientStands}
+use Rattle.iot_laptop.specs.Laptops.{ClientStands, StandsAnyhow}
+use Rattle.std.specs.Prelude.{Result, Ok, Err, OnOk}
 use Rattle.iot_laptop.specs.Seats.{IsClientImage, seating}
 use Rattle.iot_laptop.specs.declared.laptop.Laptop.{Laptop}
 use Rattle.iot_laptop.specs.declared.seated.Seated.{Seated}
-use Rattle.iot_world.specs.Deciding.{DecidesPost, DecidesClient, ClientDecides, ServerDecides, DecidesAt, Decides}
+use Rattle.iot_world.specs.Deciding.{DecidesPost, DecidesClient, ClientDecides, ServerDecides, Decides}
 use Rattle.iot_world.specs.World.{ClientIs}
 use Rattle.iot_world.specs.declared.world.World.{World}
 use Rattle.iot_world.proofs.LendingLaws.{one_at}
@@ -96,30 +96,21 @@ module _ {D : Type 0} (medium : Medium D) (place : ℕ) (name x mid y rest : Lis
     | inr it ↦ by_image (medium.may_leave disk) doubt name x mid y rest whole came.image (came.count + 1) it.0 came.left it.3 it.1
   ]
 
-  by_post : (post : Post (Seated D) D) (on : Bool) → CameIf (seating medium place) medium on post name x mid node
-      → (on ≡ false → y ≡ x ++ stopped_line name) → is_fallen post ≡ true → DecidesPost medium post name x y
-  by_post (Up seated) on came stopped down = tt
-  by_post (Down fallen) on came stopped down = by_doubt fallen.disk fallen.doubt on came stopped
-  by_post Between on came stopped down = tt
-
-decides_up : {D : Type 0} (medium : Medium D) (post : Post (Seated D) D) (name x y : List ℕ) → is_fallen post ≡ false
-    → DecidesPost medium post name x y
-decides_up medium (Up seated) name x y up = tt
-decides_up medium (Down fallen) name x y up = absurd cc
-decides_up medium Between name x y up = tt
-
 module _ {D : Type 0} (medium : Medium D) where
   -- by all images, as by the one from which it came
-  pub decides_client : (laptop : Laptop D) (scripts : List Declared) (m : Client) (x y : List ℕ) → ClientStands medium scripts laptop m
-      → (is_fallen laptop.post ≡ true → (scripts : List Declared) (m : Client) → ClientStands medium scripts laptop m
-      → Came medium laptop x y m) → DecidesClient medium x y laptop
-  decides_client laptop scripts m x y here came = record { by_all = by (is_fallen laptop.post) refl; by_image = came }
+  pub decides_client : {T E : Type 0} (r : Result T E) (laptop : Laptop D) (x y : List ℕ) → StandsAnyhow medium laptop
+      → (is_fallen laptop.post ≡ true → OnOk r ((scripts : List Declared) (m : Client) → ClientStands medium scripts laptop m
+      → Came medium laptop x y m)) → OnOk r (DecidesClient medium x y laptop)
+  decides_client (Err fault) laptop x y some came = tt
+  decides_client (Ok done) laptop x y some came = record { by_all = by laptop.post refl; by_image = came }
     where
-      by : (down : Bool) → is_fallen laptop.post ≡ down → DecidesPost medium laptop.post laptop.name x y
-      by true down =
-          let it = came down scripts m here in
-          by_post medium laptop.place laptop.name x it.mid y it.rest m.node it.whole laptop.post it.on it.came it.stopped down
-      by false up = decides_up medium laptop.post laptop.name x y up
+      by : (post : Post (Seated D) D) → laptop.post ≡ post → DecidesPost medium post laptop.name x y
+      by (Down fallen) is =
+          let it = came (ap (λ (p : Post (Seated D) D). is_fallen p) is) some.scripts some.machine some.stands in
+          by_doubt medium laptop.place laptop.name x it.mid y it.rest some.machine.node it.whole fallen.disk fallen.doubt it.on
+          (subst (λ (p : Post (Seated D) D). CameIf (seating medium laptop.place) medium it.on p laptop.name x it.mid some.machine.node) is
+          it.came) it.stopped
+      by post is = tt
 
   -- of the client at a place
   pub decides_here : (world : World D) (c : ℕ) (what : NodeEvent) (laptop : Laptop D) (x y : List ℕ)
@@ -161,20 +152,16 @@ module _ (x y said : List ℕ) (wrote : y ≡ x ++ said) where
       | inr it ↦ inr (it.0, wrote ∙ ap (λ (t : List ℕ). x ++ t) it.1, it.2, it.3)
     ];
   }
-  came_behind keeping medium true (Up keeper) name node came = tt
-  came_behind keeping medium true Between name node came = tt
-  came_behind keeping medium false post name node came = tt
+  came_behind keeping medium on post name node came = tt
 
 module _ {D : Type 0} (medium : Medium D) (x y said : List ℕ) (wrote : y ≡ x ++ said) where
   server_behind : (post : Post (ServerKeeper D) D) → servers.DecidesPost medium post [] said → servers.DecidesPost medium post x y
-  server_behind (Up keeper) decides = tt
   server_behind (Down fallen) decides = if_any_behind x y said wrote (medium.may_leave fallen.disk) fallen.doubt server_name decides
-  server_behind Between decides = tt
+  server_behind post decides = tt
 
   post_behind : (post : Post (Seated D) D) (name : List ℕ) → DecidesPost medium post name [] said → DecidesPost medium post name x y
-  post_behind (Up seated) name decides = tt
   post_behind (Down fallen) name decides = if_any_behind x y said wrote (medium.may_leave fallen.disk) fallen.doubt name decides
-  post_behind Between name decides = tt
+  post_behind post name decides = tt
 
   client_behind : (laptop : Laptop D) → DecidesClient medium [] said laptop → DecidesClient medium x y laptop
   client_behind laptop decides = record {
@@ -193,9 +180,7 @@ module _ {D : Type 0} (medium : Medium D) (x y said : List ℕ) (wrote : y ≡ x
 
   node_behind : (what : NodeEvent) (laptop : Laptop D) → ClientDecides medium what [] said laptop → ClientDecides medium what x y laptop
   node_behind nodes.Restart laptop decides = client_behind laptop decides
-  node_behind nodes.Show laptop decides = tt
-  node_behind nodes.Crash laptop decides = tt
-  node_behind (nodes.Stop calls pick) laptop decides = tt
+  node_behind what laptop decides = tt
 
   restart_behind : (what : NodeEvent) (old new : World D) → ServerDecides medium what old new [] said
       → ServerDecides medium what old new x y
@@ -204,19 +189,10 @@ module _ {D : Type 0} (medium : Medium D) (x y said : List ℕ) (wrote : y ≡ x
     by_image = λ names n node here.
         came_behind x y said wrote (lists medium) medium _ old.server.post server_name node (decides.by_image names n node here);
   }
-  restart_behind nodes.Show old new decides = tt
-  restart_behind nodes.Crash old new decides = tt
-  restart_behind (nodes.Stop calls pick) old new decides = tt
-
-  at_behind : (what : ClientEvent ℕ) (c : ℕ) (old : World D) → DecidesAt medium what c old [] said → DecidesAt medium what c old x y
-  at_behind (client_events.Node what) c old decides = λ laptop get. node_behind what laptop (decides laptop get)
-  at_behind (client_events.Link what) c old decides = tt
-  at_behind (client_events.Task what) c old decides = tt
+  restart_behind what old new decides = tt
 
   -- what is decided in the text of its own still is
   pub decides_behind : (event : Event) (old new : World D) → Decides medium event old new [] said → Decides medium event old new x y
   decides_behind (events.Server what) old new decides = restart_behind what old new decides
-  decides_behind (events.At c what) old new decides = at_behind what c old decides
-  decides_behind (events.Client name) old new decides = tt
-  decides_behind (events.Script name code) old new decides = tt
-  decides_behind events.Log old new decides = tt
+  decides_behind (events.At c (client_events.Node what)) old new decides = λ laptop get. node_behind what laptop (decides laptop get)
+  decides_behind event old new decides = tt

@@ -1,7 +1,7 @@
 -- What the disks hold that a world gives back.
-use Rattle.std.proofs.Common.{◌≡◌, ◌⊎◌, ◌+◌, ℕ, suc, List, [], ◌∷◌, ◌++◌, length, map, Option, Some, None}
+use Rattle.std.proofs.Common.{◌≡◌, ◌+◌, ℕ, suc, List, [], ◌∷◌, ◌++◌, length, map, Option, Some, None}
 use Rattle.std.proofs.Common.{inl, inr, refl, sym, ap, subst, ◌∙◌, arith}
-use Rattle.std.proofs.lemmas.List.{length-append}
+use Rattle.std.proofs.lemmas.List.{length-append, map-append}
 use Rattle.std.proofs.lemmas.Option.{same_Some}
 use Rattle.iot_kept.specs.Standing.{StandFor}
 use Rattle.iot_kept.specs.States.{State}
@@ -22,7 +22,6 @@ use Rattle.iot_server_node.specs.Keepers.{lists}
 use Rattle.iot_server_node.specs.Records.{IsImage}
 use Rattle.iot_server_node.specs.Servers as servers
 use Rattle.iot_server_node.specs.Servers.{ServerStands}
-use Rattle.iot_server_node.specs.declared.server.ServerNode.{ServerNode}
 use Rattle.iot_server_node.proofs.ServersLaws.{lasts}
 use Rattle.iot_laptop.specs.Laptops.{ClientStands, disk_in}
 use Rattle.iot_laptop.specs.Seats.{IsClientImage, seating}
@@ -30,16 +29,17 @@ use Rattle.iot_laptop.specs.declared.laptop.Laptop.{Laptop}
 use Rattle.iot_laptop.specs.declared.seated.Seated.{Seated}
 use Rattle.iot_laptop.proofs.NodesLaws.{node_stands}
 use Rattle.iot_laptop.proofs.SeatsLaws.{seat_images}
-use Rattle.iot_world.specs.Holding.{IsListed, Holds, HoldsList, IsKept, KeepsClient, DisksHold, counts_in}
+use Rattle.iot_world.specs.Holding.{IsListed, Holds, IsKept, KeepsClient, DisksHold, counts_in}
 use Rattle.iot_world.specs.World.{Each, StandsFor, Opens, KeepsDisks, with_first, with_clients, disks_of}
 use Rattle.iot_world.specs.declared.world.World.{World}
 use Rattle.iot_world.proofs.ListedLaws.{state_is}
 
--- a node has this disk, which holds what is said of it
-record HasHeld {D : Type 0} (P : D → Type 0) (o : Option D) : Type 0 where
+-- a node's disk, with what it holds and has counted
+pub record HasHeld {S D : Type 0} (medium : Medium D) (Is : S → List ℕ → Type 0) (node : Node S) (o : Option D) : Type 0 where
   pub disk : D
   pub is : o ≡ Some disk
-  pub holds : P disk
+  pub holds : Holds Is (medium.may_leave disk) node.durable node.doubt
+  pub counts : counts_on medium disk ≡ node.counts
 
 -- ---- any node
 
@@ -50,34 +50,31 @@ module _ {K S D : Type 0} (keeping : Keeping K S D) (medium : Medium D) (Is : S 
       → ((image : List ℕ) → images image → HoldsEither keeping medium count node image) → Holds Is images node.durable node.doubt
   holds images count node each = by node.doubt refl
     where
-      sure : (image : List ℕ) → node.doubt ≡ None → HoldsEither keeping medium count node image → Is node.durable image
-      sure image none (inl it) = means node.durable image count it
-      sure image none (inr it) = let e : Some it.0 ≡ None = sym it.1 ∙ none in absurd cc
-
-      either : (image : List ℕ) (after : S) → node.doubt ≡ Some after → HoldsEither keeping medium count node image
-          → Is node.durable image ⊎ Is after image
-      either image after is (inl it) = inl (means node.durable image count it)
-      either image after is (inr it) =
-          inr (subst (λ (s : S). Is s image) (same_Some it.0 after (sym it.1 ∙ is)) (means it.0 image (count + 1) it.2))
-
       by : (doubt : Option S) → node.doubt ≡ doubt → Holds Is images node.durable doubt
-      by None is = λ image left. sure image is (each image left)
-      by (Some after) is = λ image left. either image after is (each image left)
+      by None is = λ image left. elim (each image left) [
+        | inl it ↦ means node.durable image count it
+        | inr it ↦ let e : Some it.0 ≡ None = sym it.1 ∙ is in absurd cc
+      ]
+      by (Some after) is = λ image left. elim (each image left) [
+        | inl it ↦ inl (means node.durable image count it)
+        | inr it ↦ inr (subst (λ (s : S). Is s image) (same_Some it.0 after (sym it.1 ∙ is)) (means it.0 image (count + 1) it.2))
+      ]
 
-  has_held : (post : Post K D) (node : Node S) → Lasts keeping medium post node
-      → HasHeld (λ disk. Holds Is (medium.may_leave disk) node.durable node.doubt) (disk_of keeping.disk post)
-  has_held post node lasting = record {
+  counted : (says : S → S → List ℕ) (post : Post K D) (node : Node S) → PostStands keeping medium says post node
+      → CountsOn medium (disk_of keeping.disk post) node.counts
+  counted says (Up keeper) node here = ap (λ (c : Counts). Some c) here.counts
+  counted says (Down fallen) node here = ap (λ (c : Counts). Some c) here.counts
+  counted says Between node here = absurd here
+
+  has_held : (says : S → S → List ℕ) (post : Post K D) (node : Node S) → PostStands keeping medium says post node
+      → Lasts keeping medium post node → HasHeld medium Is node (disk_of keeping.disk post)
+  has_held says post node here lasting = record {
     disk = lasting.disk;
     is = lasting.has;
     holds = holds (medium.may_leave lasting.disk) lasting.count node (λ image left. lasting.each.each image left);
+    counts = same_Some (counts_on medium lasting.disk) node.counts
+        (subst (λ (o : Option D). CountsOn medium o node.counts) lasting.has (counted says post node here));
   }
-
--- what it has counted
-posts_count : {K S D : Type 0} (keeping : Keeping K S D) (medium : Medium D) (says : S → S → List ℕ) (post : Post K D) (node : Node S)
-    → PostStands keeping medium says post node → CountsOn medium (disk_of keeping.disk post) node.counts
-posts_count keeping medium says (Up keeper) node here = ap (λ (c : Counts). Some c) here.counts
-posts_count keeping medium says (Down fallen) node here = ap (λ (c : Counts). Some c) here.counts
-posts_count keeping medium says Between node here = absurd here
 
 -- an image that is a list of so many is that list
 is_listed : (commits : List Commit) (image : List ℕ) (count : ℕ) → IsImage image count commits → IsListed commits image
@@ -87,13 +84,6 @@ is_kept : (m : ClientState) (image : List ℕ) (count : ℕ) → IsClientImage i
 is_kept m image count is = subst (λ (s : State). StandFor image s) (state_is is.state m is.kept) is.stands
 
 module _ {D : Type 0} (medium : Medium D) where
-  -- ---- the server
-
-  server_holds : (names : List (List ℕ)) (it : ServerNode D) (node : Node (List Commit)) (n : ℕ) → ServerStands medium names it node n
-      → HasHeld (λ disk. HoldsList (medium.may_leave disk) node.durable node.doubt) (servers.disk_of it)
-  server_holds names it node n stands =
-      has_held (lists medium) medium IsListed is_listed it.post node (lasts medium names it node n stands)
-
   -- ---- a client
 
   client_lasts : (place : ℕ) (post : Post (Seated D) D) (node : Node ClientState)
@@ -112,11 +102,12 @@ module _ {D : Type 0} (medium : Medium D) where
   }
   client_lasts place Between node here = absurd here
 
-  client_holds : (scripts : List Declared) (laptop : Laptop D) (m : machine.Client) → ClientStands medium scripts laptop m
-      → HasHeld (λ disk. KeepsClient medium disk m) (disk_in laptop)
+  pub client_holds : (scripts : List Declared) (laptop : Laptop D) (m : machine.Client) → ClientStands medium scripts laptop m
+      → HasHeld medium IsKept m.node (disk_in laptop)
   client_holds scripts laptop m here =
-      has_held (seating medium laptop.place) medium IsKept is_kept laptop.post m.node
-      (client_lasts laptop.place laptop.post m.node (node_stands medium scripts laptop m here))
+      let stands = node_stands medium scripts laptop m here in
+      has_held (seating medium laptop.place) medium IsKept is_kept no_text laptop.post m.node stands
+      (client_lasts laptop.place laptop.post m.node stands)
 
   -- ---- all of them
 
@@ -126,12 +117,11 @@ module _ {D : Type 0} (medium : Medium D) where
     pub are : (rest : List D) → with_clients laptops rest ≡ disks ++ rest
     pub each : Each (KeepsClient medium) disks ms
     pub long : length disks ≡ length laptops
+    pub counts : map (counts_on medium) disks ≡ map (λ (m : machine.Client). m.node.counts) ms
 
   clients_hold : (scripts : List Declared) (laptops : List (Laptop D)) (ms : List machine.Client)
       → Each (ClientStands medium scripts) laptops ms → AreHeld laptops ms
-  clients_hold scripts [] [] all = record { disks = []; are = λ rest. refl; each = tt; long = refl }
-  clients_hold scripts [] (m ∷ ms) all = absurd all
-  clients_hold scripts (laptop ∷ laptops) [] all = absurd all
+  clients_hold scripts [] [] all = record { disks = []; are = λ rest. refl; each = tt; long = refl; counts = refl }
   clients_hold scripts (laptop ∷ laptops) (m ∷ ms) all =
       let one = client_holds scripts laptop m all.0 in
       let others = clients_hold scripts laptops ms all.1 in
@@ -142,63 +132,52 @@ module _ {D : Type 0} (medium : Medium D) where
             ∙ ap (λ (ds : List D). one.disk ∷ ds) (others.are rest);
         each = (one.holds, others.each);
         long = ap suc others.long;
+        counts = λ i. one.counts i ∷ others.counts i;
       }
+  clients_hold scripts laptops ms all = absurd all
+
+  module _ (world : World D) (m : Machine) (here : StandsFor medium world m) where
+    server_held : HasHeld medium IsListed m.server (servers.disk_of world.server)
+    server_held =
+        has_held (lists medium) medium IsListed is_listed (kept_text (names_in m)) world.server.post m.server here.server.post
+        (lasts medium (names_in m) world.server m.server m.requests here.server)
+
+    held : AreHeld world.clients.items m.clients
+    held = clients_hold m.scripts world.clients.items m.clients here.clients_
+
+    disks_are : disks_of world ≡ server_held.disk ∷ held.disks ++ world.spare.items
+    disks_are =
+        ap (λ (o : Option D). with_first o (with_clients world.clients.items world.spare.items)) server_held.is
+        ∙ ap (λ (ds : List D). server_held.disk ∷ ds) (held.are world.spare.items)
+
+    -- they have counted what the machine's disks have
+    pub disks_count : map (counts_on medium) (disks_of world) ≡ counts_in m
+    disks_count =
+        let others = map-append (counts_on medium) held.disks world.spare.items ∙ (λ i. held.counts i ++ here.counts i) in
+        ap (map (counts_on medium)) disks_are ∙ (λ i. server_held.counts i ∷ others i)
 
   -- each disk holds what its node keeps, and those behind them are as they were handed in
   pub disks_hold : (disks : List D) (before world : World D) (m : Machine) (x y : List ℕ) → StandsFor medium world m
       → Opens medium disks x y before → KeepsDisks before world → DisksHold medium disks (disks_of world) m
-  disks_hold disks before world m x y here opens same =
-      let server = server_holds (names_in m) world.server m.server m.requests here.server in
-      let held = clients_hold m.scripts world.clients.items m.clients here.clients_ in
-      record {
-        server = server.disk;
-        clients = held.disks;
-        spare = world.spare.items;
-        is =
-            ap (λ (o : Option D). with_first o (with_clients world.clients.items world.spare.items)) server.is
-            ∙ ap (λ (ds : List D). server.disk ∷ ds) (held.are world.spare.items);
-        list = server.holds;
-        longer = here.server.known.longer;
-        each = held.each;
-        first = opens.first;
-        front = same.spare.front;
-        was = opens.were ∙ ap (λ (ds : List D). opens.first ∷ ds) same.spare.split;
-        aligned =
-            omega (
-              arith,
-              held.long,
-              here.eight,
-              opens.stands.stands.eight,
-              opens.no_clients,
-              ap length same.spare.split,
-              length-append same.spare.front world.spare.items,
-            );
-      }
-
-  -- ---- what they count
-
-  first_counts : (o : Option D) (counts : Counts) (rest : List D) → CountsOn medium o counts
-      → map (counts_on medium) (with_first o rest) ≡ counts ∷ map (counts_on medium) rest
-  first_counts None counts rest is = absurd cc
-  first_counts (Some disk) counts rest is =
-      ap (λ (c : Counts). c ∷ map (counts_on medium) rest) (same_Some (counts_on medium disk) counts is)
-
-  clients_count : (scripts : List Declared) (laptops : List (Laptop D)) (ms : List machine.Client) (rest : List D)
-      → Each (ClientStands medium scripts) laptops ms
-      → map (counts_on medium) (with_clients laptops rest) ≡ map (λ (m : machine.Client). m.node.counts) ms ++ map (counts_on medium) rest
-  clients_count scripts [] [] rest all = refl
-  clients_count scripts [] (m ∷ ms) rest all = absurd all
-  clients_count scripts (laptop ∷ laptops) [] rest all = absurd all
-  clients_count scripts (laptop ∷ laptops) (m ∷ ms) rest all =
-      first_counts (disk_in laptop) m.node.counts (with_clients laptops rest)
-      (posts_count (seating medium laptop.place) medium no_text laptop.post m.node (node_stands medium scripts laptop m all.0))
-      ∙ ap (λ (cs : List Counts). m.node.counts ∷ cs) (clients_count scripts laptops ms rest all.1)
-
-  -- they have counted what the machine's disks have
-  pub disks_count : (world : World D) (m : Machine) → StandsFor medium world m → map (counts_on medium) (disks_of world) ≡ counts_in m
-  disks_count world m here =
-      first_counts (servers.disk_of world.server) m.server.counts (with_clients world.clients.items world.spare.items)
-      (posts_count (lists medium) medium (kept_text (names_in m)) world.server.post m.server here.server.post)
-      ∙ ap (λ (cs : List Counts). m.server.counts ∷ cs)
-      (clients_count m.scripts world.clients.items m.clients world.spare.items here.clients_
-      ∙ ap (λ (cs : List Counts). map (λ (k : machine.Client). k.node.counts) m.clients ++ cs) here.counts)
+  disks_hold disks before world m x y here opens same = record {
+    server = (server_held world m here).disk;
+    clients = (held world m here).disks;
+    spare = world.spare.items;
+    is = disks_are world m here;
+    list = (server_held world m here).holds;
+    longer = here.server.known.longer;
+    each = (held world m here).each;
+    first = opens.first;
+    front = same.spare.front;
+    was = opens.were ∙ ap (λ (ds : List D). opens.first ∷ ds) same.spare.split;
+    aligned =
+        omega (
+          arith,
+          (held world m here).long,
+          here.eight,
+          opens.stands.stands.eight,
+          opens.no_clients,
+          ap length same.spare.split,
+          length-append same.spare.front world.spare.items,
+        );
+  }

@@ -1,22 +1,22 @@
 -- The clients that a world lends are the machine's.
 use Rattle.std.proofs.Common.{◌≡◌, ℕ, ◌<◌, ◌≤◌, List, length, Option, Some, None, sym, ap, subst, ◌∙◌, arith}
-use Rattle.std.proofs.Common.{slice_get, inl, inr, get_or, refl, true, false}
+use Rattle.std.proofs.Common.{slice_get, inl, inr, get_or, refl, false}
 use Rattle.std.proofs.lemmas.Option.{slice_get_read, same_Some}
 use Rattle.std.specs.Prelude.{IfSome}
 use Rattle.iot_kept.specs.States as kept
 use Rattle.iot_kept.specs.States.{view}
-use Rattle.iot_client.specs.Ties.{Live, live_of, disk_of as client_disk}
+use Rattle.iot_client.specs.Ties.{Live, disk_of as client_disk}
 use Rattle.iot_client.specs.declared.client.Client.{Client}
 use Rattle.iot_disk.specs.Disk.{Medium}
 use Rattle.iot_machine.specs.Machine.{Machine, client_in}
 use Rattle.iot_node.specs.declared.post.Post.{Post}
-use Rattle.iot_node.specs.declared.post.Post.TheVariants.{Up, Down, Between}
-use Rattle.iot_laptop.specs.Laptops.{IsLent, LaptopStands, ClientStands, ItemsStand, RunningStandsIfAny}
-use Rattle.iot_laptop.specs.Laptops.{awake, fallen, lent_by, disk_by, state_in, live_in, disk_in, is_alive}
+use Rattle.iot_node.specs.declared.post.Post.TheVariants.{Up}
+use Rattle.iot_laptop.specs.Laptops.{IsLent, LaptopStands, ItemsStand, RunningStandsIfAny}
+use Rattle.iot_laptop.specs.Laptops.{lent_by, disk_by, state_in, live_in, disk_in, is_alive}
 use Rattle.iot_laptop.specs.declared.laptop.Laptop.{Laptop}
 use Rattle.iot_laptop.specs.declared.seated.Seated.{Seated}
 use Rattle.iot_laptop.proofs.LaptopsLaws.{view_is}
-use Rattle.iot_laptop.proofs.NodesLaws.{own_in, lent_at, awake_stands, is_awake}
+use Rattle.iot_laptop.proofs.NodesLaws.{own_in, lent_at, awake_stands, fallen_stands}
 use Rattle.iot_world.specs.World.{StandsFor, IsWorldOfSome, LendsClient, ClientIs, IsReady}
 use Rattle.iot_world.specs.declared.world.World.{World}
 use Rattle.iot_world.proofs.WorldsLaws.{same_length, inside_here, client_here}
@@ -34,8 +34,7 @@ one_at xs c x y one other = same_Some x y (sym one ∙ other)
 -- the client that is lent is the laptop's
 lent_up : {D : Type 0} (post : Post (Seated D) D) (it : Client D) → Some it ≡ lent_by post → post ≡ Up (record { client = it })
 lent_up (Up seated) it is = ap (λ (one : Client _). Up (record { client = one })) (same_Some seated.client it (sym is))
-lent_up (Down down) it is = absurd cc
-lent_up Between it is = absurd cc
+lent_up post it is = absurd cc
 
 module _ {D : Type 0} (medium : Medium D) where
   -- the client at a place is the machine's there
@@ -45,7 +44,7 @@ module _ {D : Type 0} (medium : Medium D) where
     lends_client it is m here =
         let up : laptop.post ≡ Up (record { client = it }) = lent_up laptop.post it is in
         let there : LaptopStands medium m.scripts laptop (client_in m place) =
-        awake_stands medium m.scripts laptop (client_in m place) (alive_by laptop.post it up)
+        awake_stands medium m.scripts laptop (client_in m place) (ap (λ (p : Post (Seated D) D). is_alive (record laptop { post = p })) up)
         (client_here medium world m here place laptop get) in
         let lent : IsLent medium laptop it =
         lent_at medium laptop it up (record { scripts = m.scripts; machine = client_in m place; stands = there }) in
@@ -63,38 +62,23 @@ module _ {D : Type 0} (medium : Medium D) where
                 subst (λ (s : kept.State). ItemsStand s.items s.held (client_in m place).node.durable.items) (sym lent.state)
                 there.state.items;
             running =
-                subst
-                (λ (s : kept.State). RunningStandsIfAny s.running (live_of it) (client_in m place).first
-                (client_in m place).node.durable.running)
-                (sym lent.state)
-                (subst
-                (λ (l : Option Live). RunningStandsIfAny (state_in laptop).running l (client_in m place).first
-                (client_in m place).node.durable.running)
-                (sym lent.live) there.state.running);
+                subst (λ (o : kept.State × Option Live). RunningStandsIfAny o.0.running o.1 (client_in m place).first
+                (client_in m place).node.durable.running) (λ i. (sym lent.state i, sym lent.live i)) there.state.running;
             tied = lent.tied;
             begun = lent.begun;
             place_is = lent.place ∙ here.placed place laptop get;
             few = omega (arith, within, many, here.eight);
           },
         )
-      where
-        alive_by : (post : Post (Seated D) D) (it : Client D) → post ≡ Up (record { client = it })
-            → is_alive (record laptop { post = post }) ≡ true
-        alive_by (Up seated) it is = refl
-        alive_by (Down down) it is = absurd cc
-        alive_by Between it is = absurd cc
 
     lends_fallen : None ≡ lent_by laptop.post → (m : Machine) → StandsFor medium world m → LendsClient medium None place m
-    lends_fallen is m here = inr (by (client_here medium world m here place laptop get))
+    lends_fallen is m here =
+        let there = client_here medium world m here place laptop get in
+        inr (fallen_stands medium m.scripts laptop (client_in m place) (down_by laptop.post is) there).alive
       where
-        off_by : (post : Post (Seated D) D) → None ≡ lent_by post → is_alive (record laptop { post = post }) ≡ true → ⊥
-        off_by (Up seated) none up = absurd cc
-        off_by (Down down) none up = absurd cc
-        off_by Between none up = absurd cc
-
-        by : ClientStands medium m.scripts laptop (client_in m place) → (client_in m place).node.alive ≡ false
-        by (awake there) = absurd (off_by laptop.post is (is_awake medium m.scripts laptop (client_in m place) there))
-        by (fallen there) = there.alive
+        down_by : (post : Post (Seated D) D) → None ≡ lent_by post → is_alive (record laptop { post = post }) ≡ false
+        down_by (Up seated) none = absurd cc
+        down_by post none = refl
 
     -- whether it is alive or down
     pub lends_any : (o : Option (Client D)) → o ≡ lent_by laptop.post → (m : Machine) → StandsFor medium world m

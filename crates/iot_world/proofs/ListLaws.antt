@@ -1,46 +1,59 @@
 -- Lists that are looked up and changed at a place, and lists that go together by place.
-use Rattle.std.proofs.Common.{◌≡◌, ℕ, zero, suc, ◌<◌, List, [], ◌∷◌, ◌++◌, length, map, refl, ap, subst, arith}
+use Rattle.std.proofs.Common.{◌≡◌, ℕ, zero, suc, List, [], ◌∷◌, ◌++◌, length, map, refl, ap, subst}
 use Rattle.std.proofs.Common.{slice_get, slice_index_or, slice_set, Some}
 use Rattle.std.proofs.lemmas.Option.{same_Some}
-use Rattle.iot_machine.specs.Machine.{Client, no_client}
 use Rattle.iot_world.specs.World.{Each}
 
 module _ {W M : Type 0} (stands : W → M → Type 0) where
   pub each_set : (ws : List W) (ms : List M) (c : ℕ) (w : W) (m : M) → stands w m → Each stands ws ms
       → Each stands (slice_set ws c w) (slice_set ms c m)
   each_set [] [] c w m it all = tt
-  each_set [] (m' ∷ ms) c w m it all = absurd all
-  each_set (w' ∷ ws) [] c w m it all = absurd all
   each_set (w' ∷ ws) (m' ∷ ms) zero w m it all = (it, all.1)
   each_set (w' ∷ ws) (m' ∷ ms) (suc c) w m it all = (all.0, each_set ws ms c w m it all.1)
+  each_set ws ms c w m it all = absurd all
 
   pub each_push : (ws : List W) (ms : List M) (w : W) (m : M) → stands w m → Each stands ws ms
       → Each stands (ws ++ w ∷ []) (ms ++ m ∷ [])
   each_push [] [] w m it all = (it, tt)
-  each_push [] (m' ∷ ms) w m it all = absurd all
-  each_push (w' ∷ ws) [] w m it all = absurd all
   each_push (w' ∷ ws) (m' ∷ ms) w m it all = (all.0, each_push ws ms w m it all.1)
+  each_push ws ms w m it all = absurd all
 
   pub each_length : (ws : List W) (ms : List M) → Each stands ws ms → length ws ≡ length ms
   each_length [] [] all = refl
-  each_length [] (m ∷ ms) all = absurd all
-  each_length (w ∷ ws) [] all = absurd all
   each_length (w ∷ ws) (m ∷ ms) all = ap suc (each_length ws ms all.1)
+  each_length ws ms all = absurd all
 
-module _ {W M : Type 0} (stands : W → M → Type 0) where
+  -- what follows of each two of them, and what they have in common
+  pub each_map : (others : W → M → Type 0) → ((w : W) (m : M) → stands w m → others w m) → (ws : List W) (ms : List M) → Each stands ws ms
+      → Each others ws ms
+  each_map others then_ [] [] all = tt
+  each_map others then_ (w ∷ ws) (m ∷ ms) all = (then_ w m all.0, each_map others then_ ws ms all.1)
+  each_map others then_ ws ms all = absurd all
+
+  pub each_same_as : {A : Type 0} (f : W → A) (g : M → A) → ((w : W) (m : M) → stands w m → f w ≡ g m) → (ws : List W) (ms : List M)
+      → Each stands ws ms → map f ws ≡ map g ms
+  each_same_as f g same [] [] all = refl
+  each_same_as f g same (w ∷ ws) (m ∷ ms) all = λ i. same w m all.0 i ∷ each_same_as f g same ws ms all.1 i
+  each_same_as f g same ws ms all = absurd all
+
   -- the elements at one place go together
   pub each_get : (ws : List W) (ms : List M) (c : ℕ) (w : W) (e : M) → slice_get ws c ≡ Some w → Each stands ws ms
       → stands w (slice_index_or ms c e)
   each_get [] ms c w e at all = absurd cc
-  each_get (w' ∷ ws) [] c w e at all = absurd all
   each_get (w' ∷ ws) (m ∷ ms) zero w e at all = subst (λ (v : W). stands v m) (same_Some w' w at) all.0
   each_get (w' ∷ ws) (m ∷ ms) (suc c) w e at all = each_get ws ms c w e at all.1
+  each_get ws ms c w e at all = absurd all
 
-  pub get_inside : (ws : List W) (ms : List M) (c : ℕ) (w : W) → slice_get ws c ≡ Some w → Each stands ws ms → c < length ms
-  get_inside [] ms c w at all = absurd cc
-  get_inside (w' ∷ ws) [] c w at all = absurd all
-  get_inside (w' ∷ ws) (m ∷ ms) zero w at all = omega arith
-  get_inside (w' ∷ ws) (m ∷ ms) (suc c) w at all = let e : c < length ms = get_inside ws ms c w at all.1 in omega (arith, e)
+-- what each element has with itself, a list has with itself, and with one in which another stands at a place
+module _ {W : Type 0} (goes : W → W → Type 0) (here : (w : W) → goes w w) where
+  pub each_same : (ws : List W) → Each goes ws ws
+  each_same [] = tt
+  each_same (w ∷ ws) = (here w, each_same ws)
+
+  pub each_put : (ws : List W) (c : ℕ) (was now : W) → slice_get ws c ≡ Some was → goes was now → Each goes ws (slice_set ws c now)
+  each_put [] c was now get it = tt
+  each_put (w ∷ ws) zero was now get it = (rw (same_Some w was get) it, each_same ws)
+  each_put (w ∷ ws) (suc c) was now get it = (here w, each_put ws c was now get it)
 
 -- what is so of each element at its place is so of the list in which one is set that is so at its place
 pub each_place_set : {A : Type 0} (P : ℕ → A → Type 0) (xs : List A) (c : ℕ) (x : A)
@@ -58,19 +71,3 @@ each_place_push P [] x all it zero y at = subst (P zero) (same_Some x y at) it
 each_place_push P [] x all it (suc n) y at = absurd cc
 each_place_push P (z ∷ zs) x all it zero y at = all zero y at
 each_place_push P (z ∷ zs) x all it (suc n) y at = each_place_push (λ n. P (suc n)) zs x (λ n y at. all (suc n) y at) it n y at
-
--- ---- the names of clients
-
--- another client of the same name leaves the names
-pub names_put : (clients : List Client) (c : ℕ) (client : Client) → client.name ≡ (slice_index_or clients c no_client).name
-    → map (λ (k : Client). k.name) (slice_set clients c client) ≡ map (λ (k : Client). k.name) clients
-names_put [] c client same = refl
-names_put (k ∷ ks) zero client same = ap (λ (n : List ℕ). n ∷ map (λ (k : Client). k.name) ks) same
-names_put (k ∷ ks) (suc c) client same = ap (λ (ns : List (List ℕ)). k.name ∷ ns) (names_put ks c client same)
-
--- the name of a client at a place inside
-pub name_at : (clients : List Client) (c : ℕ) → c < length clients
-    → slice_get (map (λ (k : Client). k.name) clients) c ≡ Some (slice_index_or clients c no_client).name
-name_at [] c within = absurd (omega arith)
-name_at (k ∷ ks) zero within = refl
-name_at (k ∷ ks) (suc c) within = name_at ks c (omega arith)

@@ -1,57 +1,49 @@
 -- What one sees of the list who looks in at a world is what the machine says.
-use Rattle.std.proofs.Common.{◌≡◌, ℕ, ◌<◌, true, false, List, [], ◌∷◌, ◌++◌, length, map, Option, Some, None, Bor}
-use Rattle.std.proofs.Common.{◌+◌, take, get_or, refl, sym, ap, subst, ◌∙◌, codes}
+use Rattle.std.proofs.Common.{◌≡◌, ℕ, ◌<◌, true, List, [], ◌∷◌, ◌++◌, length, map, Option, Some, Bor}
+use Rattle.std.proofs.Common.{◌+◌, take, sym, ap, subst, ◌∙◌}
 use Rattle.std.proofs.lemmas.List.{length-map, map_more}
 use Rattle.std.proofs.lemmas.List.Elements.{All-from_recursion, All-map, All-weaker}
 use Rattle.std.specs.List.{AllByRecursion}
+use Rattle.std.proofs.Common.{slice_get}
+use Rattle.std.proofs.lemmas.Option.{get_or_from_slice_get, slice_get_within}
 use Rattle.std.specs.Option.{option_copied}
 use Rattle.iot_tree.specs.declared.labels.Label.{Label}
 use Rattle.iot_inspect.specs.Texts.{AreOf}
 use Rattle.iot_server.specs.Servers.{state_of}
 use Rattle.iot_server.specs.declared.server.Server.{Server}
 use Rattle.iot_disk.specs.Disk.{Medium}
-use Rattle.iot_machine.specs.Clients.{Declared}
 use Rattle.iot_machine.specs.Events.{Logs, names_in}
 use Rattle.iot_machine.specs.Machine as machine
 use Rattle.iot_machine.specs.Machine.{Machine, Commit}
 use Rattle.iot_machine.specs.Recorded.{label_of, labels_of}
 use Rattle.iot_machine.specs.Sound.{IsListed}
-use Rattle.iot_machine.specs.Texts.{line, log_text}
-use Rattle.iot_node.proofs.StepsLaws.{bind, asks, says, says_this}
+use Rattle.iot_machine.specs.Texts.{log_text}
+use Rattle.iot_node.proofs.StepsLaws.{bind, asks, says}
 use Rattle.iot_server_node.specs.Servers.{IsServerOf}
 use Rattle.iot_laptop.specs.Laptops.{ClientStands}
 use Rattle.iot_laptop.specs.declared.laptop.Laptop.{Laptop}
 use Rattle.iot_laptop.proofs.NodesLaws.{same_name}
 use Rattle.iot_world.specs.Looks.{client_names}
-use Rattle.iot_world.specs.World.{Each, StandsFor, IsWorldOfSome, Steps, LendsServer}
+use Rattle.iot_world.specs.World.{StandsFor, IsWorldOfSome, Steps, LendsServer}
 use Rattle.iot_world.specs.declared.world.World.{World}
+use Rattle.iot_world.proofs.ListLaws.{each_same_as}
 
 module _ {D : Type 0} (medium : Medium D) where
   -- ---- the names of the clients
 
-  names_by : (scripts : List Declared) (ls : List (Laptop D)) (ms : List machine.Client) → Each (ClientStands medium scripts) ls ms
-      → map (λ (l : Laptop D). l.name) ls ≡ map (λ (m : machine.Client). m.name) ms
-  names_by scripts [] [] all = refl
-  names_by scripts [] (m ∷ ms) all = absurd all
-  names_by scripts (l ∷ ls) [] all = absurd all
-  names_by scripts (l ∷ ls) (m ∷ ms) all =
-      ap (λ (n : List ℕ). n ∷ map (λ (l : Laptop D). l.name) ls) (same_name medium scripts l m all.0)
-      ∙ ap (λ (ns : List (List ℕ)). m.name ∷ ns) (names_by scripts ls ms all.1)
-
   -- the names of so many, and of one more
-  pub names_more : (ls ws : List (Laptop D)) (n : ℕ) (laptop : Laptop D) (old new : List (List ℕ)) (name : List ℕ) → ws ≡ ls
-      → n < length ws → laptop ≡ get_or ws n laptop → name ≡ laptop.name → old ≡ map (λ (l : Laptop D). l.name) (take n ls)
+  pub names_more : (ls : List (Laptop D)) (n : ℕ) (laptop : Laptop D) (old new : List (List ℕ)) (name : List ℕ)
+      → slice_get ls n ≡ Some laptop → name ≡ laptop.name → old ≡ map (λ (l : Laptop D). l.name) (take n ls)
       → new ≡ old ++ name ∷ [] → new ≡ map (λ (l : Laptop D). l.name) (take (n + 1) ls)
-  names_more ls ws n laptop old new name same within value is so_far pushed =
-      subst (λ (xs : List (Laptop D)). old ≡ map (λ (l : Laptop D). l.name) (take n xs) → new ≡ map (λ (l : Laptop D). l.name) (take (n + 1)
-      xs)) same
-      (λ so_far.
-      pushed
-      ∙ (λ i. so_far i ++ (is ∙ ap (λ (l : Laptop D). l.name) value) i ∷ [])
-      ∙ sym (map_more (λ (l : Laptop D). l.name) ws n laptop within)) so_far
+  names_more ls n laptop old new name get is so_far pushed =
+      let here = ap (λ (l : Laptop D). l.name) (sym (get_or_from_slice_get ls n laptop laptop get)) in
+      pushed ∙ (λ i. so_far i ++ (is ∙ here) i ∷ [])
+      ∙ sym (map_more (λ (l : Laptop D). l.name) ls n laptop (slice_get_within ls n laptop get))
 
   pub names_are : (world : World D) (m : Machine) → StandsFor medium world m → client_names world ≡ names_in m
-  names_are world m here = names_by m.scripts world.clients.items m.clients here.clients_
+  names_are world m here =
+      each_same_as (ClientStands medium m.scripts) (λ (l : Laptop D). l.name) (λ (k : machine.Client). k.name) (same_name medium m.scripts)
+      world.clients.items m.clients here.clients_
 
   -- ---- the server
 
@@ -60,12 +52,6 @@ module _ {D : Type 0} (medium : Medium D) where
       → ((m : Machine) → StandsFor medium world m → LendsServer (option_copied o) m) → o ≡ Some it
       → (m : Machine) → StandsFor medium world m → IsServerOf it.now m.server m.requests
   lent_up world o it lent is m here = subst (λ (o : Option (Server D)). LendsServer o m) (ap option_copied is) (lent m here)
-
-  -- if none is lent it is down
-  pub lent_down : (world : World D) (o : Option (Bor (Server D)))
-      → ((m : Machine) → StandsFor medium world m → LendsServer (option_copied o) m) → o ≡ None
-      → (m : Machine) → StandsFor medium world m → m.server.alive ≡ false
-  lent_down world o lent is m here = subst (λ (o : Option (Server D)). LendsServer o m) (ap option_copied is) (lent m here)
 
   -- ---- the list
 
@@ -83,9 +69,7 @@ module _ {D : Type 0} (medium : Medium D) where
       → ((m : Machine) → StandsFor medium world m → IsServerOf it m.server m.requests) → AreOf names labels
   are_of world names labels it world_of same are lent =
       let m : Machine = world_of.machine in
-      subst (λ (ns : List (List ℕ)). AreOf ns labels) (sym same)
-      (subst (AreOf (names_in m)) (sym (are ∙ (lent m world_of.stands.stands).labels))
-      (listed_by m m.server.durable world_of.stands.sound.listed.is))
+      rw (same, are, (lent m world_of.stands.stands).labels) (listed_by m m.server.durable world_of.stands.sound.listed.is)
 
   module _ (world : World D) (x y : List ℕ) where
     pub logs_up : (names : List (List ℕ)) (labels : List Label) (it : Server D) → names ≡ client_names world
@@ -98,9 +82,3 @@ module _ {D : Type 0} (medium : Medium D) where
         wrote
         ∙ ap (λ (ns : List (List ℕ)). x ++ log_text ns labels) (same ∙ names_are world m here)
         ∙ ap (λ (ls : List Label). x ++ log_text (names_in m) ls) (are ∙ (lent m here).labels)))
-
-    pub logs_down : ((m : Machine) → StandsFor medium world m → m.server.alive ≡ false) → y ≡ x ++ line (codes "down")
-        → Steps medium Logs world world x y tt
-    logs_down down wrote =
-        bind world world world x x y false tt (asks world x false (λ m here. sym (down m here)))
-        (says_this (line (codes "down")) world x y wrote)

@@ -1,8 +1,7 @@
 -- A new world is that of a machine that has opened.
 use Rattle.std.proofs.Common.{◌≡◌, ℕ, ◌<◌, Bool, List, [], ◌∷◌, length, map}
-use Rattle.std.proofs.Common.{Option, Some, refl, sym, ap, subst, ◌∙◌, arith}
+use Rattle.std.proofs.Common.{Some, refl, sym, ap, subst, ◌∙◌, arith}
 use Rattle.std.proofs.lemmas.List.{append-nil}
-use Rattle.std.specs.List.{AllByRecursion}
 use Rattle.std.specs.Prelude.{IsSome}
 use Rattle.std.specs.Vec.{vec_len, vec_capacity}
 use Rattle.iot_disk.specs.Disk.{Medium}
@@ -12,25 +11,20 @@ use Rattle.iot_machine.specs.Serving.{server_name}
 use Rattle.iot_machine.specs.Stops.{OpensNode}
 use Rattle.iot_machine.specs.Transcript.{Opening}
 use Rattle.iot_machine.proofs.SoundLaws.{sound_opening}
-use Rattle.iot_node.specs.Disks.{IsEmpty, KeepsDisk, counts_on}
+use Rattle.iot_node.specs.Disks.{KeepsDisk, counts_on}
 use Rattle.iot_node.specs.Steps.{StepsTo}
-use Rattle.iot_server_node.specs.Records.{DiskBegins, records_of}
 use Rattle.iot_server_node.specs.Servers.{disk_of, ServerStands, HavingAnswered, KeepsCommits}
 use Rattle.iot_server_node.specs.declared.server.ServerNode.{ServerNode}
-use Rattle.iot_laptop.specs.Laptops.{ClientStands}
 use Rattle.iot_laptop.specs.declared.laptop.Laptop.{Laptop}
 use Rattle.iot_exchange.specs.Scripts as exchange
 use Rattle.iot_exchange.specs.declared.declared.DeclaredScript.{DeclaredScript}
 use Rattle.iot_world.specs.Disks.{AreFresh}
-use Rattle.iot_world.specs.World.{Each, ArePlaced, AreUnarmed, GivesBack, LaptopHasDisk, Opens, with_first, with_clients}
+use Rattle.iot_world.specs.World.{ArePlaced, AreUnarmed, GivesBack, Opens, with_first, with_clients}
 use Rattle.iot_world.specs.declared.world.World.{World}
 use Rattle.iot_world.proofs.DisksLaws.{kept_follows, unarmed_same}
 
 module _ {D : Type 0} (medium : Medium D) (disks : List D) (first : D) (rest : List D) (split : disks ≡ first ∷ rest)
     (fresh : AreFresh medium disks) where
-  all : AllByRecursion (IsEmpty medium) (first ∷ rest)
-  all = subst (λ (ds : List D). AllByRecursion (IsEmpty medium) ds) split fresh.each
-
   -- a world of its server alone
   pub opens : (world : World D) (was : ServerNode D) (x y : List ℕ) (on : Bool)
       → ServerStands medium [] was (unopened [] (counts_on medium first)) 0
@@ -39,13 +33,10 @@ module _ {D : Type 0} (medium : Medium D) (disks : List D) (first : D) (rest : L
       → vec_len world.spare < vec_capacity world.spare → Opens medium disks x y world
   opens world was x y on stands one some clients scripts spare room =
       let counts : List Counts = map (counts_on medium) disks in
-      let handed_on : handed counts ≡ handed (map (counts_on medium) (first ∷ rest)) =
-      ap (λ (ds : List D). handed (map (counts_on medium) ds)) split in
       let s = one.step (unopened [] (counts_on medium first)) stands in
       let m : Machine = record (handed (map (counts_on medium) (first ∷ rest))) { server = s.1 } in
       let step : Opening (handed counts) s.0 tt m =
-      subst (λ (h : Machine). Opening h s.0 tt m) (sym handed_on)
-      (record {
+      rw split (record {
         mid = m;
         front = s.0;
         rest = [];
@@ -62,11 +53,11 @@ module _ {D : Type 0} (medium : Medium D) (disks : List D) (first : D) (rest : L
         stands = record {
           stands = record {
             server = s.4;
-            clients_ = subst (λ (ls : List (Laptop D)). Each (ClientStands medium []) ls []) (sym clients) tt;
+            clients_ = rw clients tt;
             scripts = ap (λ (ss : List DeclaredScript). exchange.scripts_of ss) (sym scripts);
             apart = λ place script at. absurd cc;
             placed = subst ArePlaced (sym clients) (λ place laptop at. absurd cc);
-            spare = subst (λ (ds : List D). AllByRecursion (IsEmpty medium) ds) (sym spare) all.1;
+            spare = rw spare (rw split at fresh.each).1;
             counts = ap (map (counts_on medium)) spare;
             eight = omega (arith, ap length clients, ap length spare, ap length split, fresh.nine);
           };
@@ -76,7 +67,7 @@ module _ {D : Type 0} (medium : Medium D) (disks : List D) (first : D) (rest : L
         no_scripts = ap (map (λ (s : DeclaredScript). s.name)) scripts;
         has = record {
           server = some;
-          clients = subst (λ (ls : List (Laptop D)). AllByRecursion LaptopHasDisk ls) (sym clients) tt;
+          clients = rw clients tt;
           room = omega (arith, ap length clients, room);
         };
         first = first;
@@ -86,16 +77,11 @@ module _ {D : Type 0} (medium : Medium D) (disks : List D) (first : D) (rest : L
   -- in which no disk was armed
   module _ (was now : ServerNode D) (has : disk_of was ≡ Some first) (keeps : KeepsDisk medium (disk_of was) (disk_of now)) where
     unarmed_with : AreUnarmed medium (first ∷ rest) (with_first (disk_of now) rest)
-    unarmed_with = subst (λ o. AreUnarmed medium (with_first o rest) (with_first (disk_of now) rest)) has
-        (kept_follows medium (disk_of was) (disk_of now) keeps rest rest (unarmed_same medium rest))
+    unarmed_with = rw has at (kept_follows medium (disk_of was) (disk_of now) keeps rest rest (unarmed_same medium rest))
 
     pub opens_unarmed : (laptops : List (Laptop D)) (spare : List D) → laptops ≡ [] → spare ≡ rest
         → AreUnarmed medium disks (with_first (disk_of now) (with_clients laptops spare))
-    opens_unarmed laptops spare none others =
-        subst (λ (ds : List D). AreUnarmed medium ds (with_first (disk_of now) (with_clients laptops spare))) (sym split)
-        (subst (λ (ds : List D). AreUnarmed medium (first ∷ rest) ds)
-        (λ i. with_first (disk_of now) (with_clients (sym none i) (sym others i)))
-        unarmed_with)
+    opens_unarmed laptops spare none others = rw (split, none, others) unarmed_with
 
     -- the disks come back
     pub gives_back : (back : List D) (disk : D) → disk_of now ≡ Some disk → back ≡ disk ∷ rest
@@ -106,13 +92,11 @@ module _ {D : Type 0} (medium : Medium D) (disks : List D) (first : D) (rest : L
       rest = rest;
       disks_are = split;
       back_are = put;
-      unarmed = (subst (λ o. AreUnarmed medium (first ∷ rest) (with_first o rest)) is unarmed_with).0;
+      unarmed = (rw is at unarmed_with).0;
       begins = record {
         first = disk;
         rest = rest;
         is = put;
-        begins =
-            subst (λ (o : Option D). DiskBegins medium (records_of []) o) is
-            (commits.keeps [] (unopened [] (counts_on medium first)) 0 stands);
+        begins = rw is at (commits.keeps [] (unopened [] (counts_on medium first)) 0 stands);
       };
     }

@@ -1,6 +1,6 @@
 -- Scripts by their names, as more are declared.
-use Rattle.std.proofs.Common.{◌≡◌, ℕ, zero, suc, Bool, true, false, List, [], ◌∷◌, ◌++◌, map, Option, Some, None, IfSome, cond}
-use Rattle.std.proofs.Common.{refl, subst, ◌||◌, ◌⊎◌, inl, inr, bytes_eq, slice_get}
+use Rattle.std.proofs.Common.{◌≡◌, ℕ, Bool, true, false, List, [], ◌∷◌, ◌++◌, map, Option, Some, None, IfSome, cond}
+use Rattle.std.proofs.Common.{refl, ap, ◌∙◌, ◌||◌, bytes_eq}
 use Rattle.std.proofs.lemmas.Slice.Eq.{bytes_eq-Decides}
 use Rattle.std.specs.List.{find, AllByRecursion}
 use Rattle.iot_event.specs.Meanings.{is_declared}
@@ -15,40 +15,30 @@ use Rattle.iot_laptop.specs.declared.laptop.Laptop.{Laptop}
 use Rattle.iot_exchange.specs.Scripts.{AreApart, script_of}
 use Rattle.iot_exchange.specs.declared.declared.DeclaredScript.{DeclaredScript}
 use Rattle.iot_world.specs.World.{Each}
+use Rattle.iot_world.proofs.ListLaws.{each_map, each_place_push}
+use Rattle.std.proofs.lemmas.List.Folds.{find-append}
+use Rattle.std.specs.Option.{option_or}
 
 -- ---- one script more
 
 find_more : (test : Declared → Bool) (scripts : List Declared) (one script : Declared) → find test scripts ≡ Some script
     → find test (scripts ++ one ∷ []) ≡ Some script
-find_more test [] one script is = absurd cc
-find_more test (s ∷ scripts) one script is = by (test s) is (λ rest. find_more test scripts one script rest)
-  where
-    by : (b : Bool) → cond b (Some s) (find test scripts) ≡ Some script
-        → (find test scripts ≡ Some script → find test (scripts ++ one ∷ []) ≡ Some script)
-        → cond b (Some s) (find test (scripts ++ one ∷ [])) ≡ Some script
-    by true is more = is
-    by false is more = more is
+find_more test scripts one script is =
+    find-append test scripts (one ∷ []) ∙ ap (λ (o : Option Declared). option_or o (find test (one ∷ []))) is
 
 find_last : (test : Declared → Bool) (scripts : List Declared) (one : Declared) → find test scripts ≡ None → test one ≡ true
     → find test (scripts ++ one ∷ []) ≡ Some one
-find_last test [] one none is = rw is refl
-find_last test (s ∷ scripts) one none is = by (test s) none (λ rest. find_last test scripts one rest is)
-  where
-    by : (b : Bool) → cond b (Some s) (find test scripts) ≡ None
-        → (find test scripts ≡ None → find test (scripts ++ one ∷ []) ≡ Some one)
-        → cond b (Some s) (find test (scripts ++ one ∷ [])) ≡ Some one
-    by true none more = absurd cc
-    by false none more = more none
+find_last test scripts one none is =
+    find-append test scripts (one ∷ []) ∙ ap (λ (o : Option Declared). option_or o (find test (one ∷ []))) none
+    ∙ ap (λ (b : Bool). cond b (Some one) None) is
 
 module _ (scripts : List Declared) (one : Declared) where
   named_more : (script : Declared) → IsNamed scripts script → IsNamed (scripts ++ one ∷ []) script
   named_more script named = find_more (λ s. bytes_eq script.name s.name) scripts one script named
 
   has_more : (option : OnConflict Declared) → HasNamed scripts option → HasNamed (scripts ++ one ∷ []) option
-  has_more options.Reexec named = tt
   has_more (options.Resolver script) named = named_more script named
-  has_more options.Abort named = tt
-  has_more options.Manual named = tt
+  has_more option named = tt
 
   items_more : (items : List Item) → AllByRecursion (ItemIsNamed scripts) items → AllByRecursion (ItemIsNamed (scripts ++ one ∷ [])) items
   items_more [] named = tt
@@ -84,41 +74,21 @@ module _ (scripts : List Declared) (one : Declared) where
       link = here.link;
       alive = here.alive;
       node = here.node;
-      named = record {
-        is = state_more m.node.durable here.named.is;
-        may_be = if_more m.node.doubt here.named.may_be;
-      };
+      named = record { is = state_more m.node.durable here.named.is; may_be = if_more m.node.doubt here.named.may_be };
     })
 
     -- each client's transactions still have their scripts
     pub clients_more : (laptops : List (Laptop D)) (ms : List machine.Client) → Each (ClientStands medium scripts) laptops ms
         → Each (ClientStands medium (scripts ++ one ∷ [])) laptops ms
-    clients_more [] [] each = tt
-    clients_more [] (m ∷ ms) each = absurd each
-    clients_more (laptop ∷ laptops) [] each = absurd each
-    clients_more (laptop ∷ laptops) (m ∷ ms) each = (client_more laptop m each.0, clients_more laptops ms each.1)
+    clients_more = each_map (ClientStands medium scripts) (ClientStands medium (scripts ++ one ∷ [])) client_more
 
 -- ---- scripts with names of their own
 
-same_name : (name : List ℕ) → bytes_eq name name ≡ true
-same_name name = (bytes_eq-Decides name name).1 refl
-
-last_or_before : {A : Type 0} (xs : List A) (x y : A) (place : ℕ) → slice_get (xs ++ x ∷ []) place ≡ Some y
-    → (slice_get xs place ≡ Some y) ⊎ (x ≡ y)
-last_or_before [] x y zero at = inr cc
-last_or_before [] x y (suc place) at = absurd cc
-last_or_before (z ∷ xs) x y zero at = inl at
-last_or_before (z ∷ xs) x y (suc place) at = last_or_before xs x y place at
-
 pub apart_more : (scripts : List Declared) (one : Declared) → AreApart scripts → script_named one.name scripts ≡ None
     → AreApart (scripts ++ one ∷ [])
-apart_more scripts one apart none place script at = by (last_or_before scripts one script place at)
-  where
-    by : (slice_get scripts place ≡ Some script) ⊎ (one ≡ script) → IsNamed (scripts ++ one ∷ []) script
-    by (inl before) = named_more scripts one script (apart place script before)
-    by (inr same) =
-        subst (IsNamed (scripts ++ one ∷ [])) same
-        (find_last (λ s. bytes_eq one.name s.name) scripts one none (same_name one.name))
+apart_more scripts one apart none =
+    each_place_push (λ n. IsNamed (scripts ++ one ∷ [])) scripts one (λ n script at. named_more scripts one script (apart n script at))
+    (find_last (λ s. bytes_eq one.name s.name) scripts one none ((bytes_eq-Decides one.name one.name).1 refl))
 
 -- a name that is not declared names none
 pub undeclared : (ws : List DeclaredScript) (name : List ℕ) → is_declared name (map (λ w. w.name) ws) ≡ false

@@ -1,16 +1,16 @@
 -- How many of a world's disks are spare, and where they are.
-use Rattle.std.proofs.Common.{◌≡◌, ℕ, ◌+◌, List, [], ◌∷◌, ◌++◌, length, map, Option, Some, None, refl, ap, ◌∙◌, arith}
+use Rattle.std.proofs.Common.{◌≡◌, ◌+◌, List, [], ◌∷◌, ◌++◌, length, map, Option, Some, None, refl, ap, ◌∙◌, arith}
 use Rattle.std.proofs.lemmas.List.{length-append, length-map}
 use Rattle.iot_disk.specs.Disk.{Medium}
 use Rattle.iot_machine.specs.Machine.{Machine, Client}
-use Rattle.iot_laptop.specs.Laptops.{ClientStands, disk_in}
+use Rattle.iot_laptop.specs.Laptops.{disk_in}
 use Rattle.iot_laptop.specs.declared.laptop.Laptop.{Laptop}
 use Rattle.iot_server_node.specs.Servers.{disk_of}
 use Rattle.iot_world.specs.Disks.{counts_on}
 use Rattle.iot_world.specs.Holding.{counts_in}
 use Rattle.iot_world.specs.World.{StandsFor, with_first, with_clients, disks_of}
 use Rattle.iot_world.specs.declared.world.World.{World}
-use Rattle.iot_world.proofs.ListLaws.{each_length}
+use Rattle.iot_world.proofs.WorldsLaws.{same_length}
 
 -- ---- where they are
 
@@ -36,12 +36,9 @@ used_first world =
 -- ---- how many they are
 
 module _ {D : Type 0} (medium : Medium D) (world : World D) (m : Machine) (stands : StandsFor medium world m) where
-  as_many : length world.clients.items ≡ length m.clients
-  as_many = each_length (ClientStands medium m.scripts) world.clients.items m.clients stands.clients_
-
   -- those that no client has
   pub eight_spare : length world.spare.items + length m.clients ≡ 8
-  eight_spare = omega (arith, as_many, stands.eight)
+  eight_spare = omega (arith, same_length medium world m stands, stands.eight)
 
   pub nine_counts : length (counts_in m) ≡ 9
   nine_counts =

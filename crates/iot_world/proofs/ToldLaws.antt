@@ -1,31 +1,24 @@
 -- What all nodes hold, as JSON, is what the machine holds.
-use Rattle.std.proofs.Common.{◌≡◌, ℕ, ◌+◌, ◌<◌, ◌≤◌, Bool, true, false, List, [], ◌∷◌, ◌++◌, length, map, take, Option, Some, None}
+use Rattle.std.proofs.Common.{◌≡◌, ℕ, ◌+◌, ◌<◌, ◌≤◌, Bool, true, List, [], ◌∷◌, ◌++◌, length, take, Some}
 use Rattle.std.proofs.Common.{slice_get, sym, ap, subst, ◌∙◌, arith}
 use Rattle.std.proofs.lemmas.List.{take_all, map_more}
 use Rattle.std.specs.Prelude.{if◌then◌else◌}
 use Rattle.serde_json.specs.Data.{Data}
-use Rattle.serde_json.specs.View.{items_of}
-use Rattle.serde_json.specs.Written.{compact_text}
 use Rattle.iot_tree.specs.Tree.{Nodes}
-use Rattle.iot_tree.specs.declared.labels.Label.{Label}
 use Rattle.iot_queue.specs.declared.items.Item.{Item}
 use Rattle.iot_inspect.specs.Shown.{shown, named}
-use Rattle.iot_inspect.specs.Values.{live_data, down_data, whole_data}
+use Rattle.iot_inspect.specs.Values.{live_data, down_data}
 use Rattle.iot_inspect.specs.declared.snapshot.Json.{Json}
-use Rattle.iot_server.specs.Servers.{state_of}
-use Rattle.iot_server.specs.declared.server.Server.{Server}
 use Rattle.iot_disk.specs.Disk.{Medium}
 use Rattle.iot_machine.specs.Clients.{view}
-use Rattle.iot_machine.specs.Events.{names_in}
-use Rattle.iot_machine.specs.Json.{client_data, server_tree, json_text}
-use Rattle.iot_machine.specs.Machine.{Machine, Client, client_in, tree_after, no_client}
-use Rattle.iot_machine.specs.Recorded.{queue_kept, labels_of}
-use Rattle.iot_server_node.specs.Servers.{IsServerOf}
-use Rattle.iot_laptop.specs.Laptops.{LaptopStands, StandsAnyhow, IsView, is_alive, state_in}
+use Rattle.iot_machine.specs.Json.{client_data}
+use Rattle.iot_machine.specs.Machine.{Machine, Client, client_in, no_client}
+use Rattle.iot_machine.specs.Recorded.{queue_kept}
+use Rattle.iot_laptop.specs.Laptops.{LaptopStands, IsView, is_alive, state_in}
 use Rattle.iot_laptop.specs.declared.laptop.Laptop.{Laptop}
 use Rattle.iot_laptop.proofs.NodesLaws.{awake_stands}
 use Rattle.iot_world.specs.Looks.{HasTold, AddsTold, Tells}
-use Rattle.iot_world.specs.World.{StandsFor, StandsForSome}
+use Rattle.iot_world.specs.World.{StandsFor}
 use Rattle.iot_world.specs.declared.world.World.{World}
 use Rattle.iot_world.proofs.ListedLaws.{queue_are}
 use Rattle.iot_world.proofs.WorldsLaws.{same_length, inside_here, client_here}
@@ -40,25 +33,18 @@ live_is m up =
 
 module _ {D : Type 0} (medium : Medium D) where
   module _ (laptop : Laptop D) (old new : Json) (names : named new ≡ named old ++ laptop.name ∷ []) where
-    adds : (m : Client) (data_ : Data) → laptop.name ≡ m.name → data_ ≡ client_data m → shown new ≡ shown old ++ data_ ∷ []
-        → AddsTold m old new
-    adds m data_ same is told = record {
-      clients = told ∙ ap (λ (d : Data). shown old ++ d ∷ []) is;
-      names = names ∙ ap (λ (n : List ℕ). named old ++ n ∷ []) same;
-    }
-
     pub tells_live : (items : List Item) (t : Nodes) → is_alive laptop ≡ true → items ≡ (state_in laptop).items
         → IsView medium t laptop
         → shown new ≡ shown old ++ live_data laptop.name items t ∷ [] → Tells medium laptop old new
     tells_live items t up same sees told = λ scripts m here.
         let there : LaptopStands medium scripts laptop m = awake_stands medium scripts laptop m up here in
-        adds m (live_data laptop.name items t) there.name
-        (ap (λ (n : List ℕ). live_data n items t) there.name
-        ∙ ap (λ (is : List Item). live_data m.name is t)
-        (same ∙ queue_are (state_in laptop).items (state_in laptop).held m.node.durable there.state.held there.state.items)
-        ∙ ap (live_data m.name (queue_kept m.node.durable)) (sees scripts m there)
-        ∙ live_is m there.alive)
-        told
+        let kept = queue_are (state_in laptop).items (state_in laptop).held m.node.durable there.state.held there.state.items in
+        let is : live_data laptop.name items t ≡ client_data m =
+        (λ i. live_data (there.name i) ((same ∙ kept) i) (sees scripts m there i)) ∙ live_is m there.alive in
+        record {
+          clients = told ∙ ap (λ (d : Data). shown old ++ d ∷ []) is;
+          names = names ∙ ap (λ (n : List ℕ). named old ++ n ∷ []) there.name;
+        }
 
   -- ---- all clients
 
@@ -66,18 +52,7 @@ module _ {D : Type 0} (medium : Medium D) where
   abbrev pub TellsFirst : World D → (n : ℕ) → Json → Type 0
   TellsFirst world n json = (m : Machine) → StandsFor medium world m → HasTold (take n m.clients) json
 
-  pub tells_none : (world : World D) (json : Json) → shown json ≡ [] → named json ≡ [] → TellsFirst world 0 json
-  tells_none world json none nameless = λ m here. record { clients = none; names = nameless }
-
   module _ (world : World D) (n : ℕ) (laptop : Laptop D) (get : slice_get world.clients.items n ≡ Some laptop) where
-    -- it stands for a client
-    pub stands_at : StandsForSome medium world → StandsAnyhow medium laptop
-    stands_at some = record {
-      scripts = some.machine.scripts;
-      machine = client_in some.machine n;
-      stands = client_here medium world some.machine some.stands n laptop get;
-    }
-
     -- one more
     pub tells_more : (old new : Json) → TellsFirst world n old → Tells medium laptop old new → TellsFirst world (n + 1) new
     tells_more old new so_far one = λ m here.
@@ -99,42 +74,3 @@ module _ {D : Type 0} (medium : Medium D) where
   tells_all world n json all so_far m here =
       let long : length world.clients.items ≡ length m.clients = same_length medium world m here in
       subst (λ (ms : List Client). HasTold ms json) (take_all n m.clients (omega (arith, all, long))) (so_far m here)
-
--- ---- the server
-
-tree_up : (m : Machine) → m.server.alive ≡ true → Some (tree_after m.server.durable) ≡ server_tree m
-tree_up m up = ap (λ (b : Bool). if b then Some (tree_after m.server.durable) else None) (sym up)
-
-tree_down : (m : Machine) → m.server.alive ≡ false → None ≡ server_tree m
-tree_down m down = ap (λ (b : Bool). if b then Some (tree_after m.server.durable) else None) (sym down)
-
--- all nodes as they were told
-abbrev pub text_with : Json → List Label → Option Nodes → List ℕ
-text_with json labels tree = compact_text (whole_data (items_of (shown json)) (named json) labels tree)
-
-told_with : (m : Machine) (json : Json) (labels : List Label) (tree : Option Nodes) → HasTold m.clients json
-    → text_with json labels tree ≡ compact_text (whole_data (items_of (map client_data m.clients)) (names_in m) labels tree)
-told_with m json labels tree told =
-    ap (λ (ds : List Data). compact_text (whole_data (items_of ds) (named json) labels tree)) told.clients
-    ∙ ap (λ (ns : List (List ℕ)). compact_text (whole_data (items_of (map client_data m.clients)) ns labels tree)) told.names
-
-pub json_up : {D : Type 0} (m : Machine) (json : Json) (labels : List Label) (t : Nodes) (it : Server D) → HasTold m.clients json
-    → labels ≡ (state_of it).labels → t ≡ (state_of it).tree → IsServerOf it m.server m.requests
-    → text_with json labels (Some t) ≡ json_text m
-json_up m json labels t it told are is lent =
-    told_with m json labels (Some t) told
-    ∙ ap (λ (ls : List Label). said ls (Some t)) (are ∙ lent.labels)
-    ∙ ap (λ (t : Nodes). said (labels_of m.server.durable) (Some t)) (is ∙ lent.tree)
-    ∙ ap (said (labels_of m.server.durable)) (tree_up m lent.alive)
-  where
-    said : List Label → Option Nodes → List ℕ
-    said labels tree = compact_text (whole_data (items_of (map client_data m.clients)) (names_in m) labels tree)
-
--- of a server that is down no commit is told
-pub json_down : (m : Machine) (json : Json) (labels : List Label) → HasTold m.clients json → m.server.alive ≡ false
-    → text_with json labels None ≡ json_text m
-json_down m json labels told down =
-    told_with m json labels None told
-    ∙ ap (λ (t : Option Nodes).
-    compact_text (whole_data (items_of (map client_data m.clients)) (names_in m) (labels_of m.server.durable) t))
-    (tree_down m down)

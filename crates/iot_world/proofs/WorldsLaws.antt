@@ -1,13 +1,14 @@
 -- One node of a world, or a client with the server, among all others: these stay.
 use Rattle.std.proofs.Common.{◌≡◌, ◌<◌, ℕ, Bool, true, false, List, [], length, map, Some, slice_get, slice_set, refl, sym, ap, subst, ◌∙◌}
-use Rattle.std.proofs.Common.{arith}
+use Rattle.std.proofs.Common.{arith, ◌++◌}
 use Rattle.std.proofs.lemmas.List.{length-set, append-nil}
-use Rattle.std.proofs.lemmas.Option.{same_Some}
-use Rattle.std.specs.List.{AllByRecursion}
+use Rattle.std.specs.Prelude.{Vec}
+use Rattle.std.specs.declared.alloc.Global.{Global}
+use Rattle.std.proofs.lemmas.Option.{same_Some, slice_get-map, slice_get-get_or, slice_get_within}
 use Rattle.iot_disk.specs.Disk.{Medium}
 use Rattle.iot_event.specs.declared.event.ClientEvent.TheVariants as client_events
 use Rattle.iot_event.specs.declared.event.Task.{Task}
-use Rattle.iot_machine.specs.Calls.{Call, At}
+use Rattle.iot_machine.specs.Calls.{Call, At, Lens}
 use Rattle.iot_machine.specs.Clients.{Declared}
 use Rattle.iot_machine.specs.Events.{names_in, counts_anew, RestartsServer, IfUp, task_part, client_part}
 use Rattle.iot_machine.specs.Machine.{Machine, Client, Commit, Pair, no_client, client_in, client_at, pair_at, server}
@@ -15,19 +16,20 @@ use Rattle.iot_machine.specs.Nodes.{Node}
 use Rattle.iot_machine.specs.Refining.{Refines}
 use Rattle.iot_machine.specs.Serving.{server_name, kept_text}
 use Rattle.iot_machine.specs.Stops.{Restarts}
-use Rattle.iot_node.specs.Disks.{IsEmpty, counts_on}
 use Rattle.iot_node.specs.Steps.{StepsTo}
 use Rattle.iot_server_node.specs.Servers.{ServerStands, HavingAnswered, answered_since, is_up}
 use Rattle.iot_server_node.specs.declared.server.ServerNode.{ServerNode}
 use Rattle.iot_server_node.proofs.ServersLaws.{up_is}
-use Rattle.iot_laptop.specs.Laptops.{ClientStands}
+use Rattle.iot_laptop.specs.Laptops.{ClientStands, StandsAnyhow}
 use Rattle.iot_laptop.specs.declared.laptop.Laptop.{Laptop}
 use Rattle.iot_exchange.specs.Pairs.{two, AnyStands, IsStandingWith}
 use Rattle.iot_exchange.specs.Scripts as exchange
 use Rattle.iot_exchange.specs.declared.declared.DeclaredScript.{DeclaredScript}
-use Rattle.iot_world.specs.World.{Each, ArePlaced, StandsFor, StandsForSome, Steps, scripts_of}
+use Rattle.iot_world.specs.World.{Each, ArePlaced, StandsFor, IsInside, Steps, scripts_of}
 use Rattle.iot_world.specs.declared.world.World.{World}
-use Rattle.iot_world.proofs.ListLaws.{each_get, each_set, each_length, get_inside, name_at, names_put, each_place_set}
+use Rattle.iot_world.proofs.ListLaws.{each_get, each_set, each_length, each_place_set}
+use Rattle.std.proofs.Math.Seq.{map-set_same}
+use Rattle.std.specs.Option.{option_map}
 use Rattle.iot_world.proofs.NamesLaws.{KeepsName}
 
 module _ {D : Type 0} (medium : Medium D) where
@@ -39,10 +41,18 @@ module _ {D : Type 0} (medium : Medium D) where
 
     module _ (c : ℕ) (laptop : Laptop D) (get : slice_get world.clients.items c ≡ Some laptop) where
       pub inside_here : c < length m.clients
-      inside_here = get_inside (ClientStands medium m.scripts) world.clients.items m.clients c laptop get here.clients_
+      inside_here = subst (λ n. c < n) same_length (slice_get_within world.clients.items c laptop get)
+
+      name_here : slice_get (names_in m) c ≡ Some (client_in m c).name
+      name_here =
+          slice_get-map (λ (k : Client). k.name) m.clients c
+          ∙ ap (option_map (λ (k : Client). k.name)) (slice_get-get_or m.clients c no_client inside_here)
 
       pub client_here : ClientStands medium m.scripts laptop (client_in m c)
       client_here = each_get (ClientStands medium m.scripts) world.clients.items m.clients c laptop no_client get here.clients_
+
+      pub stands_there : StandsAnyhow medium laptop
+      stands_there = record { scripts = m.scripts; machine = client_in m c; stands = client_here }
 
       -- the client with the server
       pub pair_here : AnyStands medium (scripts_of world) (names_in m) c (two laptop world.server) ((pair_at c).get m)
@@ -51,135 +61,116 @@ module _ {D : Type 0} (medium : Medium D) where
         client = record {
           is = subst (λ (ss : List Declared). ClientStands medium ss laptop (client_in m c)) here.scripts client_here;
           place = here.placed c laptop get;
-          named = name_at m.clients c inside_here;
+          named = name_here;
           few = omega (arith, inside_here, same_length, here.eight);
         };
         server = here.server;
       }
 
-  pair_stands : (world : World D) (c : ℕ) (laptop : Laptop D) → slice_get world.clients.items c ≡ Some laptop
-      → StandsForSome medium world → IsStandingWith medium (scripts_of world) (two laptop world.server)
-  pair_stands world c laptop get some = record {
-    names = names_in some.machine;
-    c = c;
-    pair = (pair_at c).get some.machine;
-    stands = pair_here world some.machine some.stands c laptop get;
+  pub task_stands : (world : World D) (c : ℕ) (laptop : Laptop D) (ss : List DeclaredScript) → slice_get world.clients.items c ≡ Some laptop
+      → ss ≡ world.scripts.items → IsInside medium c world → IsStandingWith medium (exchange.scripts_of ss) (two laptop world.server)
+  task_stands world c laptop ss get same some =
+      rw same (record {
+        names = names_in some.machine;
+        c = c;
+        pair = (pair_at c).get some.machine;
+        stands = pair_here world some.machine some.stands c laptop get;
+      })
+
+  -- ---- a part of the machine does something
+
+  at_part : {N A : Type 0} {call : Call N A} (part : Lens Machine N) (old new : World D) (x y : List ℕ) (a : A)
+      → ((m : Machine) → StandsFor medium old m
+      → (text : List ℕ) × (n : N) × (y ≡ x ++ text) × call (part.get m) text a n × StandsFor medium new (part.set n m))
+      → Steps medium (At part call) old new x y a
+  at_part part old new x y a one = record {
+    step = λ m here. let s = one m here in (s.0, part.set s.1 m, s.2, record { inner = s.1; step = s.3; is = refl }, s.4);
   }
 
-  pub task_stands : (world : World D) (c : ℕ) (laptop : Laptop D) → slice_get world.clients.items c ≡ Some laptop
-      → StandsForSome medium world → (ss : List DeclaredScript) → ss ≡ world.scripts.items
-      → IsStandingWith medium (exchange.scripts_of ss) (two laptop world.server)
-  task_stands world c laptop get some ss same =
-      subst (λ (ss : List DeclaredScript). IsStandingWith medium (exchange.scripts_of ss) (two laptop world.server)) (sym same)
-      (pair_stands world c laptop get some)
+  -- ---- other clients stand there, and another server
 
-  -- ---- another client stands at a place, and another server
+  module _ (old : World D) (server_ : ServerNode D) (clients : Vec (Laptop D) Global) where
+    abbrev now : World D
+    now = record old { server = server_; clients = clients }
 
-  module _ (old new : World D) (c : ℕ) (was laptop : Laptop D) (get : slice_get old.clients.items c ≡ Some was)
-      (clients : new.clients.items ≡ slice_set old.clients.items c laptop) (scripts : new.scripts.items ≡ old.scripts.items)
-      (spare : new.spare.items ≡ old.spare.items) where
-    pub put_there : (m : Machine) (k : Client) (node : Node (List Commit)) (n : ℕ) → StandsFor medium old m
-        → ClientStands medium m.scripts laptop k → laptop.place ≡ c → k.name ≡ (client_in m c).name
-        → ServerStands medium (names_in m) new.server node n
-        → StandsFor medium new (record m { server = node; requests = n; clients = slice_set m.clients c k })
-    put_there m k node n here stands place name served = record {
-      server =
-          subst (λ (names : List (List ℕ)). ServerStands medium names new.server node n) (sym (names_put m.clients c k name)) served;
-      clients_ =
-          subst (λ (ls : List (Laptop D)). Each (ClientStands medium m.scripts) ls (slice_set m.clients c k)) (sym clients)
-          (each_set (ClientStands medium m.scripts) old.clients.items m.clients c laptop k stands here.clients_);
-      scripts = here.scripts ∙ ap (λ (ss : List DeclaredScript). exchange.scripts_of ss) (sym scripts);
+    stands_with : (m : Machine) (node : Node (List Commit)) (n : ℕ) (ks : List Client) → StandsFor medium old m
+        → map (λ (k : Client). k.name) ks ≡ names_in m → ServerStands medium (names_in m) server_ node n
+        → Each (ClientStands medium m.scripts) clients.items ks → ArePlaced clients.items
+        → length clients.items ≡ length old.clients.items → StandsFor medium now (record m { server = node; requests = n; clients = ks })
+    stands_with m node n ks here names served each placed many = record {
+      server = subst (λ (names : List (List ℕ)). ServerStands medium names server_ node n) (sym names) served;
+      clients_ = each;
+      scripts = here.scripts;
       apart = here.apart;
-      placed =
-          subst ArePlaced (sym clients)
-          (each_place_set (λ n (l : Laptop D). l.place ≡ n) old.clients.items c laptop here.placed place);
-      spare = subst (λ (ds : List D). AllByRecursion (IsEmpty medium) ds) (sym spare) here.spare;
-      counts = ap (map (counts_on medium)) spare ∙ here.counts;
-      eight = omega (arith, here.eight, ap length clients, length-set old.clients.items c laptop, ap length spare);
+      placed = placed;
+      spare = here.spare;
+      counts = here.counts;
+      eight = omega (arith, here.eight, many);
     }
 
-    -- what the two do is done at that place
-    pub at_pair : {A : Type 0} {call : Call Pair A} (x y : List ℕ) (a : A)
-        → ((names : List (List ℕ)) → StepsTo (AnyStands medium (scripts_of old) names c) (AnyStands medium (scripts_of old) names c) call
-        (two was old.server) (two laptop new.server) x y a) → Steps medium (At (pair_at c) call) old new x y a
-    at_pair x y a one = record {
-      step = λ m here.
-          let s = (one (names_in m)).step ((pair_at c).get m) (pair_here old m here c was get) in (
-            s.0,
-            (pair_at c).set s.1 m,
-            s.2,
-            record { inner = s.1; step = s.3; is = refl },
-            put_there m s.1.client s.1.server s.1.requests here
-                (subst (λ (ss : List Declared). ClientStands medium ss laptop s.1.client) (sym here.scripts) s.4.client.is) s.4.client.place
-                (same_Some _ _ (sym s.4.client.named ∙ name_at m.clients c (inside_here old m here c was get))) s.4.server,
-          );
-    }
+    -- one of the clients is another one
+    module _ (c : ℕ) (was laptop : Laptop D) (get : slice_get old.clients.items c ≡ Some was)
+        (put : clients.items ≡ slice_set old.clients.items c laptop) where
+      pub put_there : (m : Machine) (k : Client) (node : Node (List Commit)) (n : ℕ) → StandsFor medium old m
+          → ClientStands medium m.scripts laptop k → laptop.place ≡ c → k.name ≡ (client_in m c).name
+          → ServerStands medium (names_in m) server_ node n
+          → StandsFor medium now (record m { server = node; requests = n; clients = slice_set m.clients c k })
+      put_there m k node n here stands place name served =
+          stands_with m node n (slice_set m.clients c k) here (map-set_same (λ (k : Client). k.name) m.clients c k no_client name) served
+          (rw put (each_set (ClientStands medium m.scripts) old.clients.items m.clients c laptop k stands here.clients_))
+          (subst ArePlaced (sym put) (each_place_set (λ n (l : Laptop D). l.place ≡ n) old.clients.items c laptop here.placed place))
+          (ap length put ∙ length-set old.clients.items c laptop)
 
-    pub at_task : (ss : List DeclaredScript) → ss ≡ old.scripts.items → (task : Task ℕ) (x y : List ℕ)
-        → ((names : List (List ℕ)) (place : ℕ)
-        → StepsTo (AnyStands medium (exchange.scripts_of ss) names place) (AnyStands medium (exchange.scripts_of ss) names place)
-        (IfUp (task_part (exchange.scripts_of ss) task)) (two was old.server) (two laptop new.server) x y tt)
-        → Steps medium (client_part (scripts_of old) c (client_events.Task task)) old new x y tt
-    at_task ss same task x y one =
-        at_pair x y tt
-        (λ names.
-        subst (λ (ss : List DeclaredScript).
-        StepsTo (AnyStands medium (exchange.scripts_of ss) names c) (AnyStands medium (exchange.scripts_of ss) names c)
-        (IfUp (task_part (exchange.scripts_of ss) task)) (two was old.server) (two laptop new.server) x y tt) same (one names c))
+      -- what the two do is done at that place
+      at_pair : {A : Type 0} {call : Call Pair A} {x y : List ℕ} {a : A}
+          → ((names : List (List ℕ)) → StepsTo (AnyStands medium (scripts_of old) names c) (AnyStands medium (scripts_of old) names c) call
+          (two was old.server) (two laptop server_) x y a) → Steps medium (At (pair_at c) call) old now x y a
+      at_pair {x = x} {y = y} {a = a} one = at_part (pair_at c) old now x y a (λ m here.
+          let s = (one (names_in m)).step ((pair_at c).get m) (pair_here old m here c was get) in
+          let is = subst (λ (ss : List Declared). ClientStands medium ss laptop s.1.client) (sym here.scripts) s.4.client.is in
+          let same = same_Some _ _ (sym s.4.client.named ∙ name_here old m here c was get) in
+          (s.0, s.1, s.2, s.3, put_there m s.1.client s.1.server s.1.requests here is s.4.client.place same s.4.server))
 
-    -- so is what the client does alone
-    pub at_client : {A : Type 0} {call : Call Client A} (x y : List ℕ) (a : A) → KeepsName call → laptop.place ≡ was.place
-        → new.server ≡ old.server
-        → ((scripts : List Declared) → Refines (ClientStands medium scripts) call was laptop x y a)
-        → Steps medium (At (client_at c) call) old new x y a
-    at_client x y a keeps same server one = record {
-      step = λ m here.
-          let s = (one m.scripts).step (client_in m c) (client_here old m here c was get) in (
-            s.0,
-            (client_at c).set s.1 m,
-            s.2,
-            record { inner = s.1; step = s.3; is = refl },
-            put_there m s.1 m.server m.requests here s.4 (same ∙ here.placed c was get) (keeps.is (client_in m c) s.1 s.0 a s.3)
-                (subst (λ (s : ServerNode D). ServerStands medium (names_in m) s m.server m.requests) (sym server) here.server),
-          );
-    }
+      pub at_task : (ss : List DeclaredScript) (task : Task ℕ) (x y : List ℕ) → ss ≡ old.scripts.items
+          → ((names : List (List ℕ)) (place : ℕ)
+          → StepsTo (AnyStands medium (exchange.scripts_of ss) names place) (AnyStands medium (exchange.scripts_of ss) names place)
+          (IfUp (task_part (exchange.scripts_of ss) task)) (two was old.server) (two laptop server_) x y tt)
+          → Steps medium (client_part (scripts_of old) c (client_events.Task task)) old now x y tt
+      at_task ss task x y same one = at_pair (λ names. rw same at (one names c))
+
+  -- so is what the client does alone
+  pub at_client : {A : Type 0} {call : Call Client A} (old : World D) (clients : Vec (Laptop D) Global) (c : ℕ) (was laptop : Laptop D)
+      (x y : List ℕ) (a : A) → KeepsName call → slice_get old.clients.items c ≡ Some was
+      → clients.items ≡ slice_set old.clients.items c laptop → laptop.place ≡ was.place
+      → ((scripts : List Declared) → Refines (ClientStands medium scripts) call was laptop x y a)
+      → Steps medium (At (client_at c) call) old (record old { clients = clients }) x y a
+  at_client old clients c was laptop x y a keeps get put same one = at_part (client_at c) old _ x y a (λ m here.
+      let s = (one m.scripts).step (client_in m c) (client_here old m here c was get) in
+      let named = (keeps (client_in m c).name).at (client_in m c) s.1 s.0 a refl s.3 in
+      let there = put_there old old.server clients c was laptop get put m s.1 m.server m.requests here s.4 in
+      (s.0, s.1, s.2, s.3, there (same ∙ here.placed c was get) named here.server))
 
   -- ---- the server
 
-  module _ (old new : World D) (clients : new.clients.items ≡ old.clients.items) (scripts : new.scripts.items ≡ old.scripts.items)
-      (spare : new.spare.items ≡ old.spare.items) where
+  module _ (old : World D) (server_ : ServerNode D) where
     served : (m : Machine) (node : Node (List Commit)) (n : ℕ) → StandsFor medium old m
-        → ServerStands medium (names_in m) new.server node n → StandsFor medium new (record m { server = node; requests = n })
-    served m node n here stands = record {
-      server = stands;
-      clients_ = subst (λ (ls : List (Laptop D)). Each (ClientStands medium m.scripts) ls m.clients) (sym clients) here.clients_;
-      scripts = here.scripts ∙ ap (λ (ss : List DeclaredScript). exchange.scripts_of ss) (sym scripts);
-      apart = here.apart;
-      placed = subst ArePlaced (sym clients) here.placed;
-      spare = subst (λ (ds : List D). AllByRecursion (IsEmpty medium) ds) (sym spare) here.spare;
-      counts = ap (map (counts_on medium)) spare ∙ here.counts;
-      eight = omega (arith, here.eight, ap length clients, ap length spare);
-    }
+        → ServerStands medium (names_in m) server_ node n
+        → StandsFor medium (record old { server = server_ }) (record m { server = node; requests = n })
+    served m node n here stands = stands_with old server_ old.clients m node n m.clients here refl stands here.clients_ here.placed refl
 
     pub at_server : {A : Type 0} {call : Call (Node (List Commit)) A} (x y : List ℕ) (a : A)
         → ((names : List (List ℕ)) (n : ℕ)
-        → StepsTo (HavingAnswered medium names n) (HavingAnswered medium names n) call old.server new.server x y a)
-        → Steps medium (At server call) old new x y a
-    at_server x y a one = record {
-      step = λ m here.
-          let s = (one (names_in m) m.requests).step m.server here.server in (
-            s.0,
-            server.set s.1 m,
-            s.2,
-            record { inner = s.1; step = s.3; is = refl },
-            served m s.1 m.requests here s.4,
-          );
-    }
+        → StepsTo (HavingAnswered medium names n) (HavingAnswered medium names n) call old.server server_ x y a)
+        → Steps medium (At server call) old (record old { server = server_ }) x y a
+    at_server x y a one = at_part server old _ x y a (λ m here.
+        let s = (one (names_in m) m.requests).step m.server here.server in
+        (s.0, s.1, s.2, s.3, served m s.1 m.requests here s.4))
 
     -- it comes back, and counts anew unless it was alive
     pub restarts : (x y : List ℕ) → ((names : List (List ℕ)) (n : ℕ)
         → StepsTo (HavingAnswered medium names n) (HavingAnswered medium names (answered_since (is_up old.server) n))
-        (Restarts server_name (kept_text names)) old.server new.server x y tt) → Steps medium RestartsServer old new x y tt
+        (Restarts server_name (kept_text names)) old.server server_ x y tt)
+        → Steps medium RestartsServer old (record old { server = server_ }) x y tt
     restarts x y one = record {
       step = λ m here.
           let s = (one (names_in m) m.requests).step m.server here.server in
@@ -213,13 +204,13 @@ module _ {D : Type 0} (medium : Medium D) where
               whole = refl;
             },
             anew m s.1 here m.server.alive
-                (subst (λ (b : Bool). ServerStands medium (names_in m) new.server s.1 (answered_since b m.requests))
+                (subst (λ (b : Bool). ServerStands medium (names_in m) server_ s.1 (answered_since b m.requests))
                 (sym (up_is medium (names_in m) old.server m.server m.requests here.server)) s.4),
           );
     }
       where
         anew : (m : Machine) (node : Node (List Commit)) → StandsFor medium old m → (alive : Bool)
-            → ServerStands medium (names_in m) new.server node (answered_since alive m.requests)
-            → StandsFor medium new (counts_anew alive (server.set node m))
+            → ServerStands medium (names_in m) server_ node (answered_since alive m.requests)
+            → StandsFor medium (record old { server = server_ }) (counts_anew alive (server.set node m))
         anew m node here true stands = served m node m.requests here stands
         anew m node here false stands = served m node 0 here stands

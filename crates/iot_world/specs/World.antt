@@ -19,11 +19,13 @@ use Rattle.iot_machine.specs.Machine as machines
 use Rattle.iot_machine.specs.Machine.{Machine, handed, client_in}
 use Rattle.iot_machine.specs.Events.{event_part, names_in}
 use Rattle.iot_machine.specs.Sound.{IsSound}
+use Rattle.iot_machine.specs.Texts.{client_line}
 use Rattle.iot_machine.specs.Transcript.{Opening}
 use Rattle.iot_node.specs.Disks.{IsEmpty, KeepsDisk, counts_on}
 use Rattle.iot_server.specs.declared.server.Server.{Server}
 use Rattle.iot_server_node.specs.Servers as servers
 use Rattle.iot_server_node.specs.Servers.{disk_of, ServerStands, KeepsCommits}
+use Rattle.iot_laptop.specs.Alone.{OpensClient}
 use Rattle.iot_laptop.specs.Laptops.{ClientStands, ItemsStand, RunningStandsIfAny, disk_in}
 use Rattle.iot_laptop.specs.declared.laptop.Laptop.{Laptop}
 use Rattle.iot_exchange.specs.Scripts as exchange
@@ -203,6 +205,18 @@ pub record Opens {D : Type 0} (medium : Medium D) (disks : List D) (before after
 pub record DeclaresClient {D : Type 0} (old new : World D) : Type 0 where
   pub clients : client_count new ≡ client_count old + 1
   pub scripts : new.scripts.items ≡ old.scripts.items
+
+-- what is said if a client has started
+abbrev pub said_of : (on : Bool) → (name : List ℕ) → List ℕ
+said_of true name = client_line name
+said_of false name = []
+
+-- a client that starts, or stops in that
+pub record Starts {D : Type 0} (medium : Medium D) (name : List ℕ) (old new : Laptop D) (before after : List ℕ) : Type 0 where
+  pub on : Bool
+  pub between : List ℕ
+  pub opens : (scripts : List Declared) → Refines (ClientStands medium scripts) OpensClient old new before between on
+  pub says : after ≡ between ++ said_of on name
 
 -- a script joins
 pub record AddsScript {D : Type 0} (name : List ℕ) (code : Code) (old new : World D) : Type 0 where

@@ -3,7 +3,10 @@ ghost use Rattle.std.specs.Prelude.{◌≡◌, ◌<◌, true, OnOk};
 ghost use Rattle.iot_event.specs.declared.event.ClientEvent.{ClientEvent as Befalls};
 ghost use Rattle.iot_machine.specs.Events.{Declares, client_part};
 ghost use Rattle.iot_text.specs.Texts.{Extends};
+ghost use Rattle.iot_laptop.specs.Laptops.{IsUnopened, SamePlace, disk_in};
+ghost use Rattle.iot_node.specs.Disks.{KeepsDisk};
 ghost use Rattle.iot_world.specs.Allowed.{MayBefall, stops_client};
+ghost use Rattle.iot_world.specs.World.{Starts};
 
 use crate::disks::take_first;
 use crate::nodes::{befall, relink};
@@ -21,7 +24,7 @@ impl<D: Disk> World<D> {
     ghost use Rattle.iot_world.specs.World.{UnlessArmed, scripts_of, script_count, client_count};
     ghost use Rattle.iot_world.specs.Deciding.{DecidesAt};
 
-    /// A client joins, and starts on the next disk. If that fails in it, the client has stopped, which is said in place of its line.
+    /// A client joins, and starts on the next disk.
     pub(crate) fn declare_client(
         &mut self,
         alloc: Global,
@@ -41,10 +44,7 @@ impl<D: Disk> World<D> {
         let disk = take_first(&mut self.spare);
         self.clients
             .push_reserved(Laptop::unopened(*name, place, disk));
-        if self.clients[place as usize].open(alloc, out)? {
-            say_client(name, out)?;
-        }
-        Ok(())
+        start(&mut self.clients[place as usize], alloc, name, out)
     }
 
     /// A script joins.
@@ -96,4 +96,22 @@ impl<D: Disk> World<D> {
             ),
         }
     }
+}
+
+/// The client starts, which is said. If its disk fails in that, it has stopped, which is said in place of its line.
+fn start<D: Disk>(
+    laptop: &mut Laptop<D>,
+    alloc: Global,
+    name: &Name,
+    out: &mut Text,
+) -> Result<(), NoMemory>
+    requires { IsUnopened D.medium laptop.old }
+    ensures step { OnOk result (Starts D.medium name.now laptop.old laptop.new out.old out.new) }
+    ensures place { SamePlace laptop.old laptop.new }
+    ensures disk { KeepsDisk D.medium (disk_in laptop.old) (disk_in laptop.new) }
+{
+    if laptop.open(alloc, out)? {
+        say_client(name, out)?;
+    }
+    Ok(())
 }

@@ -39,12 +39,11 @@ impl<D: Disk> World<D> {
         ensures text { stops_node what ≡ true → Extends out.old out.new }
     {
         match what {
-            NodeEvent::Show => self.server.show(out)?,
-            NodeEvent::Stop { calls, pick } => self.server.arm(calls, pick, out)?,
-            NodeEvent::Crash => self.server.crash(out)?,
-            NodeEvent::Restart => self.server.restart(alloc, out)?,
+            NodeEvent::Show => self.server.show(out),
+            NodeEvent::Stop { calls, pick } => self.server.arm(calls, pick, out),
+            NodeEvent::Crash => self.server.crash(out),
+            NodeEvent::Restart => self.server.restart(alloc, out),
         }
-        Ok(())
     }
 }
 
@@ -64,12 +63,11 @@ pub(crate) fn befall<D: Disk>(
     ensures text { stops_node what ≡ true → Extends out.old out.new }
 {
     match what {
-        NodeEvent::Show => show_view(laptop, out)?,
-        NodeEvent::Stop { calls, pick } => laptop.arm(calls, pick, out)?,
-        NodeEvent::Crash => laptop.crash(out)?,
-        NodeEvent::Restart => laptop.restart(alloc, out)?,
+        NodeEvent::Show => show_view(laptop, out),
+        NodeEvent::Stop { calls, pick } => laptop.arm(calls, pick, out),
+        NodeEvent::Crash => laptop.crash(out),
+        NodeEvent::Restart => laptop.restart(alloc, out),
     }
-    Ok(())
 }
 
 /// Prints the tree that the client sees, if it is alive; else `down`.
@@ -82,8 +80,7 @@ fn show_view<D: Disk>(laptop: &Laptop<D>, out: &mut Text) -> Result<(), NoMemory
         show(laptop.view(), out)?;
         return Ok(());
     }
-    say(b"down", out)?;
-    Ok(())
+    say(b"down", out)
 }
 
 /// An event of a client's link.
@@ -99,11 +96,10 @@ pub(crate) fn relink<D: Disk>(
     ensures disk { disk_in laptop.new ≡ disk_in laptop.old }
 {
     match what {
-        LinkEvent::Connect => laptop.connect(out)?,
-        LinkEvent::Disconnect => laptop.disconnect(out)?,
-        LinkEvent::Lose(loss) => laptop.lose(loss, out)?,
+        LinkEvent::Connect => laptop.connect(out),
+        LinkEvent::Disconnect => laptop.disconnect(out),
+        LinkEvent::Lose(loss) => laptop.lose(loss, out),
     }
-    Ok(())
 }
 
 /// Whether the event makes a later call of a disk fail.

@@ -1,5 +1,6 @@
 use Rattle.std.proofs.Common.{sym, ◌∙◌}
 use Rattle.iot_laptop.proofs.NodesLaws.{some_awake}
+use Rattle.iot_world.proofs.EventsLaws.{then_ok}
 use Rattle.iot_world.proofs.ShowingLaws.{shows, shows_down}
 use Rattle.iot_world.proofs.nodes.show_view.Goals as goal
 
@@ -8,10 +9,9 @@ view-requires g c = some_awake _ c.args.laptop.now c.requires (sym c.is_alive.en
 
 pub returns-then-is_alive : goal.returns-then-is_alive
 returns-then-is_alive g c =
-    shows g.D.Disk.medium c.args.laptop.now c.view.result.now c.args.out.now c.show.new.out
-    (sym c.is_alive.ensures ∙ c.if-is_alive.true) c.view.ensures c.in_ok-show.ensures.ok
+    shows _ _ _ _ _ (sym c.is_alive.ensures ∙ c.if-is_alive.true) c.view.ensures c.in_ok-show.ensures.ok
 
 pub returns : goal.returns
 returns g c =
-    shows_down g.D.Disk.medium c.args.laptop.now c.args.out.now c.say.new.out (sym c.is_alive.ensures ∙ c.if-is_alive.false)
-    c.in_ok-say.ensures
+    then_ok _ c.say.ensures
+    (shows_down _ c.args.laptop.now c.args.out.now c.say.new.out (sym c.is_alive.ensures ∙ c.if-is_alive.false))

@@ -5,8 +5,7 @@ use Rattle.iot_world.proofs.world.World.client.Goals as goal
 pub returns-in-Some-clause-lent : goal.returns-in-Some-clause-lent
 returns-in-Some-clause-lent g c =
     lends_any _ c.args.self.now c.args.place c.in-Some.laptop.now
-    (looked_up c.args.self.now.clients.items c.deref.result.now c.args.place c.in-Some.laptop.now c.deref.ensures.value
-    c.in-Some.ensures.lookup.3.0 c.in-Some.ensures.lookup.1) _ c.lent.ensures.lent
+    (looked_up _ _ _ _ c.deref.ensures.value c.in-Some.ensures.lookup.3.0 c.in-Some.ensures.lookup.1) _ c.lent.ensures.lent
 
 pub returns-in-Some-clause-ready : goal.returns-in-Some-clause-ready
 returns-in-Some-clause-ready g c =
@@ -15,8 +14,7 @@ returns-in-Some-clause-ready g c =
 pub returns-in-Some-clause-disk : goal.returns-in-Some-clause-disk
 returns-in-Some-clause-disk g c =
     lends_disk g.D.Disk.medium c.args.self.now c.args.place c.in-Some.laptop.now
-    (looked_up c.args.self.now.clients.items c.deref.result.now c.args.place c.in-Some.laptop.now c.deref.ensures.value
-    c.in-Some.ensures.lookup.3.0 c.in-Some.ensures.lookup.1) _ c.lent.ensures.lent
+    (looked_up _ _ _ _ c.deref.ensures.value c.in-Some.ensures.lookup.3.0 c.in-Some.ensures.lookup.1) _ c.lent.ensures.lent
 
 pub returns-in-None-clause-lent : goal.returns-in-None-clause-lent
 returns-in-None-clause-lent g c =

@@ -1,26 +1,19 @@
 use Rattle.std.proofs.Common.{ap, ◌∙◌}
 use Rattle.iot_store.specs.Store.{state_of}
-use Rattle.iot_world.proofs.LookingLaws.{lent_up, lent_down, names_are, are_of, logs_up, logs_down}
+use Rattle.iot_world.proofs.LookingLaws.{lent_up, names_are, are_of, logs_up}
 use Rattle.iot_world.proofs.world.World.log.Goals as goal
 
 pub log-requires : goal.log-requires
 log-requires g c =
-    are_of _ c.args.self.now c.as_slice.result.now c.labels.result.now c.in-Some.server.now c.requires.sound
+    are_of _ _ _ _ c.in-Some.server.now c.requires.sound
     (c.as_slice.ensures.value ∙ c.in_ok-names-in-Some.ensures
     ∙ names_are _ c.args.self.now c.requires.sound.machine c.requires.sound.stands.stands)
     (c.labels.ensures ∙ ap (λ s. (state_of s).labels) c.store.ensures)
-    (lent_up _ c.args.self.now c.server.result c.in-Some.server c.server.ensures.lent c.in-Some.is)
+    (lent_up _ _ _ _ c.server.ensures.lent c.in-Some.is)
 
 pub returns-in_ok-log-in-Some : goal.returns-in_ok-log-in-Some
 returns-in_ok-log-in-Some g c =
-    logs_up _ c.args.self.now c.args.out.now c.log.new.out c.as_slice.result.now c.labels.result.now
-    c.in-Some.server.now
+    logs_up _ _ _ _ _ _ c.in-Some.server.now
     (c.as_slice.ensures.value ∙ c.in_ok-names-in-Some.ensures) (c.labels.ensures ∙ ap (λ s. (state_of s).labels) c.store.ensures)
-    (lent_up _ c.args.self.now c.server.result c.in-Some.server c.server.ensures.lent c.in-Some.is)
+    (lent_up _ _ _ _ c.server.ensures.lent c.in-Some.is)
     c.in_ok-log-in-Some.ensures.ok
-
-pub returns-in_ok-say-in-None : goal.returns-in_ok-say-in-None
-returns-in_ok-say-in-None g c =
-    logs_down _ c.args.self.now c.args.out.now c.say.new.out
-    (lent_down _ c.args.self.now c.server.result c.server.ensures.lent c.in-None.is)
-    c.in_ok-say-in-None.ensures

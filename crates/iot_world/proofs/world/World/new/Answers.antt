@@ -1,13 +1,11 @@
 use Rattle.std.proofs.Common.{[], refl}
-use Rattle.iot_world.proofs.AllowedLaws.{declared_opened}
 use Rattle.iot_world.proofs.DisksLaws.{now_has}
 use Rattle.iot_world.proofs.OpeningLaws.{opens, opens_unarmed, gives_back}
 use Rattle.iot_world.proofs.world.World.new.Goals as goal
 
 pub returns-in-Ok-clause-opens : goal.returns-in-Ok-clause-opens
 returns-in-Ok-clause-opens g c =
-    opens _ c.args.disks.items c.take_first.result c.take_first.new.disks.items c.take_first.ensures.items c.requires _
-    c.unopened-server.result c.args.out.now c.open.new.out c.in-Ok._on (c.unopened-server.ensures.stands [] 0) (c.in-Ok.ensures.step [] 0)
+    opens _ _ _ _ c.take_first.ensures.items c.requires _ _ _ _ _ (c.unopened-server.ensures.stands [] 0) (c.in-Ok.ensures.step [] 0)
     (now_has g.D.Disk.medium _ _ c.open.ensures.disk) c.new.ensures.items c.new-in-Ok.ensures.items refl c.take_first.ensures.room
 
 pub returns-in-Ok-clause-stands : goal.returns-in-Ok-clause-stands
@@ -15,20 +13,12 @@ returns-in-Ok-clause-stands g c =
     let made = returns-in-Ok-clause-opens g c in
     record { machine = made.machine; stands = made.stands }
 
-pub returns-in-Ok-clause-has : goal.returns-in-Ok-clause-has
-returns-in-Ok-clause-has g c = (returns-in-Ok-clause-opens g c).has
-
-pub returns-in-Ok-clause-declared : goal.returns-in-Ok-clause-declared
-returns-in-Ok-clause-declared g c = declared_opened _ _ _ _ _ (returns-in-Ok-clause-opens g c)
-
 pub returns-in-Ok-clause-arms : goal.returns-in-Ok-clause-arms
 returns-in-Ok-clause-arms g c =
-    opens_unarmed g.D.Disk.medium c.args.disks.items c.take_first.result c.take_first.new.disks.items c.take_first.ensures.items c.requires
-    c.unopened-server.result c.open.new.self c.unopened-server.ensures.disk c.open.ensures.disk c.new.result.items
-    c.take_first.new.disks.items c.new.ensures.items refl
+    opens_unarmed _ _ _ _ c.take_first.ensures.items c.requires _ _ c.unopened-server.ensures.disk c.open.ensures.disk _ _
+    c.new.ensures.items refl
 
 pub returns-in-Err-clause-refused : goal.returns-in-Err-clause-refused
 returns-in-Err-clause-refused g c =
-    gives_back g.D.Disk.medium c.args.disks.items c.take_first.result c.take_first.new.disks.items c.take_first.ensures.items
-    c.requires c.unopened-server.result c.open.new.self c.unopened-server.ensures.disk c.open.ensures.disk _ c.into_disk.result
+    gives_back _ _ _ _ c.take_first.ensures.items c.requires _ _ c.unopened-server.ensures.disk c.open.ensures.disk _ _
     c.into_disk.ensures c.put_first.ensures.items (c.unopened-server.ensures.stands [] 0) c.open.ensures.records

@@ -1,24 +1,18 @@
 use Rattle.std.proofs.Common.{length, ◌≤◌, subst}
-use Rattle.iot_world.proofs.ToldLaws.{tells_none, stands_at, tells_more, tells_all}
+use Rattle.iot_world.proofs.ToldLaws.{tells_more, tells_all}
 use Rattle.iot_world.proofs.LendingLaws.{looked_up}
+use Rattle.iot_world.proofs.WorldsLaws.{stands_there}
 use Rattle.iot_world.proofs.world.World.told.Goals as goal
-
-pub loop-laptop-init : goal.loop-laptop-init
-loop-laptop-init g c =
-    tells_none _ c.args.self.now c.new-json.result c.new-json.ensures.clients c.new-json.ensures.names
 
 pub tell-requires : goal.tell-requires
 tell-requires g c =
-    stands_at _ c.args.self.now c.loop-laptop.laptop-index c.laptop-item.result
-    (looked_up c.args.self.now.clients.items c.deref-laptop-items.result.now c.loop-laptop.laptop-index c.laptop-item.result
-    c.deref-laptop-items.ensures.value c.loop-laptop-test.true c.laptop-item.is)
-    c.requires
+    stands_there _ _ _ c.requires.stands _ _
+    (looked_up _ _ _ _ c.deref-laptop-items.ensures.value c.loop-laptop-test.true c.laptop-item.is)
 
 pub loop-laptop-preserved : goal.loop-laptop-preserved
 loop-laptop-preserved g c =
     tells_more _ c.args.self.now c.loop-laptop.laptop-index c.laptop-item.result
-    (looked_up c.args.self.now.clients.items c.deref-laptop-items.result.now c.loop-laptop.laptop-index c.laptop-item.result
-    c.deref-laptop-items.ensures.value c.loop-laptop-test.true c.laptop-item.is)
+    (looked_up _ _ _ _ c.deref-laptop-items.ensures.value c.loop-laptop-test.true c.laptop-item.is)
     c.loop-laptop.json c.tell.new.json c.loop-laptop.invariant c.in_ok-tell.ensures
 
 pub returns : goal.returns

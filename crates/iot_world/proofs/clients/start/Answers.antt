@@ -1,0 +1,11 @@
+use Rattle.std.proofs.Common.{sym, false}
+use Rattle.std.proofs.lemmas.List.{append-nil}
+use Rattle.iot_world.proofs.clients.start.Goals as goal
+
+pub returns-else-branch-clause-step : goal.returns-else-branch-clause-step
+returns-else-branch-clause-step g c = record {
+  on = false;
+  between = c.open.new.out;
+  opens = rw c.if-branch.false at c.in_ok-open.ensures.step;
+  says = sym (append-nil c.open.new.out);
+}
