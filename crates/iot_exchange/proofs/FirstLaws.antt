@@ -7,7 +7,7 @@ use Rattle.std.proofs.lemmas.Option.{same_Some, slice_get-get_or, slice_get_with
 use Rattle.std.specs.List.{AllByRecursion}
 use Rattle.std.specs.FinMap.{empty, entries, len-entries, len-empty}
 use Rattle.iot_text.specs.Paths.{path_cmp}
-use Rattle.iot_tree.specs.Tree.{Nodes, Path, Row, root_alone, IsWhole}
+use Rattle.iot_tree.specs.Tree.{Nodes, Row, root_alone, IsWhole}
 use Rattle.iot_tree.specs.declared.acts.Read.{Read}
 use Rattle.iot_tree.specs.declared.labels.Way.TheVariants.{Certified}
 use Rattle.iot_tree.proofs.RowLaws.{root_map, entries_rows}
@@ -31,10 +31,9 @@ use Rattle.iot_kept.specs.Changes.{HeadIs, IsByHand, IsSubmittedIn, IsSubmitted}
 use Rattle.iot_client.specs.Messages.{way_of, IsRefresh}
 use Rattle.iot_wire.proofs.MessagesLaws.{call_one}
 use Rattle.iot_wire.proofs.SpellingLaws.{reply_laws}
-use Rattle.iot_wire.specs.Messages.{IsMessage, IsOneMessage}
-use Rattle.iot_wire.specs.Rules.{IsReply, IsRequest}
-use Rattle.iot_wire.specs.Spelling.{reply_spelling, request_spelling}
-use Rattle.iot_wire.specs.declared.requests.Request.TheVariants.{Refresh}
+use Rattle.iot_wire.specs.Messages.{IsOneMessage}
+use Rattle.iot_wire.specs.Rules.{IsReply}
+use Rattle.iot_wire.specs.Spelling.{reply_spelling}
 use Rattle.iot_wire.specs.declared.replies.Reply.TheVariants as replies
 use Rattle.iot_disk.specs.Disk.{Medium}
 use Rattle.iot_machine.specs.Calls.{Try, Asks, Then}
@@ -89,18 +88,7 @@ same_stage kept_stages.Waiting clients.Waiting it = waiting
 same_stage kept_stages.Conflict clients.Conflict it = conflict
 same_stage kept_stages.Manual clients.Manual it = manual
 same_stage (kept_stages.Resolved done) (clients.Resolved m) it = resolved it
-same_stage kept_stages.Waiting clients.Conflict it = absurd it
-same_stage kept_stages.Waiting clients.Manual it = absurd it
-same_stage kept_stages.Waiting (clients.Resolved m) it = absurd it
-same_stage kept_stages.Conflict clients.Waiting it = absurd it
-same_stage kept_stages.Conflict clients.Manual it = absurd it
-same_stage kept_stages.Conflict (clients.Resolved m) it = absurd it
-same_stage kept_stages.Manual clients.Waiting it = absurd it
-same_stage kept_stages.Manual clients.Conflict it = absurd it
-same_stage kept_stages.Manual (clients.Resolved m) it = absurd it
-same_stage (kept_stages.Resolved done) clients.Waiting it = absurd it
-same_stage (kept_stages.Resolved done) clients.Conflict it = absurd it
-same_stage (kept_stages.Resolved done) clients.Manual it = absurd it
+same_stage stage other it = absurd it
 
 -- one that waits for a decision by hand is that in the machine, too
 manual_stage : {s : Stage} {ms : clients.Stage} → SameStage s ms → s ≡ kept_stages.Manual → ms ≡ clients.Manual
@@ -136,12 +124,9 @@ module _ {D : Type 0} {laptop : Laptop D} where
   head_is Is first head = subst (HeadIs Is) first.items head
 
 module _ {D : Type 0} (laptop : Laptop D) where
-  none_by : (items : List Item) → head_name laptop items ≡ None → items ≡ []
-  none_by [] is = refl
-  none_by (item ∷ items) is = absurd cc
-
-  pub none_waits : head_name laptop (state_in laptop).items ≡ None → (state_in laptop).items ≡ []
-  none_waits is = none_by (state_in laptop).items is
+  pub none_waits : (items : List Item) → head_name laptop items ≡ None → items ≡ []
+  none_waits [] is = refl
+  none_waits (item ∷ items) is = absurd cc
 
   -- if it is decided of, it waits for that
   decided_on : {t : Transaction} (item : Item) (stage : Stage) → decision_on laptop item stage ≡ Ok t
@@ -285,10 +270,8 @@ module _ {D : Type 0} {medium : Medium D} {scripts : List Declared} {old : Both 
         → Does medium scripts Syncs old old x y (Ok Stays)
     syncs_by_hand is keeps wrote =
         each_from keeps (λ names c pair here.
-        let mi = (head here first).first in
         at_first here first {next = sync_head}
-        (subst (λ (ms : clients.Stage). DoesFrom medium scripts names c (sync_at mi ms) pair old x y (Ok Stays))
-        (sym (manual_stage (stage_there here first) is))
+        (rw (manual_stage (stage_there here first) is)
         (from (says (λ pair there. wrote ∙ ap (λ (n : List ℕ). x ++ manual_line n) (sym (name_there here first there)))) here)))
 
     -- no message gets through
@@ -467,20 +450,14 @@ module _ {D : Type 0} {medium : Medium D} {scripts : List Declared} {names : Lis
 
 -- what is told of it is one change of what the client keeps, which is said
 module _ {D : Type 0} {medium : Medium D} {scripts : List Declared} {u v : Both D} {x y : List ℕ} {result : Result Synced Halt} where
-  told_by : (name : List ℕ) (verdict : Verdict) (option : OnConflict Declared)
-      → Does medium scripts (NotesAloud (told_change verdict (option_named option)) (told_text name verdict (option_named option))
-      (told_synced verdict (option_named option))) u v x y result → Does medium scripts (told name option (Some verdict)) u v x y result
-  told_by name (Settled number) option it = it
-  told_by name (Conflict read question) options.Reexec it = it
-  told_by name (Conflict read question) (options.Resolver script) it = it
-  told_by name (Conflict read question) options.Abort it = it
-  told_by name (Conflict read question) options.Manual it = it
-
-  told_as : {name other : List ℕ} (verdict : Verdict) (option : OnConflict Declared) → other ≡ name
+  told_by : {name other : List ℕ} (verdict : Verdict) (option : OnConflict Declared) → other ≡ name
       → Does medium scripts (NotesAloud (told_change verdict (option_named option)) (told_text name verdict (option_named option))
       (told_synced verdict (option_named option))) u v x y result → Does medium scripts (told other option (Some verdict)) u v x y result
-  told_as {name} verdict option same it =
-      subst (λ (n : List ℕ). Does medium scripts (told n option (Some verdict)) u v x y result) (sym same) (told_by name verdict option it)
+  told_by (Settled number) option same it = rw same it
+  told_by (Conflict read question) options.Reexec same it = rw same it
+  told_by (Conflict read question) (options.Resolver script) same it = rw same it
+  told_by (Conflict read question) options.Abort same it = rw same it
+  told_by (Conflict read question) options.Manual same it = rw same it
 
 -- a fault that was handed on
 pub synced_err : (fault : Halt) (outer : Result Sync Halt) → IsErrAnd outer (λ other. other ≡ fault)
@@ -538,7 +515,7 @@ module _ {D : Type 0} (old : Both D) {t : Transaction} (it : Submitted)
       let has : head_option (state_in old.laptop).items ≡ Some (option_named m.option) =
       ap head_option first.items ∙ ap (λ (l : labels.OnConflict). Some l) (head here first).stands.option in
       submits_from here first hands_in.submitted (then_from here e.2
-      ((told_as e.0 m.option (name_there here first here)
+      ((told_by e.0 m.option (name_there here first here)
       (each e.0 (option_named m.option) (says_it here first hands_in reply.items e.0 e.1) has)).step names c)))
 
 -- ---- the whole tree
@@ -633,9 +610,7 @@ module _ {D : Type 0} (old : Both D) {t : Transaction} (request : Vec ℕ Global
   some_whole = record { request = _; is = asks_all.asked }
 
   asks_below : IsRefresh old.laptop.place new_client.held (wanted.Below []) request.items
-  asks_below = subst
-      (λ (paths : List Path). IsMessage IsRequest request_spelling request.items (Refresh old.laptop.place paths (wanted.Below [])))
-      (sym nothing_known) asks_all.asked
+  asks_below = rw nothing_known asks_all.asked
 
   pub in_conflict : HeadIs (λ item. item.stage ≡ kept_stages.Conflict) (state_in old.laptop).items
   in_conflict = subst (HeadIs (λ item. item.stage ≡ kept_stages.Conflict)) (sym head_first.items) asks_all.conflict

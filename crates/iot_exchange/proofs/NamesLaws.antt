@@ -50,16 +50,14 @@ module _ (ws : List DeclaredScript) (name : List ℕ) (o : Option (Bor DeclaredS
       → IsCodeOf name (map script_of ws) code
   code_found is same = record {
     script = _;
-    is = found_is ∙ ap (λ (o : Option (Bor DeclaredScript)). option_map script_of (option_map (λ (b : Bor DeclaredScript). b.now) o)) is;
+    is = rw is at found_is;
     has = sym same;
   }
 
   -- one is found if it is declared
   pub none_found : o ≡ None → IsSome (script_named name (map script_of ws)) → ⊥
   none_found none named =
-      let e = subst IsSome (found_is
-      ∙ ap (λ (o : Option (Bor DeclaredScript)). option_map script_of (option_map (λ (b : Bor DeclaredScript). b.now) o)) none) named in
-      absurd cc
+      let e = subst IsSome (rw none at found_is) named in absurd cc
 
 -- ---- scripts by their places
 

@@ -1,5 +1,5 @@
 -- A task of a client, alive or down, is one of the machine, and so are all syncs together.
-use Rattle.std.proofs.Common.{◌≡◌, ℕ, suc, ◌*◌, ◌&&◌, not, is_some, Bool, List, [], ◌∷◌, ◌++◌, length, Result, sym, ap, subst, ◌∙◌, arith}
+use Rattle.std.proofs.Common.{◌≡◌, ℕ, suc, ◌*◌, ◌&&◌, not, is_some, Bool, List, [], ◌∷◌, ◌++◌, length, Result, sym, ap, ◌∙◌, arith}
 use Rattle.std.proofs.Common.{codes, refl, length-append, true, false, Option, Ok, Err}
 use Rattle.std.proofs.lemmas.List.{append-nil}
 use Rattle.iot_tree.specs.Tree.{Nodes}
@@ -78,9 +78,8 @@ module _ {D : Type 0} {medium : Medium D} {scripts : List Declared} {u : Both D}
 pub all_by : {D : Type 0} {medium : Medium D} {scripts : List Declared} {u w : Both D} {x z : List ℕ} {most : ℕ}
     {result : Result (Unit {0}) Halt} → most ≡ 3 * length (state_in u.laptop).items
     → Does medium scripts (Repeats most SyncsNext) u w x z result → Does medium scripts SyncsAll u w x z result
-all_by {medium = medium} {scripts} {u} {w} {x} {z} {result = result} is it =
-    asks_then {next = λ n. Repeats (3 * n) SyncsNext} (λ names c pair here. items_long _ _ _ here.client.is.state.items)
-    (subst (λ (n : ℕ). Does medium scripts (Repeats n SyncsNext) u w x z result) is it)
+all_by is it =
+    asks_then {next = λ n. Repeats (3 * n) SyncsNext} (λ names c pair here. items_long _ _ _ here.client.is.state.items) (rw is at it)
 
 alive_is : {D : Type 0} {medium : Medium D} {scripts : List Declared} {laptop : Laptop D} {m : Client}
     → ClientStands medium scripts laptop m → is_alive laptop ≡ m.node.alive
@@ -125,14 +124,12 @@ module _ {D : Type 0} {medium : Medium D} {scripts : List Declared} {u : Both D}
 
     module _ {v : Both D} {inner : Result (Unit {0}) Halt} (alive : is_alive u.laptop ≡ true) (it : Does medium scripts call u v x y inner)
         (names : List (List ℕ)) (c : ℕ) where
-      done_as : (r : Result (Unit {0}) Halt) → inner ≡ r → Does medium scripts call u v x y r
-      done_as r was = subst (λ (r : Result (Unit {0}) Halt). Does medium scripts call u v x y r) was it
-
       pub all_done : inner ≡ Ok tt
           → StepsTo (AnyStands medium scripts names c) (AnyStands medium scripts names c) (IfUp call) u v x y tt
       all_done was =
-          if_up names c alive (λ pair here. whole (λ n here. still here) (at_one ((done_as (Ok tt) was).step names c).is here))
+          let done = rw was at it in if_up names c alive (λ pair here. whole (λ n here. still here) (at_one (done.step names c).is here))
 
       pub all_over : inner ≡ Err Over
           → StepsTo (AnyStands medium scripts names c) (AnyStands medium scripts names c) (IfUp call) u v x y tt
-      all_over was = if_up names c alive (λ pair here. whole (λ n here. here) (at_one ((done_as (Err Over) was).step names c).is here))
+      all_over was =
+          let done = rw was at it in if_up names c alive (λ pair here. whole (λ n here. here) (at_one (done.step names c).is here))

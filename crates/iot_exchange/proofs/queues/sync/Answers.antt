@@ -10,7 +10,7 @@ head-requires g c = stands (any_ready c.requires)
 
 pub returns-in_default : goal.returns-in_default
 returns-in_default g c =
-    syncs_none (none_waits c.args.laptop.now (sym c.head.ensures ∙ c.in_default.is)) (keeps_same (any_ready c.requires))
+    syncs_none (none_waits c.args.laptop.now _ (sym c.head.ensures ∙ c.in_default.is)) (keeps_same (any_ready c.requires))
     c.in_ok-say.ensures
 
 pub sync_away-requires : goal.sync_away-requires

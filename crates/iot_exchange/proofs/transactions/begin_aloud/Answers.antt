@@ -1,4 +1,4 @@
-use Rattle.iot_exchange.proofs.DoesLaws.{hands_on, then_tells, no_memory, ready_after, stands, any_ready}
+use Rattle.iot_exchange.proofs.DoesLaws.{hands_on, then_tells, ready_after, stands, any_ready}
 use Rattle.iot_exchange.proofs.transactions.begin_aloud.Goals as goal
 
 pub begin-requires : goal.begin-requires
@@ -11,10 +11,6 @@ returns-in_err-begin g c scripts on_conflict means =
 pub say_begun-requires : goal.say_begun-requires
 say_begun-requires g c = stands (any_ready (ready_after c.in_ok-begin.was
     (c.begin.ensures c.requires.scripts c.requires.meant.on_conflict c.requires.meant.means) c.requires.ready))
-
-pub returns-in_err-say_begun : goal.returns-in_err-say_begun
-returns-in_err-say_begun g c scripts on_conflict means =
-    no_memory c.from_residual-in_err-say_begun.ensures.1 (c.begin.ensures scripts on_conflict means).disks
 
 pub returns : goal.returns
 returns g c scripts on_conflict means = then_tells c.in_ok-begin.was (c.begin.ensures scripts on_conflict means)
