@@ -273,11 +273,6 @@ lift_unless : {A B : Type 0} {next : A → Try Client B} {more : A → Try Pair 
 lift_unless each None = lift_class None (λ m. m) (λ m. refl)
 lift_unless each (Some a) = each a
 
-lift_starts : (script : Declared) (option : OnConflict Declared) (first : Bool)
-    → Lifts (StartsAlone script option first) (Starts script option first)
-lift_starts script option first =
-    lift_then (lift_notes (begin script option)) (lift_unless (λ done. lift_class (Some tt) (alone.set_class first) (λ m. refl)))
-
 module _ {D : Type 0} {medium : Medium D} where
   lifted : {A : Type 0} {one : Try Client A} {call : Try Pair A} {P Q : Laptop D → Client → Type 0} {old new : Laptop D}
       {server : ServerNode D} {x y : List ℕ} {a : Option A} (names : List (List ℕ)) (c : ℕ) → Lifts one call → SamePlace old new
@@ -320,7 +315,8 @@ module _ {D : Type 0} {medium : Medium D} where
       → EndsAlone medium scripts (StartsAlone script option first) v.laptop new x y result
       → KeepsDisk medium (disk_in v.laptop) (disk_in new)
       → Does medium scripts (Starts script option first) v (two new v.server) x y result
-  starts script option first keeps place it more = by_client (lift_starts script option first) keeps place it more
+  starts script option first keeps place it more = by_client (lift_then (lift_notes (begin script option))
+      (lift_unless (λ done. lift_class (Some tt) (alone.set_class first) (λ m. refl)))) keeps place it more
 
 -- ---- again and again
 

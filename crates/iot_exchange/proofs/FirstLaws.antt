@@ -345,10 +345,6 @@ ways_are (options.Resolver script) can = refl
 ways_are options.Abort can = absurd can
 ways_are options.Manual can = absurd can
 
--- what a transaction submits that is at this stage
-abbrev submitted_at : Pair → clients.Item → clients.Stage → Submission
-submitted_at pair mi stage = submission_of (record mi { stage = stage }) pair
-
 -- the message that submits a transaction
 abbrev pub message_of : Submitted → Message
 message_of it = record { request = it.request; handed = Some (record { printed = it.printed; way = it.way }) }
@@ -375,7 +371,7 @@ module _ {D : Type 0} {medium : Medium D} {scripts : List Declared} {names : Lis
 
   -- by its stage
   submission_by : {s : Stage} {ms : clients.Stage} → SameStage s ms → IsSubmittedIn s → IsPlanned mi.option ms
-      → IsSubmission (label_in old.laptop.place first.item s) (acts_in first.item s) transaction (submitted_at pair mi ms)
+      → IsSubmission (label_in old.laptop.place first.item s) (acts_in first.item s) transaction (submission_of (record mi { stage = ms }) pair)
   submission_by waiting is planned =
       let stands = (head here first).stands in
       let placed = here.place ∙ sym here.client.place in
@@ -526,9 +522,6 @@ nothing_known =
     ap known (sym (root_map FarDir))
     ∙ ap (paths_where (λ (row : Row). is_known row.1)) (entries_rows (([], FarDir) ∷ []) refl)
 
-same_objects : (one other : Nodes) → replies.Objects one ≡ replies.Objects other → one ≡ other
-same_objects one other is = cc
-
 -- ---- plans
 
 -- what the machine plans if the client plans this, by this script
@@ -577,9 +570,6 @@ module _ {D : Type 0} {medium : Medium D} {scripts : List Declared} {laptop : La
 
     its_plan : IsPlannedBy scripts (state_in laptop).held first.item its_head.first its_head.first.option plan
     its_plan = planned its_head.stands (subst (AllByRecursion (ItemIsNamed scripts)) its_head.split here.named.items).0 is
-
-    pub plan_declared : IsSome (script_named plan.script scripts)
-    plan_declared = rw its_plan.named refl
 
   plans_it : {script : Declared} → script_named plan.script scripts ≡ Some script
       → Plans medium scripts laptop (plan_as (after_acts (state_in laptop).held first.item.acts) plan script)
@@ -634,7 +624,7 @@ module _ {D : Type 0} (old : Both D) {t : Transaction} (request : Vec ℕ Global
         record { tree = e.0; is = e.1.spelled },
         λ short u spells.
             let one : IsOneMessage IsReply reply_spelling reply.items = call_one _ _ _ reply_laws reply.items short in
-            let same : u ≡ e.0 = same_objects _ _ (one _ _ spells e.1.spelled) in
+            let same : u ≡ e.0 = let objects = one _ _ spells e.1.spelled in cc in
             subst IsWhole (sym (same ∙ e.1.cut ∙ whole_comes e.1.server e.1.tree)) e.1.whole,
       )
 
@@ -645,7 +635,7 @@ module _ {D : Type 0} (old : Both D) {t : Transaction} (request : Vec ℕ Global
     -- its script is declared
     pub declared_for : {medium : Medium D} {scripts : List Declared} → IsReadyWith medium scripts old
         → IsSome (script_named plan.script scripts)
-    declared_for ready = plan_declared head_first its ready.pair.client ready.stands.client.is
+    declared_for ready = rw (its_plan head_first its ready.pair.client ready.stands.client.is).named refl
 
     -- it is resolved on that by what is planned for it
     pub resolves_told : {medium : Medium D} {scripts : List Declared} {mid new : Both D} {x y z : List ℕ} {reply : Vec ℕ Global}

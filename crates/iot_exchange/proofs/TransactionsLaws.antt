@@ -62,25 +62,21 @@ stage_is manual = refl
 stage_is (resolved it) =
     (λ i. stages.Resolved (record { script = it.name i; budget = it.budget i; kept = it.kept i; acts = it.acts i }))
 
-item_is : {t : Nodes} {item : Item} {m : clients.Item} → ItemStands t item m → item ≡ item_kept t m
-item_is {item = item} {m} it =
-    let stage = stage_is (same_stage item.stage m.stage it.stage) in
-    (λ i. record {
-      tid = it.number i;
-      script = it.name i;
-      budget = it.budget i;
-      acts = it.acts i;
-      option = it.option i;
-      stage = stage i;
-    })
-
 items_are : (items : List Item) (t : Nodes) (ms : List clients.Item) → ItemsStand items t ms → items ≡ items_kept t ms
 items_are [] t [] it = refl
 items_are [] t (m ∷ ms) it = absurd it
 items_are (item ∷ items) t [] it = absurd it
 items_are (item ∷ items) t (m ∷ ms) it =
     let rest = items_are items (after_acts t item.acts) ms it.1 ∙ ap (λ (u : Nodes). items_kept u ms) it.0.tree in
-    (λ i. item_is it.0 i ∷ rest i)
+    let stage = stage_is (same_stage item.stage m.stage it.0.stage) in
+    (λ i. record {
+      tid = it.0.number i;
+      script = it.0.name i;
+      budget = it.0.budget i;
+      acts = it.0.acts i;
+      option = it.0.option i;
+      stage = stage i;
+    } ∷ rest i)
 
 -- ---- the transaction that runs
 
@@ -111,7 +107,7 @@ none_runs_there : {D : Type 0} {medium : Medium D} {scripts : List Declared} {la
 none_runs_there {m = m} here none = no_some m.node.durable.running (sym (runs_is _ _ _ _ here.state) ∙ none)
 
 -- an element that is lent is the one at its place
-pub lent_element : {A : Type 0} (xs : List A) (place : ℕ) (o : Option (Bor A)) → IsItemAt xs place o
+lent_element : {A : Type 0} (xs : List A) (place : ℕ) (o : Option (Bor A)) → IsItemAt xs place o
     → option_copied o ≡ slice_get xs place
 lent_element xs place None it = sym (slice_get_past xs place it.3)
 lent_element xs place (Some x) it = sym (slice_get_read xs (length xs) place x.now refl it.3.0 it.1)
@@ -158,10 +154,11 @@ module _ {D : Type 0} (medium : Medium D) (laptop : Laptop D) (x : List ℕ) {y 
 
 -- the one at this place of those that wait, if so many do
 pub reads_at : {D : Type 0} {medium : Medium D} {scripts : List Declared} {u v : Both D} {x y : List ℕ} {o : Option Item} (place : ℕ)
-    {result : Result (Unit {0}) Halt} → o ≡ slice_get (state_in u.laptop).items (place - 1)
-    → Does medium scripts (says_reads o) u v x y result → Does medium scripts (ReadsOf place) u v x y result
-reads_at place is it =
-    asks_then {next = says_reads} (λ names c pair here. is ∙ ap (λ (is : List Item). slice_get is (place - 1)) (queue_is here.client.is)) it
+    {result : Result (Unit {0}) Halt} (items : List Item) (lent : Option (Bor Item)) → items ≡ (state_in u.laptop).items
+    → IsItemAt items (place - 1) lent → option_copied lent ≡ o → Does medium scripts (says_reads o) u v x y result
+    → Does medium scripts (ReadsOf place) u v x y result
+reads_at place items lent are at is it = asks_then {next = says_reads} (λ names c pair here.
+    sym is ∙ lent_element items (place - 1) lent at ∙ (λ i. slice_get ((are ∙ queue_is here.client.is) i) (place - 1))) it
 
 -- a call that answers more did it or not as one that does not
 pub err_done : {A : Type 0} {inner : Result A Halt} {outer : Result (Unit {0}) Halt} {fault : Halt} → inner ≡ Err fault

@@ -107,7 +107,13 @@ pub(crate) fn say_told(
         ++ told_text (name_of transaction.now) (verdict_of told.now.verdict) told.now.option) }
 {
     match &told.verdict {
-        Verdict::Settled { number } => say_settled(transaction, *number, out),
+        Verdict::Settled { number } => {
+            out.append(b"settled ")?;
+            transaction.write_to(out)?;
+            out.push(b' ')?;
+            out.append_number(*number)?;
+            out.push(b'\n')
+        }
         Verdict::Conflict { read, question } => {
             say_conflict(transaction, *read, question, out)?;
             match told.option {
@@ -117,17 +123,6 @@ pub(crate) fn say_told(
             }
         }
     }
-}
-
-/// `settled TID N`
-fn say_settled(transaction: &Transaction, number: u64, out: &mut Text) -> Result<(), NoMemory>
-    ensures { OnOk result (out.new ≡ out.old ++ settled_line (name_of transaction.now) number) }
-{
-    out.append(b"settled ")?;
-    transaction.write_to(out)?;
-    out.push(b' ')?;
-    out.append_number(number)?;
-    out.push(b'\n')
 }
 
 /// `conflict TID read I QUESTION`

@@ -14,7 +14,12 @@ returns-in-Some g c =
     says_running g.D.Disk.medium c.args.laptop.now c.args.out.now _ c.in-Some.running.now.first
     (sym c.running.ensures.running ∙ ap (λ o. transaction_of (option_copied o)) c.in-Some.is)
     (sym c.running.ensures.class ∙ ap (λ o. class_of (option_copied o)) c.in-Some.is)
-    (wrote ∙ (λ i. c.args.out.now ++ queue_text (c.name.ensures i) (items i) (c.line_of.ensures i ∷ [])))) c.queue.ensures.ok
+    (wrote ∙ (λ i. c.args.out.now ++ queue_text (c.name.ensures i) (items i) (record {
+      tid = c.in-Some.running.now.tid;
+      script = c.in-Some.running.now.script;
+      first = c.in-Some.running.now.first;
+      acts = c.len.ensures i;
+    } ∷ [])))) c.queue.ensures.ok
 
 pub returns-in-None : goal.returns-in-None
 returns-in-None g c =
