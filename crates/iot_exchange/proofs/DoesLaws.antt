@@ -2,7 +2,7 @@
 use Rattle.std.proofs.Common.{◌≡◌, ◌≤◌, ℕ, List, Option, Some, inl, refl, sym, ap, subst, ◌∙◌, suc, ◌+◌, ◌-◌, ◌<◌, Bool, true}
 use Rattle.std.proofs.Common.{false, ◌++◌, None, Result, Ok, Err, IsErrAnd, arith}
 use Rattle.iot_disk.specs.Disk.{Medium}
-use Rattle.iot_machine.specs.Calls.{Call, Try, Gets, Asks, Answers, Tells, Then, Goes, unless_over, either, Repeats}
+use Rattle.iot_machine.specs.Calls.{Call, Try, Gets, Asks, Answers, Tells, Then, Goes, unless_over, either, Repeats, OrSays, or_text}
 use Rattle.iot_machine.specs.Clients.{Declared, ClientState, begin}
 use Rattle.iot_machine.specs.Machine.{Client, Pair}
 use Rattle.iot_machine.specs.Options.{OnConflict}
@@ -215,6 +215,12 @@ module _ {D : Type 0} {medium : Medium D} {scripts : List Declared} where
       → Does medium scripts (Goes one (λ _. Tells (λ _. text) (Some answer))) u v x z (Ok b)
   then_says was it wrote same = rw same (then_tells was it (λ names c pair here. wrote))
 
+  -- this text follows if nothing was said
+  pub or_says : {A : Type 0} {call : Try Pair A} {other : List ℕ} {u v : Both D} {x z w : List ℕ} {result : Result A Halt}
+      → ((text : List ℕ) → z ≡ x ++ text → w ≡ x ++ or_text other text) → Does medium scripts call u v x z result
+      → Does medium scripts (OrSays other call) u v x w result
+  or_says each it = record { step = λ names c. steps.or_says each (it.step names c); disks = it.disks }
+
   -- ---- want of memory
 
   pub no_memory : {A : Type 0} {call : Try Pair A} {u v : Both D} {x y : List ℕ} {outer : Result A Halt}
@@ -298,9 +304,8 @@ module _ {D : Type 0} {medium : Medium D} where
     where
       by : (names : List (List ℕ)) (c : ℕ) (r : Result (Unit {0}) Halt) → EndsAlone medium scripts one v.laptop new x y r
           → Ends (UpStands medium scripts names c) (AnyStands medium scripts names c) call v (two new v.server) x y r
-      by names c (Ok done) it = record { is = lifted names c lifts place it.is }
       by names c (Err NoMemory) it = record { is = tt }
-      by names c (Err Over) it = record { is = lifted names c lifts place it.is }
+      by names c result it = record { is = lifted names c lifts place it.is }
 
   -- a change of what it keeps
   pub notes : {scripts : List Declared} (change : ClientState → ClientState) {u v : Both D} {new : Laptop D} {x y : List ℕ}
@@ -325,14 +330,10 @@ pub record SoFar {D : Type 0} (medium : Medium D) (scripts : List Declared) (mos
     (done : ℕ) (v : Both D) (y : List ℕ) : Type 0 where
   pub whole : (w : Both D) (z : List ℕ) (result : Result (Unit {0}) Halt)
       → Does medium scripts (Repeats (most - done) round) v w y z result → Does medium scripts (Repeats most round) u w x z result
-  pub disks : KeepsDisks medium u v
 
 module _ {D : Type 0} {medium : Medium D} {scripts : List Declared} {most : ℕ} {round : Try Pair Bool} {u : Both D} {x : List ℕ} where
-  pub none_yet : KeepsDisks medium u u → SoFar medium scripts most round u x 0 u x
-  none_yet keeps = record {
-    whole = λ w z result it. let all : most - 0 ≡ most = omega arith in rw all at it;
-    disks = keeps;
-  }
+  pub none_yet : SoFar medium scripts most round u x 0 u x
+  none_yet = record { whole = λ w z result it. let all : most - 0 ≡ most = omega arith in rw all at it }
 
   module _ {done : ℕ} {v : Both D} {y : List ℕ} (so_far : SoFar medium scripts most round u x done v y) where
     -- one round more is done
@@ -349,7 +350,6 @@ module _ {D : Type 0} {medium : Medium D} {scripts : List Declared} {most : ℕ}
       one_more was on = record {
         whole = λ last t result rest. more within
             (goes_then {next = either (Repeats (most - (done + 1)) round) (Answers (Some tt))} (was ∙ ap (λ (b : Bool). Ok b) on) it rest);
-        disks = keeps_then so_far.disks it.disks;
       }
 
       -- that was the last one
@@ -364,6 +364,6 @@ module _ {D : Type 0} {medium : Medium D} {scripts : List Declared} {most : ℕ}
       halted_round was is = more within (hands_on was is it)
 
     -- no more are to be made
-    pub all_rounds : most ≤ done → Does medium scripts (Repeats most round) u v x y (Ok tt)
-    all_rounds all = so_far.whole v y (Ok tt)
-        (let none : most - done ≡ 0 = omega (arith, all) in rw none (answers so_far.disks))
+    pub all_rounds : most ≤ done → KeepsDisks medium v v → Does medium scripts (Repeats most round) u v x y (Ok tt)
+    all_rounds all keeps = so_far.whole v y (Ok tt)
+        (let none : most - done ≡ 0 = omega (arith, all) in rw none (answers keeps))

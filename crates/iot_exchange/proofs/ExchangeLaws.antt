@@ -86,9 +86,7 @@ away_if_down laptop server_up is down = is ∙ away_by laptop.link.up laptop.lin
 
 same_name : (p : Passage) (m : Client) → (after_passage p m).name ≡ m.name
 same_name Away m = refl
-same_name RequestLost m = refl
-same_name ReplyLost m = refl
-same_name Reaches m = refl
+same_name p m = refl
 
 -- ---- what the server makes of it
 

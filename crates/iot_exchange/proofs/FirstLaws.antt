@@ -34,7 +34,6 @@ use Rattle.iot_wire.proofs.SpellingLaws.{reply_laws}
 use Rattle.iot_wire.specs.Messages.{IsOneMessage}
 use Rattle.iot_wire.specs.Rules.{IsReply}
 use Rattle.iot_wire.specs.Spelling.{reply_spelling}
-use Rattle.iot_wire.specs.declared.replies.Reply.TheVariants as replies
 use Rattle.iot_disk.specs.Disk.{Medium}
 use Rattle.iot_machine.specs.Calls.{Try, Asks, Then}
 use Rattle.iot_machine.specs.Clients.{Declared, Plan, new_client, plan_of, plan_by, local_run, reach, resolution_of}
@@ -47,7 +46,7 @@ use Rattle.iot_machine.specs.Sound.{CanResolve, IsPlanned}
 use Rattle.iot_machine.specs.Texts.{line, transaction_name, manual_line, resolve_line}
 use Rattle.iot_machine.specs.Transactions.{Synced, Stays, Unanswered, Syncs, Submits, submits, resolves, sync_head, sync_at}
 use Rattle.iot_machine.specs.Transactions.{IfManual, if_manual, is_manual, item_name, submission_of, NotesAloud, told, Moved}
-use Rattle.iot_machine.specs.Serving.{Submission, Verdict, Settled, Conflict}
+use Rattle.iot_machine.specs.Serving.{Verdict, Settled, Conflict}
 use Rattle.iot_machine.proofs.WholeLaws.{whole_comes}
 use Rattle.iot_node.specs.declared.halt.Halt.{Halt}
 use Rattle.iot_node.specs.declared.halt.Halt.TheVariants.{Over}
@@ -92,16 +91,12 @@ same_stage stage other it = absurd it
 
 -- one that waits for a decision by hand is that in the machine, too
 manual_stage : {s : Stage} {ms : clients.Stage} → SameStage s ms → s ≡ kept_stages.Manual → ms ≡ clients.Manual
-manual_stage waiting is = absurd cc
-manual_stage conflict is = absurd cc
 manual_stage manual is = refl
-manual_stage (resolved it) is = absurd cc
+manual_stage same is = absurd cc
 
 conflict_stage : {s : Stage} {ms : clients.Stage} → SameStage s ms → s ≡ kept_stages.Conflict → ms ≡ clients.Conflict
-conflict_stage waiting is = absurd cc
 conflict_stage conflict is = refl
-conflict_stage manual is = absurd cc
-conflict_stage (resolved it) is = absurd cc
+conflict_stage same is = absurd cc
 
 -- ---- the first that waits
 
@@ -131,10 +126,8 @@ module _ {D : Type 0} (laptop : Laptop D) where
   -- if it is decided of, it waits for that
   decided_on : {t : Transaction} (item : Item) (stage : Stage) → decision_on laptop item stage ≡ Ok t
       → (stage ≡ kept_stages.Manual) × (record { client = laptop.name; number = item.tid } ≡ t)
-  decided_on item kept_stages.Waiting is = absurd cc
-  decided_on item kept_stages.Conflict is = absurd cc
   decided_on item kept_stages.Manual is = (refl, cc)
-  decided_on item (kept_stages.Resolved done) is = absurd cc
+  decided_on item stage is = absurd cc
 
   pub decided : {t : Transaction} (items : List Item) → decision laptop items ≡ Ok t
       → (head_name laptop items ≡ Some t) × HeadIs IsByHand items
@@ -144,10 +137,8 @@ module _ {D : Type 0} (laptop : Laptop D) where
   -- or not
   refused_on : {u : Undecided} {s : Stage} {ms : clients.Stage} (item : Item) → SameStage s ms → decision_on laptop item s ≡ Err u
       → (u ≡ why.NotManual) × (is_manual ms ≡ false)
-  refused_on item waiting is = (cc, refl)
-  refused_on item conflict is = (cc, refl)
   refused_on item manual is = absurd cc
-  refused_on item (resolved it) is = (cc, refl)
+  refused_on item same is = (cc, refl)
 
 -- if nothing is decided of it, it does not wait for that
 pub is_undecided : {D : Type 0} {laptop : Laptop D} {t : Transaction} {u : Undecided} (first : First laptop t)
@@ -164,8 +155,7 @@ some_plan : (held : Nodes) (mi : clients.Item) (option : OnConflict Declared) �
     → (p : Plan) × (plan_by held mi option ≡ Some p)
 some_plan held mi options.Reexec can = (_, refl)
 some_plan held mi (options.Resolver script) can = (_, refl)
-some_plan held mi options.Abort can = absurd can
-some_plan held mi options.Manual can = absurd can
+some_plan held mi option can = absurd can
 
 -- ---- in a pair
 
@@ -220,9 +210,8 @@ module _ {D : Type 0} {medium : Medium D} {scripts : List Declared} {names : Lis
           → DoesFrom medium scripts names c (Submits head.first) pair new x z result
           → DoesFrom medium scripts names c (sync_at head.first ms) pair new x z result
       submits_at waiting is it = it
-      submits_at conflict is it = absurd is
-      submits_at manual is it = absurd is
       submits_at (resolved done) is it = it
+      submits_at same is it = absurd is
 
       pub submits_from : {result : Result Synced Halt} → IsSubmittedIn first.item.stage
           → DoesFrom medium scripts names c (submits head.first.option (submission_of head.first pair)) pair new x z result
@@ -247,13 +236,11 @@ module _ {D : Type 0} {medium : Medium D} {scripts : List Declared} {names : Lis
           → (s ≡ kept_stages.Conflict → (p : Plan) × (plan_of (kept pair).held head.first ≡ Some p))
           → MissesAll medium scripts names c old new → z ≡ x ++ line (codes "away")
           → DoesFrom medium scripts names c (sync_at head.first ms) pair new x z (Ok Unanswered)
-      misses_at waiting not_manual planned misses wrote =
-          asks_from (then_from here (misses.none (Judgment (submission_of head.first pair)) x) (says (λ pair here. wrote)))
       misses_at conflict not_manual planned misses wrote =
           let p = planned refl in
           resolves_at refl p.1 (then_from here (misses.none (Objects 0 new_client.held (wanted.Below [])) x) (says (λ pair here. wrote)))
       misses_at manual not_manual planned misses wrote = absurd (not_manual refl)
-      misses_at (resolved it) not_manual planned misses wrote =
+      misses_at same not_manual planned misses wrote =
           asks_from (then_from here (misses.none (Judgment (submission_of head.first pair)) x) (says (λ pair here. wrote)))
 
 -- ---- without the server
@@ -342,8 +329,7 @@ no_files = none _ (sym (len-entries empty) ∙ len-empty path_cmp (List ℕ))
 ways_are : (option : OnConflict Declared) → CanResolve option → clients.way_of option ≡ way_of (option_named option)
 ways_are options.Reexec can = refl
 ways_are (options.Resolver script) can = refl
-ways_are options.Abort can = absurd can
-ways_are options.Manual can = absurd can
+ways_are option can = absurd can
 
 -- the message that submits a transaction
 abbrev pub message_of : Submitted → Message
@@ -371,7 +357,8 @@ module _ {D : Type 0} {medium : Medium D} {scripts : List Declared} {names : Lis
 
   -- by its stage
   submission_by : {s : Stage} {ms : clients.Stage} → SameStage s ms → IsSubmittedIn s → IsPlanned mi.option ms
-      → IsSubmission (label_in old.laptop.place first.item s) (acts_in first.item s) transaction (submission_of (record mi { stage = ms }) pair)
+      → IsSubmission (label_in old.laptop.place first.item s) (acts_in first.item s) transaction
+      (submission_of (record mi { stage = ms }) pair)
   submission_by waiting is planned =
       let stands = (head here first).stands in
       let placed = here.place ∙ sym here.client.place in
@@ -391,8 +378,6 @@ module _ {D : Type 0} {medium : Medium D} {scripts : List Declared} {names : Lis
         reads = ap (λ (t : Nodes). reads_of (local_run t mi).acts) (sym here.client.is.state.held) ∙ ap reads_of (sym stands.acts);
         spelled = record { script = stands.script; kept = no_files_are_spelled };
       }
-  submission_by conflict is planned = absurd is
-  submission_by manual is planned = absurd is
   submission_by (resolved done) is planned =
       let stands = (head here first).stands in
       let placed = here.place ∙ sym here.client.place in
@@ -413,6 +398,7 @@ module _ {D : Type 0} {medium : Medium D} {scripts : List Declared} {names : Lis
         reads = ap reads_of (sym done.acts);
         spelled = record { script = done.script; kept = done.files };
       }
+  submission_by same is planned = absurd is
 
   module _ {it : Submitted} (hands : HandsIn old.laptop first.item it) where
     submission : IsSubmission (label_in old.laptop.place first.item first.item.stage) (acts_in first.item first.item.stage) transaction
@@ -449,11 +435,8 @@ module _ {D : Type 0} {medium : Medium D} {scripts : List Declared} {u v : Both 
   told_by : {name other : List ℕ} (verdict : Verdict) (option : OnConflict Declared) → other ≡ name
       → Does medium scripts (NotesAloud (told_change verdict (option_named option)) (told_text name verdict (option_named option))
       (told_synced verdict (option_named option))) u v x y result → Does medium scripts (told other option (Some verdict)) u v x y result
-  told_by (Settled number) option same it = rw same it
-  told_by (Conflict read question) options.Reexec same it = rw same it
-  told_by (Conflict read question) (options.Resolver script) same it = rw same it
-  told_by (Conflict read question) options.Abort same it = rw same it
   told_by (Conflict read question) options.Manual same it = rw same it
+  told_by verdict option same it = rw same it
 
 -- a fault that was handed on
 pub synced_err : (fault : Halt) (outer : Result Sync Halt) → IsErrAnd outer (λ other. other ≡ fault)
@@ -555,8 +538,7 @@ module _ {scripts : List Declared} {held : Nodes} {item : Item} {mi : clients.It
         named = has;
         is = (λ i. Some (record { said = script.name; script = script; budget = ACT_LIMIT; offered = files_of (sym stands.tree i) }));
       })
-  planned_by options.Abort has own is = absurd cc
-  planned_by options.Manual has own is = absurd cc
+  planned_by option has own is = absurd cc
 
   planned : ItemIsNamed scripts mi → resolves.plan_of item ≡ Some plan → IsPlannedBy scripts held item mi mi.option plan
   planned named is = planned_by mi.option named.resolver named.script (rw stands.option at is)

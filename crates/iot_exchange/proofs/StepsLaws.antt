@@ -82,23 +82,20 @@ module _ {W M : Type 0} where
   module _ {up down : W → M → Type 0} where
     pub each_from : {A : Type 0} {call : Try M A} {u v : W} {x y : List ℕ} {result : Result A Halt}
         → ((m : M) → up u m → From up down call m v x y result) → Ends up down call u v x y result
-    each_from {result = Ok a} each = record { is = at_each (λ m here. (each m here).is) }
     each_from {result = Err NoMemory} each = record { is = tt }
-    each_from {result = Err Over} each = record { is = at_each (λ m here. (each m here).is) }
+    each_from each = record { is = at_each (λ m here. (each m here).is) }
 
     pub from : {A : Type 0} {call : Try M A} {u v : W} {x y : List ℕ} {result : Result A Halt} → Ends up down call u v x y result
         → {m : M} → up u m → From up down call m v x y result
-    from {result = Ok a} it here = record { is = at_one it.is here }
     from {result = Err NoMemory} it here = record { is = tt }
-    from {result = Err Over} it here = record { is = at_one it.is here }
+    from it here = record { is = at_one it.is here }
 
     -- what a call does behind another
     behind : {A B : Type 0} {P : W → M → Type 0} {one : Call M A} {next : A → Try M B} {m : M} {v w : W} {x y z : List ℕ} {a : A}
         {result : Result B Halt} → (it : Steps P one m v x y a) → From up down (next a) it.next w y z result
         → From up down (Then one next) m w x z result
-    behind {result = Ok b} it more = record { is = joined it more.is }
     behind {result = Err NoMemory} it more = record { is = tt }
-    behind {result = Err Over} it more = record { is = joined it more.is }
+    behind it more = record { is = joined it more.is }
 
     -- a look at this machine
     pub asks_from : {A B : Type 0} {ask : M → A} {next : A → Try M B} {m : M} {v : W} {x y : List ℕ} {result : Result B Halt}
@@ -147,6 +144,5 @@ module _ {W M : Type 0} where
     pub or_says : {A : Type 0} {call : Try M A} {other : List ℕ} {u v : W} {x z w : List ℕ} {result : Result A Halt}
         → ((text : List ℕ) → z ≡ x ++ text → w ≡ x ++ or_text other text) → Ends up down call u v x z result
         → Ends up down (OrSays other call) u v x w result
-    or_says {result = Ok a} each it = record { is = at_each (λ m here. or_said each (at_one it.is here)) }
     or_says {result = Err NoMemory} each it = record { is = tt }
-    or_says {result = Err Over} each it = record { is = at_each (λ m here. or_said each (at_one it.is here)) }
+    or_says each it = record { is = at_each (λ m here. or_said each (at_one it.is here)) }

@@ -24,7 +24,7 @@ use Rattle.iot_machine.specs.Clients.{Declared, Next, AtEnd, AtLimit, Acts, Fetc
 use Rattle.iot_machine.specs.Clients.{act_once}
 use Rattle.iot_machine.specs.Clients as clients
 use Rattle.iot_machine.specs.Events.{ReadsOf, running_of, says_reads, said_of, place_text}
-use Rattle.iot_machine.specs.Recorded.{stage_kept, item_kept, items_kept, queue_kept}
+use Rattle.iot_machine.specs.Recorded.{stage_kept, items_kept, queue_kept}
 use Rattle.iot_machine.specs.Texts.{queue_text, transaction_name, begin_line, step_line, fetch_line, end_line, line}
 use Rattle.iot_machine.specs.Calls.{Try, Asks, Then}
 use Rattle.iot_machine.specs.Machine.{Client, Pair, kept}
@@ -36,7 +36,7 @@ use Rattle.iot_node.specs.Disks.{KeepsDisk}
 use Rattle.iot_node.specs.declared.halt.Halt.TheVariants.{NoMemory, Over}
 use Rattle.iot_node.proofs.StepsToLaws as calls
 use Rattle.iot_server_node.specs.declared.server.ServerNode.{ServerNode}
-use Rattle.iot_laptop.specs.Kept.{ItemStands, ItemsStand}
+use Rattle.iot_laptop.specs.Kept.{ItemsStand}
 use Rattle.iot_laptop.specs.Laptops.{LaptopStands, RunningStands, RunningStandsIfAny, state_in, live_in, SamePlace, disk_in}
 use Rattle.iot_laptop.specs.declared.laptop.Laptop.{Laptop}
 use Rattle.iot_laptop.specs.Calls.{done, NextIs, IsNext, IsOver, IsUnended, IsDoneIn, IsGone}
@@ -49,23 +49,19 @@ use Rattle.iot_exchange.specs.Pairs.{Both, Does, two, UpStands, KeepsDisks}
 use Rattle.iot_exchange.specs.Saying.{place_said}
 use Rattle.iot_exchange.proofs.DoesLaws.{asks_then, OfEach, DoesFrom, goes_then, hands_on, then_does, each_from, from, refuses, tells}
 use Rattle.iot_exchange.proofs.DoesLaws.{answers, notes, no_memory, keeps_now, keeps_more}
-use Rattle.iot_exchange.proofs.FirstLaws.{SameStage, waiting, conflict, manual, resolved, same_stage}
+use Rattle.iot_exchange.proofs.FirstLaws.{SameStage, resolved, same_stage}
 use Rattle.iot_exchange.proofs.ExchangeLaws.{no_some}
 use Rattle.iot_exchange.proofs.StepsLaws.{asks_from}
 
 -- ---- the transactions that wait
 
 stage_is : {stage : Stage} {m : clients.Stage} → SameStage stage m → stage ≡ stage_kept m
-stage_is waiting = refl
-stage_is conflict = refl
-stage_is manual = refl
 stage_is (resolved it) =
     (λ i. stages.Resolved (record { script = it.name i; budget = it.budget i; kept = it.kept i; acts = it.acts i }))
+stage_is same = refl
 
 items_are : (items : List Item) (t : Nodes) (ms : List clients.Item) → ItemsStand items t ms → items ≡ items_kept t ms
 items_are [] t [] it = refl
-items_are [] t (m ∷ ms) it = absurd it
-items_are (item ∷ items) t [] it = absurd it
 items_are (item ∷ items) t (m ∷ ms) it =
     let rest = items_are items (after_acts t item.acts) ms it.1 ∙ ap (λ (u : Nodes). items_kept u ms) it.0.tree in
     let stage = stage_is (same_stage item.stage m.stage it.0.stage) in
@@ -77,6 +73,7 @@ items_are (item ∷ items) t (m ∷ ms) it =
       option = it.0.option i;
       stage = stage i;
     } ∷ rest i)
+items_are items t ms it = absurd it
 
 -- ---- the transaction that runs
 
@@ -91,8 +88,6 @@ pub record RunsAs (r : Transaction) (live : Option Live) (first : Bool) (o : Opt
 pub runs_as : (s : Option Transaction) (live : Option Live) (first : Bool) (o : Option clients.Running) {r : Transaction} → s ≡ Some r
     → RunningStandsIfAny s live first o → RunsAs r live first o
 runs_as None live first o is stands = absurd cc
-runs_as (Some s) live first None is stands = absurd stands
-runs_as (Some s) None first (Some it) is stands = absurd stands
 runs_as (Some s) (Some own) first (Some it) is stands = record {
   it = it;
   own = own;
@@ -100,6 +95,8 @@ runs_as (Some s) (Some own) first (Some it) is stands = record {
   lives = refl;
   stands = subst (λ (t : Transaction). RunningStands t own first it) (same_Some s _ is) stands;
 }
+runs_as (Some s) live first None is stands = absurd stands
+runs_as (Some s) None first (Some it) is stands = absurd stands
 
 -- or none of the machine's runs
 none_runs_there : {D : Type 0} {medium : Medium D} {scripts : List Declared} {laptop : Laptop D} {m : machine.Client}
@@ -183,15 +180,13 @@ module _ {D : Type 0} {medium : Medium D} {scripts : List Declared} {names : Lis
       → DoesFrom medium scripts names c (end_by it next) pair v x y result
   over_at AtEnd is does = asks_from does
   over_at AtLimit is does = asks_from does
-  over_at Acts is does = absurd is
-  over_at (Fetches path) is does = absurd is
+  over_at next is does = absurd is
 
   unended_at : (next : Next) → IsUnended next → DoesFrom medium scripts names c (Refuses (codes "not at end")) pair v x y result
       → DoesFrom medium scripts names c (end_by it next) pair v x y result
   unended_at AtEnd is does = absurd is
   unended_at AtLimit is does = absurd is
-  unended_at Acts is does = does
-  unended_at (Fetches path) is does = does
+  unended_at next is does = does
 
 module _ {D : Type 0} {medium : Medium D} {scripts : List Declared} {u : Both D} where
   -- none runs
@@ -294,8 +289,7 @@ limit_by first t it false is on =
   where
     by : (first : Bool) (away : Option Path) → place_text (next_by first away) ≡ []
     by true None = refl
-    by true (Some path) = refl
-    by false away = refl
+    by first away = refl
 
 place_by : (first : Bool) (t : Nodes) (it : clients.Running) (ended : Bool) → ended ≡ (so_far t it).ended
     → place_text (next_step first t it) ≡ place_said ended it.acts

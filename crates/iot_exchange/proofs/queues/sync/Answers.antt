@@ -3,7 +3,8 @@ use Rattle.iot_kept.specs.Changes.{IsByHand}
 use Rattle.iot_laptop.specs.Calls.{IsNeed}
 use Rattle.iot_laptop.specs.declared.needs.Need.TheVariants.{Decision}
 use Rattle.iot_exchange.proofs.DoesLaws.{any_ready, stands, low, keeps_same}
-use Rattle.iot_exchange.proofs.FirstLaws.{first_of, first_waits, none_waits, head_is, syncs_none, syncs_by_hand, decided, is_undecided, syncs_away}
+use Rattle.iot_exchange.proofs.FirstLaws.{first_of, first_waits, none_waits, head_is, syncs_none, syncs_by_hand}
+use Rattle.iot_exchange.proofs.FirstLaws.{decided, is_undecided, syncs_away}
 use Rattle.iot_exchange.proofs.queues.sync.Goals as goal
 
 pub head-requires : goal.head-requires

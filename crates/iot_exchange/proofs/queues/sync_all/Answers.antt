@@ -8,7 +8,7 @@ use Rattle.iot_exchange.proofs.TasksLaws.{all_by}
 use Rattle.iot_exchange.proofs.queues.sync_all.Goals as goal
 
 pub syncs-init : goal.syncs-init
-syncs-init g c = (none_yet (keeps_same (any_ready c.requires)), c.requires)
+syncs-init g c = (none_yet, c.requires)
 
 pub returns-then-not-waits : goal.returns-then-not-waits
 returns-then-not-waits g c = all_by c.in_ok-most.ensures (last_round c.syncs.invariant.0 c.syncs-test.true
@@ -35,4 +35,5 @@ syncs-preserved g c = (
 )
 
 pub returns : goal.returns
-returns g c = all_by c.in_ok-most.ensures (all_rounds c.syncs.invariant.0 c.syncs-test.false)
+returns g c =
+    all_by c.in_ok-most.ensures (all_rounds c.syncs.invariant.0 c.syncs-test.false (keeps_same (any_ready c.syncs.invariant.1)))
