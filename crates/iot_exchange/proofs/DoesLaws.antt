@@ -2,7 +2,7 @@
 use Rattle.std.proofs.Common.{◌≡◌, ◌≤◌, ℕ, List, Option, Some, inl, refl, sym, ap, subst, ◌∙◌, suc, ◌+◌, ◌-◌, ◌<◌, Bool, true}
 use Rattle.std.proofs.Common.{false, ◌++◌, None, Result, Ok, Err, IsErrAnd, arith}
 use Rattle.iot_disk.specs.Disk.{Medium}
-use Rattle.iot_machine.specs.Calls.{Call, Try, Gets, Asks, Answers, Tells, Then, Goes, unless_over, either, Repeats}
+use Rattle.iot_machine.specs.Calls.{Call, Try, Gets, Asks, Answers, Tells, Then, Goes, unless_over, either, Repeats, OrSays, or_text}
 use Rattle.iot_machine.specs.Clients.{Declared, ClientState, begin}
 use Rattle.iot_machine.specs.Machine.{Client, Pair}
 use Rattle.iot_machine.specs.Options.{OnConflict}
@@ -11,7 +11,7 @@ use Rattle.iot_node.specs.Disks.{KeepsDisk}
 use Rattle.iot_node.specs.Steps.{StepsTo, Ends}
 use Rattle.iot_node.specs.declared.halt.Halt.{Halt}
 use Rattle.iot_node.specs.declared.halt.Halt.TheVariants.{NoMemory, Over}
-use Rattle.iot_server_node.specs.Servers.{ServerIsSound, disk_of, ServerStands}
+use Rattle.iot_server_node.specs.Servers.{disk_of, ServerStands}
 use Rattle.iot_server_node.specs.declared.server.ServerNode.{ServerNode}
 use Rattle.iot_server_node.specs.Records.{KeepsRecords}
 use Rattle.iot_server_node.proofs.BeginningLaws.{records_same, records_then}
@@ -122,14 +122,6 @@ module _ {D : Type 0} {medium : Medium D} where
     pub low : u.laptop.place ≤ 7
     low = subst (λ (c : ℕ). c ≤ 7) (sym ready.is.stands.client.place) ready.is.stands.client.few
 
-    pub sound : ServerIsSound medium u.server
-    sound = record {
-      names = ready.is.names;
-      node = ready.is.pair.server;
-      requests = ready.is.pair.requests;
-      stands = ready.is.stands.server;
-    }
-
     pub keeps_same : KeepsDisks medium u u
     keeps_same = keeps_standing (standing ready.is)
 
@@ -223,18 +215,25 @@ module _ {D : Type 0} {medium : Medium D} {scripts : List Declared} where
       → Does medium scripts (Goes one (λ _. Tells (λ _. text) (Some answer))) u v x z (Ok b)
   then_says was it wrote same = rw same (then_tells was it (λ names c pair here. wrote))
 
+  -- this text follows if nothing was said
+  pub or_says : {A : Type 0} {call : Try Pair A} {other : List ℕ} {u v : Both D} {x z w : List ℕ} {result : Result A Halt}
+      → ((text : List ℕ) → z ≡ x ++ text → w ≡ x ++ or_text other text) → Does medium scripts call u v x z result
+      → Does medium scripts (OrSays other call) u v x w result
+  or_says each it = record { step = λ names c. steps.or_says each (it.step names c); disks = it.disks }
+
   -- ---- want of memory
 
   pub no_memory : {A : Type 0} {call : Try Pair A} {u v : Both D} {x y : List ℕ} {outer : Result A Halt}
       → IsErrAnd outer (λ halt. halt ≡ NoMemory) → KeepsDisks medium u v → Does medium scripts call u v x y outer
-  no_memory is keeps = record { step = λ names c. steps.no_memory is; disks = keeps }
+  no_memory {outer = Ok value} is keeps = absurd is
+  no_memory {outer = Err halt} is keeps = rw is (record { step = λ names c. record { is = tt }; disks = keeps })
 
   -- ---- after a call that goes on
 
   pub ready_after : {A : Type 0} {call : Try Pair A} {u v : Both D} {x y : List ℕ} {a : A} {inner : Result A Halt} → inner ≡ Ok a
       → Does medium scripts call u v x y inner → IsReadyWith medium scripts u → IsReadyWith medium scripts v
-  ready_after {call = call} {u} {v} {x} {y} was it ready =
-      let done = subst (λ (r : Result _ Halt). Does medium scripts call u v x y r) was it in
+  ready_after was it ready =
+      let done = rw was at it in
       let t = (done.step ready.names ready.c).is.step ready.pair ready.stands in
       record { names = ready.names; c = ready.c; pair = t.1; stands = t.4 }
 
@@ -247,47 +246,38 @@ ready_after_any was it ready = record { scripts = ready.scripts; is = ready_afte
 
 -- a call of the client is one of the pair, and leaves its name
 pub record Lifts {A : Type 0} (one : Call Client A) (call : Call Pair A) : Type 0 where
-  pub lift : (pair : Pair) (text : List ℕ) (a : A) (n : Client) → one pair.client text a n → call pair text a (record pair { client = n })
-  pub name : (m n : Client) (text : List ℕ) (a : A) → one m text a n → n.name ≡ m.name
+  pub lift : (pair : Pair) (text : List ℕ) (a : A) (n : Client) → one pair.client text a n
+      → call pair text a (record pair { client = n }) × (n.name ≡ pair.client.name)
 
 lift_then : {A B : Type 0} {one : Call Client A} {call : Call Pair A} {next : A → Call Client B} {more : A → Call Pair B}
     → Lifts one call → ((a : A) → Lifts (next a) (more a)) → Lifts (Then one next) (Then call more)
 lift_then lifts each = record {
-  lift = λ pair text b n it. record {
-    mid = record pair { client = it.mid };
-    front = it.front;
-    rest = it.rest;
-    answer = it.answer;
-    first = lifts.lift pair it.front it.answer it.mid it.first;
-    second = (each it.answer).lift (record pair { client = it.mid }) it.rest b n it.second;
-    whole = it.whole;
-  };
-  name = λ m n text b it. (each it.answer).name it.mid n it.rest b it.second ∙ lifts.name m it.mid it.front it.answer it.first;
+  lift = λ pair text b n it.
+      let mid : Pair = record pair { client = it.mid } in
+      let one = lifts.lift pair it.front it.answer it.mid it.first in
+      let more = (each it.answer).lift mid it.rest b n it.second in (
+        record { mid = mid; front = it.front; rest = it.rest; answer = it.answer; first = one.0; second = more.0; whole = it.whole },
+        more.1 ∙ one.1,
+      );
 }
 
 -- the same answer, and no change but of the class
 lift_class : {A : Type 0} (a : A) (change : Client → Client) → ((m : Client) → (change m).name ≡ m.name)
     → Lifts (Gets (λ _. a) change) (Gets (λ _. a) (λ pair. record pair { client = change pair.client }))
 lift_class a change same = record {
-  lift = λ pair text b n it. (it.0, it.1, ap (λ (client : Client). record pair { client = client }) it.2);
-  name = λ m n text b it. ap (λ (client : Client). client.name) it.2 ∙ same m;
+  lift = λ pair text b n it.
+      ((it.0, it.1, (λ i. record pair { client = it.2 i })), ap (λ (client : Client). client.name) it.2 ∙ same pair.client);
 }
 
 lift_notes : (change : ClientState → ClientState) → Lifts (NotesAlone change) (Notes change)
 lift_notes change = lift_then (record {
-  lift = λ pair text a n it. record { inner = n; step = it; is = refl };
-  name = λ m n text a it. ap (λ (client : Client). client.name) it.is;
+  lift = λ pair text a n it. (record { inner = n; step = it; is = refl }, ap (λ (client : Client). client.name) it.is);
 }) (λ on. lift_class (unless_stopped on) (λ m. m) (λ m. refl))
 
 lift_unless : {A B : Type 0} {next : A → Try Client B} {more : A → Try Pair B} → ((a : A) → Lifts (next a) (more a)) → (o : Option A)
     → Lifts (unless_over next o) (unless_over more o)
 lift_unless each None = lift_class None (λ m. m) (λ m. refl)
 lift_unless each (Some a) = each a
-
-lift_starts : (script : Declared) (option : OnConflict Declared) (first : Bool)
-    → Lifts (StartsAlone script option first) (Starts script option first)
-lift_starts script option first =
-    lift_then (lift_notes (begin script option)) (lift_unless (λ done. lift_class (Some tt) (alone.set_class first) (λ m. refl)))
 
 module _ {D : Type 0} {medium : Medium D} where
   lifted : {A : Type 0} {one : Try Client A} {call : Try Pair A} {P Q : Laptop D → Client → Type 0} {old new : Laptop D}
@@ -297,17 +287,10 @@ module _ {D : Type 0} {medium : Medium D} where
       (two old server) (two new server) x y a
   lifted {a = a} names c lifts place it = record {
     step = λ pair here.
-        let t = it.step pair.client here.client.is in (
-          t.0,
-          record pair { client = t.1 },
-          t.2,
-          lifts.lift pair t.0 a t.1 t.3,
-          record {
-            place = here.place;
-            client = at_as here.client t.4 place (lifts.name pair.client t.1 t.0 a t.3);
-            server = here.server;
-          },
-        );
+        let t = it.step pair.client here.client.is in
+        let did = lifts.lift pair t.0 a t.1 t.3 in
+        let client = at_as here.client t.4 place did.1 in
+        (t.0, record pair { client = t.1 }, t.2, did.0, record { place = here.place; client = client; server = here.server });
   }
 
   by_client : {scripts : List Declared} {one : Try Client (Unit {0})} {call : Try Pair (Unit {0})} {u v : Both D} {new : Laptop D}
@@ -321,9 +304,8 @@ module _ {D : Type 0} {medium : Medium D} where
     where
       by : (names : List (List ℕ)) (c : ℕ) (r : Result (Unit {0}) Halt) → EndsAlone medium scripts one v.laptop new x y r
           → Ends (UpStands medium scripts names c) (AnyStands medium scripts names c) call v (two new v.server) x y r
-      by names c (Ok done) it = record { is = lifted names c lifts place it.is }
       by names c (Err NoMemory) it = record { is = tt }
-      by names c (Err Over) it = record { is = lifted names c lifts place it.is }
+      by names c result it = record { is = lifted names c lifts place it.is }
 
   -- a change of what it keeps
   pub notes : {scripts : List Declared} (change : ClientState → ClientState) {u v : Both D} {new : Laptop D} {x y : List ℕ}
@@ -338,7 +320,8 @@ module _ {D : Type 0} {medium : Medium D} where
       → EndsAlone medium scripts (StartsAlone script option first) v.laptop new x y result
       → KeepsDisk medium (disk_in v.laptop) (disk_in new)
       → Does medium scripts (Starts script option first) v (two new v.server) x y result
-  starts script option first keeps place it more = by_client (lift_starts script option first) keeps place it more
+  starts script option first keeps place it more = by_client (lift_then (lift_notes (begin script option))
+      (lift_unless (λ done. lift_class (Some tt) (alone.set_class first) (λ m. refl)))) keeps place it more
 
 -- ---- again and again
 
@@ -347,15 +330,10 @@ pub record SoFar {D : Type 0} (medium : Medium D) (scripts : List Declared) (mos
     (done : ℕ) (v : Both D) (y : List ℕ) : Type 0 where
   pub whole : (w : Both D) (z : List ℕ) (result : Result (Unit {0}) Halt)
       → Does medium scripts (Repeats (most - done) round) v w y z result → Does medium scripts (Repeats most round) u w x z result
-  pub disks : KeepsDisks medium u v
 
 module _ {D : Type 0} {medium : Medium D} {scripts : List Declared} {most : ℕ} {round : Try Pair Bool} {u : Both D} {x : List ℕ} where
-  pub none_yet : KeepsDisks medium u u → SoFar medium scripts most round u x 0 u x
-  none_yet keeps = record {
-    whole = λ w z result it. subst (λ (n : ℕ). Does medium scripts (Repeats n round) u w x z result)
-        (let e : most - 0 ≡ most = omega arith in e) it;
-    disks = keeps;
-  }
+  pub none_yet : SoFar medium scripts most round u x 0 u x
+  none_yet = record { whole = λ w z result it. let all : most - 0 ≡ most = omega arith in rw all at it }
 
   module _ {done : ℕ} {v : Both D} {y : List ℕ} (so_far : SoFar medium scripts most round u x done v y) where
     -- one round more is done
@@ -363,8 +341,7 @@ module _ {D : Type 0} {medium : Medium D} {scripts : List Declared} {most : ℕ}
         → Does medium scripts (Goes round (either (Repeats (most - (done + 1)) round) (Answers (Some tt)))) v w y z result
         → Does medium scripts (Repeats most round) u w x z result
     more {w} {z} {result} within it = so_far.whole w z result
-        (subst (λ (n : ℕ). Does medium scripts (Repeats n round) v w y z result)
-        (let e : suc (most - (done + 1)) ≡ most - done = omega (arith, within) in e) it)
+        (let left : most - done ≡ suc (most - (done + 1)) = omega (arith, within) in rw left it)
 
     module _ {w : Both D} {z : List ℕ} {inner : Result Bool Halt} (within : done < most)
         (it : Does medium scripts round v w y z inner) where
@@ -373,7 +350,6 @@ module _ {D : Type 0} {medium : Medium D} {scripts : List Declared} {most : ℕ}
       one_more was on = record {
         whole = λ last t result rest. more within
             (goes_then {next = either (Repeats (most - (done + 1)) round) (Answers (Some tt))} (was ∙ ap (λ (b : Bool). Ok b) on) it rest);
-        disks = keeps_then so_far.disks it.disks;
       }
 
       -- that was the last one
@@ -388,7 +364,6 @@ module _ {D : Type 0} {medium : Medium D} {scripts : List Declared} {most : ℕ}
       halted_round was is = more within (hands_on was is it)
 
     -- no more are to be made
-    pub all_rounds : most ≤ done → Does medium scripts (Repeats most round) u v x y (Ok tt)
-    all_rounds all = so_far.whole v y (Ok tt)
-        (subst (λ (n : ℕ). Does medium scripts (Repeats n round) v v y y (Ok tt))
-        (let e : 0 ≡ most - done = omega (arith, all) in e) (answers so_far.disks))
+    pub all_rounds : most ≤ done → KeepsDisks medium v v → Does medium scripts (Repeats most round) u v x y (Ok tt)
+    all_rounds all keeps = so_far.whole v y (Ok tt)
+        (let none : most - done ≡ 0 = omega (arith, all) in rw none (answers keeps))

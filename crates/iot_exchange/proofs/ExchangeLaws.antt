@@ -31,7 +31,7 @@ use Rattle.iot_server_node.proofs.ServersLaws.{up_is}
 use Rattle.iot_laptop.specs.Laptops.{LaptopStands, Relinked, after_passage, Stands, state_in, waits_of}
 use Rattle.iot_laptop.specs.declared.laptop.Laptop.{Laptop}
 use Rattle.iot_laptop.specs.Alone.{NotesAlone}
-use Rattle.iot_laptop.specs.Calls.{EndsAlone, Changes}
+use Rattle.iot_laptop.specs.Calls.{Changes}
 use Rattle.iot_laptop.specs.Messages.{SpellsTree, BringsTree}
 use Rattle.iot_laptop.proofs.LaptopsLaws.{runs_is, waits_is}
 use Rattle.iot_exchange.specs.Pairs.{Both, two, IsAt, UpStands, Query, Objects, Judgment, AsksFor, Spells, request_of, Serves, Exchanges}
@@ -86,9 +86,7 @@ away_if_down laptop server_up is down = is ∙ away_by laptop.link.up laptop.lin
 
 same_name : (p : Passage) (m : Client) → (after_passage p m).name ≡ m.name
 same_name Away m = refl
-same_name RequestLost m = refl
-same_name ReplyLost m = refl
-same_name Reaches m = refl
+same_name p m = refl
 
 -- ---- what the server makes of it
 
@@ -141,44 +139,43 @@ passed {medium = medium} {old} {new} up is after how = record {
 }
 
 module _ {D : Type 0} {medium : Medium D} {old new : Laptop D} {server : ServerNode D} where
-  -- what the client is then
-  linked : {p : Passage} {scripts : List Declared} {names : List (List ℕ)} {c : ℕ} {m : Client} → Passed medium old new server p
-      → IsAt (LaptopStands medium scripts) names c old m → IsAt (LaptopStands medium scripts) names c new (after_passage p m)
-  linked {p} {scripts} {m = m} it here = at_as here (it.after.stands scripts m here.is) it.after.place (same_name p m)
+  module _ {scripts : List Declared} {names : List (List ℕ)} {c : ℕ} where
+    -- what the client is then
+    linked : {p : Passage} {later : ServerNode D} {pair : Pair} → Passed medium old new server p
+        → UpStands medium scripts names c (two old later) pair
+        → UpStands medium scripts names c (two new later) (record pair { client = after_passage p pair.client })
+    linked {p} {pair = pair} it here = record {
+      place = here.place;
+      client = at_as here.client (it.after.stands scripts pair.client here.client.is) it.after.place (same_name p pair.client);
+      server = here.server;
+    }
 
-  module _ {A : Type 0} {scripts : List Declared} {names : List (List ℕ)} {c : ℕ} {request : Call (Node (List Commit)) (Option A)} where
-    exchanged : {p : Passage} {v : Both D} {x y : List ℕ} {a : Option A} → Passed medium old new server p
-        → StepsOn medium scripts names c (exchange_by request p) (two old server) v x y a
-        → StepsOn medium scripts names c (Exchange request) (two old server) v x y a
-    exchanged {p} it one = bind (asks (λ pair here.
-        let alive = sym (up_is medium names server pair.server pair.requests here.server) in
-        it.is ∙ (λ i. passage (here.client.is.link i) (alive i)))) one
+    module _ {A : Type 0} {request : Call (Node (List Commit)) (Option A)} where
+      exchanged : {p : Passage} {v : Both D} {x y : List ℕ} {a : Option A} → Passed medium old new server p
+          → StepsOn medium scripts names c (exchange_by request p) (two old server) v x y a
+          → StepsOn medium scripts names c (Exchange request) (two old server) v x y a
+      exchanged {p} it one = bind (asks (λ pair here.
+          let alive = sym (up_is medium names server pair.server pair.requests here.server) in
+          it.is ∙ (λ i. passage (here.client.is.link i) (alive i)))) one
 
-    -- it was not sent
-    pub away : {x : List ℕ} → Passed medium old new server Away
-        → StepsOn medium scripts names c (Exchange request) (two old server) (two new server) x x None
-    away it = exchanged it (gets (λ pair here. (refl, record { place = here.place; client = linked it here.client; server = here.server })))
+      -- it was not sent
+      pub away : {x : List ℕ} → Passed medium old new server Away
+          → StepsOn medium scripts names c (Exchange request) (two old server) (two new server) x x None
+      away it = exchanged it (gets (λ pair here. (refl, linked it here)))
 
-    -- or it was lost
-    pub request_lost : {x : List ℕ} → Passed medium old new server RequestLost
-        → StepsOn medium scripts names c (Exchange request) (two old server) (two new server) x x None
-    request_lost it =
-        exchanged it (gets (λ pair here. (refl, record { place = here.place; client = linked it here.client; server = here.server })))
+      -- or it was lost
+      pub request_lost : {x : List ℕ} → Passed medium old new server RequestLost
+          → StepsOn medium scripts names c (Exchange request) (two old server) (two new server) x x None
+      request_lost it = exchanged it (gets (λ pair here. (refl, linked it here)))
 
-    module _ {later : ServerNode D} {x y : List ℕ} where
-      unheard : {a : Option A} → Passed medium old new server ReplyLost
-          → StepsOn medium scripts names c (Handles request) (two old server) (two old later) x y a
-          → StepsOn medium scripts names c (Exchange request) (two old server) (two new later) x y None
-      unheard it one = exchanged it (bind one (gets (λ pair here.
-          (refl, record { place = here.place; client = linked it here.client; server = here.server }))))
-
-      module _ {Spelled : List ℕ → A → Type 0} where
+      module _ {Spelled : List ℕ → A → Type 0} {later : ServerNode D} {x y : List ℕ} where
         -- the server handled it, and its reply is lost
         pub reply_lost : (reply : Option (Vec ℕ Global)) → Passed medium old new server ReplyLost
             → Serves (ServerStands medium names) Spelled request reply server later x y
             → StepsOn medium scripts names c (Exchange request) (two old server) (two new later) x y None
-        reply_lost None it served = unheard it (handles None served).is
-        reply_lost (Some reply) it served = unheard it (handles (Some reply) served).is.2
+        reply_lost None it served = exchanged it (bind (handles None served).is (gets (λ pair here. (refl, linked it here))))
+        reply_lost (Some reply) it served =
+            exchanged it (bind (handles (Some reply) served).is.2 (gets (λ pair here. (refl, linked it here))))
 
         -- the reply comes
         pub comes : {reply : Vec ℕ Global} → Passed medium old new server Reaches
@@ -186,28 +183,16 @@ module _ {D : Type 0} {medium : Medium D} {old new : Laptop D} {server : ServerN
             → Exchanges (UpStands medium scripts names c) Spelled (Exchange request) (Some reply) (two old server) (two new later) x y
         comes {reply} it served =
             let e = (handles {laptop = old} (Some reply) served).is in
-            record {
-              is = (
-                e.0,
-                e.1,
-                exchanged it (bind e.2 (gets (λ pair here.
-                    (refl, record { place = here.place; client = linked it here.client; server = here.server })))),
-              );
-            }
+            record { is = (e.0, e.1, exchanged it (bind e.2 (gets (λ pair here. (refl, linked it here))))) }
 
         -- none comes, since the server stopped
         pub none_comes : {last : Laptop D} → Passed medium old new server Reaches
             → Serves (ServerStands medium names) Spelled request None server later x y → Relinked medium break new last
             → StepsOn medium scripts names c (Exchange request) (two old server) (two last later) x y None
         none_comes it served broke = exchanged it (bind (handles None served).is (gets (λ pair here.
-            let at_it = linked it here.client in (
-              refl,
-              record {
-                place = here.place;
-                client = at_as at_it (broke.stands scripts pair.client at_it.is) broke.place refl;
-                server = here.server;
-              },
-            ))))
+            let its = (linked it here).client in
+            let client = at_as its (broke.stands scripts pair.client its.is) broke.place refl in
+            (refl, record { place = here.place; client = client; server = here.server }))))
 
 -- ---- tests
 
@@ -289,9 +274,9 @@ noted change m n text done it = by it.first.step
 
 pub free_still : {D : Type 0} {medium : Medium D} (t : Nodes) {old new : Laptop D} {x y : List ℕ} {inner : Result (Unit {0}) Halt}
     {done : Unit {0}} → inner ≡ Ok done → Stands medium old → Changes medium (hold t) old new x y inner → IsFree old → IsFree new
-free_still {medium = medium} t {old} {new} {x} {y} {done = done} was here changes free =
-    let s = (subst (λ (r : Result (Unit {0}) Halt). EndsAlone medium here.scripts (NotesAlone (hold t)) old new x y r) was
-    (changes here.scripts)).is.step here.machine here.stands in
+free_still t {done = done} was here changes free =
+    let went = rw was at (changes here.scripts) in
+    let s = went.is.step here.machine here.stands in
     let kept = noted (hold t) here.machine s.1 s.0 done s.3 in
     is_free
     (runs_is _ _ _ _ s.4.state ∙ ap (λ (kept : ClientState). is_some kept.running) kept ∙ sym (runs_is _ _ _ _ here.stands.state)

@@ -7,7 +7,7 @@ use Rattle.std.proofs.lemmas.Option.{same_Some, slice_get-get_or, slice_get_with
 use Rattle.std.specs.List.{AllByRecursion}
 use Rattle.std.specs.FinMap.{empty, entries, len-entries, len-empty}
 use Rattle.iot_text.specs.Paths.{path_cmp}
-use Rattle.iot_tree.specs.Tree.{Nodes, Path, Row, root_alone, IsWhole}
+use Rattle.iot_tree.specs.Tree.{Nodes, Row, root_alone, IsWhole}
 use Rattle.iot_tree.specs.declared.acts.Read.{Read}
 use Rattle.iot_tree.specs.declared.labels.Way.TheVariants.{Certified}
 use Rattle.iot_tree.proofs.RowLaws.{root_map, entries_rows}
@@ -31,11 +31,9 @@ use Rattle.iot_kept.specs.Changes.{HeadIs, IsByHand, IsSubmittedIn, IsSubmitted}
 use Rattle.iot_client.specs.Messages.{way_of, IsRefresh}
 use Rattle.iot_wire.proofs.MessagesLaws.{call_one}
 use Rattle.iot_wire.proofs.SpellingLaws.{reply_laws}
-use Rattle.iot_wire.specs.Messages.{IsMessage, IsOneMessage}
-use Rattle.iot_wire.specs.Rules.{IsReply, IsRequest}
-use Rattle.iot_wire.specs.Spelling.{reply_spelling, request_spelling}
-use Rattle.iot_wire.specs.declared.requests.Request.TheVariants.{Refresh}
-use Rattle.iot_wire.specs.declared.replies.Reply.TheVariants as replies
+use Rattle.iot_wire.specs.Messages.{IsOneMessage}
+use Rattle.iot_wire.specs.Rules.{IsReply}
+use Rattle.iot_wire.specs.Spelling.{reply_spelling}
 use Rattle.iot_disk.specs.Disk.{Medium}
 use Rattle.iot_machine.specs.Calls.{Try, Asks, Then}
 use Rattle.iot_machine.specs.Clients.{Declared, Plan, new_client, plan_of, plan_by, local_run, reach, resolution_of}
@@ -48,7 +46,7 @@ use Rattle.iot_machine.specs.Sound.{CanResolve, IsPlanned}
 use Rattle.iot_machine.specs.Texts.{line, transaction_name, manual_line, resolve_line}
 use Rattle.iot_machine.specs.Transactions.{Synced, Stays, Unanswered, Syncs, Submits, submits, resolves, sync_head, sync_at}
 use Rattle.iot_machine.specs.Transactions.{IfManual, if_manual, is_manual, item_name, submission_of, NotesAloud, told, Moved}
-use Rattle.iot_machine.specs.Serving.{Submission, Verdict, Settled, Conflict}
+use Rattle.iot_machine.specs.Serving.{Verdict, Settled, Conflict}
 use Rattle.iot_machine.proofs.WholeLaws.{whole_comes}
 use Rattle.iot_node.specs.declared.halt.Halt.{Halt}
 use Rattle.iot_node.specs.declared.halt.Halt.TheVariants.{Over}
@@ -89,31 +87,16 @@ same_stage kept_stages.Waiting clients.Waiting it = waiting
 same_stage kept_stages.Conflict clients.Conflict it = conflict
 same_stage kept_stages.Manual clients.Manual it = manual
 same_stage (kept_stages.Resolved done) (clients.Resolved m) it = resolved it
-same_stage kept_stages.Waiting clients.Conflict it = absurd it
-same_stage kept_stages.Waiting clients.Manual it = absurd it
-same_stage kept_stages.Waiting (clients.Resolved m) it = absurd it
-same_stage kept_stages.Conflict clients.Waiting it = absurd it
-same_stage kept_stages.Conflict clients.Manual it = absurd it
-same_stage kept_stages.Conflict (clients.Resolved m) it = absurd it
-same_stage kept_stages.Manual clients.Waiting it = absurd it
-same_stage kept_stages.Manual clients.Conflict it = absurd it
-same_stage kept_stages.Manual (clients.Resolved m) it = absurd it
-same_stage (kept_stages.Resolved done) clients.Waiting it = absurd it
-same_stage (kept_stages.Resolved done) clients.Conflict it = absurd it
-same_stage (kept_stages.Resolved done) clients.Manual it = absurd it
+same_stage stage other it = absurd it
 
 -- one that waits for a decision by hand is that in the machine, too
 manual_stage : {s : Stage} {ms : clients.Stage} → SameStage s ms → s ≡ kept_stages.Manual → ms ≡ clients.Manual
-manual_stage waiting is = absurd cc
-manual_stage conflict is = absurd cc
 manual_stage manual is = refl
-manual_stage (resolved it) is = absurd cc
+manual_stage same is = absurd cc
 
 conflict_stage : {s : Stage} {ms : clients.Stage} → SameStage s ms → s ≡ kept_stages.Conflict → ms ≡ clients.Conflict
-conflict_stage waiting is = absurd cc
 conflict_stage conflict is = refl
-conflict_stage manual is = absurd cc
-conflict_stage (resolved it) is = absurd cc
+conflict_stage same is = absurd cc
 
 -- ---- the first that waits
 
@@ -136,20 +119,15 @@ module _ {D : Type 0} {laptop : Laptop D} where
   head_is Is first head = subst (HeadIs Is) first.items head
 
 module _ {D : Type 0} (laptop : Laptop D) where
-  none_by : (items : List Item) → head_name laptop items ≡ None → items ≡ []
-  none_by [] is = refl
-  none_by (item ∷ items) is = absurd cc
-
-  pub none_waits : head_name laptop (state_in laptop).items ≡ None → (state_in laptop).items ≡ []
-  none_waits is = none_by (state_in laptop).items is
+  pub none_waits : (items : List Item) → head_name laptop items ≡ None → items ≡ []
+  none_waits [] is = refl
+  none_waits (item ∷ items) is = absurd cc
 
   -- if it is decided of, it waits for that
   decided_on : {t : Transaction} (item : Item) (stage : Stage) → decision_on laptop item stage ≡ Ok t
       → (stage ≡ kept_stages.Manual) × (record { client = laptop.name; number = item.tid } ≡ t)
-  decided_on item kept_stages.Waiting is = absurd cc
-  decided_on item kept_stages.Conflict is = absurd cc
   decided_on item kept_stages.Manual is = (refl, cc)
-  decided_on item (kept_stages.Resolved done) is = absurd cc
+  decided_on item stage is = absurd cc
 
   pub decided : {t : Transaction} (items : List Item) → decision laptop items ≡ Ok t
       → (head_name laptop items ≡ Some t) × HeadIs IsByHand items
@@ -159,10 +137,8 @@ module _ {D : Type 0} (laptop : Laptop D) where
   -- or not
   refused_on : {u : Undecided} {s : Stage} {ms : clients.Stage} (item : Item) → SameStage s ms → decision_on laptop item s ≡ Err u
       → (u ≡ why.NotManual) × (is_manual ms ≡ false)
-  refused_on item waiting is = (cc, refl)
-  refused_on item conflict is = (cc, refl)
   refused_on item manual is = absurd cc
-  refused_on item (resolved it) is = (cc, refl)
+  refused_on item same is = (cc, refl)
 
 -- if nothing is decided of it, it does not wait for that
 pub is_undecided : {D : Type 0} {laptop : Laptop D} {t : Transaction} {u : Undecided} (first : First laptop t)
@@ -179,8 +155,7 @@ some_plan : (held : Nodes) (mi : clients.Item) (option : OnConflict Declared) �
     → (p : Plan) × (plan_by held mi option ≡ Some p)
 some_plan held mi options.Reexec can = (_, refl)
 some_plan held mi (options.Resolver script) can = (_, refl)
-some_plan held mi options.Abort can = absurd can
-some_plan held mi options.Manual can = absurd can
+some_plan held mi option can = absurd can
 
 -- ---- in a pair
 
@@ -235,9 +210,8 @@ module _ {D : Type 0} {medium : Medium D} {scripts : List Declared} {names : Lis
           → DoesFrom medium scripts names c (Submits head.first) pair new x z result
           → DoesFrom medium scripts names c (sync_at head.first ms) pair new x z result
       submits_at waiting is it = it
-      submits_at conflict is it = absurd is
-      submits_at manual is it = absurd is
       submits_at (resolved done) is it = it
+      submits_at same is it = absurd is
 
       pub submits_from : {result : Result Synced Halt} → IsSubmittedIn first.item.stage
           → DoesFrom medium scripts names c (submits head.first.option (submission_of head.first pair)) pair new x z result
@@ -262,13 +236,11 @@ module _ {D : Type 0} {medium : Medium D} {scripts : List Declared} {names : Lis
           → (s ≡ kept_stages.Conflict → (p : Plan) × (plan_of (kept pair).held head.first ≡ Some p))
           → MissesAll medium scripts names c old new → z ≡ x ++ line (codes "away")
           → DoesFrom medium scripts names c (sync_at head.first ms) pair new x z (Ok Unanswered)
-      misses_at waiting not_manual planned misses wrote =
-          asks_from (then_from here (misses.none (Judgment (submission_of head.first pair)) x) (says (λ pair here. wrote)))
       misses_at conflict not_manual planned misses wrote =
           let p = planned refl in
           resolves_at refl p.1 (then_from here (misses.none (Objects 0 new_client.held (wanted.Below [])) x) (says (λ pair here. wrote)))
       misses_at manual not_manual planned misses wrote = absurd (not_manual refl)
-      misses_at (resolved it) not_manual planned misses wrote =
+      misses_at same not_manual planned misses wrote =
           asks_from (then_from here (misses.none (Judgment (submission_of head.first pair)) x) (says (λ pair here. wrote)))
 
 -- ---- without the server
@@ -285,10 +257,8 @@ module _ {D : Type 0} {medium : Medium D} {scripts : List Declared} {old : Both 
         → Does medium scripts Syncs old old x y (Ok Stays)
     syncs_by_hand is keeps wrote =
         each_from keeps (λ names c pair here.
-        let mi = (head here first).first in
         at_first here first {next = sync_head}
-        (subst (λ (ms : clients.Stage). DoesFrom medium scripts names c (sync_at mi ms) pair old x y (Ok Stays))
-        (sym (manual_stage (stage_there here first) is))
+        (rw (manual_stage (stage_there here first) is)
         (from (says (λ pair there. wrote ∙ ap (λ (n : List ℕ). x ++ manual_line n) (sym (name_there here first there)))) here)))
 
     -- no message gets through
@@ -359,12 +329,7 @@ no_files = none _ (sym (len-entries empty) ∙ len-empty path_cmp (List ℕ))
 ways_are : (option : OnConflict Declared) → CanResolve option → clients.way_of option ≡ way_of (option_named option)
 ways_are options.Reexec can = refl
 ways_are (options.Resolver script) can = refl
-ways_are options.Abort can = absurd can
-ways_are options.Manual can = absurd can
-
--- what a transaction submits that is at this stage
-abbrev submitted_at : Pair → clients.Item → clients.Stage → Submission
-submitted_at pair mi stage = submission_of (record mi { stage = stage }) pair
+ways_are option can = absurd can
 
 -- the message that submits a transaction
 abbrev pub message_of : Submitted → Message
@@ -392,7 +357,8 @@ module _ {D : Type 0} {medium : Medium D} {scripts : List Declared} {names : Lis
 
   -- by its stage
   submission_by : {s : Stage} {ms : clients.Stage} → SameStage s ms → IsSubmittedIn s → IsPlanned mi.option ms
-      → IsSubmission (label_in old.laptop.place first.item s) (acts_in first.item s) transaction (submitted_at pair mi ms)
+      → IsSubmission (label_in old.laptop.place first.item s) (acts_in first.item s) transaction
+      (submission_of (record mi { stage = ms }) pair)
   submission_by waiting is planned =
       let stands = (head here first).stands in
       let placed = here.place ∙ sym here.client.place in
@@ -412,8 +378,6 @@ module _ {D : Type 0} {medium : Medium D} {scripts : List Declared} {names : Lis
         reads = ap (λ (t : Nodes). reads_of (local_run t mi).acts) (sym here.client.is.state.held) ∙ ap reads_of (sym stands.acts);
         spelled = record { script = stands.script; kept = no_files_are_spelled };
       }
-  submission_by conflict is planned = absurd is
-  submission_by manual is planned = absurd is
   submission_by (resolved done) is planned =
       let stands = (head here first).stands in
       let placed = here.place ∙ sym here.client.place in
@@ -434,6 +398,7 @@ module _ {D : Type 0} {medium : Medium D} {scripts : List Declared} {names : Lis
         reads = ap reads_of (sym done.acts);
         spelled = record { script = done.script; kept = done.files };
       }
+  submission_by same is planned = absurd is
 
   module _ {it : Submitted} (hands : HandsIn old.laptop first.item it) where
     submission : IsSubmission (label_in old.laptop.place first.item first.item.stage) (acts_in first.item first.item.stage) transaction
@@ -467,20 +432,11 @@ module _ {D : Type 0} {medium : Medium D} {scripts : List Declared} {names : Lis
 
 -- what is told of it is one change of what the client keeps, which is said
 module _ {D : Type 0} {medium : Medium D} {scripts : List Declared} {u v : Both D} {x y : List ℕ} {result : Result Synced Halt} where
-  told_by : (name : List ℕ) (verdict : Verdict) (option : OnConflict Declared)
-      → Does medium scripts (NotesAloud (told_change verdict (option_named option)) (told_text name verdict (option_named option))
-      (told_synced verdict (option_named option))) u v x y result → Does medium scripts (told name option (Some verdict)) u v x y result
-  told_by name (Settled number) option it = it
-  told_by name (Conflict read question) options.Reexec it = it
-  told_by name (Conflict read question) (options.Resolver script) it = it
-  told_by name (Conflict read question) options.Abort it = it
-  told_by name (Conflict read question) options.Manual it = it
-
-  told_as : {name other : List ℕ} (verdict : Verdict) (option : OnConflict Declared) → other ≡ name
+  told_by : {name other : List ℕ} (verdict : Verdict) (option : OnConflict Declared) → other ≡ name
       → Does medium scripts (NotesAloud (told_change verdict (option_named option)) (told_text name verdict (option_named option))
       (told_synced verdict (option_named option))) u v x y result → Does medium scripts (told other option (Some verdict)) u v x y result
-  told_as {name} verdict option same it =
-      subst (λ (n : List ℕ). Does medium scripts (told n option (Some verdict)) u v x y result) (sym same) (told_by name verdict option it)
+  told_by (Conflict read question) options.Manual same it = rw same it
+  told_by verdict option same it = rw same it
 
 -- a fault that was handed on
 pub synced_err : (fault : Halt) (outer : Result Sync Halt) → IsErrAnd outer (λ other. other ≡ fault)
@@ -538,7 +494,7 @@ module _ {D : Type 0} (old : Both D) {t : Transaction} (it : Submitted)
       let has : head_option (state_in old.laptop).items ≡ Some (option_named m.option) =
       ap head_option first.items ∙ ap (λ (l : labels.OnConflict). Some l) (head here first).stands.option in
       submits_from here first hands_in.submitted (then_from here e.2
-      ((told_as e.0 m.option (name_there here first here)
+      ((told_by e.0 m.option (name_there here first here)
       (each e.0 (option_named m.option) (says_it here first hands_in reply.items e.0 e.1) has)).step names c)))
 
 -- ---- the whole tree
@@ -548,9 +504,6 @@ nothing_known : known (root_alone FarDir) ≡ []
 nothing_known =
     ap known (sym (root_map FarDir))
     ∙ ap (paths_where (λ (row : Row). is_known row.1)) (entries_rows (([], FarDir) ∷ []) refl)
-
-same_objects : (one other : Nodes) → replies.Objects one ≡ replies.Objects other → one ≡ other
-same_objects one other is = cc
 
 -- ---- plans
 
@@ -585,8 +538,7 @@ module _ {scripts : List Declared} {held : Nodes} {item : Item} {mi : clients.It
         named = has;
         is = (λ i. Some (record { said = script.name; script = script; budget = ACT_LIMIT; offered = files_of (sym stands.tree i) }));
       })
-  planned_by options.Abort has own is = absurd cc
-  planned_by options.Manual has own is = absurd cc
+  planned_by option has own is = absurd cc
 
   planned : ItemIsNamed scripts mi → resolves.plan_of item ≡ Some plan → IsPlannedBy scripts held item mi mi.option plan
   planned named is = planned_by mi.option named.resolver named.script (rw stands.option at is)
@@ -600,9 +552,6 @@ module _ {D : Type 0} {medium : Medium D} {scripts : List Declared} {laptop : La
 
     its_plan : IsPlannedBy scripts (state_in laptop).held first.item its_head.first its_head.first.option plan
     its_plan = planned its_head.stands (subst (AllByRecursion (ItemIsNamed scripts)) its_head.split here.named.items).0 is
-
-    pub plan_declared : IsSome (script_named plan.script scripts)
-    plan_declared = rw its_plan.named refl
 
   plans_it : {script : Declared} → script_named plan.script scripts ≡ Some script
       → Plans medium scripts laptop (plan_as (after_acts (state_in laptop).held first.item.acts) plan script)
@@ -633,9 +582,7 @@ module _ {D : Type 0} (old : Both D) {t : Transaction} (request : Vec ℕ Global
   some_whole = record { request = _; is = asks_all.asked }
 
   asks_below : IsRefresh old.laptop.place new_client.held (wanted.Below []) request.items
-  asks_below = subst
-      (λ (paths : List Path). IsMessage IsRequest request_spelling request.items (Refresh old.laptop.place paths (wanted.Below [])))
-      (sym nothing_known) asks_all.asked
+  asks_below = rw nothing_known asks_all.asked
 
   pub in_conflict : HeadIs (λ item. item.stage ≡ kept_stages.Conflict) (state_in old.laptop).items
   in_conflict = subst (HeadIs (λ item. item.stage ≡ kept_stages.Conflict)) (sym head_first.items) asks_all.conflict
@@ -659,7 +606,7 @@ module _ {D : Type 0} (old : Both D) {t : Transaction} (request : Vec ℕ Global
         record { tree = e.0; is = e.1.spelled },
         λ short u spells.
             let one : IsOneMessage IsReply reply_spelling reply.items = call_one _ _ _ reply_laws reply.items short in
-            let same : u ≡ e.0 = same_objects _ _ (one _ _ spells e.1.spelled) in
+            let same : u ≡ e.0 = let objects = one _ _ spells e.1.spelled in cc in
             subst IsWhole (sym (same ∙ e.1.cut ∙ whole_comes e.1.server e.1.tree)) e.1.whole,
       )
 
@@ -670,7 +617,7 @@ module _ {D : Type 0} (old : Both D) {t : Transaction} (request : Vec ℕ Global
     -- its script is declared
     pub declared_for : {medium : Medium D} {scripts : List Declared} → IsReadyWith medium scripts old
         → IsSome (script_named plan.script scripts)
-    declared_for ready = plan_declared head_first its ready.pair.client ready.stands.client.is
+    declared_for ready = rw (its_plan head_first its ready.pair.client ready.stands.client.is).named refl
 
     -- it is resolved on that by what is planned for it
     pub resolves_told : {medium : Medium D} {scripts : List Declared} {mid new : Both D} {x y z : List ℕ} {reply : Vec ℕ Global}

@@ -1,7 +1,7 @@
 -- Scripts that are declared, by their names and by their places.
-use Rattle.std.proofs.Common.{◌≡◌, ◌<◌, ℕ, zero, suc, Bool, true, false, cond, List, [], ◌∷◌, length, Option, Some, None, Bor}
-use Rattle.std.proofs.Common.{map, option_map, slice_index_or, IsSome, bytes_eq, refl, sym, ap, subst, ◌∙◌, arith}
-use Rattle.std.proofs.lemmas.List.{length-map}
+use Rattle.std.proofs.Common.{◌≡◌, ◌<◌, ℕ, Bool, true, false, cond, List, [], ◌∷◌, length, Option, Some, None, Bor}
+use Rattle.std.proofs.Common.{map, option_map, slice_index_or, IsSome, bytes_eq, refl, sym, ap, subst, ◌∙◌}
+use Rattle.std.proofs.lemmas.List.{length-map, get_or-map}
 use Rattle.std.proofs.lemmas.Option.{slice_get-get_or}
 use Rattle.std.proofs.lemmas.Bool.Decides.{same_from_decides}
 use Rattle.std.proofs.lemmas.Slice.Eq.{bytes_eq-Decides}
@@ -11,12 +11,11 @@ use Rattle.iot_event.specs.declared.event.Choice.{Choice}
 use Rattle.iot_event.specs.declared.event.Choice.TheVariants as choices
 use Rattle.iot_tree.specs.declared.labels.OnConflict as named
 use Rattle.iot_lang.specs.Code.{Code}
-use Rattle.iot_machine.specs.Clients.{Declared}
 use Rattle.iot_machine.specs.Events.{chosen}
 use Rattle.iot_machine.specs.Machine.{no_script, script_at}
 use Rattle.iot_laptop.specs.Scripts.{script_named, IsNamed, HasNamed, option_named}
 use Rattle.iot_exchange.specs.Queues.{IsCodeOf}
-use Rattle.iot_exchange.specs.Scripts.{script_of, scripts_of, AreApart, Means}
+use Rattle.iot_exchange.specs.Scripts.{script_of, scripts_of, AreApart, IsMeant}
 use Rattle.iot_exchange.specs.declared.declared.DeclaredScript.{DeclaredScript}
 
 turned : (a b : List ℕ) → bytes_eq a b ≡ bytes_eq b a
@@ -50,29 +49,21 @@ module _ (ws : List DeclaredScript) (name : List ℕ) (o : Option (Bor DeclaredS
       → IsCodeOf name (map script_of ws) code
   code_found is same = record {
     script = _;
-    is = found_is ∙ ap (λ (o : Option (Bor DeclaredScript)). option_map script_of (option_map (λ (b : Bor DeclaredScript). b.now) o)) is;
+    is = rw is at found_is;
     has = sym same;
   }
 
   -- one is found if it is declared
   pub none_found : o ≡ None → IsSome (script_named name (map script_of ws)) → ⊥
   none_found none named =
-      let e = subst IsSome (found_is
-      ∙ ap (λ (o : Option (Bor DeclaredScript)). option_map script_of (option_map (λ (b : Bor DeclaredScript). b.now) o)) none) named in
-      absurd cc
+      let e = subst IsSome (rw none at found_is) named in absurd cc
 
 -- ---- scripts by their places
-
-at_place : (ws : List DeclaredScript) (place : ℕ) (d : DeclaredScript) (e : Declared) → place < length ws
-    → script_of (slice_index_or ws place d) ≡ slice_index_or (scripts_of ws) place e
-at_place [] place d e within = absurd (omega arith)
-at_place (w ∷ ws) zero d e within = refl
-at_place (w ∷ ws) (suc place) d e within = at_place ws place d e (omega (arith, within))
 
 -- the one in hand is the machine's at that place
 pub script_there : (ws : List DeclaredScript) {place : ℕ} {w : DeclaredScript} → place < length ws → w ≡ slice_index_or ws place w
     → script_of w ≡ script_at (scripts_of ws) place
-script_there ws {place} {w} within is = ap script_of is ∙ at_place ws place w no_script within
+script_there ws {place} {w} within is = ap script_of is ∙ sym (get_or-map script_of ws place w no_script within)
 
 pub named_there : (ws : List DeclaredScript) (place : ℕ) → place < length ws → AreApart (scripts_of ws)
     → IsNamed (scripts_of ws) (script_at (scripts_of ws) place)
@@ -80,19 +71,19 @@ named_there ws place within apart =
     apart place (script_at (scripts_of ws) place)
     (slice_get-get_or (scripts_of ws) place no_script (subst (λ (n : ℕ). place < n) (sym (length-map ws script_of)) within))
 
-has_named : (ws : List DeclaredScript) (option : Choice ℕ) → ResolverIsDeclared option (length ws) → AreApart (scripts_of ws)
+pub has_named : (ws : List DeclaredScript) (option : Choice ℕ) → ResolverIsDeclared option (length ws) → AreApart (scripts_of ws)
     → HasNamed (scripts_of ws) (chosen (scripts_of ws) option)
-has_named ws choices.Reexec is apart = tt
 has_named ws (choices.Resolver place) is apart = named_there ws place is apart
-has_named ws choices.Abort is apart = tt
-has_named ws choices.Manual is apart = tt
+has_named ws option is apart = tt
 
-pub means_there : (ws : List DeclaredScript) {place : ℕ} {w : DeclaredScript} (option : Choice ℕ) {name : named.OnConflict}
+abbrev pub meant_there : (ws : List DeclaredScript) {place : ℕ} {w : DeclaredScript} (option : Choice ℕ) {name : named.OnConflict}
     → place < length ws → w ≡ slice_index_or ws place w → ResolverIsDeclared option (length ws) → AreApart (scripts_of ws)
-    → name ≡ option_named (chosen (scripts_of ws) option)
-    → Means (scripts_of ws) (script_of w) name (chosen (scripts_of ws) option)
-means_there ws {place} option within is can apart same = record {
-  script_is = subst (IsNamed (scripts_of ws)) (sym (script_there ws within is)) (named_there ws place within apart);
-  resolver = has_named ws option can apart;
-  option_is = same;
+    → name ≡ option_named (chosen (scripts_of ws) option) → IsMeant (scripts_of ws) (script_of w) name
+meant_there ws {place} option within is can apart same = record {
+  on_conflict = chosen (scripts_of ws) option;
+  means = record {
+    script_is = subst (IsNamed (scripts_of ws)) (sym (script_there ws within is)) (named_there ws place within apart);
+    resolver = has_named ws option can apart;
+    option_is = same;
+  };
 }

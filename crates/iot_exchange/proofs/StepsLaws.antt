@@ -1,6 +1,6 @@
 -- How calls that may end their event go together, over any world and any machine.
 use Rattle.std.proofs.Common.{◌≡◌, ℕ, List, [], ◌++◌, Some, None}
-use Rattle.std.proofs.Common.{Result, Ok, Err, IsErrAnd, refl, sym, ap, subst, ◌∙◌, append_assoc}
+use Rattle.std.proofs.Common.{Result, Ok, Err, IsErrAnd, refl, sym, ap, ◌∙◌, append_assoc}
 use Rattle.std.proofs.lemmas.List.{append-nil}
 use Rattle.iot_machine.specs.Calls.{Call, Try, Gets, Asks, Tells, Then, Goes, OrSays, or_text}
 use Rattle.iot_node.specs.Steps.{StepsTo, Ends}
@@ -56,10 +56,6 @@ module _ {W M : Type 0} where
       → StepsTo P P (Asks ask) u u x x a
   asks is = gets (λ m here. (is m here, here))
 
-  tells : {A : Type 0} {P Q : W → M → Type 0} {text : M → List ℕ} {u : W} {x y : List ℕ} {a : A}
-      → ((m : M) → P u m → (y ≡ x ++ text m) × Q u m) → StepsTo P Q (Tells text a) u u x y a
-  tells {text = text} is = record { step = λ m here. (text m, m, (is m here).0, (refl, refl, refl), (is m here).1) }
-
   -- a call, and this text if it says nothing
   or_said : {A : Type 0} {P : W → M → Type 0} {call : Call M A} {other : List ℕ} {m : M} {v : W} {x z w : List ℕ} {a : A}
       → ((text : List ℕ) → z ≡ x ++ text → w ≡ x ++ or_text other text) → Steps P call m v x z a → Steps P (OrSays other call) m v x w a
@@ -86,23 +82,20 @@ module _ {W M : Type 0} where
   module _ {up down : W → M → Type 0} where
     pub each_from : {A : Type 0} {call : Try M A} {u v : W} {x y : List ℕ} {result : Result A Halt}
         → ((m : M) → up u m → From up down call m v x y result) → Ends up down call u v x y result
-    each_from {result = Ok a} each = record { is = at_each (λ m here. (each m here).is) }
     each_from {result = Err NoMemory} each = record { is = tt }
-    each_from {result = Err Over} each = record { is = at_each (λ m here. (each m here).is) }
+    each_from each = record { is = at_each (λ m here. (each m here).is) }
 
     pub from : {A : Type 0} {call : Try M A} {u v : W} {x y : List ℕ} {result : Result A Halt} → Ends up down call u v x y result
         → {m : M} → up u m → From up down call m v x y result
-    from {result = Ok a} it here = record { is = at_one it.is here }
     from {result = Err NoMemory} it here = record { is = tt }
-    from {result = Err Over} it here = record { is = at_one it.is here }
+    from it here = record { is = at_one it.is here }
 
     -- what a call does behind another
     behind : {A B : Type 0} {P : W → M → Type 0} {one : Call M A} {next : A → Try M B} {m : M} {v w : W} {x y z : List ℕ} {a : A}
         {result : Result B Halt} → (it : Steps P one m v x y a) → From up down (next a) it.next w y z result
         → From up down (Then one next) m w x z result
-    behind {result = Ok b} it more = record { is = joined it more.is }
     behind {result = Err NoMemory} it more = record { is = tt }
-    behind {result = Err Over} it more = record { is = joined it more.is }
+    behind it more = record { is = joined it more.is }
 
     -- a look at this machine
     pub asks_from : {A B : Type 0} {ask : M → A} {next : A → Try M B} {m : M} {v : W} {x y : List ℕ} {result : Result B Halt}
@@ -122,8 +115,7 @@ module _ {W M : Type 0} where
     pub goes_then : {A B : Type 0} {one : Try M A} {next : A → Try M B} {u v w : W} {x y z : List ℕ} {a : A} {inner : Result A Halt}
         {result : Result B Halt} → inner ≡ Ok a → Ends up down one u v x y inner → Ends up down (next a) v w y z result
         → Ends up down (Goes one next) u w x z result
-    goes_then {one = one} {u = u} {v = v} {x = x} {y = y} was it more =
-        then_ends (subst (λ (r : Result _ Halt). Ends up down one u v x y r) was it).is more
+    goes_then was it more = let went = rw was at it in then_ends went.is more
 
     -- it has not gone on, so nor does what it begins
     ends : {A B : Type 0} {one : Try M A} {next : A → Try M B} {u v : W} {x y : List ℕ} (halt : Halt)
@@ -136,28 +128,21 @@ module _ {W M : Type 0} where
         {outer : Result B Halt} {fault : Halt} → inner ≡ Err fault → IsErrAnd outer (λ other. other ≡ fault)
         → Ends up down one u v x y inner → Ends up down (Goes one next) u v x y outer
     hands_on {outer = Ok value} was is it = absurd is
-    hands_on {one = one} {u = u} {v = v} {x = x} {y = y} {outer = Err other} {fault = fault} was is it =
-        rw is (ends fault (subst (λ (r : Result _ Halt). Ends up down one u v x y r) was it))
-
-    -- want of memory says nothing
-    pub no_memory : {A : Type 0} {call : Try M A} {u v : W} {x y : List ℕ} {outer : Result A Halt}
-        → IsErrAnd outer (λ halt. halt ≡ NoMemory) → Ends up down call u v x y outer
-    no_memory {outer = Ok value} is = absurd is
-    no_memory {outer = Err halt} is = rw is (record { is = tt })
+    hands_on {outer = Err other} {fault} was is it = rw is (ends fault (rw was at it))
 
     -- a word is said, and the event is over
     pub refuses : {A : Type 0} {text : M → List ℕ} {u : W} {x y : List ℕ} → ((m : M) → up u m → y ≡ x ++ text m)
         → ((m : M) → up u m → down u m) → Ends {A = A} up down (Tells text None) u u x y (Err Over)
-    refuses wrote less = record { is = tells (λ m here. (wrote m here, less m here)) }
+    refuses {text = text} wrote less =
+        record { is = record { step = λ m here. (text m, m, wrote m here, (refl, refl, refl), less m here) } }
 
     pub says : {A : Type 0} {text : M → List ℕ} {u : W} {x y : List ℕ} {a : A} → ((m : M) → up u m → y ≡ x ++ text m)
         → Ends up down (Tells text (Some a)) u u x y (Ok a)
-    says wrote = record { is = tells (λ m here. (wrote m here, here)) }
+    says {text = text} wrote = record { is = record { step = λ m here. (text m, m, wrote m here, (refl, refl, refl), here) } }
 
     -- this text follows if nothing was said
     pub or_says : {A : Type 0} {call : Try M A} {other : List ℕ} {u v : W} {x z w : List ℕ} {result : Result A Halt}
         → ((text : List ℕ) → z ≡ x ++ text → w ≡ x ++ or_text other text) → Ends up down call u v x z result
         → Ends up down (OrSays other call) u v x w result
-    or_says {result = Ok a} each it = record { is = at_each (λ m here. or_said each (at_one it.is here)) }
     or_says {result = Err NoMemory} each it = record { is = tt }
-    or_says {result = Err Over} each it = record { is = at_each (λ m here. or_said each (at_one it.is here)) }
+    or_says each it = record { is = at_each (λ m here. or_said each (at_one it.is here)) }

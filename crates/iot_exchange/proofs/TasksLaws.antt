@@ -1,5 +1,5 @@
 -- A task of a client, alive or down, is one of the machine, and so are all syncs together.
-use Rattle.std.proofs.Common.{◌≡◌, ℕ, suc, ◌*◌, ◌&&◌, not, is_some, Bool, List, [], ◌∷◌, ◌++◌, length, Result, sym, ap, subst, ◌∙◌, arith}
+use Rattle.std.proofs.Common.{◌≡◌, ℕ, suc, ◌*◌, ◌&&◌, not, is_some, Bool, List, [], ◌∷◌, ◌++◌, length, Result, sym, ap, ◌∙◌, arith}
 use Rattle.std.proofs.Common.{codes, refl, length-append, true, false, Option, Ok, Err}
 use Rattle.std.proofs.lemmas.List.{append-nil}
 use Rattle.iot_tree.specs.Tree.{Nodes}
@@ -9,7 +9,7 @@ use Rattle.iot_disk.specs.Disk.{Medium}
 use Rattle.iot_machine.specs.Calls.{Repeats, or_text, Try, Whole}
 use Rattle.iot_machine.specs.Clients.{Declared}
 use Rattle.iot_machine.specs.Clients as clients
-use Rattle.iot_machine.specs.Events.{is_drained, Drains, IfUp}
+use Rattle.iot_machine.specs.Events.{is_drained, IfUp}
 use Rattle.iot_machine.specs.Texts.{line}
 use Rattle.iot_machine.specs.Transactions.{pends, runs, SyncsAll}
 use Rattle.iot_machine.specs.Machine.{Client, Pair}
@@ -23,40 +23,25 @@ use Rattle.iot_laptop.proofs.LaptopsLaws.{runs_is, waits_is}
 use Rattle.iot_laptop.proofs.NodesLaws.{is_awake, is_down, awake_stands}
 use Rattle.iot_laptop.specs.declared.laptop.Laptop.{Laptop}
 use Rattle.iot_exchange.specs.Pairs.{Both, Does, UpStands, AnyStands, IsReadyWith, IsStandingWith}
-use Rattle.iot_exchange.specs.Queues.{SyncsNext, DrainsQuietly}
+use Rattle.iot_exchange.specs.Queues.{SyncsNext}
 use Rattle.iot_exchange.proofs.DoesLaws.{OfEach, asks_then, at_as, still}
-use Rattle.iot_exchange.proofs.StepsLaws.{or_says, Steps, at_each, at_one, joined, bind, asks}
+use Rattle.iot_exchange.proofs.StepsLaws.{Steps, at_each, at_one, joined, bind, asks}
 
 items_long : (items : List Item) (t : Nodes) (ms : List clients.Item) → ItemsStand items t ms → length items ≡ length ms
 items_long [] t [] stand = refl
-items_long [] t (m ∷ ms) stand = absurd stand
-items_long (item ∷ items) t [] stand = absurd stand
 items_long (item ∷ items) t (m ∷ ms) stand = ap suc (items_long items (after_acts t item.acts) ms stand.1)
+items_long items t ms stand = absurd stand
 
 -- ---- a text if nothing was said
 
-if_silent : (other x z w : List ℕ) → length z ≡ length x → w ≡ z ++ other → (text : List ℕ) → z ≡ x ++ text → w ≡ x ++ or_text other text
+pub if_silent : (other x z w : List ℕ) → length z ≡ length x → w ≡ z ++ other → (text : List ℕ) → z ≡ x ++ text → w ≡ x ++ or_text other text
 if_silent other x z w same wrote [] is = wrote ∙ ap (λ (l : List ℕ). l ++ other) (is ∙ append-nil x)
 if_silent other x z w same wrote (byte ∷ bytes) is =
     let long = ap length is in absurd (omega (arith, same, long, length-append x (byte ∷ bytes)))
 
-if_spoken : (other x z : List ℕ) → (length z ≡ length x → ⊥) → (text : List ℕ) → z ≡ x ++ text → z ≡ x ++ or_text other text
+pub if_spoken : (other x z : List ℕ) → (length z ≡ length x → ⊥) → (text : List ℕ) → z ≡ x ++ text → z ≡ x ++ or_text other text
 if_spoken other x z longer [] is = absurd (longer (ap length (is ∙ append-nil x)))
 if_spoken other x z longer (byte ∷ bytes) is = is
-
-module _ {D : Type 0} {medium : Medium D} {scripts : List Declared} {u v : Both D} {x z : List ℕ} {result : Result (Unit {0}) Halt}
-    (it : Does medium scripts DrainsQuietly u v x z result) where
-  pub drains_silent : {w : List ℕ} → length z ≡ length x → w ≡ z ++ line (codes "nothing") → Does medium scripts Drains u v x w result
-  drains_silent {w} same wrote = record {
-    step = λ names c. or_says (if_silent (line (codes "nothing")) x z w same wrote) (it.step names c);
-    disks = it.disks;
-  }
-
-  pub drains_spoken : (length z ≡ length x → ⊥) → Does medium scripts Drains u v x z result
-  drains_spoken longer = record {
-    step = λ names c. or_says (if_spoken (line (codes "nothing")) x z longer) (it.step names c);
-    disks = it.disks;
-  }
 
 -- ---- what a client knows of its pair
 
@@ -78,9 +63,8 @@ module _ {D : Type 0} {medium : Medium D} {scripts : List Declared} {u : Both D}
 pub all_by : {D : Type 0} {medium : Medium D} {scripts : List Declared} {u w : Both D} {x z : List ℕ} {most : ℕ}
     {result : Result (Unit {0}) Halt} → most ≡ 3 * length (state_in u.laptop).items
     → Does medium scripts (Repeats most SyncsNext) u w x z result → Does medium scripts SyncsAll u w x z result
-all_by {medium = medium} {scripts} {u} {w} {x} {z} {result = result} is it =
-    asks_then {next = λ n. Repeats (3 * n) SyncsNext} (λ names c pair here. items_long _ _ _ here.client.is.state.items)
-    (subst (λ (n : ℕ). Does medium scripts (Repeats n SyncsNext) u w x z result) is it)
+all_by is it =
+    asks_then {next = λ n. Repeats (3 * n) SyncsNext} (λ names c pair here. items_long _ _ _ here.client.is.state.items) (rw is at it)
 
 alive_is : {D : Type 0} {medium : Medium D} {scripts : List Declared} {laptop : Laptop D} {m : Client}
     → ClientStands medium scripts laptop m → is_alive laptop ≡ m.node.alive
@@ -125,14 +109,12 @@ module _ {D : Type 0} {medium : Medium D} {scripts : List Declared} {u : Both D}
 
     module _ {v : Both D} {inner : Result (Unit {0}) Halt} (alive : is_alive u.laptop ≡ true) (it : Does medium scripts call u v x y inner)
         (names : List (List ℕ)) (c : ℕ) where
-      done_as : (r : Result (Unit {0}) Halt) → inner ≡ r → Does medium scripts call u v x y r
-      done_as r was = subst (λ (r : Result (Unit {0}) Halt). Does medium scripts call u v x y r) was it
-
       pub all_done : inner ≡ Ok tt
           → StepsTo (AnyStands medium scripts names c) (AnyStands medium scripts names c) (IfUp call) u v x y tt
       all_done was =
-          if_up names c alive (λ pair here. whole (λ n here. still here) (at_one ((done_as (Ok tt) was).step names c).is here))
+          let done = rw was at it in if_up names c alive (λ pair here. whole (λ n here. still here) (at_one (done.step names c).is here))
 
       pub all_over : inner ≡ Err Over
           → StepsTo (AnyStands medium scripts names c) (AnyStands medium scripts names c) (IfUp call) u v x y tt
-      all_over was = if_up names c alive (λ pair here. whole (λ n here. here) (at_one ((done_as (Err Over) was).step names c).is here))
+      all_over was =
+          let done = rw was at it in if_up names c alive (λ pair here. whole (λ n here. here) (at_one (done.step names c).is here))

@@ -1,7 +1,7 @@
 -- Transactions begin, are stepped and end as those of the machine, and what one sees of them is what the machine says.
 use Rattle.std.proofs.Common.{◌≡◌, ℕ, ◌-◌, Bool, List, [], ◌∷◌, ◌++◌, length, Option, Some, None, slice_get, Bor, Result, Ok, Err, refl}
 use Rattle.std.proofs.Common.{sym, ap, subst, ◌∙◌, true, false, not, codes, IsErrAnd, is_some}
-use Rattle.std.specs.Prelude.{OnOk, leb, if◌then◌else◌}
+use Rattle.std.specs.Prelude.{leb, if◌then◌else◌}
 use Rattle.std.proofs.lemmas.Option.{same_Some, slice_get_past, slice_get_read}
 use Rattle.std.specs.Option.{option_copied}
 use Rattle.std.specs.Slice.{IsItemAt}
@@ -24,19 +24,19 @@ use Rattle.iot_machine.specs.Clients.{Declared, Next, AtEnd, AtLimit, Acts, Fetc
 use Rattle.iot_machine.specs.Clients.{act_once}
 use Rattle.iot_machine.specs.Clients as clients
 use Rattle.iot_machine.specs.Events.{ReadsOf, running_of, says_reads, said_of, place_text}
-use Rattle.iot_machine.specs.Recorded.{stage_kept, item_kept, items_kept, queue_kept}
+use Rattle.iot_machine.specs.Recorded.{stage_kept, items_kept, queue_kept}
 use Rattle.iot_machine.specs.Texts.{queue_text, transaction_name, begin_line, step_line, fetch_line, end_line, line}
 use Rattle.iot_machine.specs.Calls.{Try, Asks, Then}
 use Rattle.iot_machine.specs.Machine.{Client, Pair, kept}
 use Rattle.iot_machine.specs.Machine as machine
-use Rattle.iot_machine.specs.Transactions.{Notes, if_runs, fetched, more_after, step_by, next_of, step_of, Steps, Ended, ended_of}
+use Rattle.iot_machine.specs.Transactions.{Notes, if_runs, fetched, step_by, next_of, step_of, Steps, Ended, ended_of}
 use Rattle.iot_machine.specs.Transactions.{syncs_or_waits, joins, end_by, Ends, Refuses}
 use Rattle.iot_node.specs.declared.halt.Halt.{Halt}
 use Rattle.iot_node.specs.Disks.{KeepsDisk}
 use Rattle.iot_node.specs.declared.halt.Halt.TheVariants.{NoMemory, Over}
 use Rattle.iot_node.proofs.StepsToLaws as calls
 use Rattle.iot_server_node.specs.declared.server.ServerNode.{ServerNode}
-use Rattle.iot_laptop.specs.Kept.{ItemStands, ItemsStand}
+use Rattle.iot_laptop.specs.Kept.{ItemsStand}
 use Rattle.iot_laptop.specs.Laptops.{LaptopStands, RunningStands, RunningStandsIfAny, state_in, live_in, SamePlace, disk_in}
 use Rattle.iot_laptop.specs.declared.laptop.Laptop.{Laptop}
 use Rattle.iot_laptop.specs.Calls.{done, NextIs, IsNext, IsOver, IsUnended, IsDoneIn, IsGone}
@@ -49,38 +49,31 @@ use Rattle.iot_exchange.specs.Pairs.{Both, Does, two, UpStands, KeepsDisks}
 use Rattle.iot_exchange.specs.Saying.{place_said}
 use Rattle.iot_exchange.proofs.DoesLaws.{asks_then, OfEach, DoesFrom, goes_then, hands_on, then_does, each_from, from, refuses, tells}
 use Rattle.iot_exchange.proofs.DoesLaws.{answers, notes, no_memory, keeps_now, keeps_more}
-use Rattle.iot_exchange.proofs.FirstLaws.{SameStage, waiting, conflict, manual, resolved, same_stage}
+use Rattle.iot_exchange.proofs.FirstLaws.{SameStage, resolved, same_stage}
 use Rattle.iot_exchange.proofs.ExchangeLaws.{no_some}
 use Rattle.iot_exchange.proofs.StepsLaws.{asks_from}
 
 -- ---- the transactions that wait
 
 stage_is : {stage : Stage} {m : clients.Stage} → SameStage stage m → stage ≡ stage_kept m
-stage_is waiting = refl
-stage_is conflict = refl
-stage_is manual = refl
 stage_is (resolved it) =
     (λ i. stages.Resolved (record { script = it.name i; budget = it.budget i; kept = it.kept i; acts = it.acts i }))
-
-item_is : {t : Nodes} {item : Item} {m : clients.Item} → ItemStands t item m → item ≡ item_kept t m
-item_is {item = item} {m} it =
-    let stage = stage_is (same_stage item.stage m.stage it.stage) in
-    (λ i. record {
-      tid = it.number i;
-      script = it.name i;
-      budget = it.budget i;
-      acts = it.acts i;
-      option = it.option i;
-      stage = stage i;
-    })
+stage_is same = refl
 
 items_are : (items : List Item) (t : Nodes) (ms : List clients.Item) → ItemsStand items t ms → items ≡ items_kept t ms
 items_are [] t [] it = refl
-items_are [] t (m ∷ ms) it = absurd it
-items_are (item ∷ items) t [] it = absurd it
 items_are (item ∷ items) t (m ∷ ms) it =
     let rest = items_are items (after_acts t item.acts) ms it.1 ∙ ap (λ (u : Nodes). items_kept u ms) it.0.tree in
-    (λ i. item_is it.0 i ∷ rest i)
+    let stage = stage_is (same_stage item.stage m.stage it.0.stage) in
+    (λ i. record {
+      tid = it.0.number i;
+      script = it.0.name i;
+      budget = it.0.budget i;
+      acts = it.0.acts i;
+      option = it.0.option i;
+      stage = stage i;
+    } ∷ rest i)
+items_are items t ms it = absurd it
 
 -- ---- the transaction that runs
 
@@ -95,8 +88,6 @@ pub record RunsAs (r : Transaction) (live : Option Live) (first : Bool) (o : Opt
 pub runs_as : (s : Option Transaction) (live : Option Live) (first : Bool) (o : Option clients.Running) {r : Transaction} → s ≡ Some r
     → RunningStandsIfAny s live first o → RunsAs r live first o
 runs_as None live first o is stands = absurd cc
-runs_as (Some s) live first None is stands = absurd stands
-runs_as (Some s) None first (Some it) is stands = absurd stands
 runs_as (Some s) (Some own) first (Some it) is stands = record {
   it = it;
   own = own;
@@ -104,20 +95,16 @@ runs_as (Some s) (Some own) first (Some it) is stands = record {
   lives = refl;
   stands = subst (λ (t : Transaction). RunningStands t own first it) (same_Some s _ is) stands;
 }
+runs_as (Some s) live first None is stands = absurd stands
+runs_as (Some s) None first (Some it) is stands = absurd stands
 
-no_line : (r : Option Transaction) (live : Option Live) (first : Bool) (o : Option clients.Running) → RunningStandsIfAny r live first o
-    → r ≡ None → [] ≡ running_of first o
-no_line None live first None stands is = refl
-no_line None live first (Some it) stands is = absurd stands
-no_line (Some r) live first o stands is = absurd cc
-
--- what follows of a call that went well
-pub on_ok : {T E P Q : Type 0} (r : Result T E) → OnOk r P → (P → Q) → OnOk r Q
-on_ok (Ok t) so then_ = then_ so
-on_ok (Err e) so then_ = tt
+-- or none of the machine's runs
+none_runs_there : {D : Type 0} {medium : Medium D} {scripts : List Declared} {laptop : Laptop D} {m : machine.Client}
+    → LaptopStands medium scripts laptop m → is_some (state_in laptop).running ≡ false → m.node.durable.running ≡ None
+none_runs_there {m = m} here none = no_some m.node.durable.running (sym (runs_is _ _ _ _ here.state) ∙ none)
 
 -- an element that is lent is the one at its place
-pub lent_element : {A : Type 0} (xs : List A) (place : ℕ) (o : Option (Bor A)) → IsItemAt xs place o
+lent_element : {A : Type 0} (xs : List A) (place : ℕ) (o : Option (Bor A)) → IsItemAt xs place o
     → option_copied o ≡ slice_get xs place
 lent_element xs place None it = sym (slice_get_past xs place it.3)
 lent_element xs place (Some x) it = sym (slice_get_read xs (length xs) place x.now refl it.3.0 it.1)
@@ -136,12 +123,12 @@ SaysQueue medium laptop before after =
 
 module _ {D : Type 0} (medium : Medium D) (laptop : Laptop D) (x : List ℕ) {y : List ℕ} where
   says_lines : (lines : List RunLine)
-      → ((m : machine.Client) → RunningStandsIfAny (state_in laptop).running (live_in laptop) m.first m.node.durable.running
+      → ((scripts : List Declared) (m : machine.Client) → LaptopStands medium scripts laptop m
       → lines ≡ running_of m.first m.node.durable.running)
       → y ≡ x ++ queue_text laptop.name (state_in laptop).items lines → SaysQueue medium laptop x y
   says_lines lines are wrote scripts m here =
       let queue = queue_is here in
-      let its_lines = are m here.state.running in
+      let its_lines = are scripts m here in
       wrote ∙ (λ i. x ++ queue_text (here.name i) (queue i) (its_lines i))
 
   -- one runs
@@ -151,8 +138,8 @@ module _ {D : Type 0} (medium : Medium D) (laptop : Laptop D) (x : List ℕ) {y 
       (record { tid = t.number; script = t.script; first = class; acts = length t.acts } ∷ [])
       → SaysQueue medium laptop x y
   says_running t class is its =
-      says_lines (record { tid = t.number; script = t.script; first = class; acts = length t.acts } ∷ []) (λ m stands.
-      let k = runs_as _ _ _ _ is stands in
+      says_lines (record { tid = t.number; script = t.script; first = class; acts = length t.acts } ∷ []) (λ scripts m here.
+      let k = runs_as _ _ _ _ is here.state.running in
       let its_class : class ≡ m.first = same_Some class _ (sym its ∙ (λ i. class_by (is i) (k.lives i))) ∙ k.stands.class in
       rw k.is
       (λ i. record { tid = k.stands.number i; script = k.stands.name i; first = its_class i; acts = k.stands.acts i } ∷ []))
@@ -160,14 +147,15 @@ module _ {D : Type 0} (medium : Medium D) (laptop : Laptop D) (x : List ℕ) {y 
   -- none does
   pub says_waiting : (state_in laptop).running ≡ None → y ≡ x ++ queue_text laptop.name (state_in laptop).items []
       → SaysQueue medium laptop x y
-  says_waiting none = says_lines [] (λ m stands. no_line _ _ _ _ stands none)
+  says_waiting none = says_lines [] (λ scripts m here. rw (none_runs_there here (ap is_some none)) refl)
 
 -- the one at this place of those that wait, if so many do
 pub reads_at : {D : Type 0} {medium : Medium D} {scripts : List Declared} {u v : Both D} {x y : List ℕ} {o : Option Item} (place : ℕ)
-    {result : Result (Unit {0}) Halt} → o ≡ slice_get (state_in u.laptop).items (place - 1)
-    → Does medium scripts (says_reads o) u v x y result → Does medium scripts (ReadsOf place) u v x y result
-reads_at place is it =
-    asks_then {next = says_reads} (λ names c pair here. is ∙ ap (λ (is : List Item). slice_get is (place - 1)) (queue_is here.client.is)) it
+    {result : Result (Unit {0}) Halt} (items : List Item) (lent : Option (Bor Item)) → items ≡ (state_in u.laptop).items
+    → IsItemAt items (place - 1) lent → option_copied lent ≡ o → Does medium scripts (says_reads o) u v x y result
+    → Does medium scripts (ReadsOf place) u v x y result
+reads_at place items lent are at is it = asks_then {next = says_reads} (λ names c pair here.
+    sym is ∙ lent_element items (place - 1) lent at ∙ (λ i. slice_get ((are ∙ queue_is here.client.is) i) (place - 1))) it
 
 -- a call that answers more did it or not as one that does not
 pub err_done : {A : Type 0} {inner : Result A Halt} {outer : Result (Unit {0}) Halt} {fault : Halt} → inner ≡ Err fault
@@ -186,28 +174,24 @@ some_running None is = absurd cc
 some_running (Some a) is = (a, refl)
 
 -- at an end there is nothing more to do
-over_at : {D : Type 0} {medium : Medium D} {scripts : List Declared} {names : List (List ℕ)} {c : ℕ} {pair : Pair} {v : Both D}
-    {x y : List ℕ} {result : Result (Unit {0}) Halt} (it : clients.Running) (next : Next) → IsOver next
-    → DoesFrom medium scripts names c (joins (ended_of it pair)) pair v x y result
-    → DoesFrom medium scripts names c (end_by it next) pair v x y result
-over_at it AtEnd is does = asks_from does
-over_at it AtLimit is does = asks_from does
-over_at it Acts is does = absurd is
-over_at it (Fetches path) is does = absurd is
+module _ {D : Type 0} {medium : Medium D} {scripts : List Declared} {names : List (List ℕ)} {c : ℕ} {pair : Pair} {v : Both D}
+    {x y : List ℕ} {result : Result (Unit {0}) Halt} (it : clients.Running) where
+  over_at : (next : Next) → IsOver next → DoesFrom medium scripts names c (joins (ended_of it pair)) pair v x y result
+      → DoesFrom medium scripts names c (end_by it next) pair v x y result
+  over_at AtEnd is does = asks_from does
+  over_at AtLimit is does = asks_from does
+  over_at next is does = absurd is
 
-unended_at : {D : Type 0} {medium : Medium D} {scripts : List Declared} {names : List (List ℕ)} {c : ℕ} {pair : Pair} {v : Both D}
-    {x y : List ℕ} {result : Result (Unit {0}) Halt} (it : clients.Running) (next : Next) → IsUnended next
-    → DoesFrom medium scripts names c (Refuses (codes "not at end")) pair v x y result
-    → DoesFrom medium scripts names c (end_by it next) pair v x y result
-unended_at it AtEnd is does = absurd is
-unended_at it AtLimit is does = absurd is
-unended_at it Acts is does = does
-unended_at it (Fetches path) is does = does
+  unended_at : (next : Next) → IsUnended next → DoesFrom medium scripts names c (Refuses (codes "not at end")) pair v x y result
+      → DoesFrom medium scripts names c (end_by it next) pair v x y result
+  unended_at AtEnd is does = absurd is
+  unended_at AtLimit is does = absurd is
+  unended_at next is does = does
 
 module _ {D : Type 0} {medium : Medium D} {scripts : List Declared} {u : Both D} where
   -- none runs
   pub none_runs : is_some (state_in u.laptop).running ≡ false → OfEach medium scripts u (λ pair. None ≡ (kept pair).running)
-  none_runs none names c pair here = sym (no_some (kept pair).running (sym (runs_is _ _ _ _ here.client.is.state) ∙ none))
+  none_runs none names c pair here = sym (none_runs_there here.client.is none)
 
   -- one runs, in each pair for which the two stand
   pub for_running : {A : Type 0} {next : Option clients.Running → Try Pair A} {v : Both D} {x y : List ℕ} {result : Result A Halt}
@@ -226,10 +210,9 @@ module _ {D : Type 0} {medium : Medium D} {scripts : List Declared} {u : Both D}
   pub steps_by : (loud : Bool) {next : Next} {v : Both D} {x y : List ℕ} {result : Result Bool Halt}
       → is_some (state_in u.laptop).running ≡ true → IsNext medium u.laptop next → Does medium scripts (step_by loud next) u v x y result
       → Does medium scripts (Steps loud) u v x y result
-  steps_by loud {next} {v} {x} {y} {result} runs is does =
+  steps_by loud runs is does =
       for_running {next = step_of loud} runs does.disks (λ names c pair it here same.
-      asks_from (subst (λ (n : Next). DoesFrom medium scripts names c (step_by loud n) pair v x y result)
-      (sym (is scripts pair.client it here.client.is same)) (from does here)))
+      asks_from (rw (is scripts pair.client it here.client.is same) (from does here)))
 
   -- ---- the end
 
@@ -264,30 +247,22 @@ step_halted {scripts = scripts} loud {fault = Over} was runs nexts is keeps plac
 pub does_as : {D A : Type 0} {medium : Medium D} {scripts : List Declared} {call : Try Pair A} {old new : Laptop D} {server : ServerNode D}
     {v : Both D} {x y z : List ℕ} {result : Result A Halt} → new ≡ old → y ≡ x → Does medium scripts call (two new server) v y z result
     → Does medium scripts call (two old server) v x z result
-does_as {medium = medium} {scripts} {call} {old} {new} {server} {v} {x} {y} {z} {result} same silent it =
-    subst (λ (t : List ℕ). Does medium scripts call (two old server) v t z result) silent
-    (subst (λ (l : Laptop _). Does medium scripts call (two l server) v y z result) same it)
+does_as same silent it = rw (← same, ← silent) it
 
 -- ---- what was missed
 
-on_anyhow : (came : Bool) → more_after false came ≡ true
-on_anyhow true = refl
-on_anyhow false = refl
-
-if_came : (came : Bool) → more_after true came ≡ came
-if_came true = refl
-if_came false = refl
-
-module _ {D : Type 0} {medium : Medium D} {scripts : List Declared} {u v : Both D} {x : List ℕ} {loud : Bool} (path : Path) (came : Bool)
+module _ {D : Type 0} {medium : Medium D} {scripts : List Declared} {u v : Both D} {x : List ℕ} {loud : Bool} (path : Path)
     (keeps : KeepsDisks medium u v) where
   -- a run goes on
-  pub fetched_quiet : loud ≡ false → Does medium scripts (fetched loud path came) v v x x (Ok true)
-  fetched_quiet quiet = rw (quiet, on_anyhow came) (answers keeps)
+  pub fetched_quiet : (came : Bool) → loud ≡ false → Does medium scripts (fetched loud path came) v v x x (Ok true)
+  fetched_quiet true quiet = rw quiet (answers keeps)
+  fetched_quiet false quiet = rw quiet (answers keeps)
 
   -- steps that are asked for do if it came
-  pub fetched_loud : {y : List ℕ} → loud ≡ true → y ≡ x ++ fetch_line path (not came)
+  pub fetched_loud : {y : List ℕ} (came : Bool) → loud ≡ true → y ≡ x ++ fetch_line path (not came)
       → Does medium scripts (fetched loud path came) v v x y (Ok came)
-  fetched_loud aloud wrote = rw (aloud, if_came came) (tells keeps (λ names c pair here. wrote))
+  fetched_loud true aloud wrote = rw aloud (tells keeps (λ names c pair here. wrote))
+  fetched_loud false aloud wrote = rw aloud (tells keeps (λ names c pair here. wrote))
 
 -- it has ended, this is what it was, and from now on it waits, and is synced or not
 pub ends_gone : {D : Type 0} {medium : Medium D} {scripts : List Declared} {u v w : Both D} {x y z said : List ℕ}
@@ -297,7 +272,7 @@ pub ends_gone : {D : Type 0} {medium : Medium D} {scripts : List Declared} {u v 
     → Does medium scripts (syncs_or_waits (ended_as gone) b) v w said z result → Does medium scripts Ends u w x z result
 ends_gone {medium = medium} {scripts} {v = v} {w} {x} {y} {z} {said} {result = result} gone runs over is_gone was ended wrote is it =
     let joined = goes_then was ended (then_does (λ names c. calls.says v y said (λ pair here. wrote)) (keeps_now ended.disks)
-    (subst (λ (b : Bool). Does medium scripts (syncs_or_waits (ended_as gone) b) v w said z result) (sym is) it)) in
+    (rw (← is) at it)) in
     for_running {next = if_runs (λ it. Then (Asks (next_of it)) (end_by it))} runs joined.disks (λ names c pair it here same.
     let e = is_gone scripts pair.client it here.client.is same in
     asks_from (over_at it (next_of it pair) (over scripts pair.client it here.client.is same)
@@ -314,8 +289,7 @@ limit_by first t it false is on =
   where
     by : (first : Bool) (away : Option Path) → place_text (next_by first away) ≡ []
     by true None = refl
-    by true (Some path) = refl
-    by false away = refl
+    by first away = refl
 
 place_by : (first : Bool) (t : Nodes) (it : clients.Running) (ended : Bool) → ended ≡ (so_far t it).ended
     → place_text (next_step first t it) ≡ place_said ended it.acts
@@ -328,9 +302,7 @@ module _ {D : Type 0} {medium : Medium D} {scripts : List Declared} {laptop : La
   pub none_said : (text : clients.Running → List ℕ) → (state_in laptop).running ≡ None → y ≡ x
       → y ≡ x ++ said_of text m.node.durable.running
   none_said text none same =
-      same ∙ sym (append-nil x)
-      ∙ ap (λ (it : Option clients.Running). x ++ said_of text it)
-      (sym (no_some m.node.durable.running (sym (runs_is _ _ _ _ here.state) ∙ ap is_some none)))
+      rw (none_runs_there here (ap is_some none)) (same ∙ sym (append-nil x))
 
   module _ (r : Transaction) (is : (state_in laptop).running ≡ Some r) where
     pub begun_said : (first : Bool) → class_by (state_in laptop).running (live_in laptop) ≡ Some first

@@ -26,7 +26,15 @@ pub(crate) fn say_queue<D: Disk>(laptop: &Laptop<D>, out: &mut Text) -> Result<(
 {
     let waiting = laptop.client().queue();
     match laptop.running() {
-        Some(running) => queue(laptop.name(), waiting, &[line_of(running)], out),
+        Some(running) => {
+            let line = RunLine {
+                tid: running.tid,
+                script: running.script,
+                first: running.first,
+                acts: running.acts.len() as u64,
+            };
+            queue(laptop.name(), waiting, &[line], out)
+        }
         None => queue(laptop.name(), waiting, &[], out),
     }
 }
@@ -38,7 +46,7 @@ pub(crate) fn say_reads<D: Disk>(laptop: &Laptop<D>, place: u64, out: &mut Text)
     ensures { (server : ServerNode D) → IsReady D.medium (two laptop.now server) → (scripts : List Declared)
         → Does D.medium scripts (ReadsOf place) (two laptop.now server) (two laptop.now server) out.old out.new result }
 {
-    match waiting(laptop, place) {
+    match laptop.client().queue().items().get(place as usize - 1) {
         Some(item) => {
             reads(item, out)?;
             Ok(())
@@ -47,31 +55,5 @@ pub(crate) fn say_reads<D: Disk>(laptop: &Laptop<D>, place: u64, out: &mut Text)
             say(b"nothing", out)?;
             Err(Halt::Over)
         }
-    }
-}
-
-/// The client's transaction at this place of those that wait, from 1.
-fn waiting<D: Disk>(laptop: &Laptop<D>, place: u64) -> Option<&Item>
-    requires stands { Stands D.medium laptop.now }
-    requires counts { 1 ≤ place }
-    ensures { option_copied result ≡ slice_get (state_in laptop.now).items (place - 1) }
-{
-    laptop.client().queue().items().get(place as usize - 1)
-}
-
-/// A transaction that runs, as a line says it.
-fn line_of(running: &Running) -> RunLine
-    ensures { result ≡ record {
-      tid = running.now.tid;
-      script = running.now.script;
-      first = running.now.first;
-      acts = length running.now.acts;
-    } }
-{
-    RunLine {
-        tid: running.tid,
-        script: running.script,
-        first: running.first,
-        acts: running.acts.len() as u64,
     }
 }

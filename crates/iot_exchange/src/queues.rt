@@ -46,7 +46,18 @@ pub(crate) fn sync<D: Disk>(
         return Ok(Synced::Stays);
     };
     if !laptop.is_connected() {
-        return sync_away(laptop, server, &transaction, out);
+        // Nothing is spelled for a server that no message reaches.
+        return match laptop.decision() {
+            Ok(_) => {
+                say_of(b"manual ", &transaction, out)?;
+                Ok(Synced::Stays)
+            }
+            Err(_) => {
+                miss(laptop, server);
+                say(b"away", out)?;
+                Ok(Synced::Unanswered)
+            }
+        };
     }
     match laptop.need(alloc)? {
         Need::Verdict(submitted) => submit(laptop, server, alloc, &transaction, submitted, out),
@@ -54,33 +65,6 @@ pub(crate) fn sync<D: Disk>(
         Need::Decision => {
             say_of(b"manual ", &transaction, out)?;
             Ok(Synced::Stays)
-        }
-    }
-}
-
-/// What becomes of the first transaction that waits as long as the client's link is not up: nothing is spelled for a server that no message
-/// reaches.
-fn sync_away<D: Disk>(
-    laptop: &mut Laptop<D>,
-    server: &ServerNode<D>,
-    transaction: &Transaction,
-    out: &mut Text,
-) -> Result<Synced, Halt>
-    requires ready { IsReady D.medium (two laptop.old server.now) }
-    requires down { laptop.old.link.up ≡ false }
-    requires head { head_name laptop.old (state_in laptop.old).items ≡ Some transaction.now }
-    ensures { (scripts : List Declared) → Does D.medium scripts Syncs
-        (two laptop.old server.now) (two laptop.new server.now) out.old out.new (synced_by result) }
-{
-    match laptop.decision() {
-        Ok(_) => {
-            say_of(b"manual ", transaction, out)?;
-            Ok(Synced::Stays)
-        }
-        Err(_) => {
-            miss(laptop, server);
-            say(b"away", out)?;
-            Ok(Synced::Unanswered)
         }
     }
 }
@@ -183,30 +167,15 @@ pub(crate) fn sync_all<D: Disk>(
 {
     let most = laptop.most_syncs()?;
     'syncs: for _ in 0..most {
-        if !sync_next(laptop, server, alloc, scripts, out)? {
+        if !laptop.waits() {
+            return Ok(());
+        }
+        let synced = sync(laptop, server, alloc, scripts, out)?;
+        if !synced.moves() {
             return Ok(());
         }
     }
     Ok(())
-}
-
-/// Syncs the first transaction that waits, if one does, and tells whether the next may follow.
-fn sync_next<D: Disk>(
-    laptop: &mut Laptop<D>,
-    server: &mut ServerNode<D>,
-    alloc: Global,
-    scripts: &[DeclaredScript],
-    out: &mut Text,
-) -> Result<bool, Halt>
-    requires { IsReadyWith D.medium (scripts_of scripts.now) (two laptop.old server.old) }
-    ensures { Does D.medium (scripts_of scripts.now) SyncsNext
-        (two laptop.old server.old) (two laptop.new server.new) out.old out.new result }
-{
-    if !laptop.waits() {
-        return Ok(false);
-    }
-    let synced = sync(laptop, server, alloc, scripts, out)?;
-    Ok(synced.moves())
 }
 
 /// Syncs all that wait, and then fetches anew what the client knows. If that says nothing, this is said.

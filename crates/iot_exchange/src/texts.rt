@@ -72,20 +72,14 @@ pub(crate) fn say_step(
     out.push(b' ')?;
     out.append_number(acts)?;
     out.append(b" acts")?;
-    say_place(acts, at_end, out)?;
+    out.append(if at_end {
+        b", at end"
+    } else if acts >= ACT_LIMIT {
+        b", at limit"
+    } else {
+        b""
+    })?;
     out.push(b'\n')
-}
-
-fn say_place(acts: u64, at_end: bool, out: &mut Text) -> Result<(), NoMemory>
-    ensures { OnOk result (out.new ≡ out.old ++ place_said at_end acts) }
-{
-    if at_end {
-        return out.append(b", at end");
-    }
-    if acts >= ACT_LIMIT {
-        return out.append(b", at limit");
-    }
-    Ok(())
 }
 
 /// This word of a transaction, as `end TID`.
@@ -107,7 +101,13 @@ pub(crate) fn say_told(
         ++ told_text (name_of transaction.now) (verdict_of told.now.verdict) told.now.option) }
 {
     match &told.verdict {
-        Verdict::Settled { number } => say_settled(transaction, *number, out),
+        Verdict::Settled { number } => {
+            out.append(b"settled ")?;
+            transaction.write_to(out)?;
+            out.push(b' ')?;
+            out.append_number(*number)?;
+            out.push(b'\n')
+        }
         Verdict::Conflict { read, question } => {
             say_conflict(transaction, *read, question, out)?;
             match told.option {
@@ -117,17 +117,6 @@ pub(crate) fn say_told(
             }
         }
     }
-}
-
-/// `settled TID N`
-fn say_settled(transaction: &Transaction, number: u64, out: &mut Text) -> Result<(), NoMemory>
-    ensures { OnOk result (out.new ≡ out.old ++ settled_line (name_of transaction.now) number) }
-{
-    out.append(b"settled ")?;
-    transaction.write_to(out)?;
-    out.push(b' ')?;
-    out.append_number(number)?;
-    out.push(b'\n')
 }
 
 /// `conflict TID read I QUESTION`
@@ -180,19 +169,12 @@ pub(crate) fn say_resolve(
     out.append(b"resolve ")?;
     transaction.write_to(out)?;
     out.push(b' ')?;
-    say_resolver(plan, out)?;
-    out.push(b'\n')
-}
-
-/// The name of the resolver, or that the own script is run again.
-fn say_resolver(plan: &Plan, out: &mut Text) -> Result<(), NoMemory>
-    ensures { OnOk result (out.new ≡ out.old ++ resolver_said plan.now) }
-{
-    if plan.keeps {
-        out.append(plan.script.as_bytes())
+    out.append(if plan.keeps {
+        plan.script.as_bytes()
     } else {
-        out.append(b"reexec")
-    }
+        b"reexec"
+    })?;
+    out.push(b'\n')
 }
 
 /// `repair TID S`

@@ -43,8 +43,14 @@ pub(crate) fn begin_aloud<D: Disk>(
         (two laptop.old server.old) (two laptop.new server.new) out.old out.new result }
 {
     begin(laptop, server, alloc, script, option, out)?;
-    say_begun(laptop, out)?;
-    Ok(())
+    match laptop.running() {
+        Some(running) => {
+            let transaction = laptop.transaction(running.tid);
+            say_begin(&transaction, &running.script, running.first, out)?;
+            Ok(())
+        }
+        None => Ok(()),
+    }
 }
 
 /// Begins the client's next transaction, unless one runs. It is first class if a refresh comes.
@@ -93,22 +99,6 @@ fn start<D: Disk>(
     Ok(())
 }
 
-/// Says which transaction began.
-fn say_begun<D: Disk>(laptop: &Laptop<D>, out: &mut Text) -> Result<(), NoMemory>
-    requires { Stands D.medium laptop.now }
-    ensures { OnOk result ((scripts : List Declared) (pair : Pair) → LaptopStands D.medium scripts laptop.now pair.client
-        → out.new ≡ out.old ++ begin_text pair) }
-{
-    match laptop.running() {
-        Some(running) => {
-            let transaction = laptop.transaction(running.tid);
-            say_begin(&transaction, &running.script, running.first, out)?;
-            Ok(())
-        }
-        None => Ok(()),
-    }
-}
-
 // ---- steps
 
 /// Makes at most so many single steps of the transaction that runs, and says how far it is.
@@ -128,25 +118,11 @@ pub(crate) fn step_aloud<D: Disk>(
         return Err(Halt::Over);
     }
     steps(laptop, server, alloc, most, true, out)?;
-    say_stepped(laptop, out)?;
-    Ok(())
-}
-
-/// Says how far the transaction that runs is.
-fn say_stepped<D: Disk>(laptop: &Laptop<D>, out: &mut Text) -> Result<(), NoMemory>
-    requires { Stands D.medium laptop.now }
-    ensures { OnOk result ((scripts : List Declared) (pair : Pair) → LaptopStands D.medium scripts laptop.now pair.client
-        → out.new ≡ out.old ++ step_text pair) }
-{
     match laptop.running() {
         Some(running) => {
             let transaction = laptop.transaction(running.tid);
-            say_step(
-                &transaction,
-                running.acts.len() as u64,
-                laptop.at_end(),
-                out,
-            )?;
+            let acts = running.acts.len() as u64;
+            say_step(&transaction, acts, laptop.at_end(), out)?;
             Ok(())
         }
         None => Ok(()),

@@ -2,7 +2,7 @@ use Rattle.std.proofs.Common.{refl}
 use Rattle.iot_laptop.specs.Laptops.{state_in}
 use Rattle.iot_machine.specs.Clients.{hold}
 use Rattle.iot_exchange.specs.Pairs.{Objects}
-use Rattle.iot_exchange.proofs.DoesLaws.{hands_on, then_answers, notes, no_memory, stands, low, keeps_same, keeps_more}
+use Rattle.iot_exchange.proofs.DoesLaws.{hands_on, then_answers, notes, stands, low, keeps_more}
 use Rattle.iot_exchange.proofs.ExchangeLaws.{missed, came, brings_tree, free_as, free_still}
 use Rattle.iot_exchange.proofs.objects.bring.Goals as goal
 
@@ -20,9 +20,6 @@ ask-requires g c = record {
   idle = c.requires.free.idle;
   none = c.requires.free.none;
 }
-
-pub returns-in_err-request-clause-does : goal.returns-in_err-request-clause-does
-returns-in_err-request-clause-does g c scripts = no_memory c.from_residual.ensures.1 (keeps_same c.requires.ready)
 
 pub exchange-requires-clause-request : goal.exchange-requires-clause-request
 exchange-requires-clause-request g c = record { request = _; is = c.in_ok-request.ensures }

@@ -1,8 +1,10 @@
 use Rattle.std.proofs.Common.{sym, ◌∙◌}
+use Rattle.iot_kept.specs.Changes.{IsByHand}
 use Rattle.iot_laptop.specs.Calls.{IsNeed}
 use Rattle.iot_laptop.specs.declared.needs.Need.TheVariants.{Decision}
 use Rattle.iot_exchange.proofs.DoesLaws.{any_ready, stands, low, keeps_same}
 use Rattle.iot_exchange.proofs.FirstLaws.{first_of, first_waits, none_waits, head_is, syncs_none, syncs_by_hand}
+use Rattle.iot_exchange.proofs.FirstLaws.{decided, is_undecided, syncs_away}
 use Rattle.iot_exchange.proofs.queues.sync.Goals as goal
 
 pub head-requires : goal.head-requires
@@ -10,15 +12,14 @@ head-requires g c = stands (any_ready c.requires)
 
 pub returns-in_default : goal.returns-in_default
 returns-in_default g c =
-    syncs_none (none_waits c.args.laptop.now (sym c.head.ensures ∙ c.in_default.is)) (keeps_same (any_ready c.requires))
+    syncs_none (none_waits c.args.laptop.now _ (sym c.head.ensures ∙ c.in_default.is)) (keeps_same (any_ready c.requires))
     c.in_ok-say.ensures
 
-pub sync_away-requires : goal.sync_away-requires
-sync_away-requires g c = record {
-  ready = any_ready c.requires;
-  down = sym c.is_connected.ensures ∙ c.if-not-is_connected.true;
-  head = sym c.head.ensures ∙ c.in-Some.is;
-}
+pub decision-requires : goal.decision-requires
+decision-requires g c = stands (any_ready c.requires)
+
+pub miss-requires : goal.miss-requires
+miss-requires g c = record { ready = any_ready c.requires; down = sym c.is_connected.ensures ∙ c.if-not-is_connected.true }
 
 pub need-requires : goal.need-requires
 need-requires g c = record {
@@ -41,8 +42,17 @@ resolve-requires g c = record {
   asks = rw c.in-Tree.is at c.in_ok-submitted.ensures;
 }
 
-pub returns-then-not-is_connected : goal.returns-then-not-is_connected
-returns-then-not-is_connected g c = c.sync_away.ensures _
+pub returns-in_ok-say_of-in-Ok : goal.returns-in_ok-say_of-in-Ok
+returns-in_ok-say_of-in-Ok g c =
+    let first = first_of (sym c.head.ensures ∙ c.in-Some.is) in
+    syncs_by_hand first (head_is IsByHand first (decided c.args.laptop.now _ (sym c.decision.ensures ∙ c.in-Ok.is)).1)
+    (keeps_same (any_ready c.requires)) c.in_ok-say_of-in-Ok.ensures
+
+pub returns-in_ok-say-in-Err : goal.returns-in_ok-say-in-Err
+returns-in_ok-say-in-Err g c =
+    let first = first_of (sym c.head.ensures ∙ c.in-Some.is) in
+    syncs_away first (is_undecided first (sym c.decision.ensures ∙ c.in-Err.is)) c.miss.ensures.disks (c.miss.ensures.all _)
+    c.in_ok-say-in-Err.ensures
 
 pub returns-in-Verdict : goal.returns-in-Verdict
 returns-in-Verdict g c = c.submit.ensures _

@@ -1,24 +1,39 @@
+use Rattle.std.proofs.Common.{Err, refl, sym, ap, ◌∙◌}
+use Rattle.iot_machine.specs.Transactions.{moves, sync_if}
+use Rattle.iot_exchange.specs.Saying.{synced_by}
 use Rattle.iot_exchange.proofs.DoesLaws.{none_yet, one_more, last_round, halted_round, all_rounds, ready_after, any_ready, keeps_same}
+use Rattle.iot_exchange.proofs.DoesLaws.{asks_then, answers, hands_on, then_answers}
+use Rattle.iot_exchange.proofs.ExchangeLaws.{pends_here}
 use Rattle.iot_exchange.proofs.TasksLaws.{all_by}
 use Rattle.iot_exchange.proofs.queues.sync_all.Goals as goal
 
 pub syncs-init : goal.syncs-init
-syncs-init g c = (none_yet (keeps_same (any_ready c.requires)), c.requires)
+syncs-init g c = (none_yet, c.requires)
 
-pub returns-in_err-sync_next : goal.returns-in_err-sync_next
-returns-in_err-sync_next g c = all_by c.in_ok-most.ensures
-    (halted_round c.syncs.invariant.0 c.syncs-test.true c.sync_next.ensures c.in_err-sync_next.was
-    c.from_residual-in_err-sync_next.ensures.1)
+pub returns-then-not-waits : goal.returns-then-not-waits
+returns-then-not-waits g c = all_by c.in_ok-most.ensures (last_round c.syncs.invariant.0 c.syncs-test.true
+    (asks_then {next = sync_if} (pends_here (sym c.waits.ensures ∙ c.if-not-waits.true))
+    (answers (keeps_same (any_ready c.syncs.invariant.1)))) refl refl)
 
-pub returns-then-not-branch : goal.returns-then-not-branch
-returns-then-not-branch g c = all_by c.in_ok-most.ensures
-    (last_round c.syncs.invariant.0 c.syncs-test.true c.sync_next.ensures c.in_ok-sync_next.was c.if-not-branch.true)
+pub returns-in_err-synced : goal.returns-in_err-synced
+returns-in_err-synced g c = all_by c.in_ok-most.ensures (halted_round c.syncs.invariant.0 c.syncs-test.true
+    (asks_then {next = sync_if} (pends_here (sym c.waits.ensures ∙ c.if-not-waits.false))
+    (hands_on {outer = Err c.in_err-synced.field-0.0} (ap synced_by c.in_err-synced.was) refl c.sync.ensures))
+    refl c.from_residual-in_err-synced.ensures.1)
+
+pub returns-then-not-moves : goal.returns-then-not-moves
+returns-then-not-moves g c = all_by c.in_ok-most.ensures (last_round c.syncs.invariant.0 c.syncs-test.true
+    (asks_then {next = sync_if} (pends_here (sym c.waits.ensures ∙ c.if-not-waits.false))
+    (then_answers {f = moves} (ap synced_by c.in_ok-synced.was) c.moves.ensures c.sync.ensures)) refl c.if-not-moves.true)
 
 pub syncs-preserved : goal.syncs-preserved
 syncs-preserved g c = (
-  one_more c.syncs.invariant.0 c.syncs-test.true c.sync_next.ensures c.in_ok-sync_next.was c.if-not-branch.false,
-  ready_after c.in_ok-sync_next.was c.sync_next.ensures c.syncs.invariant.1,
+  one_more c.syncs.invariant.0 c.syncs-test.true
+      (asks_then {next = sync_if} (pends_here (sym c.waits.ensures ∙ c.if-not-waits.false))
+      (then_answers {f = moves} (ap synced_by c.in_ok-synced.was) c.moves.ensures c.sync.ensures)) refl c.if-not-moves.false,
+  ready_after (ap synced_by c.in_ok-synced.was) c.sync.ensures c.syncs.invariant.1,
 )
 
 pub returns : goal.returns
-returns g c = all_by c.in_ok-most.ensures (all_rounds c.syncs.invariant.0 c.syncs-test.false)
+returns g c =
+    all_by c.in_ok-most.ensures (all_rounds c.syncs.invariant.0 c.syncs-test.false (keeps_same (any_ready c.syncs.invariant.1)))

@@ -1,12 +1,11 @@
 use Rattle.std.proofs.Common.{refl, sym, ap, ◌∙◌}
 use Rattle.iot_machine.specs.Clients.{Declared}
-use Rattle.iot_machine.specs.Events.{chosen}
 use Rattle.iot_machine.specs.Machine.{script_at}
 use Rattle.iot_exchange.specs.Saying.{synced_by}
 use Rattle.iot_exchange.specs.Scripts.{scripts_of}
 use Rattle.iot_exchange.specs.declared.declared.DeclaredScript.{DeclaredScript}
 use Rattle.iot_exchange.proofs.DoesLaws.{hands_on, then_answers, tells, any_ready, stands, keeps_same}
-use Rattle.iot_exchange.proofs.NamesLaws.{script_there, named_there, means_there}
+use Rattle.iot_exchange.proofs.NamesLaws.{script_there, named_there, meant_there}
 use Rattle.iot_exchange.proofs.tasks.carry_out.Goals as goal
 
 pub returns-in-Hoard : goal.returns-in-Hoard
@@ -38,17 +37,14 @@ returns-in-Discard g c = rw c.in-Discard.is (c.discard.ensures c.args.server.now
 pub run-requires-clause-meant : goal.run-requires-clause-meant
 run-requires-clause-meant g c =
     let may = rw c.in-Run.is at c.requires.may in
-    record {
-      on_conflict = chosen (scripts_of c.args.scripts.now) c.in-Run.option;
-      means = means_there c.args.scripts.now c.in-Run.option may.0 c.index-scripts-script.is may.1 c.requires.apart c.by_name.ensures;
-    }
+    meant_there c.args.scripts.now c.in-Run.option may.0 c.index-scripts-script.is may.1 c.requires.apart c.by_name.ensures
 
 pub returns-in-Run : goal.returns-in-Run
 returns-in-Run g c =
     let may = rw c.in-Run.is at c.requires.may in
     rw (c.in-Run.is, ← script_there c.args.scripts.now may.0 c.index-scripts-script.is)
     (c.run.ensures _
-    (means_there c.args.scripts.now c.in-Run.option may.0 c.index-scripts-script.is may.1 c.requires.apart c.by_name.ensures))
+    (meant_there c.args.scripts.now c.in-Run.option may.0 c.index-scripts-script.is may.1 c.requires.apart c.by_name.ensures).means)
 
 pub begin_aloud-requires : goal.begin_aloud-requires
 begin_aloud-requires g c =
@@ -56,11 +52,8 @@ begin_aloud-requires g c =
     record {
       scripts = scripts_of c.args.scripts.now;
       ready = c.requires.ready;
-      meant = record {
-        on_conflict = chosen (scripts_of c.args.scripts.now) c.in-Begin.option;
-        means = means_there c.args.scripts.now c.in-Begin.option may.0 c.index-scripts-script-in-Begin.is may.1 c.requires.apart
-            c.by_name-in-Begin.ensures;
-      };
+      meant = meant_there c.args.scripts.now c.in-Begin.option may.0 c.index-scripts-script-in-Begin.is may.1 c.requires.apart
+          c.by_name-in-Begin.ensures;
     }
 
 pub returns-in-Begin : goal.returns-in-Begin
@@ -68,8 +61,8 @@ returns-in-Begin g c =
     let may = rw c.in-Begin.is at c.requires.may in
     rw (c.in-Begin.is, ← script_there c.args.scripts.now may.0 c.index-scripts-script-in-Begin.is)
     (c.begin_aloud.ensures _ _
-    (means_there c.args.scripts.now c.in-Begin.option may.0 c.index-scripts-script-in-Begin.is may.1 c.requires.apart
-    c.by_name-in-Begin.ensures))
+    (meant_there c.args.scripts.now c.in-Begin.option may.0 c.index-scripts-script-in-Begin.is may.1 c.requires.apart
+    c.by_name-in-Begin.ensures).means)
 
 pub repair-requires : goal.repair-requires
 repair-requires g c = stands (any_ready c.requires.ready)

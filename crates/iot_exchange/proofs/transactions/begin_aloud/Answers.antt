@@ -1,4 +1,10 @@
-use Rattle.iot_exchange.proofs.DoesLaws.{hands_on, then_tells, no_memory, ready_after, stands, any_ready}
+use Rattle.std.proofs.Common.{◌++◌, refl, sym, ap, ◌∙◌}
+use Rattle.std.specs.Option.{option_copied}
+use Rattle.iot_kept.specs.Memory.{transaction_of, class_of}
+use Rattle.iot_machine.specs.Texts.{begin_line, transaction_name}
+use Rattle.iot_node.specs.declared.lines.Transaction.{Transaction}
+use Rattle.iot_exchange.proofs.DoesLaws.{hands_on, then_tells, ready_after, stands, any_ready}
+use Rattle.iot_exchange.proofs.TransactionsLaws.{begun_said, none_said}
 use Rattle.iot_exchange.proofs.transactions.begin_aloud.Goals as goal
 
 pub begin-requires : goal.begin-requires
@@ -8,14 +14,23 @@ pub returns-in_err-begin : goal.returns-in_err-begin
 returns-in_err-begin g c scripts on_conflict means =
     hands_on c.in_err-begin.was c.from_residual.ensures.1 (c.begin.ensures scripts on_conflict means)
 
-pub say_begun-requires : goal.say_begun-requires
-say_begun-requires g c = stands (any_ready (ready_after c.in_ok-begin.was
+pub running-requires : goal.running-requires
+running-requires g c = stands (any_ready (ready_after c.in_ok-begin.was
     (c.begin.ensures c.requires.scripts c.requires.meant.on_conflict c.requires.meant.means) c.requires.ready))
 
-pub returns-in_err-say_begun : goal.returns-in_err-say_begun
-returns-in_err-say_begun g c scripts on_conflict means =
-    no_memory c.from_residual-in_err-say_begun.ensures.1 (c.begin.ensures scripts on_conflict means).disks
+pub returns-in_ok-say_begin-in-Some : goal.returns-in_ok-say_begin-in-Some
+returns-in_ok-say_begin-in-Some g c scripts on_conflict means =
+    then_tells c.in_ok-begin.was (c.begin.ensures scripts on_conflict means) (λ names at pair here.
+    begun_said here.client.is c.begin.new.out c.say_begin.new.out _
+    (sym c.running.ensures.running ∙ ap (λ o. transaction_of (option_copied o)) c.in-Some.is) c.in-Some.running.now.first
+    (sym c.running.ensures.class ∙ ap (λ o. class_of (option_copied o)) c.in-Some.is)
+    (c.in_ok-say_begin-in-Some.ensures
+    ∙ ap (λ (t : Transaction). c.begin.new.out
+    ++ begin_line (transaction_name t.client t.number) c.in-Some.running.now.script c.in-Some.running.now.first)
+    c.transaction-transaction.ensures))
 
-pub returns : goal.returns
-returns g c scripts on_conflict means = then_tells c.in_ok-begin.was (c.begin.ensures scripts on_conflict means)
-    (λ names at pair here. c.in_ok-say_begun.ensures scripts pair here.client.is)
+pub returns-in-None : goal.returns-in-None
+returns-in-None g c scripts on_conflict means =
+    then_tells c.in_ok-begin.was (c.begin.ensures scripts on_conflict means) (λ names at pair here.
+    none_said here.client.is c.begin.new.out c.begin.new.out _
+    (sym c.running.ensures.running ∙ ap (λ o. transaction_of (option_copied o)) c.in-None.is) refl)

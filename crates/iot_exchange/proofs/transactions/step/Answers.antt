@@ -69,7 +69,7 @@ returns-then-not-loud g c scripts =
     let does = c.fetch.ensures (wanted.Path c.in-Fetch.path) (rw asks.0 asks.2) scripts in
     steps_by c.args.loud (sym c.runs.ensures ∙ c.if-not-runs.false) (rw was at c.step.ensures.next)
     (does_as asks.0 asks.1 (goes_then {next = fetched c.args.loud c.in-Fetch.path} c.in_ok-came-in-Fetch.was does
-    (fetched_quiet c.in-Fetch.path c.in_ok-came-in-Fetch.came does.disks c.if-not-loud.true)))
+    (fetched_quiet c.in-Fetch.path does.disks c.in_ok-came-in-Fetch.came c.if-not-loud.true)))
 
 pub returns-in_ok-say_fetch-in-Fetch : goal.returns-in_ok-say_fetch-in-Fetch
 returns-in_ok-say_fetch-in-Fetch g c scripts =
@@ -78,7 +78,7 @@ returns-in_ok-say_fetch-in-Fetch g c scripts =
     let does = c.fetch.ensures (wanted.Path c.in-Fetch.path) (rw asks.0 asks.2) scripts in
     steps_by c.args.loud (sym c.runs.ensures ∙ c.if-not-runs.false) (rw was at c.step.ensures.next)
     (does_as asks.0 asks.1 (goes_then {next = fetched c.args.loud c.in-Fetch.path} c.in_ok-came-in-Fetch.was does
-    (fetched_loud c.in-Fetch.path c.in_ok-came-in-Fetch.came does.disks c.if-not-loud.false c.in_ok-say_fetch-in-Fetch.ensures)))
+    (fetched_loud c.in-Fetch.path does.disks c.in_ok-came-in-Fetch.came c.if-not-loud.false c.in_ok-say_fetch-in-Fetch.ensures)))
 
 pub returns-in_err-say_fetch-in-Fetch : goal.returns-in_err-say_fetch-in-Fetch
 returns-in_err-say_fetch-in-Fetch g c scripts =

@@ -2,7 +2,7 @@ use Rattle.iot_exchange.proofs.DoesLaws.{none_yet, one_more, last_round, halted_
 use Rattle.iot_exchange.proofs.transactions.steps.Goals as goal
 
 pub steps-init : goal.steps-init
-steps-init g c = ((λ scripts. none_yet (keeps_same c.requires)), c.requires)
+steps-init g c = ((λ scripts. none_yet), c.requires)
 
 pub step-requires : goal.step-requires
 step-requires g c = c.steps.invariant.1
@@ -22,4 +22,4 @@ steps-preserved g c = (
 )
 
 pub returns : goal.returns
-returns g c scripts = all_rounds (c.steps.invariant.0 scripts) c.steps-test.false
+returns g c scripts = all_rounds (c.steps.invariant.0 scripts) c.steps-test.false (keeps_same c.steps.invariant.1)
