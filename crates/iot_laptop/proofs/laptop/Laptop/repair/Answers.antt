@@ -5,6 +5,5 @@ use Rattle.iot_laptop.proofs.laptop.Laptop.repair.Goals as goal
 
 pub returns-clause-does : goal.returns-clause-does
 returns-clause-does g c =
-    let call = called c.in-Up.is c.goes_on.ensures.goes c.records-count.ensures c.repair-answer.ensures.tied
-    c.repair-answer.ensures.counts c.repair-answer.ensures.arms in
+    let call = called c.in-Up.is c.goes_on.ensures.goes (search rules) (search rules) (search rules) (search rules) in
     rw (sym (as_is c.goes_on.result)) (repairs call c.args.script.now (search rules))
