@@ -10,13 +10,11 @@ use Rattle.iot_laptop.proofs.laptop.Laptop.end.Goals as goal
 
 pub returns-in-Ok-clause-does : goal.returns-in-Ok-clause-does
 returns-in-Ok-clause-does g c =
-    let call = called c.in-Up.is c.goes_on.ensures.goes (search rules) (search rules) (search rules) (search rules) in
-    rw c.in-Ok.is at (ends call c.requires.over (search rules))
+    rw c.in-Ok.is at (ends (called c.in-Up.is c.goes_on.ensures.goes (search rules)) c.requires.over (search rules))
 
 pub returns-in-Err-clause-does : goal.returns-in-Err-clause-does
 returns-in-Err-clause-does g c =
-    let call = called c.in-Up.is c.goes_on.ensures.goes (search rules) (search rules) (search rules) (search rules) in
-    rw c.in-Err.is at (ends call c.requires.over (search rules))
+    rw c.in-Err.is at (ends (called c.in-Up.is c.goes_on.ensures.goes (search rules)) c.requires.over (search rules))
 
 pub returns-in-Ok-clause-gone : goal.returns-in-Ok-clause-gone
 returns-in-Ok-clause-gone g c =

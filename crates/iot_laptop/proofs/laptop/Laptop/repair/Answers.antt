@@ -5,5 +5,4 @@ use Rattle.iot_laptop.proofs.laptop.Laptop.repair.Goals as goal
 
 pub returns-clause-does : goal.returns-clause-does
 returns-clause-does g c =
-    let call = called c.in-Up.is c.goes_on.ensures.goes (search rules) (search rules) (search rules) (search rules) in
-    rw (sym (as_is c.goes_on.result)) (repairs call c.args.script.now (search rules))
+    rw (sym (as_is c.goes_on.result)) (repairs (called c.in-Up.is c.goes_on.ensures.goes (search rules)) c.args.script.now (search rules))

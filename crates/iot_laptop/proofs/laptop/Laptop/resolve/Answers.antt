@@ -17,7 +17,7 @@ goes_on-requires-clause-fault g c =
 
 pub returns-clause-does : goal.returns-clause-does
 returns-clause-does g c =
-    let call = called c.in-Up.is c.goes_on.ensures.goes (search rules) (search rules) (search rules) (search rules) in
+    let call = called c.in-Up.is c.goes_on.ensures.goes (search rules) in
     rw (sym (as_is c.goes_on.result))
     (resolves call c.args.reply.now c.args.script.value c.requires.script c.resolve-answer.ensures.only c.resolve-answer.ensures.resolves
     c.resolve-answer.ensures.live c.resolve-answer.ensures.stopped)

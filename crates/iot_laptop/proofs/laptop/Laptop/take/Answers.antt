@@ -8,7 +8,7 @@ use Rattle.iot_laptop.proofs.laptop.Laptop.take.Goals as goal
 
 pub returns-clause-does : goal.returns-clause-does
 returns-clause-does g c =
-    let call = called c.in-Up.is c.goes_on.ensures.goes (search rules) (search rules) (search rules) (search rules) in
+    let call = called c.in-Up.is c.goes_on.ensures.goes (search rules) in
     rw (sym (as_is c.goes_on.result))
     (brings call (λ tree. Held tree) hold None c.args.reply.now c.take_objects-answer.ensures.only c.take_objects-answer.ensures.brings
     c.take_objects-answer.ensures.live c.take_objects-answer.ensures.stopped (λ scripts first m here. held_live here))
