@@ -235,8 +235,8 @@ module _ {D T : Type 0} {medium : Medium D} {laptop : Laptop D} {was now : Clien
         let known = each m here in
         rw (sym same)
         (call.goes.step (record { client = was }) (record { client = now }) change m.node refl known.0.up
-        (appended_by medium laptop.place was now answer scripts m.node.durable change (class m.first) known.1 call.behaves.tied call.behaves.counts
-        call.behaves.arms)
+        (appended_by medium laptop.place was now answer scripts m.node.durable change (class m.first) known.1
+        call.behaves.tied call.behaves.counts call.behaves.arms)
         (call.behaves.counted ∙ ap records_by call.is))
 
     -- it went on
