@@ -103,25 +103,27 @@ as_is (Err halt) = refl
 
 -- ---- a call
 
--- a call of a laptop's client that was to append a record, and what became of the laptop then
-pub record Called {D T : Type 0} (medium : Medium D) (laptop : Laptop D) (was now : Client D) (answer : Result T ClientFault)
-    (new : Laptop D) (x y : List ℕ) (result : Result T Halt) : Type 0 where
-  pub count : ℕ
-  pub is : laptop.post ≡ Up (record { client = was })
+-- what each call of a laptop's client says that was to append a record behind so many others
+pub record Behaves {D T : Type 0} (medium : Medium D) (laptop : Laptop D) (was now : Client D) (answer : Result T ClientFault)
+    (count : ℕ) : Type 0 where
   pub counted : count ≡ records_in laptop
   pub tied : OnOk answer (IsTied medium now)
   pub counts : CountsFault answer (medium.faults (disk_of was)) (medium.faults (disk_of now))
   pub arms : medium.arms (disk_of now) ≡ medium.arms (disk_of was)
+
+-- such a call, and what became of the laptop then
+pub record Called {D T : Type 0} (medium : Medium D) (laptop : Laptop D) (was now : Client D) (answer : Result T ClientFault)
+    (new : Laptop D) (x y : List ℕ) (result : Result T Halt) : Type 0 where
+  pub count : ℕ
+  pub is : laptop.post ≡ Up (record { client = was })
   pub goes : GoesOn medium (record laptop { post = Up (record { client = now }) }) new count answer x y result
+  pub behaves : Behaves medium laptop was now answer count
 
 pub called : {D T : Type 0} {medium : Medium D} {laptop : Laptop D} {was now : Client D} {answer : Result T ClientFault} {new : Laptop D}
     {count : ℕ} {x y : List ℕ} {result : Result T Halt} → laptop.post ≡ Up (record { client = was })
     → GoesOn medium (record laptop { post = Up (record { client = now }) }) new count answer x y result
-    → count ≡ records_in laptop → OnOk answer (IsTied medium now)
-    → CountsFault answer (medium.faults (disk_of was)) (medium.faults (disk_of now))
-    → medium.arms (disk_of now) ≡ medium.arms (disk_of was) → Called medium laptop was now answer new x y result
-called {count = count} is goes counted tied counts arms =
-    record { count = count; is = is; counted = counted; tied = tied; counts = counts; arms = arms; goes = goes }
+    → Behaves medium laptop was now answer count → Called medium laptop was now answer new x y result
+called {count = count} is goes behaves = record { count = count; is = is; goes = goes; behaves = behaves }
 
 -- what is known of a laptop before it, and of a client of the machine
 pub record Before {D : Type 0} (medium : Medium D) (laptop : Laptop D) (was : Client D) (scripts : List Declared) (m : machine.Client)
@@ -233,9 +235,9 @@ module _ {D T : Type 0} {medium : Medium D} {laptop : Laptop D} {was now : Clien
         let known = each m here in
         rw (sym same)
         (call.goes.step (record { client = was }) (record { client = now }) change m.node refl known.0.up
-        (appended_by medium laptop.place was now answer scripts m.node.durable change (class m.first) known.1 call.tied call.counts
-        call.arms)
-        (call.counted ∙ ap records_by call.is))
+        (appended_by medium laptop.place was now answer scripts m.node.durable change (class m.first) known.1
+        call.behaves.tied call.behaves.counts call.behaves.arms)
+        (call.behaves.counted ∙ ap records_by call.is))
 
     -- it went on
     pub goes_at : (t : T) → result ≡ Ok t → StepsTo stands after_it (Writes change) laptop new x y true

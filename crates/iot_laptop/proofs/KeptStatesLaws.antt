@@ -15,7 +15,7 @@ use Rattle.iot_tree.specs.declared.limits.TheConstants.{ACT_LIMIT}
 use Rattle.iot_tree.specs.declared.questions.Question.{Question}
 use Rattle.iot_tree.specs.declared.labels.OnConflict.TheVariants as on
 use Rattle.iot_lang.specs.Scripts.{IsScript}
-use Rattle.iot_limits.specs.Spelled.{IsSpelledTree, IsSpelledRow, AreSpelledFiles}
+use Rattle.iot_limits.specs.Spelled.{IsSpelledTree, IsSpelledRow}
 use Rattle.iot_acts.specs.Traces.{after_acts, after_update}
 use Rattle.iot_exec.specs.declared.ran.Ran.{Ran}
 use Rattle.iot_exec.proofs.PlaceLaws.{exec_from_start}

@@ -1,4 +1,4 @@
-use Rattle.std.proofs.Common.{refl, ap, ◌∙◌}
+use Rattle.std.proofs.Common.{refl, ap, ◌∙◌, rules}
 use Rattle.std.proofs.lemmas.Result.{IfOk-at_ok}
 use Rattle.iot_client.specs.Calls.{EndsIfAny}
 use Rattle.iot_client.specs.Ties.{state_of, live_of}
@@ -10,17 +10,11 @@ use Rattle.iot_laptop.proofs.laptop.Laptop.end.Goals as goal
 
 pub returns-in-Ok-clause-does : goal.returns-in-Ok-clause-does
 returns-in-Ok-clause-does g c =
-    let call = called c.in-Up.is c.goes_on.ensures.goes c.records-count.ensures c.end-answer.ensures.tied
-    c.end-answer.ensures.counts c.end-answer.ensures.arms in
-    rw c.in-Ok.is at (ends call c.requires.over
-    (record { notes = c.end-answer.ensures.notes; lives = c.end-answer.ensures.live; stops = c.end-answer.ensures.stopped }))
+    rw c.in-Ok.is at (ends (called c.in-Up.is c.goes_on.ensures.goes (search rules)) c.requires.over (search rules))
 
 pub returns-in-Err-clause-does : goal.returns-in-Err-clause-does
 returns-in-Err-clause-does g c =
-    let call = called c.in-Up.is c.goes_on.ensures.goes c.records-count.ensures c.end-answer.ensures.tied
-    c.end-answer.ensures.counts c.end-answer.ensures.arms in
-    rw c.in-Err.is at (ends call c.requires.over
-    (record { notes = c.end-answer.ensures.notes; lives = c.end-answer.ensures.live; stops = c.end-answer.ensures.stopped }))
+    rw c.in-Err.is at (ends (called c.in-Up.is c.goes_on.ensures.goes (search rules)) c.requires.over (search rules))
 
 pub returns-in-Ok-clause-gone : goal.returns-in-Ok-clause-gone
 returns-in-Ok-clause-gone g c =

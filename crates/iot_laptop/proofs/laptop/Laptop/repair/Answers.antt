@@ -1,15 +1,8 @@
-use Rattle.std.proofs.Common.{sym}
+use Rattle.std.proofs.Common.{sym, rules}
 use Rattle.iot_laptop.proofs.CallsLaws.{called, as_is}
 use Rattle.iot_laptop.proofs.CallsLaws.{repairs}
 use Rattle.iot_laptop.proofs.laptop.Laptop.repair.Goals as goal
 
 pub returns-clause-does : goal.returns-clause-does
 returns-clause-does g c =
-    let call = called c.in-Up.is c.goes_on.ensures.goes c.records-count.ensures c.repair-answer.ensures.tied
-    c.repair-answer.ensures.counts c.repair-answer.ensures.arms in
-    rw (sym (as_is c.goes_on.result))
-    (repairs call c.args.script.now (record {
-      notes = c.repair-answer.ensures.notes;
-      lives = c.repair-answer.ensures.live;
-      stops = c.repair-answer.ensures.stopped;
-    }))
+    rw (sym (as_is c.goes_on.result)) (repairs (called c.in-Up.is c.goes_on.ensures.goes (search rules)) c.args.script.now (search rules))

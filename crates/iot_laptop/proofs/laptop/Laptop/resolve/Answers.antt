@@ -1,4 +1,4 @@
-use Rattle.std.proofs.Common.{◌≡◌, sym}
+use Rattle.std.proofs.Common.{◌≡◌, sym, rules}
 use Rattle.iot_queue.specs.declared.items.Item.{Item}
 use Rattle.iot_queue.specs.declared.items.Stage.TheVariants.{Conflict}
 use Rattle.iot_client.specs.Ties.{state_of}
@@ -17,8 +17,7 @@ goes_on-requires-clause-fault g c =
 
 pub returns-clause-does : goal.returns-clause-does
 returns-clause-does g c =
-    let call = called c.in-Up.is c.goes_on.ensures.goes c.records-count.ensures c.resolve-answer.ensures.tied
-    c.resolve-answer.ensures.counts c.resolve-answer.ensures.arms in
+    let call = called c.in-Up.is c.goes_on.ensures.goes (search rules) in
     rw (sym (as_is c.goes_on.result))
     (resolves call c.args.reply.now c.args.script.value c.requires.script c.resolve-answer.ensures.only c.resolve-answer.ensures.resolves
     c.resolve-answer.ensures.live c.resolve-answer.ensures.stopped)
