@@ -1,41 +1,47 @@
--- What the disks hold that a world gives back.
+-- A node has its disk, and what the disks hold that a world gives back.
 use Rattle.std.proofs.Common.{◌≡◌, ◌+◌, ℕ, suc, List, [], ◌∷◌, ◌++◌, length, map, Option, Some, None}
 use Rattle.std.proofs.Common.{inl, inr, refl, sym, ap, subst, ◌∙◌, arith}
 use Rattle.std.proofs.lemmas.List.{length-append, map-append}
 use Rattle.std.proofs.lemmas.Option.{same_Some}
+use Rattle.std.specs.Prelude.{is_some, true, Result, Ok, Err, IfErr, OnOk}
 use Rattle.iot_kept.specs.Standing.{StandFor}
 use Rattle.iot_kept.specs.States.{State}
 use Rattle.iot_disk.specs.Disk.{Medium}
+use Rattle.iot_machine.specs.Calls.{Call}
 use Rattle.iot_machine.specs.Clients.{Declared, ClientState}
 use Rattle.iot_machine.specs.Events.{names_in, no_text}
 use Rattle.iot_machine.specs.Machine as machine
 use Rattle.iot_machine.specs.Machine.{Machine, Commit}
 use Rattle.iot_machine.specs.Nodes.{Node, Counts}
+use Rattle.iot_machine.specs.Refining.{Refines}
 use Rattle.iot_machine.specs.Serving.{kept_text}
-use Rattle.iot_node.specs.Disks.{CountsOn, counts_on}
+use Rattle.iot_node.specs.Disks.{CountsOn, KeepsDisk, counts_on}
 use Rattle.iot_node.specs.Keeping.{Keeping}
 use Rattle.iot_node.specs.Posts.{PostStands, Lasts, HoldsEither, disk_of}
+use Rattle.iot_node.specs.Steps.{StepsTo}
 use Rattle.iot_node.specs.declared.post.Post.{Post}
 use Rattle.iot_node.specs.declared.post.Post.TheVariants.{Up, Down, Between}
 use Rattle.iot_node.proofs.PostsLaws.{holds_each}
 use Rattle.iot_server_node.specs.Keepers.{lists}
 use Rattle.iot_server_node.specs.Records.{IsImage}
 use Rattle.iot_server_node.specs.Servers as servers
-use Rattle.iot_server_node.specs.Servers.{ServerStands}
-use Rattle.iot_server_node.proofs.ServersLaws.{lasts}
-use Rattle.iot_laptop.specs.Laptops.{ClientStands, disk_in}
+use Rattle.iot_server_node.specs.Servers.{HasDisk, HavingAnswered}
+use Rattle.iot_server_node.specs.declared.server.ServerNode.{ServerNode}
+use Rattle.iot_server_node.proofs.ServersLaws.{lasts, keeps_same, has_disk}
+use Rattle.iot_laptop.specs.Laptops.{ClientStands, StandsAnyhow, disk_in}
 use Rattle.iot_laptop.specs.Seats.{IsClientImage, seating}
 use Rattle.iot_laptop.specs.declared.laptop.Laptop.{Laptop}
 use Rattle.iot_laptop.specs.declared.seated.Seated.{Seated}
 use Rattle.iot_laptop.proofs.NodesLaws.{node_stands}
 use Rattle.iot_laptop.proofs.SeatsLaws.{seat_images}
 use Rattle.iot_world.specs.Holding.{IsListed, Holds, IsKept, KeepsClient, DisksHold, counts_in}
+use Rattle.iot_world.specs.World.{StandsForSome, LaptopHasDisk, KeepsNode}
 use Rattle.iot_world.specs.World.{Each, StandsFor, Opens, KeepsDisks, with_first, with_clients, disks_of}
 use Rattle.iot_world.specs.declared.world.World.{World}
 use Rattle.iot_world.proofs.ListedLaws.{state_is}
 
 -- a node's disk, with what it holds and has counted
-pub record HasHeld {S D : Type 0} (medium : Medium D) (Is : S → List ℕ → Type 0) (node : Node S) (o : Option D) : Type 0 where
+record HasHeld {S D : Type 0} (medium : Medium D) (Is : S → List ℕ → Type 0) (node : Node S) (o : Option D) : Type 0 where
   pub disk : D
   pub is : o ≡ Some disk
   pub holds : Holds Is (medium.may_leave disk) node.durable node.doubt
@@ -102,12 +108,40 @@ module _ {D : Type 0} (medium : Medium D) where
   }
   client_lasts place Between node here = absurd here
 
-  pub client_holds : (scripts : List Declared) (laptop : Laptop D) (m : machine.Client) → ClientStands medium scripts laptop m
+  client_holds : (scripts : List Declared) (laptop : Laptop D) (m : machine.Client) → ClientStands medium scripts laptop m
       → HasHeld medium IsKept m.node (disk_in laptop)
   client_holds scripts laptop m here =
       let stands = node_stands medium scripts laptop m here in
       has_held (seating medium laptop.place) medium IsKept is_kept no_text laptop.post m.node stands
       (client_lasts laptop.place laptop.post m.node stands)
+
+  -- ---- after a step
+
+  client_has : (scripts : List Declared) (laptop : Laptop D) (m : machine.Client) → ClientStands medium scripts laptop m → LaptopHasDisk laptop
+  client_has scripts laptop m here = ap is_some (client_holds scripts laptop m here).is
+
+  -- after a step that may have armed it the laptop has it, and if memory ran out it is as it was
+  pub armed_keeps : {T E A : Type 0} (call : Call machine.Client A) (x y : List ℕ) (a : A) (r : Result T E) (old new : Laptop D)
+      → StandsAnyhow medium old → IfErr r (λ _. new ≡ old)
+      → OnOk r ((scripts : List Declared) → Refines (ClientStands medium scripts) call old new x y a) → KeepsNode medium true r old new
+  armed_keeps call x y a (Ok done) old new some same one = λ had.
+      let s = (one some.scripts).step some.machine some.stands in client_has some.scripts new s.1 s.4
+  armed_keeps call x y a (Err fault) old new some same one =
+      keeps_same medium (disk_in old) (disk_in new) (client_has some.scripts old some.machine some.stands)
+      (ap (λ (l : Laptop D). disk_in l) same)
+
+  -- so it is of the server
+  pub server_after : {T E A : Type 0} (call : Call (Node (List Commit)) A) (x y : List ℕ) (a : A) (r : Result T E) (world : World D)
+      (new : ServerNode D) → StandsForSome medium world
+      → IfErr r (λ _. KeepsDisk medium (servers.disk_of world.server) (servers.disk_of new))
+      → OnOk r ((names : List (List ℕ)) (n : ℕ)
+      → StepsTo (HavingAnswered medium names n) (HavingAnswered medium names n) call world.server new x y a)
+      → HasDisk new
+  server_after call x y a (Ok done) world new some keeps one =
+      let names = names_in some.machine in
+      let s = (one names some.machine.requests).step some.machine.server some.stands.server in
+      has_disk medium names new.post s.1 s.4.post
+  server_after call x y a (Err fault) world new some keeps one = ap is_some keeps.new_has
 
   -- ---- all of them
 

@@ -13,7 +13,6 @@ pub mod HoldingLaws
 pub mod DecidingLaws
 pub mod EventsLaws
 pub mod AllowedLaws
-pub mod HaveLaws
 pub mod ShowingLaws
 pub mod SparesLaws
 pub mod BeginningLaws

@@ -1,5 +1,5 @@
 use Rattle.iot_world.proofs.DecidingLaws.{decides_client}
-use Rattle.iot_world.proofs.HaveLaws.{armed_keeps}
+use Rattle.iot_world.proofs.HoldingLaws.{armed_keeps}
 use Rattle.iot_world.proofs.nodes.befall.Goals as goal
 
 pub returns-in-Stop-clause-disk : goal.returns-in-Stop-clause-disk
