@@ -1,14 +1,16 @@
-use Rattle.std.proofs.Common.{refl, arith}
+use Rattle.std.proofs.Common.{arith}
 use Rattle.iot_machine.specs.Clients.{Resolved, reach, resolution_of}
 use Rattle.iot_exchange.specs.Pairs.{two}
 use Rattle.iot_exchange.specs.Scripts.{scripts_of}
 use Rattle.iot_node.specs.declared.halt.Halt.TheVariants.{NoMemory}
-use Rattle.iot_exchange.proofs.DoesLaws.{notes, hands_on, then_says, stands, keeps_more, no_memory, any_ready}
-use Rattle.iot_exchange.proofs.FirstLaws.{some_whole, in_conflict, whole_came, declared_for, resolves_away, resolves_told, synced_err}
+use Rattle.iot_exchange.proofs.DoesLaws.{notes, hands_on, then_tells, stands, keeps_more, no_memory, any_ready}
+use Rattle.iot_exchange.proofs.FirstLaws.{asks_all, in_conflict, whole_came, declared_for, resolves_away, resolves_told, synced_err}
 use Rattle.iot_exchange.proofs.queues.resolve.Goals as goal
 
 pub exchange-requires-clause-request : goal.exchange-requires-clause-request
-exchange-requires-clause-request g c = some_whole (two c.args.laptop.now c.args.server.now) c.args.request c.requires.head c.requires.asks
+exchange-requires-clause-request g c =
+    let asks = asks_all (two c.args.laptop.now c.args.server.now) c.args.request c.requires.head c.requires.asks in
+    record { request = _; is = asks.asked }
 
 pub plan-plan-requires : goal.plan-plan-requires
 plan-plan-requires g c =
@@ -57,10 +59,10 @@ returns-in-Some g c =
     let asked = rw c.in-Some.is at (c.in_ok-reply.ensures.asked (scripts_of c.args.scripts.now)) in
     resolves_told (two c.args.laptop.now c.args.server.now) c.args.request c.requires.head c.requires.asks c.plan-plan.result
     (rw same at c.plan-plan.ensures) c.in_ok-code-in-Some.ensures.code (keeps_more asked.disks c.resolve.ensures.disk) asked
-    (λ p u spells plans coded. then_says c.in_ok-resolve-in-Some.was
+    (λ p u spells plans coded. then_tells c.in_ok-resolve-in-Some.was
     (notes (reach (Resolved (resolution_of p u))) asked.disks c.resolve.ensures.place
     (does u spells _ p (rw same plans) coded) c.resolve.ensures.disk)
-    c.in_ok-say_resolve-in-Some.ensures refl)
+    (λ names at pair here. c.in_ok-say_resolve-in-Some.ensures))
 
 pub returns : goal.returns
 returns g c = resolves_away (two c.args.laptop.now c.args.server.now) c.args.request c.requires.head c.requires.asks
