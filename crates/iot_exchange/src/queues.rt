@@ -145,7 +145,7 @@ fn script_named(scripts: &[DeclaredScript], name: &Name) -> Result<Rc<Script>, N
     ensures code { IfOk result (λ script. IsCodeOf name.now (scripts_of scripts.now) script.value) }
     ensures script { IfOk result (λ script. IsScript script.value) }
 {
-    match scripts.iter().find(|declared| declared.name == *name) {
+    match scripts.iter().find(|declared| *name == declared.name) {
         Some(declared) => declared.script.shared(),
         None => unreachable!(),
     }
