@@ -6,7 +6,8 @@ use Rattle.iot_exchange.specs.Saying.{place_said}
 use Rattle.iot_machine.specs.Calls.{Goes, Repeats}
 use Rattle.iot_machine.specs.Events.{Closes, step_text}
 use Rattle.iot_machine.specs.Transactions.{Steps, if_runs}
-use Rattle.iot_exchange.proofs.DoesLaws.{asks_then, refuses, from, hands_on, then_tells, no_memory, ready_after, stands, keeps_same, any_ready}
+use Rattle.iot_exchange.proofs.DoesLaws.{asks_then, refuses, from, hands_on, then_tells, no_memory, ready_after}
+use Rattle.iot_exchange.proofs.DoesLaws.{stands, keeps_same, any_ready}
 use Rattle.iot_exchange.proofs.TransactionsLaws.{none_runs, for_running, stepped_said, none_said}
 use Rattle.iot_exchange.proofs.transactions.step_aloud.Goals as goal
 
