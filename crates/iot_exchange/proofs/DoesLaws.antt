@@ -210,11 +210,6 @@ module _ {D : Type 0} {medium : Medium D} {scripts : List Declared} where
       → Does medium scripts (Goes one (λ _. Tells text (Some b))) u v x z (Ok b)
   then_tells was it wrote = goes_then was it (tells it.disks wrote)
 
-  pub then_says : {A B : Type 0} {one : Try Pair A} {text : List ℕ} {u v : Both D} {x y z : List ℕ} {a : A} {answer b : B}
-      {inner : Result A Halt} → inner ≡ Ok a → Does medium scripts one u v x y inner → z ≡ y ++ text → b ≡ answer
-      → Does medium scripts (Goes one (λ _. Tells (λ _. text) (Some answer))) u v x z (Ok b)
-  then_says was it wrote same = rw same (then_tells was it (λ names c pair here. wrote))
-
   -- this text follows if nothing was said
   pub or_says : {A : Type 0} {call : Try Pair A} {other : List ℕ} {u v : Both D} {x z w : List ℕ} {result : Result A Halt}
       → ((text : List ℕ) → z ≡ x ++ text → w ≡ x ++ or_text other text) → Does medium scripts call u v x z result
@@ -236,11 +231,6 @@ module _ {D : Type 0} {medium : Medium D} {scripts : List Declared} where
       let done = rw was at it in
       let t = (done.step ready.names ready.c).is.step ready.pair ready.stands in
       record { names = ready.names; c = ready.c; pair = t.1; stands = t.4 }
-
--- among any scripts
-pub ready_after_any : {D A : Type 0} {call : Try Pair A} {medium : Medium D} {u v : Both D} {x y : List ℕ} {a : A} {inner : Result A Halt}
-    → inner ≡ Ok a → ((scripts : List Declared) → Does medium scripts call u v x y inner) → IsReady medium u → IsReady medium v
-ready_after_any was it ready = record { scripts = ready.scripts; is = ready_after was (it ready.scripts) ready.is }
 
 -- ---- what the client does alone
 

@@ -1,12 +1,11 @@
 -- An exchange of a client with the server; what a client asks for, and holds if it comes; and what it knows of its transactions.
-use Rattle.std.proofs.Common.{◌≡◌, ℕ, ◌+◌, List, ◌++◌, Option, Some, None, Result, Ok, Err, Bool, true, false, Vec, refl, sym, ap, subst}
+use Rattle.std.proofs.Common.{◌≡◌, ℕ, ◌+◌, List, ◌++◌, Option, Some, None, Result, Ok, Err, Bool, false, Vec, refl, sym, ap, subst}
 use Rattle.std.proofs.Common.{◌∙◌, [], ◌∷◌, is_some, inl, inr}
 use Rattle.std.specs.Prelude.{IfErr}
 use Rattle.std.specs.declared.alloc.Global.{Global}
 use Rattle.iot_tree.specs.Tree.{Nodes}
 use Rattle.iot_tree.specs.declared.want.Want.{Want}
-use Rattle.iot_link.specs.Links.{passage, passage_by}
-use Rattle.iot_link.specs.declared.passages.Loss.{Loss}
+use Rattle.iot_link.specs.Links.{passage}
 use Rattle.iot_link.specs.declared.passages.Passage.{Passage}
 use Rattle.iot_link.specs.declared.passages.Passage.TheVariants.{Away, RequestLost, ReplyLost, Both as Reaches}
 use Rattle.iot_queue.specs.declared.items.Item.{Item}
@@ -75,14 +74,10 @@ module _ {D : Type 0} (medium : Medium D) (message : Message) (old new : ServerN
 
 -- ---- how far a message gets
 
-away_by : (up : Bool) (armed : Option Loss) (server_up : Bool) → up ≡ false → passage_by up armed server_up ≡ Away
-away_by false armed server_up down = refl
-away_by true armed server_up down = absurd cc
-
 -- nothing is sent over a link that is not up
 pub away_if_down : {D : Type 0} (laptop : Laptop D) (server_up : Bool) {p : Passage} → p ≡ passage laptop.link server_up
     → laptop.link.up ≡ false → p ≡ Away
-away_if_down laptop server_up is down = is ∙ away_by laptop.link.up laptop.link.armed server_up down
+away_if_down laptop server_up is down = rw down at is
 
 same_name : (p : Passage) (m : Client) → (after_passage p m).name ≡ m.name
 same_name Away m = refl

@@ -57,7 +57,7 @@ use Rattle.iot_server_node.specs.Messages as at_server
 use Rattle.iot_laptop.specs.Calls.{head_name, decision, decision_on, undecided_word, HandsIn, acts_in, label_in, head_reads, head_option}
 use Rattle.iot_laptop.specs.Calls.{AsksAll, IsHeadPlan, head_plan, Plans}
 use Rattle.iot_laptop.specs.Kept.{ResolutionStands, StageStands, ItemStands, ItemsStand}
-use Rattle.iot_laptop.specs.Laptops.{state_in, waits_of, LaptopStands}
+use Rattle.iot_laptop.specs.Laptops.{state_in, LaptopStands}
 use Rattle.iot_laptop.specs.Messages.{name_of, SpellsVerdict, IsVerdict, told_change, SpellsTree, BringsTree}
 use Rattle.iot_laptop.specs.Scripts.{ItemIsNamed, option_named, script_named, HasNamed}
 use Rattle.iot_laptop.specs.declared.laptop.Laptop.{Laptop}
@@ -146,9 +146,6 @@ pub is_undecided : {D : Type 0} {laptop : Laptop D} {t : Transaction} {u : Undec
 is_undecided {laptop = laptop} {u = u} first is by_hand =
     let e = sym is ∙ ap (decision laptop) first.items ∙ ap (decision_on laptop first.item) by_hand in
     absurd cc
-
-pub first_waits : {D : Type 0} {laptop : Laptop D} {t : Transaction} → First laptop t → waits_of (state_in laptop).items ≡ true
-first_waits first = ap waits_of first.items
 
 -- an option that resolves has a plan
 some_plan : (held : Nodes) (mi : clients.Item) (option : OnConflict Declared) → CanResolve option
@@ -447,15 +444,11 @@ synced_err fault (Err halt) is = is
 module _ {D : Type 0} (old : Both D) {t : Transaction} (it : Submitted)
     (head_is_it : head_name old.laptop (state_in old.laptop).items ≡ Some t)
     (hands : HeadIs (λ item. HandsIn old.laptop item it) (state_in old.laptop).items) where
-  first : First old.laptop t
+  pub first : First old.laptop t
   first = first_of head_is_it
 
-  hands_in : HandsIn old.laptop first.item it
+  pub hands_in : HandsIn old.laptop first.item it
   hands_in = head_is (λ item. HandsIn old.laptop item it) first hands
-
-  -- the request is one
-  pub some_commit : at_server.IsSomeRequest it.request.items
-  some_commit = record { request = _; is = hands_in.asked }
 
   pub submitted_head : HeadIs IsSubmitted (state_in old.laptop).items
   submitted_head = subst (HeadIs IsSubmitted) (sym first.items) hands_in.submitted
@@ -571,15 +564,11 @@ asking request = record { request = request; handed = None }
 module _ {D : Type 0} (old : Both D) {t : Transaction} (request : Vec ℕ Global)
     (head_is_it : head_name old.laptop (state_in old.laptop).items ≡ Some t)
     (asks : HeadIs (λ item. AsksAll old.laptop item request.items) (state_in old.laptop).items) where
-  head_first : First old.laptop t
+  pub head_first : First old.laptop t
   head_first = first_of head_is_it
 
-  asks_all : AsksAll old.laptop head_first.item request.items
+  pub asks_all : AsksAll old.laptop head_first.item request.items
   asks_all = head_is (λ item. AsksAll old.laptop item request.items) head_first asks
-
-  -- the request is one for the whole tree
-  pub some_whole : at_server.IsSomeRequest request.items
-  some_whole = record { request = _; is = asks_all.asked }
 
   asks_below : IsRefresh old.laptop.place new_client.held (wanted.Below []) request.items
   asks_below = rw nothing_known asks_all.asked

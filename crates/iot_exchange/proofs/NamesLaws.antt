@@ -3,8 +3,6 @@ use Rattle.std.proofs.Common.{◌≡◌, ◌<◌, ℕ, Bool, true, false, cond, 
 use Rattle.std.proofs.Common.{map, option_map, slice_index_or, IsSome, bytes_eq, refl, sym, ap, subst, ◌∙◌}
 use Rattle.std.proofs.lemmas.List.{length-map, get_or-map}
 use Rattle.std.proofs.lemmas.Option.{slice_get-get_or}
-use Rattle.std.proofs.lemmas.Bool.Decides.{same_from_decides}
-use Rattle.std.proofs.lemmas.Slice.Eq.{bytes_eq-Decides}
 use Rattle.std.specs.List.{find}
 use Rattle.iot_event.specs.Declarations.{ResolverIsDeclared}
 use Rattle.iot_event.specs.declared.event.Choice.{Choice}
@@ -18,20 +16,13 @@ use Rattle.iot_exchange.specs.Queues.{IsCodeOf}
 use Rattle.iot_exchange.specs.Scripts.{script_of, scripts_of, AreApart, IsMeant}
 use Rattle.iot_exchange.specs.declared.declared.DeclaredScript.{DeclaredScript}
 
-turned : (a b : List ℕ) → bytes_eq a b ≡ bytes_eq b a
-turned a b =
-    let other = bytes_eq-Decides b a in
-    same_from_decides _ _ (bytes_eq-Decides a b) ((λ is. sym (other.0 is)), (λ is. other.1 (sym is)))
-
 -- looking a name up among scripts
 abbrev pub found_among : List DeclaredScript → List ℕ → Option DeclaredScript
-found_among ws name = find (λ w. bytes_eq w.name name) ws
+found_among ws name = find (λ w. bytes_eq name w.name) ws
 
 looked_up : (ws : List DeclaredScript) (name : List ℕ) → script_named name (map script_of ws) ≡ option_map script_of (found_among ws name)
 looked_up [] name = refl
-looked_up (w ∷ ws) name =
-    ap (λ (b : Bool). cond b (Some (script_of w)) (script_named name (map script_of ws))) (turned name w.name)
-    ∙ by (bytes_eq w.name name) (looked_up ws name)
+looked_up (w ∷ ws) name = by (bytes_eq name w.name) (looked_up ws name)
   where
     by : (b : Bool) → script_named name (map script_of ws) ≡ option_map script_of (found_among ws name)
         → cond b (Some (script_of w)) (script_named name (map script_of ws))

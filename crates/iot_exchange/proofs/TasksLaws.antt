@@ -34,7 +34,8 @@ items_long items t ms stand = absurd stand
 
 -- ---- a text if nothing was said
 
-pub if_silent : (other x z w : List ℕ) → length z ≡ length x → w ≡ z ++ other → (text : List ℕ) → z ≡ x ++ text → w ≡ x ++ or_text other text
+pub if_silent : (other x z w : List ℕ) → length z ≡ length x → w ≡ z ++ other → (text : List ℕ) → z ≡ x ++ text
+    → w ≡ x ++ or_text other text
 if_silent other x z w same wrote [] is = wrote ∙ ap (λ (l : List ℕ). l ++ other) (is ∙ append-nil x)
 if_silent other x z w same wrote (byte ∷ bytes) is =
     let long = ap length is in absurd (omega (arith, same, long, length-append x (byte ∷ bytes)))

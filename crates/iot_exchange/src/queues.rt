@@ -127,7 +127,11 @@ fn resolve<D: Disk>(
     match exchange(laptop, server, alloc, &message, out)? {
         Some(reply) => {
             let plan = laptop.plan();
-            let code = script_named(scripts, &plan.script)?;
+            // What is planned is a script that was declared.
+            let Some(declared) = scripts.iter().find(|declared| plan.script == declared.name) else {
+                unreachable!()
+            };
+            let code = declared.script.shared()?;
             laptop.resolve(alloc, &reply, code, out)?;
             say_resolve(transaction, &plan, out)?;
             Ok(Synced::Moved)
@@ -136,18 +140,6 @@ fn resolve<D: Disk>(
             say(b"away", out)?;
             Ok(Synced::Unanswered)
         }
-    }
-}
-
-/// The script of this name, which is declared.
-fn script_named(scripts: &[DeclaredScript], name: &Name) -> Result<Rc<Script>, NoMemory>
-    requires declared { IsSome (script_named name.now (scripts_of scripts.now)) }
-    ensures code { IfOk result (λ script. IsCodeOf name.now (scripts_of scripts.now) script.value) }
-    ensures script { IfOk result (λ script. IsScript script.value) }
-{
-    match scripts.iter().find(|declared| declared.name == *name) {
-        Some(declared) => declared.script.shared(),
-        None => unreachable!(),
     }
 }
 

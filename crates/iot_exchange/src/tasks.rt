@@ -77,28 +77,15 @@ fn carry_out<D: Disk>(
     match task {
         Task::Run { script, option } => {
             let script = &scripts[*script as usize];
-            run(
-                laptop,
-                server,
-                alloc,
-                scripts,
-                script,
-                by_name(scripts, *option),
-                out,
-            )
+            let chosen = by_name(scripts, *option);
+            run(laptop, server, alloc, scripts, script, chosen, out)
         }
         Task::Hoard { path } => hoard(laptop, server, alloc, path, out),
         Task::Refresh => refresh(laptop, server, alloc, out),
         Task::Begin { script, option } => {
             let script = &scripts[*script as usize];
-            begin_aloud(
-                laptop,
-                server,
-                alloc,
-                script,
-                by_name(scripts, *option),
-                out,
-            )
+            let chosen = by_name(scripts, *option);
+            begin_aloud(laptop, server, alloc, script, chosen, out)
         }
         Task::Step { count } => step_aloud(laptop, server, alloc, *count, out),
         Task::End => end(laptop, server, alloc, scripts, out),

@@ -109,7 +109,13 @@ pub(crate) fn say_told(
             out.push(b'\n')
         }
         Verdict::Conflict { read, question } => {
-            say_conflict(transaction, *read, question, out)?;
+            out.append(b"conflict ")?;
+            transaction.write_to(out)?;
+            out.append(b" read ")?;
+            out.append_number(*read)?;
+            out.push(b' ')?;
+            say_question(question, out)?;
+            out.push(b'\n')?;
             match told.option {
                 OnConflict::Reexec | OnConflict::Resolver(_) => Ok(()),
                 OnConflict::Abort => say_of(b"abort ", transaction, out),
@@ -117,25 +123,6 @@ pub(crate) fn say_told(
             }
         }
     }
-}
-
-/// `conflict TID read I QUESTION`
-fn say_conflict(
-    transaction: &Transaction,
-    read: u64,
-    question: &Question,
-    out: &mut Text,
-) -> Result<(), NoMemory>
-    ensures { OnOk result (out.new ≡ out.old
-        ++ conflict_line (name_of transaction.now) read question.now) }
-{
-    out.append(b"conflict ")?;
-    transaction.write_to(out)?;
-    out.append(b" read ")?;
-    out.append_number(read)?;
-    out.push(b' ')?;
-    say_question(question, out)?;
-    out.push(b'\n')
 }
 
 fn say_question(question: &Question, out: &mut Text) -> Result<(), NoMemory>

@@ -5,13 +5,14 @@ use Rattle.iot_laptop.specs.Messages.{name_of, told_change}
 use Rattle.iot_exchange.specs.Pairs.{two}
 use Rattle.iot_exchange.specs.Saying.{told_text, told_synced}
 use Rattle.iot_node.specs.declared.halt.Halt.TheVariants.{NoMemory}
-use Rattle.iot_exchange.proofs.DoesLaws.{notes, hands_on, then_says, stands, keeps_more, no_memory}
-use Rattle.iot_exchange.proofs.FirstLaws.{some_commit, submitted_head, verdict_came, submits_away, submits_told, synced_err}
+use Rattle.iot_exchange.proofs.DoesLaws.{notes, hands_on, then_tells, stands, keeps_more, no_memory}
+use Rattle.iot_exchange.proofs.FirstLaws.{hands_in, submitted_head, verdict_came, submits_away, submits_told, synced_err}
 use Rattle.iot_exchange.proofs.queues.submit.Goals as goal
 
 pub exchange-requires-clause-request : goal.exchange-requires-clause-request
 exchange-requires-clause-request g c =
-    some_commit (two c.args.laptop.now c.args.server.now) c.args.submitted c.requires.head c.requires.hands
+    let hands = hands_in (two c.args.laptop.now c.args.server.now) c.args.submitted c.requires.head c.requires.hands in
+    record { request = _; is = hands.asked }
 
 pub settle-requires : goal.settle-requires
 settle-requires g c =
@@ -45,11 +46,11 @@ returns-in-Some g c scripts =
     (keeps_more asked.disks c.settle.ensures.disk) asked (λ verdict option spells has.
     let which = is_told.verdict verdict spells in
     let chosen = same_Some _ _ (sym is_told.option ∙ has) in
-    then_says (ap done c.in_ok-told-in-Some.was)
+    rw (c.by.ensures ∙ (λ i. told_synced (which i) (chosen i))) (then_tells (ap done c.in_ok-told-in-Some.was)
     (notes (told_change verdict option) asked.disks c.settle.ensures.place
     (settles verdict option spells has scripts) c.settle.ensures.disk)
-    (c.in_ok-say_told-in-Some.ensures ∙ (λ i. c.settle.new.out ++ told_text (name_of c.args.transaction.now) (which i) (chosen i)))
-    (c.by.ensures ∙ (λ i. told_synced (which i) (chosen i))))
+    (λ names at pair here. c.in_ok-say_told-in-Some.ensures
+    ∙ (λ i. c.settle.new.out ++ told_text (name_of c.args.transaction.now) (which i) (chosen i)))))
 
 pub returns : goal.returns
 returns g c scripts = submits_away (two c.args.laptop.now c.args.server.now) c.args.submitted c.requires.head c.requires.hands

@@ -1,9 +1,10 @@
-use Rattle.std.proofs.Common.{sym, ◌∙◌}
+use Rattle.std.proofs.Common.{ap, sym, ◌∙◌}
 use Rattle.iot_kept.specs.Changes.{IsByHand}
 use Rattle.iot_laptop.specs.Calls.{IsNeed}
+use Rattle.iot_laptop.specs.Laptops.{waits_of}
 use Rattle.iot_laptop.specs.declared.needs.Need.TheVariants.{Decision}
 use Rattle.iot_exchange.proofs.DoesLaws.{any_ready, stands, low, keeps_same}
-use Rattle.iot_exchange.proofs.FirstLaws.{first_of, first_waits, none_waits, head_is, syncs_none, syncs_by_hand}
+use Rattle.iot_exchange.proofs.FirstLaws.{first_of, none_waits, head_is, syncs_none, syncs_by_hand}
 use Rattle.iot_exchange.proofs.FirstLaws.{decided, is_undecided, syncs_away}
 use Rattle.iot_exchange.proofs.queues.sync.Goals as goal
 
@@ -25,7 +26,7 @@ pub need-requires : goal.need-requires
 need-requires g c = record {
   stands = stands (any_ready c.requires);
   place = low (any_ready c.requires);
-  waits = first_waits (first_of {laptop = c.args.laptop.now} (sym c.head.ensures ∙ c.in-Some.is));
+  waits = ap waits_of (first_of {laptop = c.args.laptop.now} (sym c.head.ensures ∙ c.in-Some.is)).items;
 }
 
 pub submit-requires : goal.submit-requires

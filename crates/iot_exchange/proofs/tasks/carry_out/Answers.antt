@@ -37,14 +37,14 @@ returns-in-Discard g c = rw c.in-Discard.is (c.discard.ensures c.args.server.now
 pub run-requires-clause-meant : goal.run-requires-clause-meant
 run-requires-clause-meant g c =
     let may = rw c.in-Run.is at c.requires.may in
-    meant_there c.args.scripts.now c.in-Run.option may.0 c.index-scripts-script.is may.1 c.requires.apart c.by_name.ensures
+    meant_there c.args.scripts.now c.in-Run.option may.0 c.index-scripts-script.is may.1 c.requires.apart c.by_name-chosen.ensures
 
 pub returns-in-Run : goal.returns-in-Run
 returns-in-Run g c =
     let may = rw c.in-Run.is at c.requires.may in
     rw (c.in-Run.is, ← script_there c.args.scripts.now may.0 c.index-scripts-script.is)
     (c.run.ensures _
-    (meant_there c.args.scripts.now c.in-Run.option may.0 c.index-scripts-script.is may.1 c.requires.apart c.by_name.ensures).means)
+    (meant_there c.args.scripts.now c.in-Run.option may.0 c.index-scripts-script.is may.1 c.requires.apart c.by_name-chosen.ensures).means)
 
 pub begin_aloud-requires : goal.begin_aloud-requires
 begin_aloud-requires g c =
@@ -53,7 +53,7 @@ begin_aloud-requires g c =
       scripts = scripts_of c.args.scripts.now;
       ready = c.requires.ready;
       meant = meant_there c.args.scripts.now c.in-Begin.option may.0 c.index-scripts-script-in-Begin.is may.1 c.requires.apart
-          c.by_name-in-Begin.ensures;
+          c.by_name-chosen-in-Begin.ensures;
     }
 
 pub returns-in-Begin : goal.returns-in-Begin
@@ -62,7 +62,7 @@ returns-in-Begin g c =
     rw (c.in-Begin.is, ← script_there c.args.scripts.now may.0 c.index-scripts-script-in-Begin.is)
     (c.begin_aloud.ensures _ _
     (meant_there c.args.scripts.now c.in-Begin.option may.0 c.index-scripts-script-in-Begin.is may.1 c.requires.apart
-    c.by_name-in-Begin.ensures).means)
+    c.by_name-chosen-in-Begin.ensures).means)
 
 pub repair-requires : goal.repair-requires
 repair-requires g c = stands (any_ready c.requires.ready)

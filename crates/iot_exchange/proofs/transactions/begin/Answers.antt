@@ -1,7 +1,7 @@
 use Rattle.std.proofs.Common.{false, sym, ◌∙◌}
 use Rattle.iot_laptop.specs.Laptops.{state_in}
 use Rattle.iot_exchange.specs.Scripts.{script_of}
-use Rattle.iot_exchange.proofs.DoesLaws.{asks_then, refuses, goes_then, hands_on, starts, ready_after_any, stands, keeps_same}
+use Rattle.iot_exchange.proofs.DoesLaws.{asks_then, refuses, goes_then, hands_on, starts, ready_after, any_ready, stands, keeps_same}
 use Rattle.iot_exchange.proofs.ExchangeLaws.{runs_here, pends_here, no_some, is_free}
 use Rattle.iot_exchange.proofs.transactions.begin.Goals as goal
 
@@ -29,7 +29,7 @@ returns-in_err-first g c scripts on_conflict means =
     (hands_on c.in_err-first.was c.from_residual-in_err-first.ensures.1 (c.bring.ensures.does scripts)))
 
 pub start-requires-2-clause-stands : goal.start-requires-2-clause-stands
-start-requires-2-clause-stands g c = stands (ready_after_any c.in_ok-first.was c.bring.ensures.does c.requires)
+start-requires-2-clause-stands g c = stands (any_ready (ready_after c.in_ok-first.was (c.bring.ensures.does _) c.requires.is))
 
 pub returns : goal.returns
 returns g c scripts on_conflict means =

@@ -6,7 +6,8 @@ use Rattle.iot_exchange.specs.Saying.{place_said}
 use Rattle.iot_machine.specs.Calls.{Goes, Repeats}
 use Rattle.iot_machine.specs.Events.{Closes, step_text}
 use Rattle.iot_machine.specs.Transactions.{Steps, if_runs}
-use Rattle.iot_exchange.proofs.DoesLaws.{asks_then, refuses, from, hands_on, then_tells, no_memory, ready_after_any, stands, keeps_same}
+use Rattle.iot_exchange.proofs.DoesLaws.{asks_then, refuses, from, hands_on, then_tells, no_memory, ready_after}
+use Rattle.iot_exchange.proofs.DoesLaws.{stands, keeps_same, any_ready}
 use Rattle.iot_exchange.proofs.TransactionsLaws.{none_runs, for_running, stepped_said, none_said}
 use Rattle.iot_exchange.proofs.transactions.step_aloud.Goals as goal
 
@@ -22,10 +23,10 @@ returns-in_err-steps g c scripts =
     from (hands_on c.in_err-steps.was c.from_residual-in_err-steps.ensures.1 (c.steps.ensures scripts)) here)
 
 pub running-requires : goal.running-requires
-running-requires g c = stands (ready_after_any c.in_ok-steps.was c.steps.ensures c.requires)
+running-requires g c = stands (any_ready (ready_after c.in_ok-steps.was (c.steps.ensures _) c.requires.is))
 
 pub at_end-requires : goal.at_end-requires
-at_end-requires g c = stands (ready_after_any c.in_ok-steps.was c.steps.ensures c.requires)
+at_end-requires g c = stands (any_ready (ready_after c.in_ok-steps.was (c.steps.ensures _) c.requires.is))
 
 pub returns-in_err-say_step-in-Some : goal.returns-in_err-say_step-in-Some
 returns-in_err-say_step-in-Some g c scripts = no_memory c.from_residual-in_err-say_step-in-Some.ensures.1 (c.steps.ensures scripts).disks

@@ -1,4 +1,4 @@
-use Rattle.iot_exchange.proofs.DoesLaws.{none_yet, one_more, last_round, halted_round, all_rounds, ready_after_any, keeps_same}
+use Rattle.iot_exchange.proofs.DoesLaws.{none_yet, one_more, last_round, halted_round, all_rounds, ready_after, any_ready, keeps_same}
 use Rattle.iot_exchange.proofs.transactions.steps.Goals as goal
 
 pub steps-init : goal.steps-init
@@ -18,7 +18,7 @@ returns-then-not-branch g c scripts =
 pub steps-preserved : goal.steps-preserved
 steps-preserved g c = (
   (λ scripts. one_more (c.steps.invariant.0 scripts) c.steps-test.true (c.step.ensures scripts) c.in_ok-step.was c.if-not-branch.false),
-  ready_after_any c.in_ok-step.was c.step.ensures c.steps.invariant.1,
+  any_ready (ready_after c.in_ok-step.was (c.step.ensures _) c.steps.invariant.1.is),
 )
 
 pub returns : goal.returns
