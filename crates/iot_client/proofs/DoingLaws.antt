@@ -15,7 +15,7 @@ use Rattle.iot_kept.specs.Changes.{CanFollow}
 use Rattle.iot_client.specs.Ties.{Live, live, state_of, place_of}
 use Rattle.iot_client.specs.Calls.{has_ended, missed_by, CanActIfAny, CutsOff, CutsOffNextIfAny, Notes, StepIsIfAny}
 use Rattle.iot_client.specs.Doing.{IsAble, Did, DidIfAny, DecidesIfAny}
-use Rattle.iot_client.specs.Messages.{IsRefresh}
+use Rattle.iot_wire.specs.Meanings.{IsRefresh}
 use Rattle.iot_client.specs.declared.client.Client.{Client}
 use Rattle.iot_client.specs.declared.fault.ClientFault.{ClientFault}
 use Rattle.iot_client.specs.declared.interpreter.Decided.{Decided}

@@ -26,7 +26,7 @@ use Rattle.iot_kept.specs.declared.running.Running.{Running}
 use Rattle.iot_client.specs.Ties.{IsRunIfAny, Live, live, state_of, place_of, count, run_of, IsBegunIfAny, IsOwnRunIfAny}
 use Rattle.iot_client.specs.Calls.{idle, has_ended, may_end, next_acts, missed, missed_by}
 use Rattle.iot_client.specs.Calls.{IsFirstIfAny, CanActIfAny, Notes, StepIsIfAny, EndsIfAny}
-use Rattle.iot_client.specs.Messages.{IsRefresh}
+use Rattle.iot_wire.specs.Meanings.{IsRefresh}
 use Rattle.iot_client.specs.declared.client.Client.{Client}
 use Rattle.iot_client.specs.declared.interpreter.Interpreter.{Interpreter}
 use Rattle.iot_client.specs.declared.steps.Step.TheVariants as steps

@@ -29,7 +29,8 @@ use Rattle.iot_changes.specs.Spelling.{change_spelling}
 use Rattle.iot_changes.specs.declared.changes.Change.{Change}
 use Rattle.iot_changes.specs.declared.changes.Change.TheVariants as changes
 use Rattle.iot_client.specs.Faults.{MayFail}
-use Rattle.iot_client.specs.Messages.{IsRefresh, IsToldBy, objects_in, whole_in, noted_in}
+use Rattle.iot_wire.specs.Meanings.{IsRefresh}
+use Rattle.iot_client.specs.Messages.{IsToldBy, objects_in, whole_in, noted_in}
 use Rattle.iot_client.specs.Ties.{state_of, place_of, records_of, Live, count, run_of}
 use Rattle.iot_client.specs.declared.client.Client.{Client}
 use Rattle.iot_client.specs.declared.fault.ClientFault.{ClientFault}

@@ -2,7 +2,7 @@
 use Rattle.std.specs.Prelude.{◌≡◌, ℕ, ⊤, Bool, if◌then◌else◌, length, List, [], ◌∷◌, Result, Ok, Err}
 use Rattle.std.specs.FinMap.{entries}
 use Rattle.std.specs.List.{list_all}
-use Rattle.iot_tree.specs.Snapshots.{known, is_known}
+use Rattle.iot_tree.specs.Snapshots.{is_known}
 use Rattle.iot_tree.specs.Tree.{Row, Nodes}
 use Rattle.iot_tree.specs.declared.labels.Label.{Label}
 use Rattle.iot_tree.specs.declared.labels.OnConflict.{OnConflict}
@@ -10,7 +10,6 @@ use Rattle.iot_tree.specs.declared.labels.OnConflict.TheVariants as options
 use Rattle.iot_tree.specs.declared.labels.Way.{Way}
 use Rattle.iot_tree.specs.declared.labels.Way.TheVariants.{Certified, Reexecuted}
 use Rattle.iot_tree.specs.declared.labels.Way.TheVariants as ways
-use Rattle.iot_tree.specs.declared.want.Want.{Want}
 use Rattle.iot_tree.specs.declared.want.Want.TheVariants as wants
 use Rattle.iot_wire.specs.Decoding.{reply_at}
 use Rattle.iot_wire.specs.Messages.{IsMessage, whole}
@@ -33,10 +32,6 @@ use Rattle.iot_client.specs.declared.noted.Noted.{Noted}
 use Rattle.iot_client.specs.declared.noted.Noted.TheVariants as notes
 
 -- ---- requests
-
--- the bytes are the spelling of the request for what is known of the held tree, and for what is wanted
-abbrev pub IsRefresh : ℕ → Nodes → Want → List ℕ → Type 0
-IsRefresh client held want bytes = IsMessage IsRequest request_spelling bytes (Refresh client (known held) want)
 
 -- the label of a transaction that is submitted as it ran
 abbrev pub label_in : ℕ → ℕ → List ℕ → ℕ → Label

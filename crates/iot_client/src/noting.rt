@@ -63,7 +63,7 @@ impl<D: Disk> Client<D> {
     }
 
     /// Makes a change of the first transaction that waits.
-    pub(crate) fn settle(&mut self, alloc: Global, change: Change) -> Result<(), ClientFault>
+    pub(crate) fn change_head(&mut self, alloc: Global, change: Change) -> Result<(), ClientFault>
         requires tied { IsTied D.medium self.old }
         requires change { IsChange change }
         requires follows { CanFollow (state_of self.old) change }

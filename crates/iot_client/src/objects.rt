@@ -3,7 +3,8 @@ ghost use Rattle.std.specs.Prelude.{◌≡◌, ◌≤◌, None, IfOk, IfErr, OnO
 ghost use Rattle.iot_kept.specs.Changes.{CanFollow};
 ghost use Rattle.iot_client.specs.Calls.{unready, RefusesFor, RefusesReply, Notes, Brings, CutsOff, CutsOffByTree};
 ghost use Rattle.iot_client.specs.Faults.{CountsFault, MayFail};
-ghost use Rattle.iot_client.specs.Messages.{IsRefresh, objects_in, ReadsObjects};
+ghost use Rattle.iot_wire.specs.Meanings.{IsRefresh};
+ghost use Rattle.iot_client.specs.Messages.{objects_in, ReadsObjects};
 ghost use Rattle.iot_wire.specs.Messages.{IsMessage};
 ghost use Rattle.iot_wire.specs.Rules.{IsReply};
 ghost use Rattle.iot_wire.specs.Spelling.{reply_spelling};

@@ -5,7 +5,8 @@ ghost use Rattle.iot_text.specs.Paths.{IsPath};
 ghost use Rattle.iot_codec.specs.Rules.{IsWant, IsLabel};
 ghost use Rattle.iot_changes.specs.Rules.{IsResolution};
 ghost use Rattle.iot_kept.specs.Spelled.{IsSpelledItem};
-ghost use Rattle.iot_client.specs.Messages.{IsRefresh, IsCommit, label_in, IsWholeRequest};
+ghost use Rattle.iot_wire.specs.Meanings.{IsRefresh};
+ghost use Rattle.iot_client.specs.Messages.{IsCommit, label_in, IsWholeRequest};
 ghost use Rattle.iot_client.specs.Messages.{IsResolvedCommit, resolved_label, way_of, IsAsked};
 
 use crate::asks::Ask;

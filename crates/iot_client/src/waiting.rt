@@ -76,7 +76,7 @@ impl<D: Disk> Client<D> {
             Some(fault) => Err(fault),
             None => {
                 let noted = noted(alloc, reply)?;
-                self.settle(alloc, verdict_change(&noted))?;
+                self.change_head(alloc, verdict_change(&noted))?;
                 Ok(noted)
             }
         }
@@ -137,7 +137,7 @@ impl<D: Disk> Client<D> {
         let _ = script.as_bytes();
         match self.not_manual() {
             Some(fault) => Err(fault),
-            None => self.settle(alloc, Change::Repaired(*script)),
+            None => self.change_head(alloc, Change::Repaired(*script)),
         }
     }
 
@@ -160,7 +160,7 @@ impl<D: Disk> Client<D> {
     {
         match self.not_manual() {
             Some(fault) => Err(fault),
-            None => self.settle(alloc, Change::Left),
+            None => self.change_head(alloc, Change::Left),
         }
     }
 
@@ -185,7 +185,7 @@ impl<D: Disk> Client<D> {
             (state_of self.old) (bodies_on D.medium self.old) (D.medium.may_leave (disk_of self.new)) }
     {
         let done = self.resolution(alloc, script, server)?;
-        self.settle(alloc, Change::Resolved(done))
+        self.change_head(alloc, Change::Resolved(done))
     }
 
     fn resolution(

@@ -21,7 +21,9 @@ use Rattle.iot_machine.specs.Transactions.{Handles, exchange_by, Exchange, unles
 use Rattle.iot_machine.specs.Stops.{Appends}
 use Rattle.iot_node.specs.Steps.{StepsTo}
 use Rattle.iot_node.specs.declared.halt.Halt.{Halt}
-use Rattle.iot_server_node.specs.Messages.{IsRefresh, SpellsCut, SpellsVerdict, said_of}
+use Rattle.iot_wire.specs.Meanings.{IsRefresh}
+use Rattle.iot_judging.specs.Verdicts.{SpellsVerdict}
+use Rattle.iot_server_node.specs.Messages.{SpellsCut, said_of}
 use Rattle.iot_server_node.specs.Servers.{ServerStands, HavingAnswered, ServesBy, IsHanded, IsNamedIn, is_up}
 use Rattle.iot_server_node.specs.declared.message.Message.{Message}
 use Rattle.iot_server_node.specs.declared.server.Served.{Served}

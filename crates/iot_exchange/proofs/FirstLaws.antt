@@ -28,7 +28,8 @@ use Rattle.iot_queue.specs.declared.items.Stage.TheVariants as kept_stages
 use Rattle.iot_resolve.specs.Plans as resolves
 use Rattle.iot_resolve.specs.declared.plan.Plan as plans
 use Rattle.iot_kept.specs.Changes.{HeadIs, IsByHand, IsSubmittedIn, IsSubmitted}
-use Rattle.iot_client.specs.Messages.{way_of, IsRefresh}
+use Rattle.iot_wire.specs.Meanings.{IsRefresh}
+use Rattle.iot_client.specs.Messages.{way_of}
 use Rattle.iot_wire.proofs.MessagesLaws.{call_one}
 use Rattle.iot_wire.proofs.SpellingLaws.{reply_laws}
 use Rattle.iot_wire.specs.Messages.{IsOneMessage}
@@ -58,7 +59,9 @@ use Rattle.iot_laptop.specs.Calls.{head_name, decision, decision_on, undecided_w
 use Rattle.iot_laptop.specs.Calls.{AsksAll, IsHeadPlan, head_plan, Plans}
 use Rattle.iot_laptop.specs.Kept.{ResolutionStands, StageStands, ItemStands, ItemsStand}
 use Rattle.iot_laptop.specs.Laptops.{state_in, LaptopStands}
-use Rattle.iot_laptop.specs.Messages.{name_of, SpellsVerdict, IsVerdict, told_change, SpellsTree, BringsTree}
+use Rattle.iot_node.specs.Lines.{name_of}
+use Rattle.iot_judging.specs.Verdicts.{SpellsVerdict}
+use Rattle.iot_laptop.specs.Messages.{IsVerdict, told_change, SpellsTree, BringsTree}
 use Rattle.iot_laptop.specs.Scripts.{ItemIsNamed, option_named, script_named, HasNamed}
 use Rattle.iot_laptop.specs.declared.laptop.Laptop.{Laptop}
 use Rattle.iot_laptop.specs.declared.needs.Undecided.{Undecided}
@@ -307,13 +310,6 @@ module _ {D : Type 0} {medium : Medium D} {scripts : List Declared} {old : Both 
       at_first here first {next = if_manual call}
       (rw manual (each names c mi (λ after there. name_there here first there) pair here)))
 
--- what a reply says is in the same words at both ends
-verdict_said : (reads : List Read) (bytes : List ℕ) (told : Verdict) → at_server.SpellsVerdict reads bytes told
-    → SpellsVerdict reads bytes told
-verdict_said reads bytes (Settled number) is = is
-verdict_said reads bytes (Conflict place question) is =
-    (is.0, record { answer = is.1.answer; spelled = is.1.spelled; first = is.1.first; at = is.1.at }, is.2)
-
 -- no files are listed if none are kept
 no_files : entries (empty {K = List (List ℕ)} {X = List ℕ} {R = path_cmp}) ≡ []
 no_files = none _ (sym (len-entries empty) ∙ len-empty path_cmp (List ℕ))
@@ -420,10 +416,10 @@ module _ {D : Type 0} {medium : Medium D} {scripts : List Declared} {names : Lis
     )
 
     -- what the reply says of it
-    says_it : (bytes : List ℕ) (told : Verdict) → at_server.SpellsVerdict (submission_of mi pair).reads bytes told
+    says_it : (bytes : List ℕ) (told : Verdict) → SpellsVerdict (submission_of mi pair).reads bytes told
         → SpellsVerdict (head_reads (state_in old.laptop).items) bytes told
     says_it bytes told is = subst (λ (r : List Read). SpellsVerdict r bytes told)
-        (submission.reads ∙ sym (ap head_reads first.items)) (verdict_said _ bytes told is)
+        (submission.reads ∙ sym (ap head_reads first.items)) is
 
 -- ---- what becomes of it
 

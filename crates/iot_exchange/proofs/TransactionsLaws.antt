@@ -41,7 +41,7 @@ use Rattle.iot_laptop.specs.Laptops.{LaptopStands, RunningStands, RunningStandsI
 use Rattle.iot_laptop.specs.declared.laptop.Laptop.{Laptop}
 use Rattle.iot_laptop.specs.Calls.{done, NextIs, IsNext, IsOver, IsUnended, IsDoneIn, IsGone}
 use Rattle.iot_laptop.specs.Calls as laptop
-use Rattle.iot_laptop.specs.Messages.{name_of}
+use Rattle.iot_node.specs.Lines.{name_of}
 use Rattle.iot_laptop.specs.declared.needs.Gone.{Gone}
 use Rattle.iot_laptop.proofs.LaptopsLaws.{runs_is}
 use Rattle.iot_laptop.proofs.LaptopsLaws as laptops
@@ -237,7 +237,7 @@ module _ {D : Type 0} {medium : Medium D} {scripts : List Declared} {u : Both D}
 pub step_halted : {D : Type 0} {medium : Medium D} {scripts : List Declared} {u : Both D} {new : Laptop D} {x y : List ℕ} (loud : Bool)
     {result : Result Step Halt} {outer : Result Bool Halt} {fault : Halt} → result ≡ Err fault
     → is_some (state_in u.laptop).running ≡ true → NextIs medium u.laptop result → IsErrAnd outer (λ other. other ≡ fault)
-    → KeepsDisks medium u u → SamePlace u.laptop new → laptop.Steps medium u.laptop new x y result
+    → KeepsDisks medium u u → SamePlace u.laptop new → laptop.TakesStep medium u.laptop new x y result
     → KeepsDisk medium (disk_in u.laptop) (disk_in new) → Does medium scripts (Steps loud) u (two new u.server) x y outer
 step_halted loud {fault = NoMemory} was runs nexts is keeps place did more = no_memory is (keeps_more keeps more)
 step_halted {scripts = scripts} loud {fault = Over} was runs nexts is keeps place did more =

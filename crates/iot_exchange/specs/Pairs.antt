@@ -5,7 +5,7 @@ use Rattle.iot_disk.specs.Disk.{Medium}
 use Rattle.iot_tree.specs.Tree.{Nodes}
 use Rattle.iot_tree.specs.declared.labels.OnConflict.{OnConflict}
 use Rattle.iot_tree.specs.declared.want.Want.{Want}
-use Rattle.iot_client.specs.Messages.{IsRefresh}
+use Rattle.iot_wire.specs.Meanings.{IsRefresh}
 use Rattle.iot_machine.specs.Calls.{Call, Try}
 use Rattle.iot_machine.specs.Clients.{Declared}
 use Rattle.iot_machine.specs.Machine.{Client, Commit, Pair}
@@ -15,7 +15,8 @@ use Rattle.iot_machine.specs.Transactions.{Exchange}
 use Rattle.iot_node.specs.Disks.{KeepsDisk}
 use Rattle.iot_node.specs.Steps.{StepsTo, Ends}
 use Rattle.iot_node.specs.declared.halt.Halt.{Halt}
-use Rattle.iot_server_node.specs.Messages.{SpellsCut, SpellsVerdict}
+use Rattle.iot_judging.specs.Verdicts.{SpellsVerdict}
+use Rattle.iot_server_node.specs.Messages.{SpellsCut}
 use Rattle.iot_server_node.specs.Records.{KeepsRecords}
 use Rattle.iot_server_node.specs.Servers.{ServerStands, IsHanded, IsNamedIn, disk_of}
 use Rattle.iot_server_node.specs.declared.message.Message.{Message}

@@ -1,6 +1,6 @@
 //! What a client asks of the server: objects, over its link.
 ghost use Rattle.std.specs.Prelude.{List, IfOk};
-ghost use Rattle.iot_client.specs.Messages.{IsRefresh};
+ghost use Rattle.iot_wire.specs.Meanings.{IsRefresh};
 ghost use Rattle.iot_laptop.specs.Laptops.{IsFirst, state_in};
 ghost use Rattle.iot_machine.specs.Clients.{Declared, hold, fetch};
 ghost use Rattle.iot_machine.specs.Events.{Hoards, Refreshes};

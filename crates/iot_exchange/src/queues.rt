@@ -93,7 +93,7 @@ fn submit<D: Disk>(
     };
     match exchange(laptop, server, alloc, &message, out)? {
         Some(reply) => {
-            let told = laptop.settle(alloc, &reply, out)?;
+            let told = laptop.take_verdict(alloc, &reply, out)?;
             say_told(transaction, &told, out)?;
             Ok(Synced::by(&told))
         }

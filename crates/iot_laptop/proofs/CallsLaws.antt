@@ -18,7 +18,8 @@ use Rattle.iot_kept.specs.Standing.{Leads, IsRecord}
 use Rattle.iot_kept.proofs.StandingLaws.{leads_push}
 use Rattle.iot_client.specs.Calls.{Notes, CutsOff, Brings, CutsOffByTree}
 use Rattle.iot_client.specs.Faults.{CountsFault}
-use Rattle.iot_client.specs.Messages.{ReadsObjects, ReadsNoted, noted_in, IsRefresh}
+use Rattle.iot_wire.specs.Meanings.{IsRefresh}
+use Rattle.iot_client.specs.Messages.{ReadsObjects, ReadsNoted, noted_in}
 use Rattle.iot_client.specs.Ties.{Live, IsTied, state_of, live_of, disk_of, bodies_on, IsOwnRunIfAny, place_of}
 use Rattle.iot_client.specs.declared.client.Client.{Client}
 use Rattle.iot_client.specs.declared.fault.ClientFault.{ClientFault}
@@ -47,7 +48,9 @@ use Rattle.iot_machine.specs.Events.{no_text}
 use Rattle.iot_laptop.specs.Calls.{appended, done, EndsAlone, GoesOn, Changes, Begins, Repairs}
 use Rattle.iot_laptop.specs.Kept.{StateKept}
 use Rattle.iot_laptop.specs.Laptops.{LaptopStands, ClientStands, StateStands, state_by, live_by, records_in, records_by, disk_by}
-use Rattle.iot_laptop.specs.Messages.{SpellsTree, name_of, SpellsVerdict, told_change}
+use Rattle.iot_node.specs.Lines.{name_of}
+use Rattle.iot_judging.specs.Verdicts.{SpellsVerdict}
+use Rattle.iot_laptop.specs.Messages.{SpellsTree, told_change}
 use Rattle.iot_laptop.specs.Scripts.{AreNamed}
 use Rattle.iot_laptop.specs.Seats.{seating}
 use Rattle.iot_laptop.specs.declared.laptop.Laptop.{Laptop}
@@ -65,8 +68,8 @@ use Rattle.iot_client.specs.Calls.{verdict_change, Ends, EndsIfAny, CutsOffNextI
 use Rattle.iot_client.specs.declared.noted.Noted.{Noted as NotedIn}
 use Rattle.iot_machine.specs.Clients.{Plan, base, act_once, reach, at_stage, resolution_of, next_step, Acts}
 use Rattle.iot_machine.specs.Texts.{transaction_name, acts_output}
-use Rattle.iot_laptop.specs.Calls.{Plans, Steps, NextIs, IsNext, next_as, IsOver, IsDoneIn, IsEndOf, IsGone}
-use Rattle.iot_laptop.specs.Calls.{waits_after, Settles, head_option, head_reads}
+use Rattle.iot_laptop.specs.Calls.{Plans, TakesStep, NextIs, IsNext, next_as, IsOver, IsDoneIn, IsEndOf, IsGone}
+use Rattle.iot_laptop.specs.Calls.{waits_after, TakesVerdict, head_option, head_reads}
 use Rattle.iot_laptop.specs.Laptops.{state_in, live_in, waits_of, IsFirstOf}
 use Rattle.iot_laptop.specs.declared.needs.Gone.{Gone}
 use Rattle.iot_laptop.proofs.KeptStatesLaws.{joined_waits, acted_live}
@@ -414,11 +417,11 @@ module _ {D T : Type 0} {medium : Medium D} {laptop : Laptop D} {was now : Clien
       alone scripts (repair script) (Repaired name) (live_of was) noted (λ m here follows. repaired_live here name script same named)
 
   -- what is said of the first that waits, by its option
-  pub settles : (noted : T → NotedIn) (reply : List ℕ) → ReadsNoted reply → IfOk answer (λ t. noted_in reply ≡ Ok (noted t))
+  pub takes_verdict : (noted : T → NotedIn) (reply : List ℕ) → ReadsNoted reply → IfOk answer (λ t. noted_in reply ≡ Ok (noted t))
       → IfOk answer (λ t. Notes (verdict_change (noted t)) was now) → OnOk answer (live_of now ≡ live_of was)
       → (IsErrOf answer Stopped → CutsOffByVerdict reply s (bodies_on medium was) (medium.may_leave (disk_of now)))
-      → Settles medium reply laptop new x y (done result)
-  settles noted reply only reads notes lives stops told option spells first scripts =
+      → TakesVerdict medium reply laptop new x y (done result)
+  takes_verdict noted reply only reads notes lives stops told option spells first scripts =
       let spelled = rw call.is at spells in
       let is_first = rw call.is at first in
       alone scripts (told_change told option) (verdict_change (noted_as told)) (live_of was)
@@ -554,7 +557,7 @@ module _ {D : Type 0} {medium : Medium D} {laptop : Laptop D} {was now : Client 
     IfOk-at_ok _ ok call.goes.silent,
   )
 
-  pub steps_by : (r : Result Step Halt) → result ≡ r → Steps medium laptop new x y r
+  pub steps_by : (r : Result Step Halt) → result ≡ r → TakesStep medium laptop new x y r
   steps_by (Ok (steps.Acted acts ended)) same =
       let it = did (steps.Acted acts ended) same in
       let ok : answer ≡ Ok (steps.Acted acts ended) = IfOk-at_ok _ same call.goes.answers in

@@ -17,7 +17,9 @@ use Rattle.iot_client.specs.Messages.{objects_in, ReadsObjects, is_known_row, is
 use Rattle.iot_kept.specs.Changes.{HeadIs}
 use Rattle.iot_client.specs.declared.client.Client.{Client}
 use Rattle.iot_client.specs.declared.fault.ClientFault.{ClientFault}
-use Rattle.iot_laptop.specs.Messages.{SpellsTree, Spells, SpellsVerdict, IsVerdict}
+use Rattle.iot_wire.specs.Meanings.{Spells}
+use Rattle.iot_judging.specs.Verdicts.{SpellsVerdict}
+use Rattle.iot_laptop.specs.Messages.{SpellsTree, IsVerdict}
 use Rattle.std.proofs.lemmas.Option.{slice_get_within, same_Some}
 use Rattle.iot_tree.specs.declared.acts.Read.{Read}
 use Rattle.iot_tree.specs.declared.questions.Answer.{Answer}

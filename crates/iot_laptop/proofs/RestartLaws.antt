@@ -42,7 +42,7 @@ use Rattle.iot_laptop.specs.Calls.{ReturnedStands, Returned, Came, running_name}
 use Rattle.iot_laptop.specs.Kept.{RunningKeptIfAny, StateKept}
 use Rattle.iot_laptop.specs.Laptops.{LaptopStands, FallenStands, ClientStands, awake, StandsAnyhow, is_alive, disk_by}
 use Rattle.iot_laptop.specs.Laptops.{state_in, live_by, state_by, fallen, Stands, Relinked, IsSecondNow, IsCutLink, after_passage}
-use Rattle.iot_laptop.specs.Messages.{name_of}
+use Rattle.iot_node.specs.Lines.{name_of}
 use Rattle.iot_laptop.specs.Scripts.{AreNamed}
 use Rattle.iot_laptop.specs.Seats.{seating, besides, IsClientImage}
 use Rattle.iot_laptop.specs.declared.laptop.Laptop.{Laptop}

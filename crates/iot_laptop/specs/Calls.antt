@@ -19,7 +19,8 @@ use Rattle.iot_resolve.specs.Plans as resolves
 use Rattle.iot_resolve.specs.declared.plan.Plan as plans
 use Rattle.iot_kept.specs.Changes.{IsSubmitted}
 use Rattle.iot_kept.specs.States.{Transaction}
-use Rattle.iot_client.specs.Messages.{IsRefresh, IsWholeRequest, label_of, resolved_label}
+use Rattle.iot_wire.specs.Meanings.{IsRefresh}
+use Rattle.iot_client.specs.Messages.{IsWholeRequest, label_of, resolved_label}
 use Rattle.iot_client.specs.Ties.{records_of}
 use Rattle.iot_client.specs.declared.fault.ClientFault.{ClientFault}
 use Rattle.iot_client.specs.declared.fault.ClientFault.TheVariants as faults
@@ -48,7 +49,9 @@ use Rattle.iot_node.specs.declared.lines.Transaction as names
 use Rattle.iot_machine.specs.Calls.{Try}
 use Rattle.iot_laptop.specs.Alone.{NotesAlone, StartsAlone}
 use Rattle.iot_laptop.specs.Laptops.{LaptopStands, ClientStands, NodeStands, state_in, live_in, waits_of, IsFirst}
-use Rattle.iot_laptop.specs.Messages.{name_of, SpellsVerdict, verdict_of, told_change}
+use Rattle.iot_node.specs.Lines.{name_of}
+use Rattle.iot_judging.specs.Verdicts.{SpellsVerdict}
+use Rattle.iot_laptop.specs.Messages.{verdict_of, told_change}
 use Rattle.iot_laptop.specs.Scripts.{IsNamed, HasNamed, AreNamed, option_named}
 use Rattle.iot_laptop.specs.Seats.{seating}
 use Rattle.iot_laptop.specs.declared.laptop.Laptop.{Laptop}
@@ -224,13 +227,13 @@ NextIs medium laptop (Err NoMemory) = Unit {0}
 NextIs medium laptop (Err Over) = IsNext medium laptop Acts
 
 -- the client has done an act, or stopped in that, and else is as it was
-abbrev pub Steps : {D : Type 0} → Medium D → (old new : Laptop D) → (x y : List ℕ) → Result Step Halt → Type 0
-Steps medium old new x y (Ok (steps.Acted acts ended)) = Changes medium act_once old new x y (Ok tt)
-Steps medium old new x y (Ok (steps.Fetch request path)) =
+abbrev pub TakesStep : {D : Type 0} → Medium D → (old new : Laptop D) → (x y : List ℕ) → Result Step Halt → Type 0
+TakesStep medium old new x y (Ok (steps.Acted acts ended)) = Changes medium act_once old new x y (Ok tt)
+TakesStep medium old new x y (Ok (steps.Fetch request path)) =
     (new ≡ old) × (y ≡ x) × IsRefresh (old.place) (state_in old).held (wanted.Path path) request × IsFirst old
-Steps medium old new x y (Ok (steps.AtEnd acts)) = (new ≡ old) × (y ≡ x)
-Steps medium old new x y (Ok (steps.AtLimit acts)) = (new ≡ old) × (y ≡ x)
-Steps medium old new x y (Err halt) = Changes medium act_once old new x y (Err halt)
+TakesStep medium old new x y (Ok (steps.AtEnd acts)) = (new ≡ old) × (y ≡ x)
+TakesStep medium old new x y (Ok (steps.AtLimit acts)) = (new ≡ old) × (y ≡ x)
+TakesStep medium old new x y (Err halt) = Changes medium act_once old new x y (Err halt)
 
 -- ---- the end
 
@@ -276,8 +279,9 @@ pub record IsTold {D : Type 0} (reply : List ℕ) (laptop : Laptop D) (said : To
   pub option : head_option (state_in laptop).items ≡ Some said.option
 
 -- what the reply says of it was noted, by its option
-abbrev pub Settles : {D : Type 0} → Medium D → (reply : List ℕ) → (old new : Laptop D) → (x y : List ℕ) → Result (Unit {0}) Halt → Type 0
-Settles medium reply old new x y result =
+abbrev pub TakesVerdict : {D : Type 0} → Medium D → (reply : List ℕ) → (old new : Laptop D) → (x y : List ℕ)
+    → Result (Unit {0}) Halt → Type 0
+TakesVerdict medium reply old new x y result =
     (told : serving.Verdict) (option : OnConflict) → SpellsVerdict (head_reads (state_in old).items) reply told
     → head_option (state_in old).items ≡ Some option
     → Changes medium (told_change told option) old new x y result

@@ -1,48 +1,23 @@
 -- What the server's replies say, and what becomes of a transaction by what its client is told.
-use Rattle.std.specs.Prelude.{◌≡◌, ◌⊎◌, ℕ, ◌-◌, ◌≤◌, List, slice_get, Some}
+use Rattle.std.specs.Prelude.{ℕ, List}
 use Rattle.iot_tree.specs.Tree.{Nodes}
 use Rattle.iot_tree.specs.declared.acts.Read.{Read}
 use Rattle.iot_tree.specs.declared.labels.OnConflict.{OnConflict}
 use Rattle.iot_tree.specs.declared.labels.OnConflict.TheVariants.{Reexec, Resolver, Abort, Manual}
-use Rattle.iot_tree.specs.declared.questions.Answer.{Answer}
-use Rattle.iot_wire.specs.Messages.{IsMessage}
-use Rattle.iot_wire.specs.Rules.{IsReply}
-use Rattle.iot_wire.specs.Spelling.{reply_spelling}
-use Rattle.iot_wire.specs.declared.replies.Reply.{Reply}
 use Rattle.iot_wire.specs.declared.replies.Reply.TheVariants as replies
 use Rattle.iot_machine.specs.Clients as stages
 use Rattle.iot_machine.specs.Clients.{ClientState, leave, reach}
 use Rattle.iot_machine.specs.Serving as serving
-use Rattle.iot_machine.specs.Texts.{transaction_name}
-use Rattle.iot_node.specs.declared.lines.Transaction.{Transaction}
 use Rattle.iot_laptop.specs.declared.verdict.Verdict.{Verdict}
 use Rattle.iot_laptop.specs.declared.verdict.Verdict.TheVariants.{Settled, Conflict}
-
--- the name of a transaction
-abbrev pub name_of : Transaction → List ℕ
-name_of transaction = transaction_name transaction.client transaction.number
+use Rattle.iot_wire.specs.Meanings.{Spells}
+use Rattle.iot_judging.specs.Verdicts.{SpellsVerdict}
 
 -- ---- replies
-
-abbrev pub Spells : List ℕ → Reply → Type 0
-Spells bytes reply = IsMessage IsReply reply_spelling bytes reply
 
 -- the reply brings this tree
 abbrev pub SpellsTree : List ℕ → Nodes → Type 0
 SpellsTree bytes t = Spells bytes (replies.Objects t)
-
--- the reply is that these reads part at this place, counted from 1, where this is asked
-pub record SpellsConflict (reads : List Read) (bytes : List ℕ) (place : ℕ) (read : Read) : Type 0 where
-  pub answer : Answer
-  pub spelled : Spells bytes (replies.Conflict place answer)
-  pub first : 1 ≤ place
-  pub at : slice_get reads (place - 1) ≡ Some read
-
--- the reply says this of a transaction with these reads
-abbrev pub SpellsVerdict : List Read → List ℕ → serving.Verdict → Type 0
-SpellsVerdict reads bytes (serving.Settled number) = Spells bytes (replies.Committed number) ⊎ Spells bytes (replies.Already number)
-SpellsVerdict reads bytes (serving.Conflict place question) =
-    (read : Read) × SpellsConflict reads bytes place read × (question ≡ read.question)
 
 -- the reply says something of it
 pub record IsVerdict (reads : List Read) (bytes : List ℕ) : Type 0 where

@@ -28,8 +28,8 @@ use std::rc::Rc;
 
 impl<D: Disk> Laptop<D> {
     ghost use Rattle.iot_laptop.specs.Laptops.{Stands, SamePlace, IsFirst, is_alive, state_in, live_in, disk_in};
-    ghost use Rattle.iot_laptop.specs.Calls.{Changes, Begins, Repairs, Plans, Resolves, NextIs, Steps, IsDoneIn, IsGone, waits_after};
-    ghost use Rattle.iot_laptop.specs.Calls.{IsTold, Settles, GoesOn, head_reads};
+    ghost use Rattle.iot_laptop.specs.Calls.{Changes, Begins, Repairs, Plans, Resolves, NextIs, TakesStep, IsDoneIn, IsGone, waits_after};
+    ghost use Rattle.iot_laptop.specs.Calls.{IsTold, TakesVerdict, GoesOn, head_reads};
 
     /// Holds what the reply brings.
     pub fn take(&mut self, alloc: Global, reply: &[u8], out: &mut Text) -> Result<(), Halt>
@@ -99,7 +99,7 @@ impl<D: Disk> Laptop<D> {
         requires place { self.old.place ≤ 7 }
         requires runs { is_some (state_in self.old).running ≡ true }
         ensures next { NextIs D.medium self.old result }
-        ensures does { Steps D.medium self.old self.new out.old out.new result }
+        ensures does { TakesStep D.medium self.old self.new out.old out.new result }
         ensures place { SamePlace self.old self.new }
         ensures disk { KeepsDisk D.medium (disk_in self.old) (disk_in self.new) }
     {
@@ -152,11 +152,16 @@ impl<D: Disk> Laptop<D> {
     }
 
     /// Takes the reply to the submission of the first that waits, and tells what that says of it.
-    pub fn settle(&mut self, alloc: Global, reply: &[u8], out: &mut Text) -> Result<Told, Halt>
+    pub fn take_verdict(
+        &mut self,
+        alloc: Global,
+        reply: &[u8],
+        out: &mut Text,
+    ) -> Result<Told, Halt>
         requires stands { Stands D.medium self.old }
         requires submitted { HeadIs IsSubmitted (state_in self.old).items }
         requires told { IsVerdict (head_reads (state_in self.old).items) reply.now }
-        ensures does { Settles D.medium reply.now self.old self.new out.old out.new (done result) }
+        ensures does { TakesVerdict D.medium reply.now self.old self.new out.old out.new (done result) }
         ensures told { IfOk result (IsTold reply.now self.old) }
         ensures place { SamePlace self.old self.new }
         ensures disk { KeepsDisk D.medium (disk_in self.old) (disk_in self.new) }

@@ -1,7 +1,7 @@
 //! A client that was declared, by its name and its place, and its link with the server.
 ghost use Rattle.std.specs.Prelude.{◌≡◌, ◌≤◌, ◌*◌, ◌&&◌, not, true, [], List, None, Some, IfOk, IfSome, is_some, length};
 ghost use Rattle.std.specs.Option.{option_copied};
-ghost use Rattle.iot_client.specs.Messages.{IsRefresh};
+ghost use Rattle.iot_wire.specs.Meanings.{IsRefresh};
 ghost use Rattle.iot_client.specs.Calls.{may_end, is_over_if_any};
 ghost use Rattle.iot_client.specs.Ties.{class_by};
 ghost use Rattle.iot_kept.specs.Memory.{transaction_of, class_of};

@@ -1,7 +1,7 @@
 //! The lines of a client alone.
 ghost use Rattle.std.specs.Prelude.{◌≡◌, ◌++◌, IfOk, OnOk};
 ghost use Rattle.iot_machine.specs.Texts.{connect_line, disconnect_line, lose_line, cut_line, output, acts_output, output_line};
-ghost use Rattle.iot_laptop.specs.Messages.{name_of};
+ghost use Rattle.iot_node.specs.Lines.{name_of};
 
 use iot_link::Loss;
 use iot_node::Transaction;

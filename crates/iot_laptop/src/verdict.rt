@@ -3,7 +3,8 @@ ghost use Rattle.std.specs.Prelude.{◌≡◌, ◌-◌, ◌<◌, ◌≤◌, Some
 ghost use Rattle.iot_acts.specs.Turns.{reads_of};
 ghost use Rattle.iot_machine.specs.Serving as serving;
 ghost use Rattle.iot_tree.specs.declared.acts.Read.{Read};
-ghost use Rattle.iot_laptop.specs.Messages.{SpellsVerdict, IsVerdict, verdict_of};
+ghost use Rattle.iot_judging.specs.Verdicts.{SpellsVerdict};
+ghost use Rattle.iot_laptop.specs.Messages.{IsVerdict, verdict_of};
 
 use iot_codec::CodecFault;
 use iot_text::NoMemory;

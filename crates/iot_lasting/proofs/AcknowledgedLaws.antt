@@ -13,7 +13,7 @@ use Rattle.iot_machine.specs.Nodes as nodes
 use Rattle.iot_machine.specs.Nodes.{Node}
 use Rattle.iot_machine.specs.Serving.{Submission, Verdict, Settled, Conflict, Judges, judged, Certifies, holds, conflicts, committed}
 use Rattle.iot_machine.specs.Serving.{is_of, number_of, commit_text, kept_text, added_text, server_name}
-use Rattle.iot_machine.specs.Stops.{Appends, Settles}
+use Rattle.iot_machine.specs.Stops.{Appends, ComesBackWith}
 use Rattle.iot_machine.specs.Texts.{line, stopped_line, kept_line, lost_line, transaction_name}
 use Rattle.iot_machine.specs.Transactions.{Exchange, submits}
 use Rattle.iot_machine.proofs.KeepsLaws.{Keeps, IfGoes, keeps_gets, keeps_asks, keeps_then}
@@ -84,7 +84,7 @@ a_kept_commit_is_said names node n text growing (inl settles) = by_doubt node.do
     back is = ap (λ (node : Node (List Commit)). node.durable) is
 
     by_doubt : (doubt : Option (List Commit)) → IfSome doubt (AddsOne node.durable)
-        → Settles server_name (kept_text names) doubt node text n
+        → ComesBackWith server_name (kept_text names) doubt node text n
         → IsSaidKept node.durable text n.durable
         ⊎ (((text ≡ line (codes "restart " ++ server_name)) ⊎ (text ≡ lost_line server_name)) × (n.durable ≡ node.durable))
     by_doubt None one step = inr (inl step.0, back step.1)

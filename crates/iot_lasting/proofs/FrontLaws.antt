@@ -7,7 +7,7 @@ use Rattle.iot_machine.specs.Machine.{Commit, add_commit}
 use Rattle.iot_machine.specs.Nodes.{Node}
 use Rattle.iot_machine.specs.Serving.{Submission, Verdict, Judges, judged, Certifies, holds, conflicts, Commits, committed, server_name}
 use Rattle.iot_machine.specs.Sound.{Possibly}
-use Rattle.iot_machine.specs.Stops.{OpensNode, Appends, Settles, ComesBack, Crashes, Restarts}
+use Rattle.iot_machine.specs.Stops.{OpensNode, Appends, ComesBackWith, ComesBack, Crashes, Restarts}
 use Rattle.iot_machine.proofs.KeepsLaws.{Keeps, Stays, keeps_gets, keeps_does, stays_asks, stays_answers, stays_says}
 use Rattle.iot_machine.proofs.KeepsLaws.{keeps_then, stays_then, asks_then, keeps_either}
 use Rattle.iot_lasting.specs.Lasting.{IsFront, AddsOne, StandsAt, IsGrowing, Lasts}
@@ -112,7 +112,7 @@ module _ (b : Node (List Commit)) where
   comes_last name says = record { at = by_step }
     where
       settles : (node n : Node (List Commit)) (text : List ℕ) (doubt : Option (List Commit)) → IfSome doubt (AddsOne node.durable)
-          → Lasts b node → Settles name says doubt node text n → Lasts b n
+          → Lasts b node → ComesBackWith name says doubt node text n → Lasts b n
       settles node n text None adds here step = rw step.1 (lasts_sure b _ refl here.front)
       settles node n text (Some after) adds here (inl step) = rw step.1
           (lasts_sure b _ refl (front_on b.durable node.durable after here.front (front_adds node.durable after adds)))

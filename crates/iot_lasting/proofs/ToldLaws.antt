@@ -17,7 +17,7 @@ use Rattle.iot_machine.specs.Machine.{pair_at, tree_after, add_commit}
 use Rattle.iot_machine.specs.Nodes.{Node}
 use Rattle.iot_machine.specs.Nodes as nodes_of
 use Rattle.iot_machine.specs.Serving.{server_name, commit_text, kept_text}
-use Rattle.iot_machine.specs.Stops.{OpensNode, Settles, ComesBack, Crashes, Restarts, ArmsDisk, Shows}
+use Rattle.iot_machine.specs.Stops.{OpensNode, ComesBackWith, ComesBack, Crashes, Restarts, ArmsDisk, Shows}
 use Rattle.iot_machine.specs.Texts.{transaction_name, stopped_line, kept_line, client_line, tree_text, log_text}
 use Rattle.iot_machine.specs.Recorded.{labels_of}
 use Rattle.iot_machine.specs.Events.{client_of, add_client, names_in, counts_anew, RestartsServer, Declares, client_part, server_part}
@@ -141,7 +141,7 @@ module _ (rows : List Row) where
           ∙ ap (λ (name : List ℕ). commit_text (transaction_name name commit.entry.number) commit node.durable) (are commit.entry.client)
 
       settles : (node n : Node (List Commit)) (text : List ℕ) (doubt : Option (List Commit)) → IfSome doubt (AddsOne node.durable)
-          → Settles server_name (kept_text names) doubt node text n → Told (server_book rows node) text (server_book rows n)
+          → ComesBackWith server_name (kept_text names) doubt node text n → Told (server_book rows node) text (server_book rows n)
       settles node n text None one step =
           rw (step.0, step.1) (word_told server_name tell is_server stopping node (codes "restart ") (among 1 refl))
       settles node n text (Some after) one (inr step) = rw (step.0, step.1) (lost_told server_name tell is_server stopping node)

@@ -7,7 +7,7 @@ use Rattle.iot_machine.specs.Calls.{Call, Asks, Does, Says, Nothing, Then, eithe
 use Rattle.iot_machine.specs.Counting.{IsSteady, HasStopped, StopsOnce, Since}
 use Rattle.iot_machine.specs.Machine.{Machine, Client, no_client, client_in, put_client}
 use Rattle.iot_machine.specs.Nodes.{Node, Counts, fallen, doubting}
-use Rattle.iot_machine.specs.Stops.{IsStopped, OpensNode, Appends, Settles, ComesBack, Crashes, Restarts, Shows}
+use Rattle.iot_machine.specs.Stops.{IsStopped, OpensNode, Appends, ComesBackWith, ComesBack, Crashes, Restarts, Shows}
 use Rattle.iot_machine.specs.Texts.{line}
 use Rattle.iot_machine.proofs.FollowsLaws.{at_set}
 
@@ -44,7 +44,7 @@ module _ {S : Type 0} where
   opens_once name node n text on down (inr step) = inr (stops_now node node n (steady node) down step.2)
 
   settles_steady : (name : List ℕ) (says : S → S → List ℕ) (doubt : Option S) (node n : Node S) (text : List ℕ)
-      → Settles name says doubt node text n → IsSteady node n
+      → ComesBackWith name says doubt node text n → IsSteady node n
   settles_steady name says None node n text step = rw step.1 (record { counts = refl; stops = refl })
   settles_steady name says (Some after) node n text (inl step) = rw step.1 (record { counts = refl; stops = refl })
   settles_steady name says (Some after) node n text (inr step) = rw step.1 (record { counts = refl; stops = refl })

@@ -6,7 +6,7 @@ use Rattle.iot_machine.specs.Calls.{Call, Asks, Does, Says, Nothing, Then, eithe
 use Rattle.iot_machine.specs.Clients.{ClientState}
 use Rattle.iot_machine.specs.Machine.{Commit}
 use Rattle.iot_machine.specs.Nodes.{Node, fallen, doubting, armed}
-use Rattle.iot_machine.specs.Stops.{IsStopped, OpensNode, Appends, Settles, ComesBack, Crashes, Restarts, ArmsDisk, Shows}
+use Rattle.iot_machine.specs.Stops.{IsStopped, OpensNode, Appends, ComesBackWith, ComesBack, Crashes, Restarts, ArmsDisk, Shows}
 use Rattle.iot_machine.specs.Texts.{line}
 use Rattle.iot_machine.specs.Sound.{Possibly, IsSure, AreNumbered, ArePlanned, Knows}
 use Rattle.iot_machine.proofs.FollowsLaws.{Follows}
@@ -104,13 +104,13 @@ module _ {S : Type 0} where
   appends_alive name change node n text up (inr step) = absurd cc
 
   settles_possibly : {P : S → Type 0} (name : List ℕ) (says : S → S → List ℕ) (doubt : Option S) (node n : Node S) (text : List ℕ)
-      → P node.durable → IfSome doubt P → Settles name says doubt node text n → Possibly P n
+      → P node.durable → IfSome doubt P → ComesBackWith name says doubt node text n → Possibly P n
   settles_possibly name says None node n text it other step = rw step.1 (record { is = it; may_be = tt })
   settles_possibly name says (Some after) node n text it other (inl step) = rw step.1 (record { is = other; may_be = tt })
   settles_possibly name says (Some after) node n text it other (inr step) = rw step.1 (record { is = it; may_be = tt })
 
   settles_none : (name : List ℕ) (says : S → S → List ℕ) (doubt : Option S) (node n : Node S) (text : List ℕ)
-      → Settles name says doubt node text n → n.doubt ≡ None
+      → ComesBackWith name says doubt node text n → n.doubt ≡ None
   settles_none name says None node n text step = rw step.1 refl
   settles_none name says (Some after) node n text (inl step) = rw step.1 refl
   settles_none name says (Some after) node n text (inr step) = rw step.1 refl

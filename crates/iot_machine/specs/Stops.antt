@@ -29,16 +29,16 @@ Appends name change node text on n =
 
 -- Its journal was read: it is alive, with what is durable. If a record was in doubt, it was kept or it was lost, and what `says` tells of
 -- the states before and after it follows a kept one.
-abbrev pub Settles : {S : Type 0} → List ℕ → (S → S → List ℕ) → Option S → Node S → List ℕ → Node S → Type 0
-Settles name says None node text n = (text ≡ line (codes "restart " ++ name)) × (n ≡ back node.durable node)
-Settles name says (Some after) node text n =
+abbrev pub ComesBackWith : {S : Type 0} → List ℕ → (S → S → List ℕ) → Option S → Node S → List ℕ → Node S → Type 0
+ComesBackWith name says None node text n = (text ≡ line (codes "restart " ++ name)) × (n ≡ back node.durable node)
+ComesBackWith name says (Some after) node text n =
     ((text ≡ kept_line name ++ says node.durable after) × (n ≡ back after node))
     ⊎ ((text ≡ lost_line name) × (n ≡ back node.durable node))
 
 -- a node that is down comes back, and whether it did: else it has stopped again, and what was in doubt still is
 abbrev pub ComesBack : {S : Type 0} → List ℕ → (S → S → List ℕ) → Call (Node S) Bool
 ComesBack name says node text on n =
-    ((on ≡ true) × Settles name says node.doubt node text n)
+    ((on ≡ true) × ComesBackWith name says node.doubt node text n)
     ⊎ ((text ≡ stopped_line name) × (on ≡ false) × IsStopped node n)
 
 -- ---- calls without a choice of their own

@@ -13,7 +13,7 @@ use Rattle.iot_disk.specs.declared.faults.StartFault.TheVariants as start
 use Rattle.iot_machine.specs.Calls.{Call}
 use Rattle.iot_machine.specs.Nodes.{Node, Counts, opened, changed, doubting, back, armed}
 use Rattle.iot_machine.specs.Refining.{Refines}
-use Rattle.iot_machine.specs.Stops.{IsStopped, OpensNode, Appends, Settles, ComesBack, Crashes, ArmsDisk}
+use Rattle.iot_machine.specs.Stops.{IsStopped, OpensNode, Appends, ComesBackWith, ComesBack, Crashes, ArmsDisk}
 use Rattle.iot_machine.specs.Texts.{line, stopped_line, stop_line}
 use Rattle.iot_node.specs.Disks.{counts_on}
 use Rattle.iot_node.specs.Keeping.{Keeping, EachIs, Failed, Comes, Fails, Armed, Appended, Doubts, CountsStart}
@@ -203,7 +203,7 @@ module _ {K S D : Type 0} (keeping : Keeping K S D) (medium : Medium D) (says : 
       -- what it says, and the node that it is then
       returns : (node : Node S) (count : ℕ) (doubt : Option Doubt) → counts_on medium old ≡ node.counts
           → HoldsBy keeping medium says (medium.may_leave old) count doubt node
-          → (n : Node S) × Settles name says node.doubt node (back_said name doubt number) n × UpStands keeping medium says made n
+          → (n : Node S) × ComesBackWith name says node.doubt node (back_said name doubt number) n × UpStands keeping medium says made n
       returns node count None counts it = (
         back node.durable node,
         rw it.sure (refl, refl),

@@ -2,3 +2,4 @@ pub mod Disks
 pub mod Keeping
 pub mod Posts
 pub mod Steps
+pub mod Lines

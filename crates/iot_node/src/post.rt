@@ -85,11 +85,11 @@ impl<K: Keeper<D>, D: Disk> Post<K, D> {
         match mem::replace(self, Post::Between) {
             Post::Down(Fallen { disk, doubt }) => match K::start(alloc, disk, place) {
                 Ok(keeper) => {
-                    self.settle(Post::Up(keeper));
+                    self.turn_to(Post::Up(keeper));
                     Ok(true)
                 }
                 Err((disk, fault)) => {
-                    self.settle(Post::Down(Fallen { disk, doubt }));
+                    self.turn_to(Post::Down(Fallen { disk, doubt }));
                     say_refused(fault, name, out)?;
                     Ok(false)
                 }
@@ -147,7 +147,7 @@ impl<K: Keeper<D>, D: Disk> Post<K, D> {
     {
         match mem::replace(self, Post::Between) {
             Post::Up(keeper) => {
-                self.settle(Post::Down(Fallen {
+                self.turn_to(Post::Down(Fallen {
                     disk: keeper.into_disk(),
                     doubt,
                 }));
@@ -157,7 +157,7 @@ impl<K: Keeper<D>, D: Disk> Post<K, D> {
     }
 
     /// Is this when a call that starts or stops it ends. Until then it owns nothing, so no disk is lost.
-    fn settle(&mut self, post: Post<K, D>)
+    fn turn_to(&mut self, post: Post<K, D>)
         requires { self.old ≡ Between }
         ensures { self.new ≡ post }
     {
@@ -213,12 +213,12 @@ impl<K: Keeper<D>, D: Disk> Post<K, D> {
                 match K::start(alloc, disk, place) {
                     Ok(keeper) => {
                         let number = keeper.records();
-                        self.settle(Post::Up(keeper));
+                        self.turn_to(Post::Up(keeper));
                         say_back(doubt, number, name, out)?;
                         Ok(true)
                     }
                     Err((disk, fault)) => {
-                        self.settle(Post::Down(Fallen { disk, doubt }));
+                        self.turn_to(Post::Down(Fallen { disk, doubt }));
                         say_refused(fault, name, out)?;
                         Ok(false)
                     }

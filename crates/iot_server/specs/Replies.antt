@@ -26,15 +26,16 @@ pub record IsJudged (tree : Nodes) (acts : List Act) (verdict : Verdict) : Type 
   pub guarded : AllGuarded acts → IfDiffers verdict (DiffersAt (turns tree acts) 1)
 
 -- by the verdict: one that holds is committed, under the next number; else the read that differs is told, and its answer now
-abbrev pub Settles : Verdict → State → Label → List Act → Reply → State → Type 0
-Settles Holds before label acts reply after = (reply ≡ Committed (length before.labels + 1)) × (after ≡ after_commit before label acts)
-Settles (Differs read answer) before label acts reply after = (reply ≡ Conflict read answer) × (after ≡ before)
+abbrev pub FollowsVerdict : Verdict → State → Label → List Act → Reply → State → Type 0
+FollowsVerdict Holds before label acts reply after =
+    (reply ≡ Committed (length before.labels + 1)) × (after ≡ after_commit before label acts)
+FollowsVerdict (Differs read answer) before label acts reply after = (reply ≡ Conflict read answer) × (after ≡ before)
 
 -- by the number of the transaction among the labels: one that has a number gets it again; one that has none is judged
 abbrev pub Submits : Option ℕ → State → Label → List Act → Reply → State → Type 0
 Submits (Some number) before label acts reply after = (reply ≡ Already number) × (after ≡ before)
 Submits None before label acts reply after =
-    (verdict : Verdict) × IsJudged before.tree acts verdict × Settles verdict before label acts reply after
+    (verdict : Verdict) × IsJudged before.tree acts verdict × FollowsVerdict verdict before label acts reply after
 
 -- the reply to a request, by the state before, and the state after it
 abbrev pub Answers : State → Request → Reply → State → Type 0

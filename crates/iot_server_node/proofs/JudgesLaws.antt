@@ -42,7 +42,9 @@ use Rattle.iot_tree.specs.declared.labels.Label.{Label}
 use Rattle.iot_wire.specs.declared.replies.Reply.{Reply}
 use Rattle.iot_wire.specs.declared.requests.Request.TheVariants as requests
 use Rattle.iot_server_node.specs.Keepers.{lists, Handles, Refuses, KeepsList}
-use Rattle.iot_server_node.specs.Messages.{committed_since, said_of, printed_under, Spells, SpellsVerdict}
+use Rattle.iot_wire.specs.Meanings.{Spells}
+use Rattle.iot_judging.specs.Verdicts.{SpellsVerdict}
+use Rattle.iot_server_node.specs.Messages.{committed_since, said_of, printed_under}
 use Rattle.iot_server_node.specs.Records.{IsImage, label_of, records_of, state_of}
 use Rattle.iot_server_node.specs.Servers.{disk_of, count_of, IsKnown, ServerStands, ServerIsSound, HavingAnswered, AreOf, IsSubmission}
 use Rattle.iot_server_node.specs.Servers.{IsHanded, IsNamedIn, HasAnsweredIn, Handled, Refused, GivesUp, ServesBy, live}

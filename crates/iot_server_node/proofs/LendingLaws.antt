@@ -26,7 +26,8 @@ use Rattle.iot_machine.specs.Serving.{Lends}
 use Rattle.iot_judging.proofs.RunTreesLaws.{list_tree, list_whole}
 use Rattle.iot_node.specs.Posts.{Lasts, HoldsEither}
 use Rattle.iot_server_node.specs.Keepers.{lists, Handles, Refuses}
-use Rattle.iot_server_node.specs.Messages.{IsRefresh, committed_since, said_of, Spells, SpellsCut}
+use Rattle.iot_wire.specs.Meanings.{IsRefresh, Spells}
+use Rattle.iot_server_node.specs.Messages.{committed_since, said_of, SpellsCut}
 use Rattle.iot_server_node.specs.Servers.{disk_of, count_of, Handled, Refused, ServesBy, ServerStands, ServerIsSound, live}
 use Rattle.iot_server_node.specs.declared.message.Handed.{Handed}
 use Rattle.iot_server_node.specs.declared.message.Message.{Message}

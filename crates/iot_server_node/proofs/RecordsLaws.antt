@@ -1,6 +1,6 @@
 -- One more entry in a list of commits.
 use Rattle.std.proofs.Common.{◌≡◌, ◌<◌, ◌+◌, ◌^◌, ℕ, List, [], ◌∷◌, ◌++◌, length, map, refl, ap, subst, ◌∙◌, arith}
-use Rattle.std.proofs.lemmas.List.{map-append, length-append}
+use Rattle.std.proofs.lemmas.List.{map-append, length-append, length-map}
 use Rattle.iot_tree.specs.Tree.{Nodes, root_alone}
 use Rattle.iot_tree.specs.declared.nodes.Node.TheVariants.{Dir}
 use Rattle.iot_tree.specs.declared.labels.Label.{Label}
@@ -10,12 +10,14 @@ use Rattle.iot_journal.proofs.DecodingLaws.{length-bodies-le}
 use Rattle.iot_journal.proofs.ImagesLaws.{records_fit}
 use Rattle.iot_server.specs.Servers as servers
 use Rattle.iot_server.specs.declared.server.Server.{Server}
+use Rattle.iot_stamp.specs.Stamps.{Stamps}
+use Rattle.iot_store.specs.Stamps.{opening_stamps, next_stamp, stamped_acts}
 use Rattle.iot_store.specs.States.{State, CanFollow, opening, after_commit}
 use Rattle.iot_store.specs.Records.{IsRecord, record_spelling}
 use Rattle.iot_store.specs.Standing.{Leads}
 use Rattle.iot_disk.specs.Disk.{Medium}
 use Rattle.iot_machine.specs.Machine.{Commit, entries_of, tree_after}
-use Rattle.iot_server_node.specs.Records.{label_of, records_from, records_of, state_of}
+use Rattle.iot_server_node.specs.Records.{label_of, records_from, records_of, stamps_from, state_of}
 use Rattle.iot_server_node.specs.Servers.{AreOf}
 use Rattle.iot_tree.specs.declared.acts.Act.{Act}
 
@@ -39,6 +41,22 @@ records_more (commit ∷ commits) later t =
     ap (λ (rs : List (List ℕ)). record_spelling (label_of commit) (run_entry commit.entry t).acts ∷ rs)
     (records_more commits later (run_entry commit.entry t).tree)
 
+-- the stamps of a longer list
+stamps_more : (commits : List Commit) (commit : Commit) (t : Nodes) (stamps : Stamps) (before : ℕ)
+    → stamps_from (commits ++ commit ∷ []) t stamps before
+    ≡ stamped_acts (stamps_from commits t stamps before) (run_entry commit.entry (tree_from (entries_of commits) t)).acts
+    (next_stamp (before + length commits))
+stamps_more [] commit t stamps before =
+    let number : before ≡ before + length {A = Commit} [] = omega arith in
+    ap (λ n. stamped_acts stamps (run_entry commit.entry t).acts (next_stamp n)) number
+stamps_more (first ∷ commits) commit t stamps before =
+    let next = run_entry first.entry t in
+    let mid = stamped_acts stamps next.acts (next_stamp before) in
+    let number : before + 1 + length commits ≡ before + length (first ∷ commits) = omega arith in
+    stamps_more commits commit next.tree mid (before + 1)
+    ∙ ap (λ n. stamped_acts (stamps_from commits next.tree mid (before + 1))
+    (run_entry commit.entry (tree_from (entries_of commits) next.tree)).acts (next_stamp n)) number
+
 -- the record and the state after a commit with this label and these acts
 module _ (commits : List Commit) {commit : Commit} {label : Label} {acts : List Act}
     (are : AreOf commit (tree_after commits) label acts) where
@@ -48,10 +66,16 @@ module _ (commits : List Commit) {commit : Commit} {label : Label} {acts : List 
       ∙ (λ i. records_of commits ++ record_spelling (are.has_label i) (are.has_acts i) ∷ [])
 
   pub state_is : state_of (commits ++ commit ∷ []) ≡ after_commit (state_of commits) label acts
-  state_is = λ i. record {
-    tree = (tree_after-append commits commit ∙ are.made) i;
-    labels = (map-append label_of commits (commit ∷ []) ∙ ap (λ (l : Label). map label_of commits ++ l ∷ []) are.has_label) i;
-  }
+  state_is =
+      let number : 0 + length commits ≡ length (map label_of commits) = omega (arith, length-map commits label_of) in
+      let stamps =
+      stamps_more commits commit (root_alone Dir) opening_stamps 0
+      ∙ (λ i. stamped_acts (state_of commits).stamps (are.has_acts i) (next_stamp (number i))) in
+      λ i. record {
+        tree = (tree_after-append commits commit ∙ are.made) i;
+        labels = (map-append label_of commits (commit ∷ []) ∙ ap (λ (l : Label). map label_of commits ++ l ∷ []) are.has_label) i;
+        stamps = stamps i;
+      }
 
 -- one record more leads to the state after its commit
 pub leads_more : (front : List (List ℕ)) (before mid : State) (body : List ℕ) (label : Label) (acts : List Act) → Leads front before mid

@@ -18,7 +18,7 @@ use Rattle.iot_machine.specs.Machine.{Commit, add_commit, tree_after}
 use Rattle.iot_machine.specs.Nodes.{Node, fallen, changed, back, unopened}
 use Rattle.iot_machine.specs.Refining.{Refines}
 use Rattle.iot_machine.specs.Serving.{server_name, added_text, commit_text, kept_text}
-use Rattle.iot_machine.specs.Stops.{OpensNode, Appends, ComesBack, Settles, Crashes, Restarts, ArmsDisk}
+use Rattle.iot_machine.specs.Stops.{OpensNode, Appends, ComesBack, ComesBackWith, Crashes, Restarts, ArmsDisk}
 use Rattle.iot_machine.specs.Texts.{line, transaction_name}
 use Rattle.iot_node.specs.Disks.{IsEmpty, KeepsDisk, counts_on}
 use Rattle.iot_node.specs.Posts as posts
@@ -66,7 +66,7 @@ module _ (names : List (List ℕ)) where
   known_back s node after is known = subst (NodeIsKnown names) (sym is) (record { durable = known; doubt = tt; longer = tt })
 
   known_settled : (doubt : Option (List Commit)) (node after : Node (List Commit)) (text : List ℕ)
-      → Settles server_name (kept_text names) doubt node text after → AreKnown names node.durable → AreKnownIfAny names doubt
+      → ComesBackWith server_name (kept_text names) doubt node text after → AreKnown names node.durable → AreKnownIfAny names doubt
       → NodeIsKnown names after
   known_settled None node after text is durable doubt = known_back node.durable node after is.1 durable
   known_settled (Some s) node after text (inl is) durable doubt = known_back s node after is.1 doubt

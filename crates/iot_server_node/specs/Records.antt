@@ -1,10 +1,12 @@
 -- What the server's disk keeps of the machine's list: one record for each commit.
-use Rattle.std.specs.Prelude.{◌≡◌, ℕ, List, [], ◌∷◌, ◌++◌, length, map, Option, None, Some}
+use Rattle.std.specs.Prelude.{◌≡◌, ℕ, List, [], ◌∷◌, ◌++◌, ◌+◌, length, map, Option, None, Some}
 use Rattle.iot_disk.specs.Disk.{Medium}
 use Rattle.iot_tree.specs.Tree.{Nodes, root_alone}
 use Rattle.iot_tree.specs.declared.nodes.Node.TheVariants.{Dir}
 use Rattle.iot_exec.specs.Serial.{run_entry}
 use Rattle.iot_journal.specs.Decoding.{Encodes, decoded}
+use Rattle.iot_stamp.specs.Stamps.{Stamps}
+use Rattle.iot_store.specs.Stamps.{opening_stamps, next_stamp, stamped_acts}
 use Rattle.iot_store.specs.States.{State, opening}
 use Rattle.iot_store.specs.Records.{record_spelling}
 use Rattle.iot_store.specs.Standing.{Leads}
@@ -20,9 +22,20 @@ records_from (commit ∷ commits) t =
 abbrev pub records_of : List Commit → List (List ℕ)
 records_of commits = records_from commits (root_alone Dir)
 
--- the tree and the labels of a list
+-- the stamps after commits from a tree on, of which so many came before
+abbrev pub stamps_from : List Commit → Nodes → Stamps → ℕ → Stamps
+stamps_from [] t stamps before = stamps
+stamps_from (commit ∷ commits) t stamps before =
+    stamps_from commits (run_entry commit.entry t).tree (stamped_acts stamps (run_entry commit.entry t).acts (next_stamp before))
+    (before + 1)
+
+-- the tree, the labels and the stamps of a list
 abbrev pub state_of : List Commit → State
-state_of commits = record { tree = tree_after commits; labels = map label_of commits }
+state_of commits = record {
+  tree = tree_after commits;
+  labels = map label_of commits;
+  stamps = stamps_from commits (root_alone Dir) opening_stamps 0;
+}
 
 -- the bytes are a journal of the records of this list, which are so many: each can follow the ones before it, and they lead to its state
 pub record IsImage (bytes : List ℕ) (count : ℕ) (commits : List Commit) : Type 0 where

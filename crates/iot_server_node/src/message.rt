@@ -1,5 +1,5 @@
 //! What a client sends to the server.
-ghost use Rattle.std.specs.Prelude.{◌≡◌, ◌++◌, None, OnOk};
+ghost use Rattle.std.specs.Prelude.{◌≡◌, ◌++◌, OnOk};
 ghost use Rattle.iot_server_node.specs.Messages.{printed_under};
 
 use crate::texts::say_commit;
@@ -28,16 +28,6 @@ pub struct Handed {
 }
 
 impl Message {
-    /// A request for objects.
-    pub fn asking(request: Vec<u8>) -> Message
-        ensures { result ≡ record { request = request; handed = None } }
-    {
-        Message {
-            request,
-            handed: None,
-        }
-    }
-
     /// What a commit of it says under this number: its line, and what its script printed.
     pub fn say_under(&self, number: u64, out: &mut Text) -> Result<(), NoMemory>
         ensures { OnOk result (out.new ≡ out.old ++ printed_under number self.now.handed) }

@@ -46,7 +46,9 @@ pub struct Served {
 }
 
 impl<D: Disk> ServerNode<D> {
-    ghost use Rattle.iot_server_node.specs.Messages.{IsSomeRequest, IsRefresh, SpellsCut, SpellsVerdict, printed_under};
+    ghost use Rattle.iot_wire.specs.Meanings.{IsRefresh};
+    ghost use Rattle.iot_judging.specs.Verdicts.{SpellsVerdict};
+    ghost use Rattle.iot_server_node.specs.Messages.{IsSomeRequest, SpellsCut, printed_under};
     ghost use Rattle.iot_server_node.specs.Servers.{is_up, disk_of, post_of, count_of, tree_of, lent_of, ServerStands, HavingAnswered};
     ghost use Rattle.iot_server_node.specs.Servers.{ServerIsSound, IsUnopened, HasDisk, IsLive, Handled, Refused, GivesUp, ServesBy};
     ghost use Rattle.iot_server_node.specs.Servers.{IsHanded, IsNamedIn, LendsServer, KeepsCommits, answered_since};

@@ -1,7 +1,7 @@
 //! The lines that the server prints.
 ghost use Rattle.std.specs.Prelude.{◌≡◌, ◌++◌, OnOk};
 ghost use Rattle.iot_machine.specs.Texts.{commit_line, transaction_name, row_line, tree_text, way_text};
-ghost use Rattle.iot_server_node.specs.Messages.{name_of};
+ghost use Rattle.iot_node.specs.Lines.{name_of};
 
 use crate::message::Handed;
 use iot_node::Transaction;

@@ -50,7 +50,8 @@ module _ (acts : List Act) (stamp i : ℕ) (before now : Stamps) (way : ActsOnWa
     act_made next reads fits made =
         let nodes : nodes_of next ≡ after_update (nodes_of now) act.update = ap nodes_of made ∙ nodes_after_update stamp now act.update in
         record {
-          rest = λ hold. subst (λ t. ActsHold t (drop (i + 1) acts)) (sym nodes) (subst (ActsHold (nodes_of now)) left_acts (way.rest hold)).2;
+          rest = λ hold. subst (λ t. ActsHold t (drop (i + 1) acts)) (sym nodes)
+              (subst (ActsHold (nodes_of now)) left_acts (way.rest hold)).2;
           whole = λ hold. way.whole
               (subst (ActsHold (nodes_of now)) (sym left_acts) (reads, fits, subst (λ t. ActsHold t (drop (i + 1) acts)) nodes hold));
           end = way.end ∙ ap (λ (l : List Act). stamped_acts now l stamp) left_acts

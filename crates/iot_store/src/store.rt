@@ -239,7 +239,8 @@ impl<D: Disk> Store<D> {
         self.commits.tree()
     }
 
-    /// That tree with its stamps: 1 at its root before the first commit, and the number after its own from each commit on what that changes.
+    /// That tree with its stamps: its root has 1 before the first commit, and each commit puts the number after its own on what it changes.
+    /// A start makes them again. Takes no memory.
     pub fn stamped(&self) -> &Stamped
         ensures stamps { result.now ≡ (state_of self.now).stamps }
         ensures tree { nodes_of result.now ≡ (state_of self.now).tree }

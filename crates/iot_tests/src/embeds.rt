@@ -155,7 +155,7 @@ fn submit<D: Disk>(alloc: Global, client: &Client<D>, line: &mut Line) -> Result
 }
 
 /// The client takes the verdict that has come: the number of the commit, or none if the transaction conflicts.
-fn settle<D: Disk>(
+fn take_verdict<D: Disk>(
     alloc: Global,
     client: &mut Client<D>,
     line: &mut Line,
@@ -200,7 +200,7 @@ fn a_client_commits_at_a_server(rt: HostRuntime) -> Result<(), Fail> {
     assert_eq!(rt; server.store().number(), 1);
     submit(alloc, &client, &mut line)?;
     serve(alloc, &mut server, &mut line)?;
-    assert_eq!(rt; settle(alloc, &mut client, &mut line)?, Some(1));
+    assert_eq!(rt; take_verdict(alloc, &mut client, &mut line)?, Some(1));
     assert!(rt; server.into_disk().syncs > 0);
     Ok(())
 }

@@ -2,3 +2,4 @@ pub mod Decoding
 pub mod Messages
 pub mod Rules
 pub mod Spelling
+pub mod Meanings

@@ -26,7 +26,7 @@ use Rattle.iot_laptop.specs.declared.laptop.Laptop.{Laptop}
 use Rattle.iot_exchange.specs.Scripts as exchange
 use Rattle.iot_exchange.specs.Scripts.{AreApart}
 use Rattle.iot_exchange.specs.declared.declared.DeclaredScript.{DeclaredScript}
-use Rattle.iot_world.specs.World.{StandsFor, Steps, ArePlaced, KeepsDisks, SameArms, DeclaresClient, Starts, AddsScript}
+use Rattle.iot_world.specs.World.{StandsFor, MakesStep, ArePlaced, KeepsDisks, SameArms, DeclaresClient, Starts, AddsScript}
 use Rattle.iot_world.specs.World.{LaptopHasDisk, client_count, script_names, said_of}
 use Rattle.std.specs.Prelude.{Vec, is_some, Result, Ok, Err, OnOk}
 use Rattle.std.specs.declared.alloc.Global.{Global}
@@ -114,7 +114,7 @@ module _ {D : Type 0} (medium : Medium D) (name : List ℕ) (old : World D) (cli
       }
 
     -- then it starts, or stops in that
-    pub declares : (x y : List ℕ) → Starts medium name was next x y → Steps medium (Declares name) old joined x y tt
+    pub declares : (x y : List ℕ) → Starts medium name was next x y → MakesStep medium (Declares name) old joined x y tt
     declares x y starts = record {
       step = λ m here.
           let c : ℕ = length m.clients in
@@ -171,7 +171,7 @@ module _ {D : Type 0} (medium : Medium D) where
   -- ---- a script
 
   pub declares_script : (name : List ℕ) (code : Code) (old new : World D) (x : List ℕ) → is_declared name (script_names old) ≡ false
-      → AddsScript name code old new → Steps medium (event_part (events.Script name code)) old new x x tt
+      → AddsScript name code old new → MakesStep medium (event_part (events.Script name code)) old new x x tt
   declares_script name code old new x none adds = record {
     step = λ m here. (
       [],

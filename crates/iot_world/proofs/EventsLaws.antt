@@ -10,7 +10,7 @@ use Rattle.iot_machine.specs.Events.{client_part, event_part}
 use Rattle.iot_machine.specs.Refining.{Refines}
 use Rattle.iot_machine.proofs.SoundLaws.{sound_event}
 use Rattle.iot_node.proofs.StepsLaws.{bind, asks}
-use Rattle.iot_world.specs.World.{Steps, EventSteps, IsWorldOfSome, scripts_of}
+use Rattle.iot_world.specs.World.{MakesStep, EventSteps, IsWorldOfSome, scripts_of}
 use Rattle.iot_world.specs.declared.world.World.{World}
 
 -- what follows from what is so if it was done
@@ -29,7 +29,7 @@ behind x y said wrote one = record {
 
 module _ {D : Type 0} {medium : Medium D} {old new : World D} {x y : List ℕ} where
   -- what the event does with the nodes, it does with the machine whose world this is
-  pub event_steps : (event : Event) → Steps medium (event_part event) old new x y tt → EventSteps medium event old new x y
+  pub event_steps : (event : Event) → MakesStep medium (event_part event) old new x y tt → EventSteps medium event old new x y
   event_steps event one = record {
     step = λ m here.
         let s = one.step m here.stands in
@@ -37,7 +37,7 @@ module _ {D : Type 0} {medium : Medium D} {old new : World D} {x y : List ℕ} w
   }
 
   -- an event of a client is one among the scripts of the machine
-  pub client_steps : (c : ℕ) (what : ClientEvent ℕ) → Steps medium (client_part (scripts_of old) c what) old new x y tt
+  pub client_steps : (c : ℕ) (what : ClientEvent ℕ) → MakesStep medium (client_part (scripts_of old) c what) old new x y tt
       → EventSteps medium (events.At c what) old new x y
   client_steps c what one =
       event_steps (events.At c what)

@@ -117,7 +117,8 @@ module _ {D : Type 0} (medium : Medium D) where
 
   -- ---- after a step
 
-  client_has : (scripts : List Declared) (laptop : Laptop D) (m : machine.Client) → ClientStands medium scripts laptop m → LaptopHasDisk laptop
+  client_has : (scripts : List Declared) (laptop : Laptop D) (m : machine.Client) → ClientStands medium scripts laptop m
+      → LaptopHasDisk laptop
   client_has scripts laptop m here = ap is_some (client_holds scripts laptop m here).is
 
   -- after a step that may have armed it the laptop has it, and if memory ran out it is as it was

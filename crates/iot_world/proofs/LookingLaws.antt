@@ -24,7 +24,7 @@ use Rattle.iot_laptop.specs.Laptops.{ClientStands}
 use Rattle.iot_laptop.specs.declared.laptop.Laptop.{Laptop}
 use Rattle.iot_laptop.proofs.NodesLaws.{same_name}
 use Rattle.iot_world.specs.Looks.{client_names}
-use Rattle.iot_world.specs.World.{StandsFor, IsWorldOfSome, Steps, LendsServer}
+use Rattle.iot_world.specs.World.{StandsFor, IsWorldOfSome, MakesStep, LendsServer}
 use Rattle.iot_world.specs.declared.world.World.{World}
 use Rattle.iot_world.proofs.ListLaws.{each_same_as}
 
@@ -74,7 +74,7 @@ module _ {D : Type 0} (medium : Medium D) where
   module _ (world : World D) (x y : List ℕ) where
     pub logs_up : (names : List (List ℕ)) (labels : List Label) (it : Server D) → names ≡ client_names world
         → labels ≡ (state_of it).labels → ((m : Machine) → StandsFor medium world m → IsServerOf it m.server m.requests)
-        → y ≡ x ++ log_text names labels → Steps medium Logs world world x y tt
+        → y ≡ x ++ log_text names labels → MakesStep medium Logs world world x y tt
     logs_up names labels it same are lent wrote =
         bind world world world x x y true tt (asks world x true (λ m here. sym (lent m here).alive))
         (says world x y

@@ -25,7 +25,7 @@ use Rattle.iot_laptop.specs.declared.laptop.Laptop.{Laptop}
 use Rattle.iot_exchange.specs.Pairs.{two, AnyStands, IsStandingWith}
 use Rattle.iot_exchange.specs.Scripts as exchange
 use Rattle.iot_exchange.specs.declared.declared.DeclaredScript.{DeclaredScript}
-use Rattle.iot_world.specs.World.{Each, ArePlaced, StandsFor, IsInside, Steps, scripts_of}
+use Rattle.iot_world.specs.World.{Each, ArePlaced, StandsFor, IsInside, MakesStep, scripts_of}
 use Rattle.iot_world.specs.declared.world.World.{World}
 use Rattle.iot_world.proofs.ListLaws.{each_get, each_set, each_length, each_place_set}
 use Rattle.std.proofs.Math.Seq.{map-set_same}
@@ -82,7 +82,7 @@ module _ {D : Type 0} (medium : Medium D) where
   at_part : {N A : Type 0} {call : Call N A} (part : Lens Machine N) (old new : World D) (x y : List ℕ) (a : A)
       → ((m : Machine) → StandsFor medium old m
       → (text : List ℕ) × (n : N) × (y ≡ x ++ text) × call (part.get m) text a n × StandsFor medium new (part.set n m))
-      → Steps medium (At part call) old new x y a
+      → MakesStep medium (At part call) old new x y a
   at_part part old new x y a one = record {
     step = λ m here. let s = one m here in (s.0, part.set s.1 m, s.2, record { inner = s.1; step = s.3; is = refl }, s.4);
   }
@@ -124,7 +124,7 @@ module _ {D : Type 0} (medium : Medium D) where
       -- what the two do is done at that place
       at_pair : {A : Type 0} {call : Call Pair A} {x y : List ℕ} {a : A}
           → ((names : List (List ℕ)) → StepsTo (AnyStands medium (scripts_of old) names c) (AnyStands medium (scripts_of old) names c) call
-          (two was old.server) (two laptop server_) x y a) → Steps medium (At (pair_at c) call) old now x y a
+          (two was old.server) (two laptop server_) x y a) → MakesStep medium (At (pair_at c) call) old now x y a
       at_pair {x = x} {y = y} {a = a} one = at_part (pair_at c) old now x y a (λ m here.
           let s = (one (names_in m)).step ((pair_at c).get m) (pair_here old m here c was get) in
           let is = subst (λ (ss : List Declared). ClientStands medium ss laptop s.1.client) (sym here.scripts) s.4.client.is in
@@ -135,7 +135,7 @@ module _ {D : Type 0} (medium : Medium D) where
           → ((names : List (List ℕ)) (place : ℕ)
           → StepsTo (AnyStands medium (exchange.scripts_of ss) names place) (AnyStands medium (exchange.scripts_of ss) names place)
           (IfUp (task_part (exchange.scripts_of ss) task)) (two was old.server) (two laptop server_) x y tt)
-          → Steps medium (client_part (scripts_of old) c (client_events.Task task)) old now x y tt
+          → MakesStep medium (client_part (scripts_of old) c (client_events.Task task)) old now x y tt
       at_task ss task x y same one = at_pair (λ names. rw same at (one names c))
 
   -- so is what the client does alone
@@ -143,7 +143,7 @@ module _ {D : Type 0} (medium : Medium D) where
       (x y : List ℕ) (a : A) → KeepsName call → slice_get old.clients.items c ≡ Some was
       → clients.items ≡ slice_set old.clients.items c laptop → laptop.place ≡ was.place
       → ((scripts : List Declared) → Refines (ClientStands medium scripts) call was laptop x y a)
-      → Steps medium (At (client_at c) call) old (record old { clients = clients }) x y a
+      → MakesStep medium (At (client_at c) call) old (record old { clients = clients }) x y a
   at_client old clients c was laptop x y a keeps get put same one = at_part (client_at c) old _ x y a (λ m here.
       let s = (one m.scripts).step (client_in m c) (client_here old m here c was get) in
       let named = (keeps (client_in m c).name).at (client_in m c) s.1 s.0 a refl s.3 in
@@ -161,7 +161,7 @@ module _ {D : Type 0} (medium : Medium D) where
     pub at_server : {A : Type 0} {call : Call (Node (List Commit)) A} (x y : List ℕ) (a : A)
         → ((names : List (List ℕ)) (n : ℕ)
         → StepsTo (HavingAnswered medium names n) (HavingAnswered medium names n) call old.server server_ x y a)
-        → Steps medium (At server call) old (record old { server = server_ }) x y a
+        → MakesStep medium (At server call) old (record old { server = server_ }) x y a
     at_server x y a one = at_part server old _ x y a (λ m here.
         let s = (one (names_in m) m.requests).step m.server here.server in
         (s.0, s.1, s.2, s.3, served m s.1 m.requests here s.4))
@@ -170,7 +170,7 @@ module _ {D : Type 0} (medium : Medium D) where
     pub restarts : (x y : List ℕ) → ((names : List (List ℕ)) (n : ℕ)
         → StepsTo (HavingAnswered medium names n) (HavingAnswered medium names (answered_since (is_up old.server) n))
         (Restarts server_name (kept_text names)) old.server server_ x y tt)
-        → Steps medium RestartsServer old (record old { server = server_ }) x y tt
+        → MakesStep medium RestartsServer old (record old { server = server_ }) x y tt
     restarts x y one = record {
       step = λ m here.
           let s = (one (names_in m) m.requests).step m.server here.server in

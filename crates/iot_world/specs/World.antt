@@ -103,9 +103,9 @@ pub record IsInside {D : Type 0} (medium : Medium D) (place : ℕ) (world : Worl
   pub inside : place < length world.clients.items
 
 -- a change of the world that wrote and answered is a step of the machine by this call
-abbrev pub Steps : {D A : Type 0} → Medium D → Call Machine A → (old new : World D)
+abbrev pub MakesStep : {D A : Type 0} → Medium D → Call Machine A → (old new : World D)
     → (before after : List ℕ) → A → Type 0
-Steps medium call old new before after a = Refines (StandsFor medium) call old new before after a
+MakesStep medium call old new before after a = Refines (StandsFor medium) call old new before after a
 
 -- an event is a step of the machine whose world it is
 abbrev pub EventSteps : {D : Type 0} → Medium D → Event → (old new : World D) → (before after : List ℕ) → Type 0

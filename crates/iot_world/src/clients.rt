@@ -20,8 +20,8 @@ use iot_text::{Name, NoMemory, Text};
 use std::alloc::Global;
 
 impl<D: Disk> World<D> {
-    ghost use Rattle.iot_world.specs.World.{StandsForSome, IsInside, Steps, SameDeclared, KeepsDisks, SameArms, DeclaresClient, AddsScript};
-    ghost use Rattle.iot_world.specs.World.{UnlessArmed, scripts_of, script_count, client_count};
+    ghost use Rattle.iot_world.specs.World.{StandsForSome, IsInside, MakesStep, SameDeclared, KeepsDisks, SameArms, DeclaresClient};
+    ghost use Rattle.iot_world.specs.World.{AddsScript, UnlessArmed, scripts_of, script_count, client_count};
     ghost use Rattle.iot_world.specs.Deciding.{DecidesAt};
 
     /// A client joins, and starts on the next disk.
@@ -34,7 +34,7 @@ impl<D: Disk> World<D> {
         requires stands { StandsForSome D.medium self.old }
         requires few { client_count self.old < 8 }
         ensures step { OnOk result
-            (Steps D.medium (Declares name.now) self.old self.new out.old out.new tt) }
+            (MakesStep D.medium (Declares name.now) self.old self.new out.old out.new tt) }
         ensures declared { OnOk result (DeclaresClient self.old self.new) }
         ensures disks { KeepsDisks self.old self.new }
         ensures arms { SameArms D.medium 1 self.old self.new }
@@ -75,7 +75,7 @@ impl<D: Disk> World<D> {
         requires inside { IsInside D.medium client self.old }
         requires may { MayBefall what.now (script_count self.old) }
         ensures step { OnOk result
-            (Steps D.medium (client_part (scripts_of self.old) client what.now) self.old self.new out.old out.new tt) }
+            (MakesStep D.medium (client_part (scripts_of self.old) client what.now) self.old self.new out.old out.new tt) }
         ensures decided { OnOk result (DecidesAt D.medium what.now client self.old out.old out.new) }
         ensures counts { SameDeclared self.old self.new }
         ensures disks { KeepsDisks self.old self.new }

@@ -17,12 +17,12 @@ use std::alloc::Global;
 
 impl<D: Disk> World<D> {
     ghost use Rattle.iot_world.specs.Looks.{client_names, HasTold};
-    ghost use Rattle.iot_world.specs.World.{StandsFor, StandsForSome, IsWorldOfSome, Steps};
+    ghost use Rattle.iot_world.specs.World.{StandsFor, StandsForSome, IsWorldOfSome, MakesStep};
 
     /// Says what was committed, unless the server is down.
     pub(crate) fn log(&self, alloc: Global, out: &mut Text) -> Result<(), NoMemory>
         requires sound { IsWorldOfSome D.medium self.now }
-        ensures { OnOk result (Steps D.medium Logs self.now self.now out.old out.new tt) }
+        ensures { OnOk result (MakesStep D.medium Logs self.now self.now out.old out.new tt) }
     {
         match self.server() {
             Some(server) => {

@@ -20,7 +20,7 @@ use iot_text::{NoMemory, Text};
 use std::alloc::Global;
 
 impl<D: Disk> World<D> {
-    ghost use Rattle.iot_world.specs.World.{StandsForSome, Steps, SameDeclared, KeepsDisks, SameArms};
+    ghost use Rattle.iot_world.specs.World.{StandsForSome, MakesStep, SameDeclared, KeepsDisks, SameArms};
 
     /// An event of the server.
     pub(crate) fn befall_server(
@@ -31,7 +31,7 @@ impl<D: Disk> World<D> {
     ) -> Result<(), NoMemory>
         requires { StandsForSome D.medium self.old }
         ensures step { OnOk result
-            (Steps D.medium (server_part what) self.old self.new out.old out.new tt) }
+            (MakesStep D.medium (server_part what) self.old self.new out.old out.new tt) }
         ensures decided { OnOk result (ServerDecides D.medium what self.old self.new out.old out.new) }
         ensures counts { SameDeclared self.old self.new }
         ensures disks { KeepsDisks self.old self.new }

@@ -1,7 +1,8 @@
 use Rattle.std.proofs.Common.{◌++◌, ap, sym, ◌∙◌}
 use Rattle.std.proofs.lemmas.Option.{same_Some}
 use Rattle.iot_laptop.specs.Calls.{done}
-use Rattle.iot_laptop.specs.Messages.{name_of, told_change}
+use Rattle.iot_node.specs.Lines.{name_of}
+use Rattle.iot_laptop.specs.Messages.{told_change}
 use Rattle.iot_exchange.specs.Pairs.{two}
 use Rattle.iot_exchange.specs.Saying.{told_text, told_synced}
 use Rattle.iot_node.specs.declared.halt.Halt.TheVariants.{NoMemory}
@@ -14,8 +15,8 @@ exchange-requires-clause-request g c =
     let hands = hands_in (two c.args.laptop.now c.args.server.now) c.args.submitted c.requires.head c.requires.hands in
     record { request = _; is = hands.asked }
 
-pub settle-requires : goal.settle-requires
-settle-requires g c =
+pub take_verdict-requires : goal.take_verdict-requires
+take_verdict-requires g c =
     let same = rw c.in-Some.is at c.in_ok-reply.ensures.same in
     let old = two c.args.laptop.now c.args.server.now in
     record {
@@ -28,29 +29,29 @@ settle-requires g c =
 
 pub returns-in_err-told-in-Some : goal.returns-in_err-told-in-Some
 returns-in_err-told-in-Some g c scripts =
-    let settles = rw (c.in_ok-reply.ensures.state, c.deref.ensures.value) at c.settle.ensures.does in
+    let settles = rw (c.in_ok-reply.ensures.state, c.deref.ensures.value) at c.take_verdict.ensures.does in
     let asked = rw c.in-Some.is at (c.in_ok-reply.ensures.asked scripts) in
     submits_told (two c.args.laptop.now c.args.server.now) c.args.submitted c.requires.head c.requires.hands
-    (keeps_more asked.disks c.settle.ensures.disk) asked (λ verdict option spells has.
+    (keeps_more asked.disks c.take_verdict.ensures.disk) asked (λ verdict option spells has.
     hands_on (ap done c.in_err-told-in-Some.was)
     (synced_err c.in_err-told-in-Some.field-0.0 _ c.from_residual-in_err-told-in-Some.ensures.1)
-    (notes (told_change verdict option) asked.disks c.settle.ensures.place
-    (settles verdict option spells has scripts) c.settle.ensures.disk))
+    (notes (told_change verdict option) asked.disks c.take_verdict.ensures.place
+    (settles verdict option spells has scripts) c.take_verdict.ensures.disk))
 
 pub returns-in-Some : goal.returns-in-Some
 returns-in-Some g c scripts =
-    let settles = rw (c.in_ok-reply.ensures.state, c.deref.ensures.value) at c.settle.ensures.does in
+    let settles = rw (c.in_ok-reply.ensures.state, c.deref.ensures.value) at c.take_verdict.ensures.does in
     let is_told = rw (rw c.in-Some.is at c.in_ok-reply.ensures.same, c.deref.ensures.value) at c.in_ok-told-in-Some.ensures.told in
     let asked = rw c.in-Some.is at (c.in_ok-reply.ensures.asked scripts) in
     submits_told (two c.args.laptop.now c.args.server.now) c.args.submitted c.requires.head c.requires.hands
-    (keeps_more asked.disks c.settle.ensures.disk) asked (λ verdict option spells has.
+    (keeps_more asked.disks c.take_verdict.ensures.disk) asked (λ verdict option spells has.
     let which = is_told.verdict verdict spells in
     let chosen = same_Some _ _ (sym is_told.option ∙ has) in
     rw (c.by.ensures ∙ (λ i. told_synced (which i) (chosen i))) (then_tells (ap done c.in_ok-told-in-Some.was)
-    (notes (told_change verdict option) asked.disks c.settle.ensures.place
-    (settles verdict option spells has scripts) c.settle.ensures.disk)
+    (notes (told_change verdict option) asked.disks c.take_verdict.ensures.place
+    (settles verdict option spells has scripts) c.take_verdict.ensures.disk)
     (λ names at pair here. c.in_ok-say_told-in-Some.ensures
-    ∙ (λ i. c.settle.new.out ++ told_text (name_of c.args.transaction.now) (which i) (chosen i)))))
+    ∙ (λ i. c.take_verdict.new.out ++ told_text (name_of c.args.transaction.now) (which i) (chosen i)))))
 
 pub returns : goal.returns
 returns g c scripts = submits_away (two c.args.laptop.now c.args.server.now) c.args.submitted c.requires.head c.requires.hands
@@ -59,7 +60,7 @@ returns g c scripts = submits_away (two c.args.laptop.now c.args.server.now) c.a
 pub returns-in_err-say_told-in-Some : goal.returns-in_err-say_told-in-Some
 returns-in_err-say_told-in-Some g c scripts =
     no_memory (synced_err NoMemory _ c.from_residual-in_err-say_told-in-Some.ensures.1)
-    (keeps_more (c.in_ok-reply.ensures.asked scripts).disks c.settle.ensures.disk)
+    (keeps_more (c.in_ok-reply.ensures.asked scripts).disks c.take_verdict.ensures.disk)
 
 pub returns-in_err-say-in-None : goal.returns-in_err-say-in-None
 returns-in_err-say-in-None g c scripts =

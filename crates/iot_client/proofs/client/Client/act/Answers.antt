@@ -5,7 +5,7 @@ use Rattle.iot_changes.specs.declared.changes.Change.TheVariants.{Acted}
 use Rattle.iot_kept.specs.Changes.{after}
 use Rattle.iot_kept.specs.States.{view}
 use Rattle.iot_kept.proofs.SyncedLaws.{synced_holds, synced_spelled}
-use Rattle.iot_client.specs.Messages.{IsRefresh}
+use Rattle.iot_wire.specs.Meanings.{IsRefresh}
 use Rattle.iot_client.specs.declared.interpreter.Decided.TheVariants.{Did, Missed}
 use Rattle.iot_client.specs.Ties.{state_of, bodies_on, disk_of, class_in, live}
 use Rattle.iot_client.specs.declared.fault.ClientFault.TheVariants.{Stopped}

@@ -1,11 +1,9 @@
-use Rattle.std.proofs.Common.{refl, ap, ◌∙◌, rules}
+use Rattle.std.proofs.Common.{ap, ◌∙◌, rules}
 use Rattle.std.proofs.lemmas.Result.{IfOk-at_ok}
-use Rattle.iot_client.specs.Calls.{EndsIfAny}
-use Rattle.iot_client.specs.Ties.{state_of, live_of}
 use Rattle.iot_laptop.specs.Laptops.{state_in, waits_of}
 use Rattle.iot_laptop.specs.declared.laptop.Laptop.{Laptop}
 use Rattle.iot_laptop.proofs.CallsLaws.{called}
-use Rattle.iot_laptop.proofs.CallsLaws.{ends, is_gone, is_done, waits_now}
+use Rattle.iot_laptop.proofs.CallsLaws.{ends, is_done, waits_now}
 use Rattle.iot_laptop.proofs.laptop.Laptop.end.Goals as goal
 
 pub returns-in-Ok-clause-does : goal.returns-in-Ok-clause-does
@@ -15,15 +13,6 @@ returns-in-Ok-clause-does g c =
 pub returns-in-Err-clause-does : goal.returns-in-Err-clause-does
 returns-in-Err-clause-does g c =
     rw c.in-Err.is at (ends (called c.in-Up.is c.goes_on.ensures.goes (search rules)) c.requires.over (search rules))
-
-pub returns-in-Ok-clause-gone : goal.returns-in-Ok-clause-gone
-returns-in-Ok-clause-gone g c =
-    is_gone c.in-Up.is c.in-Ok.ended _
-    (c.transaction.ensures
-    ∙ ap (λ (l : Laptop g.row.D.Denot). record { client = l.name; number = c.in-Ok.ended.tid }) c.goes_on.ensures.goes.rest)
-    refl c.in_ok-output.ensures
-    (IfOk-at_ok (EndsIfAny (state_of c.in-Up.seated.client) (state_of c.in-Up.seated.client).running (live_of c.in-Up.seated.client))
-    (IfOk-at_ok _ c.in-Ok.is c.goes_on.ensures.goes.answers) c.end-answer.ensures.ends)
 
 pub returns-in-Ok-clause-waits : goal.returns-in-Ok-clause-waits
 returns-in-Ok-clause-waits g c =

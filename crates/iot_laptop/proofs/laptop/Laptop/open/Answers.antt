@@ -1,9 +1,6 @@
 use Rattle.iot_machine.specs.Events.{no_text}
-use Rattle.iot_laptop.proofs.RestartLaws.{if_two, opens, opens_ready, opens_standing, live_fresh}
+use Rattle.iot_laptop.proofs.RestartLaws.{if_two, opens, opens_standing, live_fresh}
 use Rattle.iot_laptop.proofs.laptop.Laptop.open.Goals as goal
-
-pub open-requires-clause-ready : goal.open-requires-clause-ready
-open-requires-clause-ready g c = opens_ready g.D.Disk.medium c.args.self.now c.requires
 
 pub open-requires-clause-stands : goal.open-requires-clause-stands
 open-requires-clause-stands g c = opens_standing g.D.Disk.medium c.args.self.now c.requires

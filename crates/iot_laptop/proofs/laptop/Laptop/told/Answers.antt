@@ -5,7 +5,7 @@ use Rattle.iot_acts.specs.Turns.{reads_of}
 use Rattle.iot_kept.specs.States.{State}
 use Rattle.iot_queue.specs.Queues.{head_of}
 use Rattle.iot_laptop.specs.Calls.{head_reads}
-use Rattle.iot_laptop.specs.Messages.{SpellsVerdict}
+use Rattle.iot_judging.specs.Verdicts.{SpellsVerdict}
 use Rattle.iot_laptop.specs.Laptops.{state_in}
 use Rattle.iot_laptop.proofs.RepliesLaws.{reads_by, option_by}
 use Rattle.iot_laptop.proofs.laptop.Laptop.told.Goals as goal

@@ -5,12 +5,12 @@ use Rattle.iot_node.proofs.post.Post.come_back.Goals as goal
 
 pub returns-in_err-say_back-in-Ok-clause-lasts : goal.returns-in_err-say_back-in-Ok-clause-lasts
 returns-in_err-say_back-in-Ok-clause-lasts g c says node here =
-    rw c.settle.ensures (lasts_up (g.K.Keeper.keeping c.args.place) g.D.Disk.medium says c.restart.new.self node
+    rw c.turn_to.ensures (lasts_up (g.K.Keeper.keeping c.args.place) g.D.Disk.medium says c.restart.new.self node
     (sym c.replace.ensures.value ∙ c.in-Down.is) here c.restart.ensures.image c.in-Ok.ensures.comes)
 
 pub returns-in_ok-say_back-in-Ok-clause-lasts : goal.returns-in_ok-say_back-in-Ok-clause-lasts
 returns-in_ok-say_back-in-Ok-clause-lasts g c says node here =
-    rw c.settle.ensures (lasts_up (g.K.Keeper.keeping c.args.place) g.D.Disk.medium says c.restart.new.self node
+    rw c.turn_to.ensures (lasts_up (g.K.Keeper.keeping c.args.place) g.D.Disk.medium says c.restart.new.self node
     (sym c.replace.ensures.value ∙ c.in-Down.is) here c.restart.ensures.image c.in-Ok.ensures.comes)
 
 pub returns-in_ok-say_back-in-Ok-clause-came : goal.returns-in_ok-say_back-in-Ok-clause-came
@@ -22,13 +22,13 @@ returns-in_ok-say_back-in-Ok-clause-came g c says node here =
 pub returns-in_ok-say_back-in-Ok-clause-step : goal.returns-in_ok-say_back-in-Ok-clause-step
 returns-in_ok-say_back-in-Ok-clause-step g c says =
     let same = same_counts g.D.Disk.medium c.in-Down.field-0.disk c.restart.new.self c.restart.ensures.faults c.restart.ensures.arms in
-    rw (sym c.replace.ensures.value ∙ c.in-Down.is, c.settle.ensures) (post_back (g.K.Keeper.keeping c.args.place) g.D.Disk.medium says
+    rw (sym c.replace.ensures.value ∙ c.in-Down.is, c.turn_to.ensures) (post_back (g.K.Keeper.keeping c.args.place) g.D.Disk.medium says
     c.args.name.now c.restart.ensures.image same c.in-Ok.ensures.comes (c.records-number.ensures c.args.place)
     c.in_ok-say_back-in-Ok.ensures)
 
 pub returns-in_ok-say_refused-in-Err-clause-step : goal.returns-in_ok-say_refused-in-Err-clause-step
 returns-in_ok-say_refused-in-Err-clause-step g c says =
-    rw c.settle-in-Err.ensures (post_stops_again (g.K.Keeper.keeping c.args.place) g.D.Disk.medium says (ComesBack c.args.name.now says)
+    rw c.turn_to-in-Err.ensures (post_stops_again (g.K.Keeper.keeping c.args.place) g.D.Disk.medium says (ComesBack c.args.name.now says)
     c.args.name.now (sym c.replace.ensures.value ∙ c.in-Down.is) c.requires.stands c.restart.ensures.image
     (same_counts g.D.Disk.medium c.in-Down.field-0.disk c.restart.new.self c.restart.ensures.faults c.restart.ensures.arms)
     c.in-Err.ensures.fails c.in_ok-say_refused-in-Err.ensures.stopped (λ node n is. inr (refl, refl, is))

@@ -1,8 +1,8 @@
-use Rattle.std.proofs.Common.{true, false, refl, sym, ◌∙◌}
+use Rattle.std.proofs.Common.{false, refl, sym, ◌∙◌}
 use Rattle.iot_machine.specs.Serving.{kept_text}
-use Rattle.iot_server_node.proofs.DecidingLaws.{decides, decides_up}
+use Rattle.iot_server_node.proofs.DecidingLaws.{decides}
 use Rattle.iot_server_node.proofs.ServersLaws.{lasts, restarts, with_known, known_comes_back, answered_fresh}
-use Rattle.iot_node.proofs.StepsToLaws.{bind, says_this, nothing}
+use Rattle.iot_node.proofs.StepsToLaws.{bind, nothing}
 use Rattle.iot_server_node.proofs.BeginningLaws.{commits_last, commits_same}
 use Rattle.iot_server_node.proofs.server.ServerNode.restart.Goals as goal
 
@@ -14,11 +14,6 @@ pub returns-then-is_up-clause-lasts : goal.returns-then-is_up-clause-lasts
 returns-then-is_up-clause-lasts g c names n node here =
     lasts g.D.Disk.medium names c.args.self.now node n here
 
-pub returns-then-is_up-clause-step : goal.returns-then-is_up-clause-step
-returns-then-is_up-clause-step g c names n =
-    restarts g.D.Disk.medium names c.args.self.now c.args.self.now n _ _ true (sym c.is_up.ensures ∙ c.if-is_up.true)
-    (says_this _ _ _ _ c.in_ok-say.ensures)
-
 pub returns-clause-step : goal.returns-clause-step
 returns-clause-step g c names n =
     restarts g.D.Disk.medium names c.args.self.now (record { post = c.come_back.new.self }) n _ _ false
@@ -28,10 +23,6 @@ returns-clause-step g c names n =
     (known_comes_back names c.in_ok-come_back.field-0)
     (λ had. answered_fresh c.come_back.new.self c.in_ok-come_back.field-0 c.in_ok-come_back.ensures.live))
     (nothing _ _))
-
-pub returns-then-is_up-clause-decided : goal.returns-then-is_up-clause-decided
-returns-then-is_up-clause-decided g c =
-    decides_up g.D.Disk.medium c.args.self.now.post c.args.out.now c.say.new.out (sym c.is_up.ensures ∙ c.if-is_up.true)
 
 pub returns-clause-decided : goal.returns-clause-decided
 returns-clause-decided g c =

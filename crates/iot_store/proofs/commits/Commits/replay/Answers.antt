@@ -23,7 +23,8 @@ returns c =
     let label = c.args.label in
     let acts = c.args.acts.now in
     let before = c.self.inside in
-    let made = subst (λ b. MakesAllIf b acts c.next_stamp-stamp.result before.tree c.replay_all.new.tree) c.if-not-branch.false c.in_ok-replay_all.ensures in
+    let made = subst (λ b. MakesAllIf b acts c.next_stamp-stamp.result before.tree c.replay_all.new.tree)
+    c.if-not-branch.false c.in_ok-replay_all.ensures in
     let listed = c.in_ok-list.ensures in
     let number : c.next_stamp-stamp.result ≡ next_stamp (length before.labels) =
     c.next_stamp-stamp.ensures ∙ ap (λ (s : State). next_stamp (length s.labels)) (sym c.self.view_is) in
