@@ -8,8 +8,8 @@ use Rattle.std.proofs.lemmas.List.Sums.{length-filter}
 use Rattle.iot_lines.specs.Lines.{lines}
 use Rattle.iot_lines.proofs.LinesLaws.{lines-append}
 use Rattle.iot_app.specs.Counting.{plus, EndsLine, IsWhole, HasCounted}
-use Rattle.iot_app.specs.Summary.{count_lines, counts_of}
-use Rattle.iot_app.specs.declared.counts.Counts.{Counts}
+use Rattle.iot_app.specs.Summary.{count_lines, tally_of}
+use Rattle.iot_app.specs.declared.tally.Tally.{Tally}
 
 count_by-append : (p : List ℕ → Bool) (xs ys : List (List ℕ)) → count_by p (xs ++ ys) ≡ count_by p xs + count_by p ys
 count_by-append p xs ys =
@@ -37,7 +37,7 @@ count_apart front done rest whole =
     ap (count_by (λ l. starts_with nat_eq l front)) (lines_apart done rest whole)
     ∙ count_by-append (λ l. starts_with nat_eq l front) (lines done) (lines rest)
 
-counts_apart : (done rest : List ℕ) → IsWhole done → counts_of (done ++ rest) ≡ plus (counts_of done) (counts_of rest)
+counts_apart : (done rest : List ℕ) → IsWhole done → tally_of (done ++ rest) ≡ plus (tally_of done) (tally_of rest)
 counts_apart done rest whole = λ i. record {
   commits = count_apart (codes "commit ") done rest whole i;
   conflicts = count_apart (codes "conflict ") done rest whole i;
@@ -45,11 +45,11 @@ counts_apart done rest whole = λ i. record {
 }
 
 -- nothing is counted yet
-pub none_counted : (counts : Counts) (text : List ℕ) → counts ≡ counts_of [] → HasCounted counts text text
+pub none_counted : (counts : Tally) (text : List ℕ) → counts ≡ tally_of [] → HasCounted counts text text
 none_counted counts text is = record { done = []; split = refl; lines = inl refl; counted = is }
 
 -- more is said
-pub more_said : (counts : Counts) (before after transcript says : List ℕ) → after ≡ before ++ says → HasCounted counts before transcript
+pub more_said : (counts : Tally) (before after transcript says : List ℕ) → after ≡ before ++ says → HasCounted counts before transcript
     → HasCounted counts after (transcript ++ says)
 more_said counts before after transcript says is had = record {
   done = had.done;
@@ -61,10 +61,10 @@ more_said counts before after transcript says is had = record {
 }
 
 -- and counted
-module _ (old new : Counts) (text transcript : List ℕ) (added : new ≡ plus old (counts_of text))
+module _ (old new : Tally) (text transcript : List ℕ) (added : new ≡ plus old (tally_of text))
     (had : HasCounted old text transcript) where
-  all : new ≡ counts_of (had.done ++ text)
-  all = added ∙ ap (λ (c : Counts). plus c (counts_of text)) had.counted ∙ sym (counts_apart had.done text had.lines)
+  all : new ≡ tally_of (had.done ++ text)
+  all = added ∙ ap (λ (c : Tally). plus c (tally_of text)) had.counted ∙ sym (counts_apart had.done text had.lines)
 
   pub then_counted : EndsLine text → HasCounted new [] transcript
   then_counted ends = record {
@@ -77,5 +77,5 @@ module _ (old new : Counts) (text transcript : List ℕ) (added : new ≡ plus o
     counted = all;
   }
 
-  pub all_counted : new ≡ counts_of transcript
-  all_counted = all ∙ ap counts_of (sym had.split)
+  pub all_counted : new ≡ tally_of transcript
+  all_counted = all ∙ ap tally_of (sym had.split)

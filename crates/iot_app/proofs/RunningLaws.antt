@@ -9,7 +9,7 @@ use Rattle.iot_disk.specs.declared.disk.DiskFault.{DiskFault}
 use Rattle.iot_disk.specs.declared.disk.DiskFault.TheVariants as reading
 use Rattle.iot_event.specs.declared.event.Event.{Event}
 use Rattle.iot_machine.specs.Machine.{Machine, Commit, first_of}
-use Rattle.iot_machine.specs.Nodes.{Counts as DiskCounts}
+use Rattle.iot_machine.specs.Nodes.{Counts}
 use Rattle.iot_machine.specs.Transcript.{Transcript}
 use Rattle.iot_words.specs.declared.jobs.Job.{Job}
 use Rattle.iot_words.specs.declared.jobs.Job.TheVariants.{Transcript as Plays, Json, Generate, Save}
@@ -28,8 +28,8 @@ use Rattle.iot_app.specs.Outputs.{output_of}
 use Rattle.iot_app.specs.Played.{RanAll, Reported, DidFirst, WroteFront, Played}
 use Rattle.iot_app.specs.Running.{told_of, tells, RanIn, StaysIn, IsTold}
 use Rattle.iot_app.specs.Saving.{first_reads}
-use Rattle.iot_app.specs.Summary.{counts_of}
-use Rattle.iot_app.specs.declared.counts.Counts.{Counts}
+use Rattle.iot_app.specs.Summary.{tally_of}
+use Rattle.iot_app.specs.declared.tally.Tally.{Tally}
 use Rattle.iot_app.specs.declared.status.Status.{Status}
 use Rattle.iot_app.specs.declared.status.Status.TheVariants as statuses
 use Rattle.iot_app.proofs.EndingsLaws.{by_text}
@@ -37,7 +37,7 @@ use Rattle.iot_app.proofs.PlayedLaws.{PlaysOn, whole_transcript, stays_as, all_s
 
 -- ---- runs in other words
 
-module _ (handed : List DiskCounts) (one : Machine → Type 0) (events : List Event) (ran : RanAll handed one events) where
+module _ (handed : List Counts) (one : Machine → Type 0) (events : List Event) (ran : RanAll handed one events) where
   pub ran_as : (other : Machine → Type 0) → ((m : Machine) → one m → other m) → RanAll handed other events
   ran_as other means = record { text = ran.text; machine = ran.machine; transcript = ran.transcript; kept = means ran.machine ran.kept }
 
@@ -71,7 +71,7 @@ module _ {T E : Type 0} (result : Result T E) where
       any (Err e) = so
 
 -- what is told of a run, if the disks hold it in other words
-pub told_as : {E : Type 0} (handed : List DiskCounts) (told : Result (List ℕ) E) (says : List ℕ → Machine → List ℕ)
+pub told_as : {E : Type 0} (handed : List Counts) (told : Result (List ℕ) E) (says : List ℕ → Machine → List ℕ)
     (one other : Machine → Type 0) (events : List Event) → ((m : Machine) → one m → other m)
     → IfOk told (λ text. Reported handed (λ said. text ≡ said) one says events)
     → IfOk told (λ text. Reported handed (λ said. text ≡ said) other says events)
@@ -86,11 +86,11 @@ failed_as (Err fault) one other means did = means did
 
 -- ---- a run in a world
 
-module _ {D : Type 0} (medium : Medium D) (handed : List DiskCounts) (events : List Event) (w : World D) where
+module _ {D : Type 0} (medium : Medium D) (handed : List Counts) (events : List Event) (w : World D) where
   -- all are done and counted
-  pub ran_in : (counts last : Counts) (rest : List ℕ) (done : ℕ)
+  pub ran_in : (counts last : Tally) (rest : List ℕ) (done : ℕ)
       → PlaysOn medium handed (HasCounted counts rest) events w done → length events ≤ done
-      → ((transcript : List ℕ) → HasCounted counts rest transcript → last ≡ counts_of transcript)
+      → ((transcript : List ℕ) → HasCounted counts rest transcript → last ≡ tally_of transcript)
       → RanIn medium handed events last w
   ran_in counts last rest done plays whole counted = record {
     text = plays.text;
@@ -100,7 +100,7 @@ module _ {D : Type 0} (medium : Medium D) (handed : List DiskCounts) (events : L
     stands = plays.stands;
   }
 
-  module _ (counts : Counts) (ran : RanIn medium handed events counts w) where
+  module _ (counts : Tally) (ran : RanIn medium handed events counts w) where
     pub ran_some : IsWorldOfSome medium w
     ran_some = record { machine = ran.machine; stands = ran.stands }
 
@@ -111,7 +111,7 @@ module _ {D : Type 0} (medium : Medium D) (handed : List DiskCounts) (events : L
       ran = record { text = ran.text; machine = ran.machine; transcript = ran.transcript; kept = ran.stands.stands };
       written =
           told ran.machine ran.stands.stands
-          ∙ ap (λ (c : Counts). told_of job c ran.machine) ran.counted;
+          ∙ ap (λ (c : Tally). told_of job c ran.machine) ran.counted;
     }
 
     -- memory ran out when that was to be said
@@ -123,7 +123,7 @@ module _ {D : Type 0} (medium : Medium D) (handed : List DiskCounts) (events : L
 
 -- ---- writing it
 
-module _ (handed : List DiskCounts) (wrote : List ℕ → Type 0) (holds : Machine → Type 0) (stays : List Event → Machine → Type 0)
+module _ (handed : List Counts) (wrote : List ℕ → Type 0) (holds : Machine → Type 0) (stays : List Event → Machine → Type 0)
     (unread : Machine → Type 0) (disk : List ℕ) (events : List Event) where
   abbrev Does : Job → Status → Type 0
   Does job status = Did handed wrote holds stays unread disk job status events
@@ -244,8 +244,8 @@ module _ {D : Type 0} (medium : Medium D) (handed old : List D) (was now : D) (h
     first = now;
     rest = held.clients ++ held.spare;
     is = changed;
-    rose = subst (λ (c : DiskCounts). Rose c.faults (counts_on medium now).faults) first_counted rose;
-    arms = arms ∙ ap (λ (c : DiskCounts). c.arms) first_counted;
+    rose = subst (λ (c : Counts). Rose c.faults (counts_on medium now).faults) first_counted rose;
+    arms = arms ∙ ap (λ (c : Counts). c.arms) first_counted;
     counted = rest_counted;
   }
 

@@ -4,7 +4,7 @@ use Rattle.iot_event.specs.declared.event.Event.{Event}
 use Rattle.iot_machine.specs.Json.{json_text, row_count}
 use Rattle.iot_disk.specs.Disk.{Medium}
 use Rattle.iot_machine.specs.Machine.{Machine, handed as before_all}
-use Rattle.iot_machine.specs.Nodes.{Counts as DiskCounts}
+use Rattle.iot_machine.specs.Nodes.{Counts}
 use Rattle.iot_machine.specs.Texts.{line}
 use Rattle.iot_machine.specs.Transcript.{Opening, Transcript}
 use Rattle.iot_words.specs.declared.jobs.Job.{Job}
@@ -14,11 +14,11 @@ use Rattle.iot_world.specs.Holding.{counts_in}
 use Rattle.iot_world.specs.World.{Each, IsWorldOf, client_count, script_names, disks_of}
 use Rattle.iot_world.specs.declared.world.World.{World}
 use Rattle.iot_app.specs.Keeping.{CountsSince, joined_next}
-use Rattle.iot_app.specs.Summary.{counts_of, summary_text}
-use Rattle.iot_app.specs.declared.counts.Counts.{Counts}
+use Rattle.iot_app.specs.Summary.{tally_of, summary_text}
+use Rattle.iot_app.specs.declared.tally.Tally.{Tally}
 
 -- what a job has to say, by the counts of the transcript and the last state; a transcript and a disk are written otherwise
-abbrev pub told_of : Job → Counts → Machine → List ℕ
+abbrev pub told_of : Job → Tally → Machine → List ℕ
 told_of plays counts m = []
 told_of Json counts m = line (json_text m)
 told_of (Generate n) counts m = summary_text counts (row_count m)
@@ -26,15 +26,15 @@ told_of Save counts m = []
 
 -- the same by the transcript
 abbrev pub tells : Job → (transcript : List ℕ) → Machine → List ℕ
-tells job transcript m = told_of job (counts_of transcript) m
+tells job transcript m = told_of job (tally_of transcript) m
 
 -- all events were done: these are the counts of their transcript, and this is the world of the machine at its end
-pub record RanIn {D : Type 0} (medium : Medium D) (handed : List DiskCounts) (events : List Event) (counts : Counts) (world : World D)
+pub record RanIn {D : Type 0} (medium : Medium D) (handed : List Counts) (events : List Event) (counts : Tally) (world : World D)
     : Type 0 where
   pub text : List ℕ
   pub machine : Machine
   pub transcript : Transcript handed events text machine
-  pub counted : counts ≡ counts_of text
+  pub counted : counts ≡ tally_of text
   pub stands : IsWorldOf medium world machine
 
 -- the job has something to say after all events
@@ -44,7 +44,7 @@ IsTold (Generate n) = Unit {0}
 IsTold other = ⊥
 
 -- a new world, of a machine that has opened over what these disks counted, with this text
-pub record IsOpened {D : Type 0} (medium : Medium D) (handed : List DiskCounts) (text : List ℕ) (world : World D) : Type 0 where
+pub record IsOpened {D : Type 0} (medium : Medium D) (handed : List Counts) (text : List ℕ) (world : World D) : Type 0 where
   pub machine : Machine
   pub step : Opening (before_all handed) text tt machine
   pub stands : IsWorldOf medium world machine
@@ -53,7 +53,7 @@ pub record IsOpened {D : Type 0} (medium : Medium D) (handed : List DiskCounts) 
 
 -- the same over some disks
 pub record IsOpenedSome {D : Type 0} (medium : Medium D) (text : List ℕ) (world : World D) : Type 0 where
-  pub handed : List DiskCounts
+  pub handed : List Counts
   pub is : IsOpened medium handed text world
 
 -- Memory ran out in this world, and these events were not done, or the first of them in part: no disk was armed but by those that were

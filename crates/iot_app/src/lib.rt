@@ -2,7 +2,6 @@
 //! the job asks for is written.
 #![tactic(auto)]
 
-mod counts;
 mod disks;
 mod doing;
 mod events;
@@ -14,6 +13,7 @@ mod running;
 mod saving;
 mod status;
 mod summary;
+mod tally;
 mod writing;
 
 pub use disks::empty_disks;

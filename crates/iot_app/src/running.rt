@@ -6,13 +6,13 @@ ghost use Rattle.iot_machine.specs.Machine.{Machine};
 ghost use Rattle.iot_machine.specs.Texts.{line};
 ghost use Rattle.iot_world.specs.Disks.{AreFresh, counts_on};
 ghost use Rattle.iot_app.specs.Keeping.{DisksKeep, DisksStay};
-ghost use Rattle.iot_machine.specs.Nodes.{Counts as DiskCounts};
+ghost use Rattle.iot_machine.specs.Nodes.{Counts};
 ghost use Rattle.iot_world.specs.World.{StandsFor, IsWorldOfSome, KeepsDisks};
 ghost use Rattle.iot_app.specs.Played.{Reported, DidFirst};
 ghost use Rattle.iot_app.specs.Running.{RanIn, IsOpened, IsOpenedSome, StaysIn, told_of, tells};
 
-use crate::counts::Counts;
 use crate::summary::sum_up;
+use crate::tally::Tally;
 use iot_disk::Disk;
 use iot_event::Event;
 use iot_text::{NoMemory, Text};
@@ -56,10 +56,10 @@ fn run_in<D: Disk>(
 ) -> Result<Text, NoMemory>
     requires declared { AreDeclared events.now 0 [] }
     requires opened { IsOpenedSome D.medium opening world.old }
-    ensures told { IfOk result (λ text. (handed : List DiskCounts)
+    ensures told { IfOk result (λ text. (handed : List Counts)
         → IsOpened D.medium handed opening world.old
         → Reported handed (λ told. text ≡ told) (StandsFor D.medium world.new) (tells job) events.now) }
-    ensures failed { IfErr result (λ _. (handed : List DiskCounts)
+    ensures failed { IfErr result (λ _. (handed : List Counts)
         → IsOpened D.medium handed opening world.old
         → DidFirst handed (StaysIn D.medium world.new) events.now) }
     ensures disks { KeepsDisks world.old world.new }
@@ -74,18 +74,18 @@ fn do_all<D: Disk>(
     opening: Text,
     events: &[Event],
     world: &mut World<D>,
-) -> Result<Counts, NoMemory>
+) -> Result<Tally, NoMemory>
     requires declared { AreDeclared events.now 0 [] }
     requires opened { IsOpenedSome D.medium opening world.old }
-    ensures ran { IfOk result (λ counts. (handed : List DiskCounts)
+    ensures ran { IfOk result (λ counts. (handed : List Counts)
         → IsOpened D.medium handed opening world.old
         → RanIn D.medium handed events.now counts world.new) }
-    ensures failed { IfErr result (λ _. (handed : List DiskCounts)
+    ensures failed { IfErr result (λ _. (handed : List Counts)
         → IsOpened D.medium handed opening world.old
         → DidFirst handed (StaysIn D.medium world.new) events.now) }
     ensures disks { KeepsDisks world.old world.new }
 {
-    let mut counts = Counts::new();
+    let mut counts = Tally::new();
     let mut text = opening;
     'events: for event in events {
         world.apply(alloc, event, &mut text)?;
@@ -98,7 +98,7 @@ fn do_all<D: Disk>(
 fn tell<D: Disk>(
     alloc: Global,
     job: Job,
-    counts: &Counts,
+    counts: &Tally,
     world: &World<D>,
 ) -> Result<Text, NoMemory>
     requires { IsWorldOfSome D.medium world.now }

@@ -2,7 +2,7 @@
 ghost use Rattle.std.specs.Prelude.{◌≡◌, ◌++◌, IfOk, OnOk};
 ghost use Rattle.iot_app.specs.Summary.{counted_line, summary_text};
 
-use crate::counts::Counts;
+use crate::tally::Tally;
 use iot_text::{NoMemory, Text};
 use std::alloc::Global;
 
@@ -17,7 +17,7 @@ fn put_count(what: &[u8], count: u64, out: &mut Text) -> Result<(), NoMemory>
 }
 
 /// What was counted in a transcript, and how many rows the server's tree has.
-pub(crate) fn sum_up(alloc: Global, counts: &Counts, rows: u64) -> Result<Text, NoMemory>
+pub(crate) fn sum_up(alloc: Global, counts: &Tally, rows: u64) -> Result<Text, NoMemory>
     ensures { IfOk result (λ text. text ≡ summary_text counts.now rows) }
 {
     let mut out = Text::new(alloc);

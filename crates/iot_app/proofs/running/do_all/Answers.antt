@@ -1,7 +1,7 @@
 use Rattle.std.proofs.Common.{◌≡◌, ℕ, ◌+◌, List, ◌++◌, subst, arith}
 use Rattle.std.proofs.lemmas.Result.{IfOk-weaker}
 use Rattle.iot_app.specs.Counting.{plus, HasCounted}
-use Rattle.iot_app.specs.Summary.{counts_of}
+use Rattle.iot_app.specs.Summary.{tally_of}
 use Rattle.iot_app.proofs.CountingLaws.{none_counted, more_said, all_counted}
 use Rattle.iot_app.proofs.PlayedLaws.{plays_none, plays_more, plays_failed, plays_ended, plays_some, next_allowed, keeps_same, keeps_then}
 use Rattle.iot_app.proofs.RunningLaws.{ran_in, any_err}
@@ -52,7 +52,7 @@ returns-clause-ran g c =
     c.events.event-index (c.events.invariant.plays handed is) (omega (arith, c.events-test.false))
     (λ transcript had.
     all_counted c.events.counts last c.events.text transcript
-    (subst (λ (t : List ℕ). last ≡ plus c.events.counts (counts_of t)) c.as_bytes.ensures sum) had))
+    (subst (λ (t : List ℕ). last ≡ plus c.events.counts (tally_of t)) c.as_bytes.ensures sum) had))
     c.with_text.ensures
 
 pub returns-clause-failed : goal.returns-clause-failed

@@ -1,14 +1,14 @@
 //! What is counted in a transcript.
 ghost use Rattle.std.specs.Prelude.{◌≡◌, ◌+◌, [], true, IfOk, OnOk};
 ghost use Rattle.iot_app.specs.Counting.{plus, Carries, EndsLine};
-ghost use Rattle.iot_app.specs.Summary.{count_lines, counts_of};
+ghost use Rattle.iot_app.specs.Summary.{count_lines, tally_of};
 
 use iot_lines::split_lines;
 use iot_text::{NoMemory, Text};
 
 /// How many lines of a transcript say that there was a commit, that there was a conflict, and that a transaction waits.
 #[derive(Clone, Copy)]
-pub(crate) struct Counts {
+pub(crate) struct Tally {
     pub(crate) commits: u64,
     pub(crate) conflicts: u64,
     pub(crate) pending: u64,
@@ -41,12 +41,12 @@ fn total(count: u64, more: u64) -> Result<u64, NoMemory>
     count.checked_add(more).ok_or(NoMemory)
 }
 
-impl Counts {
+impl Tally {
     /// Those of an empty transcript.
-    pub(crate) fn new() -> Counts
-        ensures { result ≡ counts_of [] }
+    pub(crate) fn new() -> Tally
+        ensures { result ≡ tally_of [] }
     {
-        Counts {
+        Tally {
             commits: 0,
             conflicts: 0,
             pending: 0,
@@ -54,17 +54,17 @@ impl Counts {
     }
 
     /// With the lines of one more text.
-    pub(crate) fn with_text(&self, text: &[u8]) -> Result<Counts, NoMemory>
-        ensures { IfOk result (λ counts. counts ≡ plus self.now (counts_of text.now)) }
+    pub(crate) fn with_text(&self, text: &[u8]) -> Result<Tally, NoMemory>
+        ensures { IfOk result (λ counts. counts ≡ plus self.now (tally_of text.now)) }
     {
-        Ok(Counts {
+        Ok(Tally {
             commits: total(self.commits, count_lines(b"commit ", text))?,
             conflicts: total(self.conflicts, count_lines(b"conflict ", text))?,
             pending: total(self.pending, count_lines(b"pending ", text))?,
         })
     }
 
-    /// Counts what was said, and forgets it. What does not end a line is kept for later; no event says such a text.
+    /// Tally what was said, and forgets it. What does not end a line is kept for later; no event says such a text.
     pub(crate) fn take_lines(&mut self, text: &mut Text) -> Result<(), NoMemory>
         ensures { OnOk result (Carries self.old text.old self.new text.new) }
     {

@@ -1,7 +1,7 @@
 use Rattle.std.proofs.Common.{◌≡◌, ◌+◌, ◌≤◌, length, nat_eq, count_by}
 use Rattle.std.specs.List.{starts_with}
 use Rattle.iot_app.specs.Summary.{count_lines}
-use Rattle.iot_app.proofs.counts.count_lines.Given as goal
+use Rattle.iot_app.proofs.tally.count_lines.Given as goal
 
 -- the lines so far have been counted, and the iterator has the other ones
 abbrev pub invariant-lines : goal.invariant-lines
