@@ -23,12 +23,13 @@ use Rattle.iot_tree.specs.declared.labels.OnConflict.TheVariants.{Reexec, Resolv
 use Rattle.iot_tree.specs.declared.labels.Way.{Way}
 use Rattle.iot_tree.specs.declared.labels.Way.TheVariants.{Certified, Reexecuted, Resolved}
 use Rattle.iot_tree.specs.declared.limits.TheConstants.{ACT_LIMIT, CONTENTS_LIMIT}
+use Rattle.iot_tree.specs.declared.changes.Changes.{Changes}
 use Rattle.iot_tree.specs.declared.nodes.Node.{Node}
 use Rattle.iot_tree.specs.declared.nodes.Node.TheVariants.{Dir, File, FarDir, FarFile}
 use Rattle.iot_tree.specs.declared.want.Want.{Want}
 use Rattle.iot_tree.specs.declared.want.Want.TheVariants as wants
 use Rattle.iot_tree.specs.Rows.{map_of}
-use Rattle.iot_tree.specs.Tree.{Nodes, Row}
+use Rattle.iot_tree.specs.Tree.{Nodes, Path, Row}
 use Rattle.iot_codec.specs.Decoders.{Decoder, ◌>>=◌, done, tested, bytes_at, number_at, at_most, items_at, list_at, tagged, optional_at}
 use Rattle.iot_codec.specs.Rules.{is_printable, is_content_byte, rises, is_after, path_follows, node_follows}
 
@@ -250,3 +251,24 @@ want_table =
 
 unfoldable pub want_at : Decoder Want
 want_at = tagged want_table
+
+-- what a client knows: paths that rise, with their stamps
+unfoldable pub known_at : Decoder (List (Path × ℕ))
+known_at = table_at path_cmp path_at number_at
+
+-- a node, and then its stamp
+unfoldable pub stamped_node_at : Decoder (Node × ℕ)
+stamped_node_at = do
+  node ← node_at
+  stamp ← number_at
+  done (node, stamp)
+
+-- rows with their stamps, whose paths rise; they need not be those of a tree
+unfoldable pub stamped_rows_at : Decoder (List (Path × (Node × ℕ)))
+stamped_rows_at = table_at path_cmp path_at stamped_node_at
+
+unfoldable pub changes_at : Decoder Changes
+changes_at = do
+  rows ← stamped_rows_at
+  gone ← paths_at
+  done (record { rows = rows; gone = gone })

@@ -19,11 +19,12 @@ use Rattle.iot_tree.specs.declared.labels.OnConflict.{OnConflict}
 use Rattle.iot_tree.specs.declared.labels.OnConflict.TheVariants.{Reexec, Resolver, Abort, Manual}
 use Rattle.iot_tree.specs.declared.labels.Way.{Way}
 use Rattle.iot_tree.specs.declared.labels.Way.TheVariants.{Certified, Reexecuted, Resolved}
+use Rattle.iot_tree.specs.declared.changes.Changes.{Changes}
 use Rattle.iot_tree.specs.declared.nodes.Node.{Node}
 use Rattle.iot_tree.specs.declared.nodes.Node.TheVariants.{Dir, File, FarDir, FarFile}
 use Rattle.iot_tree.specs.declared.want.Want.{Want}
 use Rattle.iot_tree.specs.declared.want.Want.TheVariants as wants
-use Rattle.iot_tree.specs.Tree.{Nodes, Row}
+use Rattle.iot_tree.specs.Tree.{Nodes, Path, Row}
 
 -- a number: 8 bytes, most significant first
 unfoldable pub number_spelling : ℕ → List ℕ
@@ -183,3 +184,19 @@ unfoldable pub want_spelling : Want → List ℕ
 want_spelling wants.Nothing = 1 ∷ []
 want_spelling (wants.Path path) = 2 ∷ path_spelling path
 want_spelling (wants.Below path) = 3 ∷ path_spelling path
+
+-- what a client knows: the table of the paths and their stamps
+abbrev pub known_spelling : List (Path × ℕ) → List ℕ
+known_spelling known = table_spelling path_spelling number_spelling known
+
+-- a node with its stamp
+abbrev pub stamped_node_spelling : Node × ℕ → List ℕ
+stamped_node_spelling row = pair_spelling node_spelling number_spelling row
+
+-- rows with their stamps: the table of the paths, and of the nodes with the stamps
+abbrev pub stamped_rows_spelling : List (Path × (Node × ℕ)) → List ℕ
+stamped_rows_spelling rows = table_spelling path_spelling stamped_node_spelling rows
+
+-- changes: the rows, and then the paths that are gone
+unfoldable pub changes_spelling : Changes → List ℕ
+changes_spelling changes = stamped_rows_spelling changes.rows ++ paths_spelling changes.gone

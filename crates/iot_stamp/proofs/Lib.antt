@@ -1,12 +1,14 @@
 pub mod MappedLaws
 pub mod PrunedLaws
 pub mod PickedLaws
+pub mod EachLaws
 pub mod FoundLaws
 pub mod StampsLaws
 pub mod StampingLaws
 pub mod StartsLaws
 pub mod RefreshLaws
 pub mod AgreementLaws
+pub mod ActingLaws
 pub mod StackLaws
 pub mod PairingLaws
 pub mod PassesLaws

@@ -1,6 +1,7 @@
 pub mod Mapped
 pub mod Stamps
 pub mod Stamping
+pub mod Acting
 pub mod Lining
 pub mod Carried
 pub mod Refresh

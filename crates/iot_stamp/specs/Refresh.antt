@@ -1,10 +1,11 @@
 -- What a server sends of its tree, and what a client makes of it.
-use Rattle.std.specs.Prelude.{ℕ, Bool, false, not, ◌&&◌, ◌||◌, ◌++◌, ◌==◌, cond, List, Option, Some, None, is_some}
+use Rattle.std.specs.Prelude.{ℕ, ◌<◌, ◌^◌, Bool, false, not, ◌&&◌, ◌||◌, ◌++◌, ◌==◌, cond, List, Option, Some, None, is_some}
 use Rattle.std.specs.Prelude.{bytes_eq}
 use Rattle.std.specs.List.{filter_map, filter, list_any, starts_with}
 use Rattle.std.specs.FinMap.{get, find, entries, retain_keys, from_entries}
-use Rattle.iot_text.specs.Paths.{path_cmp, parent_of}
+use Rattle.iot_text.specs.Paths.{IsPath, path_cmp, parent_of}
 use Rattle.iot_tree.specs.Tree.{Path}
+use Rattle.iot_tree.specs.declared.changes.Changes.{Changes}
 use Rattle.iot_tree.specs.declared.nodes.Node.{Node}
 use Rattle.iot_tree.specs.Snapshots.{is_known, widen}
 use Rattle.iot_tree.specs.declared.want.Want.{Want}
@@ -18,6 +19,14 @@ known_stamp row = cond (is_known row.1.0) (Some (row.0, row.1.1)) None
 -- what a client sends: the paths that it knows, with their stamps
 abbrev pub known_with_stamps : Stamps → List (Path × ℕ)
 known_with_stamps t = filter_map known_stamp (entries t)
+
+-- a path, and a stamp of 64 bits
+abbrev pub IsStampedPath : Path × ℕ → Type 0
+IsStampedPath e = IsPath e.0 × (e.1 < 2 ^ 64)
+
+-- a row of a path, with a stamp of 64 bits
+abbrev pub IsStampedRow : Entry → Type 0
+IsStampedRow row = IsPath row.0 × (row.1.1 < 2 ^ 64)
 
 -- whether this stamp was sent
 abbrev pub is_stamp : Option ℕ → ℕ → Bool
@@ -53,6 +62,10 @@ gone_path t e = cond (is_some (get t e.0)) None (Some e.0)
 -- the paths that are gone
 abbrev pub gone_paths : Stamps → List (Path × ℕ) → (Path → Bool) → List Path
 gone_paths s sent k = filter_map (gone_path (pruned s k)) sent
+
+-- what a server answers a client that sent these paths with these stamps, and wants this
+abbrev pub changes_for : Stamps → List (Path × ℕ) → Want → Changes
+changes_for s sent want = record { rows = changed_rows s sent (asked s sent want); gone = gone_paths s sent (asked s sent want) }
 
 -- whether the path is at or below one that is gone
 abbrev pub is_gone : List Path → Path → Bool

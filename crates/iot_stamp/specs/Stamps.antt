@@ -35,6 +35,10 @@ stamped_node node stamp = (node, cond (is_known node) stamp 0)
 abbrev pub with_stamps : (Path → ℕ) → Nodes → Stamps
 with_stamps f t = mapped (λ p node. stamped_node node (f p)) t
 
+-- the tree with stamp 0 at every row: no stamp of a server is known
+abbrev pub unstamped : Nodes → Stamps
+unstamped t = with_stamps (λ p. 0) t
+
 -- far rows have stamp 0
 abbrev pub FarZero : Stamps → Type 0
 FarZero t = (p : Path) (node : Node) (stamp : ℕ) → get t p ≡ Some (node, stamp) → is_known node ≡ false → stamp ≡ 0

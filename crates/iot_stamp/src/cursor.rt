@@ -1,10 +1,23 @@
 //! Entries in order, gone through beside rows.
-ghost use Rattle.std.specs.Prelude.{◌≡◌, ◌++◌, map, IfOk, OnOk};
+ghost use Rattle.std.specs.Prelude.{◌≡◌, ◌++◌, ◌∷◌, [], map, IfOk, OnOk};
+ghost use Rattle.std.specs.List.{AllByRecursion};
+ghost use Rattle.iot_text.specs.Paths.{IsPath};
 ghost use Rattle.iot_stamp.specs.Passes.{before_key, from_key, after_head, head_at};
 
 use iot_text::{NoMemory, Path};
 use iot_tree::{Duplicate, Paths};
 use std::alloc::Global;
+
+/// Puts the path after the others.
+pub(crate) fn push_path(alloc: Global, path: &Path, paths: &mut Paths) -> Result<(), NoMemory>
+    ensures pushed { OnOk result (paths.new ≡ paths.old ++ path.now ∷ []) }
+    ensures each { OnOk result (AllByRecursion IsPath paths.old → AllByRecursion IsPath paths.new) }
+{
+    // That it is a path is known of its names.
+    let _names = path.names();
+    paths.push(path.copy(alloc)?)?;
+    Ok(())
+}
 
 /// Puts the paths of the entries up to the first that does not come before the path after the others, and gives the rest.
 pub(crate) fn pass_before<'a>(
@@ -15,12 +28,13 @@ pub(crate) fn pass_before<'a>(
 ) -> Result<&'a [(Path, u64)], NoMemory>
     ensures rest { IfOk result (λ rest. rest.now ≡ from_key path.now entries.now) }
     ensures passed { OnOk result (passed.new ≡ passed.old ++ map (λ e. e.0) (before_key path.now entries.now)) }
+    ensures each { OnOk result (AllByRecursion IsPath passed.old → AllByRecursion IsPath passed.new) }
 {
     'entries: for (at, entry) in entries.iter().enumerate() {
         if !entry.0.cmp(path).is_lt() {
             return Ok(&entries[at..]);
         }
-        passed.push(entry.0.copy(alloc)?)?;
+        push_path(alloc, &entry.0, passed)?;
     }
     Ok(&entries[entries.len()..])
 }
@@ -31,10 +45,11 @@ pub(crate) fn pass_all(
     entries: &[(Path, u64)],
     passed: &mut Paths,
 ) -> Result<(), NoMemory>
-    ensures { OnOk result (passed.new ≡ passed.old ++ map (λ e. e.0) entries.now) }
+    ensures passed { OnOk result (passed.new ≡ passed.old ++ map (λ e. e.0) entries.now) }
+    ensures each { OnOk result (AllByRecursion IsPath passed.old → AllByRecursion IsPath passed.new) }
 {
     'entries: for entry in entries {
-        passed.push(entry.0.copy(alloc)?)?;
+        push_path(alloc, &entry.0, passed)?;
     }
     Ok(())
 }

@@ -1,6 +1,7 @@
 //! Trees whose known rows carry stamps, and what changed in them for a client.
 #![tactic(auto)]
 
+mod acting;
 mod cursor;
 mod knowledge;
 mod nodes;

@@ -1,9 +1,10 @@
 //! What changed in a server's tree.
 ghost use Rattle.std.specs.Prelude.{◌≡◌, IsTrue, IfOk};
 ghost use Rattle.std.specs.FinMap.{is_sorted};
-ghost use Rattle.iot_text.specs.Paths.{path_cmp};
+ghost use Rattle.std.specs.List.{AllByRecursion};
+ghost use Rattle.iot_text.specs.Paths.{IsPath, path_cmp};
 ghost use Rattle.iot_tree.specs.Snapshots.{ArePathsRising};
-ghost use Rattle.iot_stamp.specs.Refresh.{asked, changed_rows, gone_paths};
+ghost use Rattle.iot_stamp.specs.Refresh.{changes_for, IsStampedRow};
 
 use crate::Stamped;
 use crate::sending::changes_in;
@@ -21,9 +22,9 @@ impl Stamped {
         want: &Want,
     ) -> Result<Changes, NoMemory>
         requires { IsTrue (is_sorted path_cmp known.now) }
-        ensures rows { IfOk result (λ changes. changes.rows ≡ changed_rows self.now known.now (asked self.now known.now want.now)) }
-        ensures gone { IfOk result (λ changes. changes.gone ≡ gone_paths self.now known.now (asked self.now known.now want.now)) }
+        ensures value { IfOk result (λ changes. changes ≡ changes_for self.now known.now want.now) }
         ensures rising { IfOk result (λ changes. IsTrue (is_sorted path_cmp changes.rows) × ArePathsRising changes.gone) }
+        ensures each { IfOk result (λ changes. AllByRecursion IsStampedRow changes.rows × AllByRecursion IsPath changes.gone) }
     {
         let rows = self.tree().rows().as_slice();
         changes_in(alloc, rows, self.stamps(), known, want)

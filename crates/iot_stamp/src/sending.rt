@@ -1,16 +1,16 @@
 //! What a server sends of its tree.
 ghost use Rattle.std.specs.Prelude.{◌≡◌, ◌++◌, ◌∷◌, ◌&&◌, ◌||◌, [], cond, not, is_some, IfOk, OnOk, IsTrue, length, slice_get, ◌-◌};
-ghost use Rattle.std.specs.List.{filter_map};
+ghost use Rattle.std.specs.List.{filter_map, AllByRecursion};
 ghost use Rattle.std.specs.FinMap.{is_sorted};
-ghost use Rattle.iot_text.specs.Paths.{path_cmp};
+ghost use Rattle.iot_text.specs.Paths.{IsPath, path_cmp};
 ghost use Rattle.iot_tree.specs.Rows.{AreTreeRows};
 ghost use Rattle.iot_tree.specs.Snapshots.{seen};
 ghost use Rattle.iot_stamp.specs.Stamps.{stamped_node};
-ghost use Rattle.iot_stamp.specs.Refresh.{asked, gone_paths, is_stamp};
+ghost use Rattle.iot_stamp.specs.Refresh.{asked, gone_paths, is_stamp, IsStampedRow};
 ghost use Rattle.iot_stamp.specs.Pairing.{stamps_of};
 ghost use Rattle.iot_stamp.specs.Passes.{above_of, wanted, sending};
 
-use crate::cursor::{pass_all, pass_before, split_head};
+use crate::cursor::{pass_all, pass_before, push_path, split_head};
 use crate::nodes::stamp_of;
 use iot_text::{NoMemory, Path};
 use iot_tree::{Changes, Duplicate, Node, Paths, StampedRows, Want};
@@ -34,6 +34,7 @@ pub(crate) fn changes_in(
     ensures gone { IfOk result
         (λ out. out.gone
         ≡ gone_paths (stamps_of rows.now stamps.now) sent.now (asked (stamps_of rows.now stamps.now) sent.now want.now)) }
+    ensures each { IfOk result (λ out. AllByRecursion IsStampedRow out.rows × AllByRecursion IsPath out.gone) }
 {
     let mut out = StampedRows::new(alloc);
     let mut gone = Paths::new(alloc);
@@ -61,10 +62,11 @@ pub(crate) fn changes_in(
 
 /// Puts the path after the others, if this holds.
 fn push_if(alloc: Global, holds: bool, path: &Path, paths: &mut Paths) -> Result<(), NoMemory>
-    ensures { OnOk result (paths.new ≡ paths.old ++ cond holds (path.now ∷ []) []) }
+    ensures pushed { OnOk result (paths.new ≡ paths.old ++ cond holds (path.now ∷ []) []) }
+    ensures each { OnOk result (AllByRecursion IsPath paths.old → AllByRecursion IsPath paths.new) }
 {
     if holds {
-        paths.push(path.copy(alloc)?)?;
+        push_path(alloc, path, paths)?;
     }
     Ok(())
 }
@@ -137,8 +139,11 @@ fn row_to_send(
     kept: bool,
     stamp: u64,
 ) -> Result<(Path, (Node, u64)), NoMemory>
-    ensures { IfOk result (λ sent. sent ≡ (row.now.0, stamped_node (seen kept row.now.1) stamp)) }
+    ensures row { IfOk result (λ sent. sent ≡ (row.now.0, stamped_node (seen kept row.now.1) stamp)) }
+    ensures each { IfOk result IsStampedRow }
 {
+    // That it is a path is known of its names.
+    let _names = row.0.names();
     let node = row.1.seen(alloc, kept)?;
     let stamp = stamp_of(&node, stamp);
     Ok((row.0.copy(alloc)?, (node, stamp)))

@@ -8,7 +8,7 @@ ghost use Rattle.iot_stamp.specs.Carried.{in_either};
 ghost use Rattle.iot_stamp.specs.Lining.{marked, PutsAt};
 ghost use Rattle.iot_stamp.specs.Pairing.{AreStamps, paired};
 ghost use Rattle.iot_stamp.specs.Stamping.{stamped, is_at, is_parent};
-ghost use Rattle.iot_stamp.specs.Stamps.{Stamps, nodes_of, stamp_at, with_stamps, FarZero};
+ghost use Rattle.iot_stamp.specs.Stamps.{Stamps, nodes_of, stamp_at, with_stamps, unstamped, FarZero};
 
 use crate::nodes::stamp_of;
 use crate::stamping::{all_stamps, carry, same_kind};
@@ -67,10 +67,20 @@ impl Stamped {
 
     /// The tree with stamp 0 at every row, as a client holds it after a restart: it agrees with each tree of a server.
     pub fn unstamped(alloc: Global, tree: Tree) -> Result<Stamped, NoMemory>
-        ensures value { IfOk result (λ t. t ≡ with_stamps (λ k. 0) tree) }
+        ensures value { IfOk result (λ t. t ≡ unstamped tree) }
         ensures agrees { IfOk result (λ t. (s : Stamps) → IsPositive s → Agrees t s) }
     {
         Stamped::with_stamp(alloc, tree, 0)
+    }
+
+    /// An equal tree, which shares the rows until one of the two changes.
+    pub fn copy(&self, alloc: Global) -> Result<Stamped, NoMemory>
+        ensures { IfOk result (λ copy. copy ≡ self.now) }
+    {
+        Ok(Stamped {
+            tree: self.tree.copy(alloc)?,
+            stamps: self.stamps.as_slice().to_vec(alloc)?,
+        })
     }
 
     /// The tree without its stamps.

@@ -1,16 +1,13 @@
 -- Acts that are made one after the other, as a loop does.
-use Rattle.std.proofs.Common.{◌≡◌, ℕ, ◌+◌, ◌<◌, ◌≤◌, List, [], ◌∷◌, length, get_or, drop, Option, Some, None, refl, sym, ap, ◌∙◌, subst}
+use Rattle.std.proofs.Common.{◌≡◌, ℕ, ◌+◌, ◌<◌, ◌≤◌, List, [], ◌∷◌, length, get_or, drop, refl, sym, ap, ◌∙◌, subst}
 use Rattle.std.proofs.lemmas.List.{drop_more, drop_all}
 use Rattle.iot_tree.specs.Tree.{Nodes}
 use Rattle.iot_tree.specs.Questions.{answer_of}
 use Rattle.iot_tree.specs.declared.acts.Act.{Act}
 use Rattle.iot_tree.specs.declared.acts.Read.{Read}
-use Rattle.iot_tree.specs.declared.updates.Update.{Update}
-use Rattle.iot_tree.specs.Updates.{updated}
 use Rattle.iot_acts.specs.Traces.{ReadsHold, FitsIfAny, after_update, ActsHold, after_acts}
-use Rattle.iot_stamp.specs.Stamping.{stamp_after}
 use Rattle.iot_stamp.specs.Stamps.{Stamps, nodes_of}
-use Rattle.iot_stamp.proofs.StampsLaws.{nodes_with}
+use Rattle.iot_stamp.proofs.ActingLaws.{nodes_after_update}
 use Rattle.iot_store.specs.Stamps.{stamped_if_any, stamped_acts}
 
 -- what is left at a turn of a loop
@@ -18,18 +15,6 @@ pub left_is : {X : Type 0} (xs : List X) (i : ℕ) (x : X) → i < length xs →
 left_is xs i x within is = drop_more xs i x within ∙ ap (λ y. y ∷ drop (i + 1) xs) (sym is)
 
 -- ---- acts
-
--- what is stamped is the tree after the acts
-module _ (stamp : ℕ) where
-  pub nodes_after_update : (t : Stamps) (update : Option Update)
-      → nodes_of (stamped_if_any t update stamp) ≡ after_update (nodes_of t) update
-  nodes_after_update t None = refl
-  nodes_after_update t (Some update) = nodes_with (stamp_after t update stamp) (updated (nodes_of t) update)
-
-  pub nodes_after_acts : (t : Stamps) (acts : List Act) → nodes_of (stamped_acts t acts stamp) ≡ after_acts (nodes_of t) acts
-  nodes_after_acts t [] = refl
-  nodes_after_acts t (act ∷ acts) =
-      nodes_after_acts (stamped_if_any t act.update stamp) acts ∙ ap (λ n. after_acts n acts) (nodes_after_update t act.update)
 
 -- the acts from a place on hold on the tree exactly if all hold on the one before them, and lead to the same tree
 pub record ActsOnWay (acts : List Act) (stamp i : ℕ) (before now : Stamps) : Type 0 where

@@ -99,7 +99,7 @@ impl Commits {
         ensures { OnOk result (self.new ≡ after_commit self.old label acts.now) }
     {
         let stamp = self.next_stamp();
-        apply_all(alloc, &mut self.tree, acts, stamp)?;
+        self.tree.apply_acts(alloc, acts, stamp)?;
         self.list(label)?;
         Ok(())
     }
@@ -142,33 +142,6 @@ impl Commits {
                 Err(NoMemory)
             }
         }
-    }
-}
-
-/// Makes the updates of acts that hold, with this stamp.
-fn apply_all(alloc: Global, tree: &mut Stamped, acts: &[Act], stamp: u64) -> Result<(), NoMemory>
-    requires { ActsHold (nodes_of tree.old) acts.now }
-    ensures { OnOk result (tree.new ≡ stamped_acts tree.old acts.now stamp) }
-{
-    'acts: for act in acts {
-        apply_if_any(alloc, tree, &act.update, stamp)?;
-    }
-    Ok(())
-}
-
-/// Makes an update with this stamp, if there is one.
-fn apply_if_any(
-    alloc: Global,
-    tree: &mut Stamped,
-    update: &Option<Update>,
-    stamp: u64,
-) -> Result<(), NoMemory>
-    requires { FitsIfAny (nodes_of tree.old) update.now }
-    ensures { OnOk result (tree.new ≡ stamped_if_any tree.old update.now stamp) }
-{
-    match update {
-        None => Ok(()),
-        Some(update) => tree.apply(alloc, update, stamp),
     }
 }
 

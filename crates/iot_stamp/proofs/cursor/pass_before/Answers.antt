@@ -1,4 +1,4 @@
-use Rattle.std.proofs.Common.{◌≡◌, ◌∙◌, sym, ap, subst, length, drop, ℕ, arith}
+use Rattle.std.proofs.Common.{◌≡◌, ◌∙◌, refl, sym, ap, subst, length, drop, ℕ, arith}
 use Rattle.std.specs.Ordering.{is_lt}
 use Rattle.std.proofs.lemmas.List.{take_rest}
 use Rattle.iot_stamp.specs.Passes.{from_key}
@@ -12,7 +12,8 @@ entries-preserved c =
           ∙ from_skip c.args.path.now c.args.entries.now c.entries.at c.index-entries-at.result c.entries-test.true c.index-entries-at.is
           less,
       passed_skip c.args.path.now c.args.entries.now c.entries.at c.index-entries-at.result _ c.args.passed.now c.entries.passed
-          c.push.new.self c.entries-test.true c.index-entries-at.is less c.in_ok-copy.ensures c.entries.invariant.1 c.in_ok-push.ensures.ok,
+          c.push_path.new.paths c.entries-test.true c.index-entries-at.is less refl c.entries.invariant.1 c.in_ok-push_path.ensures.pushed,
+      λ all. c.in_ok-push_path.ensures.each (c.entries.invariant.2 all),
     )
 
 pub returns-then-not-is_lt-clause-rest : goal.returns-then-not-is_lt-clause-rest
@@ -42,3 +43,9 @@ pub returns-clause-passed : goal.returns-clause-passed
 returns-clause-passed c =
     passed_end c.args.path.now c.args.entries.now c.args.passed.now c.entries.passed c.entries.at c.entries-test.false
     c.entries.auto.at-end c.entries.invariant.1
+
+pub returns-then-not-is_lt-clause-each : goal.returns-then-not-is_lt-clause-each
+returns-then-not-is_lt-clause-each c = c.entries.invariant.2
+
+pub returns-clause-each : goal.returns-clause-each
+returns-clause-each c = c.entries.invariant.2

@@ -30,7 +30,7 @@ returns-clause-value c =
     value_for c.args.self.now _ c.known_entries.result
     (paired_is c.args.self.now c.as_slice.result.now c.stamps.result.now
     (c.as_slice.ensures ∙ c.rows.ensures.rows ∙ ap (λ (t : Nodes). entries t) c.tree.ensures.value) c.stamps.ensures)
-    c.known_entries.ensures
+    c.known_entries.ensures.value
 
 pub returns-clause-rising : goal.returns-clause-rising
 returns-clause-rising c =
@@ -38,4 +38,4 @@ returns-clause-rising c =
     (value_for c.args.self.now _ c.known_entries.result
     (paired_is c.args.self.now c.as_slice.result.now c.stamps.result.now
     (c.as_slice.ensures ∙ c.rows.ensures.rows ∙ ap (λ (t : Nodes). entries t) c.tree.ensures.value) c.stamps.ensures)
-    c.known_entries.ensures)
+    c.known_entries.ensures.value)

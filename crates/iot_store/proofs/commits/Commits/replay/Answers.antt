@@ -4,7 +4,7 @@ use Rattle.iot_stamp.specs.Stamps.{nodes_of}
 use Rattle.iot_store.specs.Commits.{MakesAllIf}
 use Rattle.iot_store.specs.Stamps.{next_stamp, stamped_acts}
 use Rattle.iot_store.specs.States.{State, is_of, CanFollow, after_commit}
-use Rattle.iot_store.proofs.CommitsLaws.{nodes_after_acts}
+use Rattle.iot_stamp.proofs.ActingLaws.{nodes_after_acts}
 use Rattle.iot_store.proofs.NumbersLaws.{is_new_from, is_old_from}
 use Rattle.iot_store.proofs.commits.Commits.replay.Goals as goal
 
