@@ -1,34 +1,22 @@
 -- A node over any keeper does what the machine's node does.
-use Rattle.std.proofs.Common.{◌≡◌, ℕ, ◌+◌, Bool, true, false, List, [], ◌++◌}
-use Rattle.std.proofs.Common.{Option, None, Some, IsSome, Ok, Err}
-use Rattle.std.proofs.Common.{refl, sym, ap, subst, ◌∙◌, inl, inr, arith, codes}
+use Rattle.std.proofs.Common.{◌≡◌, ℕ, ◌+◌, Bool, true, false, List, [], ◌++◌, Option, None, Some, IsSome, Ok, Err, refl, sym, ap, subst}
+use Rattle.std.proofs.Common.{◌∙◌, inl, inr, arith, codes}
 use Rattle.std.proofs.lemmas.List.{append-nil}
 use Rattle.std.proofs.lemmas.Bool.{le-leb, lt-leb}
-use Rattle.iot_count.specs.Counts.{Rose}
-use Rattle.iot_disk.specs.Disk.{Medium, SameImages, armed_with}
-use Rattle.iot_disk.specs.declared.disk.Pick.{Pick}
+use Rattle.iot_node.specs.Prelude.{Rose, Medium, SameImages, armed_with, Pick, StartFault, Call, Node, Counts, opened, changed, doubting}
+use Rattle.iot_node.specs.Prelude.{back, armed, Refines, line, stopped_line, stop_line, Doubt, Fallen, Post, Up, Down, Between}
 use Rattle.iot_disk.specs.declared.faults.JournalFault.TheVariants as append
-use Rattle.iot_disk.specs.declared.faults.StartFault.{StartFault}
 use Rattle.iot_disk.specs.declared.faults.StartFault.TheVariants as start
-use Rattle.iot_machine.specs.Calls.{Call}
-use Rattle.iot_machine.specs.Nodes.{Node, Counts, opened, changed, doubting, back, armed}
-use Rattle.iot_machine.specs.Refining.{Refines}
 use Rattle.iot_machine.specs.Stops.{IsStopped, OpensNode, Appends, ComesBackWith, ComesBack, Crashes, ArmsDisk}
-use Rattle.iot_machine.specs.Texts.{line, stopped_line, stop_line}
 use Rattle.iot_node.specs.Disks.{counts_on}
 use Rattle.iot_node.specs.Keeping.{Keeping, EachIs, Failed, Comes, Fails, Armed, Appended, Doubts, CountsStart}
-use Rattle.iot_node.specs.Posts.{is_on, disk_of, Ready, back_said, UpStands, HoldsBy, DownStands, PostStands, StepsFrom}
-use Rattle.iot_node.specs.Posts.{HoldsEither, Lasts, CameIf, IsStanding}
-use Rattle.iot_node.specs.declared.post.Doubt.{Doubt}
-use Rattle.iot_node.specs.declared.post.Fallen.{Fallen}
-use Rattle.iot_node.specs.declared.post.Post.{Post}
-use Rattle.iot_node.specs.declared.post.Post.TheVariants.{Up, Down, Between}
+use Rattle.iot_node.specs.Posts.{is_on, disk_of, Ready, back_said, UpStands, HoldsBy, DownStands, PostStands, StepsFrom, HoldsEither, Lasts}
+use Rattle.iot_node.specs.Posts.{CameIf, IsStanding}
 use Rattle.iot_node.proofs.StepsLaws.{bind, asks, does, says_this}
 
 pub on_has : {K D : Type 0} (post : Post K D) → is_on post ≡ true → (keeper : K) × (post ≡ Up keeper)
 on_has (Up keeper) up = (keeper, refl)
-on_has (Down fallen) up = absurd cc
-on_has Between up = absurd cc
+on_has post up = absurd cc
 
 -- inside a call that starts or stops it, a node has no disk
 pub has_disk : {K D : Type 0} (disk : K → D) (post : Post K D) → IsSome (disk_of disk post) → post ≡ Between → ⊥
@@ -57,6 +45,12 @@ stops node before now same failed = (
 module _ {K S D : Type 0} (keeping : Keeping K S D) (medium : Medium D) (says : S → S → List ℕ) where
   abbrev Stands : Post K D → Node S → Type 0
   Stands = PostStands keeping medium says
+
+  -- it is alive if the node is
+  pub on_is : (post : Post K D) (node : Node S) → Stands post node → node.alive ≡ is_on post
+  on_is (Up keeper) node here = here.alive
+  on_is (Down fallen) node here = here.alive
+  on_is Between node here = absurd here
 
   -- ---- a record
 
@@ -102,11 +96,6 @@ module _ {K S D : Type 0} (keeping : Keeping K S D) (medium : Medium D) (says : 
   )
 
   -- ---- a crash
-
-  on_is : (post : Post K D) (node : Node S) → Stands post node → node.alive ≡ is_on post
-  on_is (Up keeper) node here = here.alive
-  on_is (Down fallen) node here = here.alive
-  on_is Between node here = absurd here
 
   pub post_crash_down : {post : Post K D} (name : List ℕ) {x y : List ℕ} → is_on post ≡ false → y ≡ x ++ line (codes "down")
       → Refines Stands (Crashes name) post post x y tt

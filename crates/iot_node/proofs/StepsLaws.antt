@@ -1,27 +1,21 @@
--- How steps go together, over any world and any machine.
-use Rattle.std.proofs.Common.{◌≡◌, ℕ, List, [], ◌++◌, refl, sym, ap, ◌∙◌, append_assoc}
-use Rattle.std.proofs.lemmas.List.{append-nil}
-use Rattle.iot_machine.specs.Calls.{Call, Asks, Does, Says, Then}
-use Rattle.iot_machine.specs.Refining.{Refines}
+-- How steps go together, over any world and any machine, if what stands does so in one way.
+use Rattle.std.proofs.Common.{◌≡◌, ℕ, List, ◌++◌, refl}
+use Rattle.iot_node.specs.Prelude.{Call, Asks, Does, Says, Then, Refines}
+use Rattle.iot_node.specs.Steps.{StepsTo}
+use Rattle.iot_node.proofs.StepsToLaws as to
 
 module _ {W M : Type 0} {stands : W → M → Type 0} where
+  refines : {A : Type 0} {call : Call M A} {u v : W} {x y : List ℕ} {a : A} → StepsTo stands stands call u v x y a
+      → Refines stands call u v x y a
+  refines steps = record { step = steps.step }
+
   pub bind : {A B : Type 0} {one : Call M A} {next : A → Call M B} (u v w : W) (x y z : List ℕ) (a : A) (b : B)
       → Refines stands one u v x y a → Refines stands (next a) v w y z b → Refines stands (Then one next) u w x z b
-  bind u v w x y z a b one two = record {
-    step = λ m here.
-        let s = one.step m here in
-        let t = two.step s.1 s.4 in (
-          s.0 ++ t.0,
-          t.1,
-          t.2 ∙ ap (λ (l : List ℕ). l ++ t.0) s.2 ∙ append_assoc x s.0 t.0,
-          record { mid = s.1; front = s.0; rest = t.0; answer = a; first = s.3; second = t.3; whole = refl },
-          t.4,
-        );
-  }
+  bind u v w x y z a b one two = refines (to.bind {mid = stands} u v w x y z a b (record { step = one.step }) (record { step = two.step }))
 
   pub asks : {A : Type 0} {ask : M → A} (u : W) (x : List ℕ) (a : A) → ((m : M) → stands u m → a ≡ ask m)
       → Refines stands (Asks ask) u u x x a
-  asks u x a is = record { step = λ m here. ([], m, sym (append-nil x), (refl, is m here, refl), here) }
+  asks u x a is = refines (to.asks u x a is)
 
   pub does : {text : M → List ℕ} {change : M → M} (u v : W) (x y : List ℕ)
       → ((m : M) → stands u m → (y ≡ x ++ text m) × stands v (change m))

@@ -1,7 +1,7 @@
 -- How steps go together, from what stands in one way to what stands in another.
 use Rattle.std.proofs.Common.{◌≡◌, ℕ, List, [], ◌++◌, refl, sym, ap, ◌∙◌, append_assoc}
 use Rattle.std.proofs.lemmas.List.{append-nil}
-use Rattle.iot_machine.specs.Calls.{Call, Asks, Answers, Says, Nothing, Then}
+use Rattle.iot_node.specs.Prelude.{Call, Asks, Answers, Says, Nothing, Then}
 use Rattle.iot_node.specs.Steps.{StepsTo}
 
 module _ {W M : Type 0} where

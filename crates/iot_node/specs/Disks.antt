@@ -1,8 +1,6 @@
 -- What a node's disk has counted, and what a call leaves of it.
-use Rattle.std.specs.Prelude.{◌≡◌, ◌⊎◌, [], Option, Some, option_map}
-use Rattle.iot_count.specs.Counts.{Rose}
-use Rattle.iot_disk.specs.Disk.{Medium, Only}
-use Rattle.iot_machine.specs.Nodes.{Counts}
+use Rattle.std.specs.Prelude.{◌≡◌, ◌⊎◌, [], option_map}
+use Rattle.iot_node.specs.Prelude.{Option, Some, Rose, Medium, Only, Counts}
 
 -- what a disk has counted
 abbrev pub counts_on : {D : Type 0} → Medium D → D → Counts

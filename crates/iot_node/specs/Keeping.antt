@@ -1,15 +1,9 @@
 -- What keeps a node's state on a disk, and what its calls do: how it reads its disk, and what its records are, are its own affair.
-use Rattle.std.specs.Prelude.{◌≡◌, ◌⊎◌, ℕ, ◌+◌, List, Result, Ok, Err}
-use Rattle.iot_count.specs.Counts.{Rose}
-use Rattle.iot_disk.specs.Disk.{Medium, armed_with}
-use Rattle.iot_disk.specs.declared.disk.Pick.{Pick}
-use Rattle.iot_disk.specs.declared.faults.StartFault.{StartFault}
+use Rattle.std.specs.Prelude.{◌≡◌, ◌⊎◌, ◌+◌}
+use Rattle.iot_node.specs.Prelude.{ℕ, List, Result, Ok, Err, Rose, Medium, armed_with, Pick, StartFault, JournalFault, Counts, Doubt}
 use Rattle.iot_disk.specs.declared.faults.StartFault.TheVariants as start
-use Rattle.iot_disk.specs.declared.faults.JournalFault.{JournalFault}
 use Rattle.iot_disk.specs.declared.faults.JournalFault.TheVariants as append
-use Rattle.iot_machine.specs.Nodes.{Counts}
 use Rattle.iot_node.specs.Disks.{counts_on}
-use Rattle.iot_node.specs.declared.post.Doubt.{Doubt}
 
 -- a keeper stands for this state, with so many records; so do these bytes of a disk; and the keeper's disk
 pub record Keeping (K S D : Type 0) : Type 1 where

@@ -1,3 +1,4 @@
+pub mod Prelude
 pub mod Disks
 pub mod Keeping
 pub mod Posts

@@ -1,6 +1,5 @@
 -- How a transaction is named in a line.
-use Rattle.std.specs.Prelude.{ℕ, List}
-use Rattle.iot_machine.specs.Texts.{transaction_name}
+use Rattle.iot_node.specs.Prelude.{ℕ, List, transaction_name}
 use Rattle.iot_node.specs.declared.lines.Transaction.{Transaction}
 
 abbrev pub name_of : Transaction → List ℕ

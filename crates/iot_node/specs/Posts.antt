@@ -1,37 +1,9 @@
 -- Which node of the machine a node over a keeper stands for.
-use Rattle.std.specs.Prelude.{
-  ◌≡◌,
-  ◌⊎◌,
-  ℕ,
-  ◌+◌,
-  leb,
-  if◌then◌else◌,
-  Bool,
-  true,
-  false,
-  List,
-  ◌++◌,
-  Option,
-  None,
-  Some,
-  Result,
-  Ok,
-  Err,
-  codes,
-}
-use Rattle.iot_disk.specs.Disk.{Medium, Only}
-use Rattle.iot_disk.specs.declared.faults.JournalFault.{JournalFault}
-use Rattle.iot_machine.specs.Calls.{Call}
-use Rattle.iot_machine.specs.Nodes.{Node}
-use Rattle.iot_machine.specs.Texts.{line, kept_line, lost_line}
+use Rattle.std.specs.Prelude.{◌≡◌, ◌⊎◌, ◌+◌, leb, if◌then◌else◌, Bool, true, false, ◌++◌, codes}
+use Rattle.iot_node.specs.Prelude.{ℕ, List, Option, None, Some, Result, Ok, Err, Medium, Only, JournalFault, Call, Node, line, kept_line}
+use Rattle.iot_node.specs.Prelude.{lost_line, Halt, NoMemory, Over, Doubt, Fallen, Post, Up, Down, Between}
 use Rattle.iot_node.specs.Disks.{counts_on}
 use Rattle.iot_node.specs.Keeping.{Keeping, EachIs}
-use Rattle.iot_node.specs.declared.halt.Halt.{Halt}
-use Rattle.iot_node.specs.declared.halt.Halt.TheVariants.{NoMemory, Over}
-use Rattle.iot_node.specs.declared.post.Doubt.{Doubt}
-use Rattle.iot_node.specs.declared.post.Fallen.{Fallen}
-use Rattle.iot_node.specs.declared.post.Post.{Post}
-use Rattle.iot_node.specs.declared.post.Post.TheVariants.{Up, Down, Between}
 
 abbrev pub is_on : {K D : Type 0} → Post K D → Bool
 is_on (Up keeper) = true

@@ -1,8 +1,6 @@
 -- How a call of the code goes that may end its event.
-use Rattle.std.specs.Prelude.{◌≡◌, ℕ, List, ◌++◌, Option, None, Some, Result, Ok, Err}
-use Rattle.iot_machine.specs.Calls.{Call}
-use Rattle.iot_node.specs.declared.halt.Halt.{Halt}
-use Rattle.iot_node.specs.declared.halt.Halt.TheVariants.{NoMemory, Over}
+use Rattle.std.specs.Prelude.{◌≡◌, ◌++◌}
+use Rattle.iot_node.specs.Prelude.{ℕ, List, Option, None, Some, Result, Ok, Err, Call, Halt, NoMemory, Over}
 
 -- A step by this call from each machine for which the old world stands in the first way, to one for which the new world stands in the
 -- second way.

@@ -135,7 +135,7 @@ impl<K: Keeper<D>, D: Disk> Post<K, D> {
         }
     }
 
-    /// Is down from now on, with this in doubt.
+    /// Goes down, with this in doubt.
     fn fall(&mut self, doubt: Option<Doubt>)
         requires { is_on self.old ≡ true }
         ensures down { (place : ℕ) (keeper : K) → self.old ≡ Up keeper
@@ -156,7 +156,7 @@ impl<K: Keeper<D>, D: Disk> Post<K, D> {
         }
     }
 
-    /// Is this when a call that starts or stops it ends. Until then it owns nothing, so no disk is lost.
+    /// Becomes this at the end of a call that starts or stops it. Inside that call it owns nothing, so that no disk is lost.
     fn turn_to(&mut self, post: Post<K, D>)
         requires { self.old ≡ Between }
         ensures { self.new ≡ post }
@@ -303,18 +303,16 @@ fn say_refused(fault: StartFault, name: &[u8], out: &mut Text) -> Result<(), NoM
 fn say_back(doubt: Option<Doubt>, number: u64, name: &[u8], out: &mut Text) -> Result<(), NoMemory>
     ensures { OnOk result (out.new ≡ out.old ++ back_said name.now doubt number) }
 {
+    out.append(b"restart ")?;
+    out.append(name)?;
     let Some(doubt) = doubt else {
-        say_node(b"restart ", name, out)?;
+        out.push(b'\n')?;
         return Ok(());
     };
     if number <= doubt.count {
-        out.append(b"restart ")?;
-        out.append(name)?;
         out.append(b" lost\n")?;
         return Ok(());
     }
-    out.append(b"restart ")?;
-    out.append(name)?;
     out.append(b" kept\n")?;
     out.append(doubt.lines.as_bytes())?;
     Ok(())

@@ -1,35 +1,17 @@
 -- What each image of the server's disk begins with.
-use Rattle.std.proofs.Common.{◌≡◌, ◌+◌, ℕ, List, [], ◌∷◌, ◌++◌, Option, append_assoc, inl, inr, refl, sym, ap, subst, ◌∙◌}
-use Rattle.std.proofs.lemmas.List.{append-nil}
-use Rattle.iot_disk.specs.Disk.{Medium}
-use Rattle.iot_disk.specs.declared.faults.JournalFault.{JournalFault}
+use Rattle.iot_server_node.proofs.Common.{◌≡◌, ◌+◌, ℕ, List, [], ◌∷◌, ◌++◌, Option, append_assoc, inl, inr, refl, sym, ap, subst, ◌∙◌}
+use Rattle.iot_server_node.proofs.Common.{append-nil, lists, Handles, Refuses, IsImage, records_of, disk_of, ServerStands}
+use Rattle.iot_server_node.specs.Prelude.{Medium, JournalFault, Encodes, decoded, Commit, Node, Lasts, Post, records_after, Server}
+use Rattle.iot_server_node.specs.Prelude.{record_spelling, Leads, StandFor, State, opening, after_commit, root_alone, Dir, Reply, Request}
+use Rattle.iot_server_node.specs.Prelude.{ServerKeeper, ServerNode}
 use Rattle.iot_disk.specs.declared.faults.JournalFault.TheVariants as append
-use Rattle.iot_journal.specs.Decoding.{Encodes, decoded}
-use Rattle.iot_machine.specs.Machine.{Commit}
-use Rattle.iot_machine.specs.Nodes.{Node}
 use Rattle.iot_node.specs.Posts as posts
-use Rattle.iot_node.specs.Posts.{Lasts, HoldsEither}
-use Rattle.iot_node.specs.declared.post.Post.{Post}
-use Rattle.iot_server.specs.Replies.{records_after}
 use Rattle.iot_server.specs.Servers as servers
-use Rattle.iot_server.specs.declared.server.Server.{Server}
-use Rattle.iot_store.specs.Records.{record_spelling}
-use Rattle.iot_store.specs.Standing.{Leads, StandFor}
-use Rattle.iot_store.specs.States.{State, opening, after_commit}
-use Rattle.iot_tree.specs.Tree.{root_alone}
-use Rattle.iot_tree.specs.declared.nodes.Node.TheVariants.{Dir}
-use Rattle.iot_wire.specs.declared.replies.Reply.{Reply}
 use Rattle.iot_wire.specs.declared.replies.Reply.TheVariants as replies
-use Rattle.iot_wire.specs.declared.requests.Request.{Request}
 use Rattle.iot_wire.specs.declared.requests.Request.TheVariants as requests
-use Rattle.iot_server_node.specs.Keepers.{lists, Handles, Refuses}
-use Rattle.iot_server_node.specs.Records.{IsImage, BeginsWith, EachBegins, DiskBegins, KeepsRecords, records_of}
-use Rattle.iot_server_node.specs.Servers.{disk_of, IsLonger, IsLongerIfAny, NodeIsKnown, ServerStands, ServerIsSound, KeepsCommits}
-use Rattle.iot_server_node.specs.Servers.{Lives, Handled, Refused}
-use Rattle.iot_server_node.specs.declared.keeper.ServerKeeper.{ServerKeeper}
-use Rattle.iot_server_node.specs.declared.server.ServerNode.{ServerNode}
-use Rattle.iot_server_node.proofs.RecordsLaws.{records_more}
-use Rattle.iot_server_node.proofs.KeepersLaws.{same_bodies, image_stands}
+use Rattle.iot_server_node.specs.Records.{BeginsWith, EachBegins, DiskBegins, KeepsRecords}
+use Rattle.iot_server_node.specs.Servers.{IsLonger, IsLongerIfAny, NodeIsKnown, ServerIsSound, KeepsCommits, Lives, Handled, Refused}
+use Rattle.iot_server_node.proofs.KeepersLaws.{records_more, same_bodies, image_stands}
 use Rattle.iot_server_node.proofs.ServersLaws.{lasts}
 
 -- ---- one image

@@ -1,27 +1,11 @@
 -- What a server says that comes back is decided by its images, where they agree.
-use Rattle.std.proofs.Common.{◌≡◌, ℕ, suc, ◌+◌, Bool, true, false, List, [], ◌∷◌, ◌++◌, length}
-use Rattle.std.proofs.Common.{Option, Some, None, inl, inr, refl, sym, ap, ◌∙◌, arith}
 use Rattle.std.proofs.lemmas.Bool.{le-leb, lt-leb}
-use Rattle.std.proofs.lemmas.List.{append-nil}
-use Rattle.iot_disk.specs.Disk.{Medium}
-use Rattle.iot_tree.specs.Tree.{Nodes, root_alone}
-use Rattle.iot_tree.specs.declared.nodes.Node.TheVariants.{Dir}
-use Rattle.iot_exec.specs.Serial.{run_entry}
-use Rattle.iot_machine.specs.Machine.{Commit}
-use Rattle.iot_machine.specs.Nodes.{Node}
-use Rattle.iot_machine.specs.Refining.{Refines}
-use Rattle.iot_machine.specs.Serving.{server_name, kept_text}
-use Rattle.iot_machine.specs.Stops.{ComesBack}
-use Rattle.iot_machine.specs.Texts.{stopped_line, lost_line}
-use Rattle.iot_node.specs.Posts.{is_on, PostStands, CameIf, back_said}
-use Rattle.iot_node.specs.declared.post.Doubt.{Doubt}
-use Rattle.iot_node.specs.declared.post.Fallen.{Fallen}
-use Rattle.iot_node.specs.declared.post.Post.{Post}
-use Rattle.iot_node.specs.declared.post.Post.TheVariants.{Up, Down, Between}
-use Rattle.iot_server_node.specs.Deciding.{HasCount, Begins, DecidesBy, DecidesPost}
-use Rattle.iot_server_node.specs.Keepers.{lists}
-use Rattle.iot_server_node.specs.Records.{IsImage, records_from}
-use Rattle.iot_server_node.specs.declared.keeper.ServerKeeper.{ServerKeeper}
+use Rattle.iot_server_node.proofs.Common.{◌≡◌, ℕ, suc, ◌+◌, Bool, true, false, List, [], ◌∷◌, ◌++◌, length, Option, Some, None, inl, inr}
+use Rattle.iot_server_node.proofs.Common.{refl, sym, ap, ◌∙◌, arith, append-nil, lists, IsImage, records_from}
+use Rattle.iot_server_node.specs.Prelude.{Medium, Nodes, root_alone, Dir, run_entry, Commit, Node, Refines, server_name, kept_text}
+use Rattle.iot_server_node.specs.Prelude.{ComesBack, stopped_line, lost_line, PostStands, CameIf, back_said, Doubt, Post, Down}
+use Rattle.iot_server_node.specs.Prelude.{ServerKeeper}
+use Rattle.iot_server_node.specs.Deciding.{HasCount, Begins, DecidesBy, DecidesIfAny, DecidesPost}
 use Rattle.iot_server_node.proofs.KeepersLaws.{same_bodies}
 
 -- there are as many records as commits
@@ -51,42 +35,28 @@ module _ (images : List ℕ → Type 0) (doubt : Doubt) (x y : List ℕ) where
   }
 
   stopped_again : y ≡ x ++ stopped_line server_name → DecidesBy images doubt.count server_name x y
-  stopped_again wrote = record {
-    kept = λ all. inr (begins_whole (stopped_line server_name) x y wrote);
-    lost = λ all. inr (begins_whole (stopped_line server_name) x y wrote);
-  }
+  stopped_again wrote =
+      let it = begins_whole (stopped_line server_name) x y wrote in record { kept = λ all. inr it; lost = λ all. inr it }
 
-module _ {D : Type 0} (medium : Medium D) (names : List (List ℕ)) (node : Node (List Commit)) (new : Post (ServerKeeper D) D)
-    (x y : List ℕ) where
-  said_stopped : (n : Node (List Commit)) (text : List ℕ) → y ≡ x ++ text
-      → ComesBack server_name (kept_text names) node text false n → y ≡ x ++ stopped_line server_name
-  said_stopped n text wrote (inl back) = absurd cc
-  said_stopped n text wrote (inr stopped) = wrote ∙ ap (λ (l : List ℕ). x ++ l) stopped.0
+module _ {D : Type 0} (medium : Medium D) (names : List (List ℕ)) (node : Node (List Commit)) (x y : List ℕ) where
+  said_stopped : (on : Bool) (n : Node (List Commit)) (text : List ℕ) → on ≡ false → y ≡ x ++ text
+      → ComesBack server_name (kept_text names) node text on n → y ≡ x ++ stopped_line server_name
+  said_stopped on n text off wrote (inl back) = absurd cc
+  said_stopped on n text off wrote (inr stopped) = wrote ∙ ap (λ (l : List ℕ). x ++ l) stopped.0
 
-  by_doubt : (fallen : Fallen D) (doubt : Option Doubt) (on : Bool)
-      → PostStands (lists medium) medium (kept_text names) (Down (record { disk = fallen.disk; doubt = doubt })) node
-      → Refines (PostStands (lists medium) medium (kept_text names)) (ComesBack server_name (kept_text names))
-      (Down (record { disk = fallen.disk; doubt = doubt })) new x y on
-      → CameIf (lists medium) medium on (Down (record { disk = fallen.disk; doubt = doubt })) server_name x y node
-      → DecidesPost medium (Down (record { disk = fallen.disk; doubt = doubt })) x y
-  by_doubt fallen None on here step came = tt
-  by_doubt fallen (Some doubt) false here step came =
-      let s = step.step node here in
-      stopped_again (medium.may_leave fallen.disk) doubt x y (said_stopped s.1 s.0 s.2 s.3)
-  by_doubt fallen (Some doubt) true here step came = elim came.said [
-    | inl it ↦ by_image (medium.may_leave fallen.disk) doubt x y came.image came.count node.durable came.left it.1 it.0
-    | inr it ↦ by_image (medium.may_leave fallen.disk) doubt x y came.image (came.count + 1) it.0 came.left it.3 it.1
+  by_doubt : (disk : D) (doubt : Option Doubt) (on : Bool)
+      → CameIf (lists medium) medium on (Down (record { disk = disk; doubt = doubt })) server_name x y node
+      → (on ≡ false → y ≡ x ++ stopped_line server_name) → DecidesIfAny (medium.may_leave disk) doubt server_name x y
+  by_doubt disk None on came stopped = tt
+  by_doubt disk (Some doubt) false came stopped = stopped_again (medium.may_leave disk) doubt x y (stopped refl)
+  by_doubt disk (Some doubt) true came stopped = elim came.said [
+    | inl it ↦ by_image (medium.may_leave disk) doubt x y came.image came.count node.durable came.left it.1 it.0
+    | inr it ↦ by_image (medium.may_leave disk) doubt x y came.image (came.count + 1) it.0 came.left it.3 it.1
   ]
 
-  pub decides : (old : Post (ServerKeeper D) D) (on : Bool) → PostStands (lists medium) medium (kept_text names) old node
+  pub decides : (old new : Post (ServerKeeper D) D) (on : Bool) → PostStands (lists medium) medium (kept_text names) old node
       → Refines (PostStands (lists medium) medium (kept_text names)) (ComesBack server_name (kept_text names)) old new x y on
       → CameIf (lists medium) medium on old server_name x y node → DecidesPost medium old x y
-  decides (Up keeper) on here step came = tt
-  decides (Down fallen) on here step came = by_doubt fallen fallen.doubt on here step came
-  decides Between on here step came = tt
-
-pub decides_up : {D : Type 0} (medium : Medium D) (post : Post (ServerKeeper D) D) (x y : List ℕ) → is_on post ≡ true
-    → DecidesPost medium post x y
-decides_up medium (Up keeper) x y on = tt
-decides_up medium (Down fallen) x y on = absurd cc
-decides_up medium Between x y on = tt
+  decides (Down fallen) new on here step came =
+      let s = step.step node here in by_doubt fallen.disk fallen.doubt on came (λ off. said_stopped on s.1 s.0 off s.2 s.3)
+  decides old new on here step came = tt

@@ -1,7 +1,6 @@
-mod RecordsLaws
+mod Common
 mod KeepersLaws
 pub mod ServersLaws
-mod LendingLaws
-mod JudgesLaws
+mod ServingLaws
 mod DecidingLaws
 pub mod BeginningLaws

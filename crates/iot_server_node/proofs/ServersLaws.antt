@@ -1,43 +1,26 @@
 -- What a server does is what is said of it.
-use Rattle.std.proofs.Common.{◌≡◌, ℕ, suc, zero, ◌+◌, ◌%◌, ◌^◌, Bool, true, false, if◌then◌else◌, List, [], ◌∷◌, ◌++◌, length, drop}
-use Rattle.std.proofs.Common.{Option, Some, None, IsSome, codes, refl, sym, ap, subst, ◌∙◌, arith, inl, inr, slice_index_or}
-use Rattle.std.proofs.lemmas.List.{length-append}
 use Rattle.std.proofs.Math.Nat.{mod-add-mod}
-use Rattle.iot_disk.specs.Disk.{Medium}
+use Rattle.iot_server_node.proofs.Common.{◌≡◌, ℕ, suc, zero, ◌+◌, ◌%◌, ◌^◌, Bool, true, false, if◌then◌else◌, List, [], ◌∷◌, ◌++◌, length}
+use Rattle.iot_server_node.proofs.Common.{drop, Option, Some, None, IsSome, codes, refl, sym, ap, subst, ◌∙◌, arith, inl, inr}
+use Rattle.iot_server_node.proofs.Common.{slice_index_or, length-append, lists, Handles, KeepsList, ServerStands, AreOf, bind, asks}
+use Rattle.iot_server_node.specs.Prelude.{Medium, Encodes, record_spelling, State, after_commit, Server, Act, Label, Call, Says, Nothing}
+use Rattle.iot_server_node.specs.Prelude.{Then, either, Commit, add_commit, tree_after, Node, fallen, changed, back, unopened, Refines}
+use Rattle.iot_server_node.specs.Prelude.{server_name, kept_text, OpensNode, Appends, ComesBack, ComesBackWith, Crashes, Restarts, ArmsDisk}
+use Rattle.iot_server_node.specs.Prelude.{line, transaction_name, IsEmpty, KeepsDisk, counts_on, is_on, live_of, PostStands, HoldsBy}
+use Rattle.iot_server_node.specs.Prelude.{IsStanding, Lasts, StepsTo, Doubt, Post, Up, Down, Between, ServerKeeper, ServerNode}
+use Rattle.iot_journal.specs.Decoding.{decoded}
 use Rattle.iot_disk.specs.declared.disk.Pick.{Pick}
-use Rattle.iot_journal.specs.Decoding.{Encodes, decoded}
-use Rattle.iot_store.specs.Records.{record_spelling}
-use Rattle.iot_store.specs.States.{State, after_commit}
 use Rattle.iot_server.specs.Servers as servers
 use Rattle.iot_server.specs.Traffic.{no_traffic}
-use Rattle.iot_server.specs.declared.server.Server.{Server}
-use Rattle.iot_tree.specs.declared.acts.Act.{Act}
-use Rattle.iot_tree.specs.declared.labels.Label.{Label}
-use Rattle.iot_machine.specs.Calls.{Call, Does, Says, Nothing, Then, either}
-use Rattle.iot_machine.specs.Machine.{Commit, add_commit, tree_after}
-use Rattle.iot_machine.specs.Nodes.{Node, fallen, changed, back, unopened}
-use Rattle.iot_machine.specs.Refining.{Refines}
-use Rattle.iot_machine.specs.Serving.{server_name, added_text, commit_text, kept_text}
-use Rattle.iot_machine.specs.Stops.{OpensNode, Appends, ComesBack, ComesBackWith, Crashes, Restarts, ArmsDisk}
-use Rattle.iot_machine.specs.Texts.{line, transaction_name}
-use Rattle.iot_node.specs.Disks.{IsEmpty, KeepsDisk, counts_on}
+use Rattle.iot_machine.specs.Serving.{added_text, commit_text}
 use Rattle.iot_node.specs.Posts as posts
-use Rattle.iot_node.specs.Posts.{is_on, is_fallen, live_of, PostStands, HoldsBy, Answered, StepsFrom, IsStanding, Lasts, CameIf}
-use Rattle.iot_node.specs.Steps.{StepsTo}
-use Rattle.iot_node.specs.declared.post.Doubt.{Doubt}
-use Rattle.iot_node.specs.declared.post.Post.{Post}
-use Rattle.iot_node.specs.declared.post.Post.TheVariants.{Up, Down, Between}
-use Rattle.iot_server_node.specs.Keepers.{lists, traffic_in, Handles, KeepsList}
-use Rattle.iot_server_node.specs.Servers.{is_up, IsKnown, AreKnown, AreKnownIfAny, IsLongerIfAny, NodeIsKnown}
-use Rattle.iot_server_node.specs.Servers.{HasAnsweredIn, ServerStands}
-use Rattle.iot_server_node.specs.Servers.{HavingAnswered, IsUnopened, answered_since, AreOf, live, IsLive, Lives}
-use Rattle.iot_server_node.specs.declared.keeper.ServerKeeper.{ServerKeeper}
-use Rattle.iot_server_node.specs.declared.server.ServerNode.{ServerNode}
-use Rattle.iot_server_node.proofs.KeepersLaws.{keeps_images}
+use Rattle.iot_server_node.specs.Keepers.{traffic_in}
+use Rattle.iot_server_node.specs.Servers.{is_up, IsKnown, AreKnown, AreKnownIfAny, IsLongerIfAny, NodeIsKnown, HasAnsweredIn}
+use Rattle.iot_server_node.specs.Servers.{HavingAnswered, IsUnopened, answered_since, live, IsLive, Lives}
+use Rattle.iot_server_node.proofs.KeepersLaws.{keeps_images, record_is, state_is}
 use Rattle.iot_machine.proofs.FollowsLaws.{all_as, all_push, at_push}
-use Rattle.iot_server_node.proofs.RecordsLaws.{record_is, state_is}
-use Rattle.iot_node.proofs.PostsLaws.{holds_each}
-use Rattle.iot_node.proofs.StepsToLaws.{bind, asks}
+use Rattle.iot_machine.proofs.KeepsLaws.{asks_then, keeps_either, keeps_does, stays_says}
+use Rattle.iot_node.proofs.PostsLaws.{holds_each, on_is}
 
 -- no bytes are a journal without a body
 nothing_decoded : decoded [] ≡ Encodes []
@@ -79,14 +62,10 @@ module _ (names : List (List ℕ)) where
   pub known_armed : (calls : ℕ) (pick : Pick) → Keeps (ArmsDisk server_name calls pick) tt
   known_armed calls pick node after text is known = known_so is.1 known refl refl
 
-  known_fallen : (on : Bool)
-      → Keeps (either (Does (λ _. line (codes "crash " ++ server_name)) fallen) (Says (λ _. line (codes "down"))) on) tt
-  known_fallen true node after text is known = known_so is.1 known refl refl
-  known_fallen false node after text is known = known_so is.1 known refl refl
-
   pub known_crash : Keeps (Crashes server_name) tt
-  known_crash node after text it known =
-      known_fallen it.answer it.mid after it.rest it.second (subst (NodeIsKnown names) (sym it.first.2) known)
+  known_crash node after text step known =
+      (asks_then (keeps_either (keeps_does (λ (m : Node (List Commit)) it. known_so {node = m} refl it refl refl)) stays_says)).at
+      node after text tt known step
 
   -- also where the server stops as it appends a commit that is known
   pub known_stopped : (commit : Commit) → IsKnown names commit → Keeps (Appends server_name (add_commit commit)) false
@@ -133,24 +112,20 @@ module _ (names : List (List ℕ)) (name : List ℕ) where
 module _ {D : Type 0} where
   pub answered_off : (post : Post (ServerKeeper D) D) (n : ℕ) → is_on post ≡ false → HasAnsweredIn n post
   answered_off (Up keeper) n off = absurd cc
-  answered_off (Down fallen) n off = tt
-  answered_off Between n off = tt
+  answered_off post n off = tt
 
   -- one that was just started has answered none
   pub answered_fresh : (post : Post (ServerKeeper D) D) (on : Bool) → live_of traffic_in post ≡ if on then Some no_traffic else None
       → HasAnsweredIn 0 post
   answered_fresh (Up keeper) true is = cc
   answered_fresh (Up keeper) false is = absurd cc
-  answered_fresh (Down fallen) on is = tt
-  answered_fresh Between on is = tt
+  answered_fresh post on is = tt
 
   pub answered_same : (old new : Post (ServerKeeper D) D) (n : ℕ) → live_of traffic_in new ≡ live_of traffic_in old → HasAnsweredIn n old
       → HasAnsweredIn n new
   answered_same (Up was) (Up now) n same had = cc
-  answered_same (Down fallen) (Up now) n same had = absurd cc
-  answered_same Between (Up now) n same had = absurd cc
-  answered_same old (Down fallen) n same had = tt
-  answered_same old Between n same had = tt
+  answered_same old (Up now) n same had = absurd cc
+  answered_same old new n same had = tt
 
   -- as it has a disk, it has the same after a call that leaves it
   pub keeps_same : (medium : Medium D) (old new : Option D) → IsSome old → new ≡ old → KeepsDisk medium old new
@@ -164,11 +139,6 @@ module _ {D : Type 0} (medium : Medium D) (names : List (List ℕ)) where
 
   abbrev Posted : Post (ServerKeeper D) D → Node (List Commit) → Type 0
   Posted = PostStands (lists medium) medium (kept_text names)
-
-  alive_is : (post : Post (ServerKeeper D) D) (node : Node (List Commit)) → Posted post node → node.alive ≡ is_on post
-  alive_is (Up keeper) node here = here.alive
-  alive_is (Down fallen) node here = here.alive
-  alive_is Between node here = absurd here
 
   -- what its post does, it does
   pub with_known : {A : Type 0} {call : Call (Node (List Commit)) A} {old new : ServerNode D} {n k : ℕ} {x y : List ℕ} {a : A}
@@ -204,6 +174,11 @@ module _ {D : Type 0} (medium : Medium D) (names : List (List ℕ)) where
     answered = tt;
   }
 
+  -- it is alive if the node is
+  pub up_is : (server : ServerNode D) (node : Node (List Commit)) (n : ℕ) → ServerStands medium names server node n
+      → node.alive ≡ is_up server
+  up_is server node n here = on_is (lists medium) medium (kept_text names) server.post node here.post
+
   -- ---- a restart
 
   -- by whether it is alive
@@ -213,7 +188,7 @@ module _ {D : Type 0} (medium : Medium D) (names : List (List ℕ)) where
       → StepsTo (Stands n) (Stands (answered_since (is_up old) n)) (Restarts server_name (kept_text names)) old new x y tt
   restarts old new n x y on is step =
       rw is
-      (bind old old new x x y on tt (asks old x on (λ node here. sym (alive_is old.post node here.post ∙ is))) step)
+      (bind old old new x x y on tt (asks old x on (λ node here. sym (up_is old node n here ∙ is))) step)
 
   lasts_in : (post : Post (ServerKeeper D) D) (node : Node (List Commit)) → Posted post node → Lasts (lists medium) medium post node
   lasts_in (Up keeper) node here = record {
@@ -239,19 +214,13 @@ module _ {D : Type 0} (medium : Medium D) (names : List (List ℕ)) where
       → Lasts (lists medium) medium server.post node
   lasts server node n here = lasts_in server.post node here.post
 
-  -- it is alive if the node is
-  pub up_is : (server : ServerNode D) (node : Node (List Commit)) (n : ℕ) → ServerStands medium names server node n
-      → node.alive ≡ is_up server
-  up_is server node n here = alive_is server.post node here.post
-
   -- ---- a request
 
   -- a server that is alive takes requests
   pub is_live : (post : Post (ServerKeeper D) D) (node : Node (List Commit)) → Posted post node → is_on post ≡ true
       → IsLive medium (record { post = post })
   is_live (Up keeper) node here up = record { it = keeper.server; up = refl; synced = here.stands.synced }
-  is_live (Down fallen) node here up = absurd cc
-  is_live Between node here up = absurd cc
+  is_live post node here up = absurd cc
 
   module _ {was now : Server D} {asked reply : List ℕ} {node : Node (List Commit)} {n : ℕ} (it : Handles medium asked reply was now)
       (here : ServerStands medium names (live was) node n) where

@@ -1,14 +1,7 @@
 -- If all images of a disk have the commit that is in doubt, or none has it, that decides whether it is kept.
 use Rattle.std.specs.Prelude.{◌≡◌, ◌⊎◌, ℕ, ◌+◌, List, ◌++◌, length, Option, Some, None}
-use Rattle.iot_disk.specs.Disk.{Medium}
-use Rattle.iot_journal.specs.Decoding.{Encodes, decoded}
-use Rattle.iot_machine.specs.Serving.{server_name}
-use Rattle.iot_machine.specs.Texts.{stopped_line, kept_line, lost_line}
-use Rattle.iot_node.specs.declared.post.Doubt.{Doubt}
-use Rattle.iot_node.specs.declared.post.Post.{Post}
-use Rattle.iot_node.specs.declared.post.Post.TheVariants.{Up, Down, Between}
-use Rattle.iot_server_node.specs.declared.keeper.ServerKeeper.{ServerKeeper}
-use Rattle.iot_server_node.specs.declared.server.ServerNode.{ServerNode}
+use Rattle.iot_server_node.specs.Prelude.{Medium, Encodes, decoded, server_name, stopped_line, kept_line, lost_line, Doubt, Post, Up, Down}
+use Rattle.iot_server_node.specs.Prelude.{Between, ServerKeeper, ServerNode}
 
 -- the bytes are a journal of so many records
 pub record HasCount (count : ℕ) (bytes : List ℕ) : Type 0 where

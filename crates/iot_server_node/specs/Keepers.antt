@@ -1,23 +1,12 @@
 -- For which list of commits a server stands, and how it handles a request.
 use Rattle.std.specs.Prelude.{◌≡◌, ℕ, ◌+◌, ◌%◌, ◌^◌, List, length}
-use Rattle.iot_disk.specs.Disk.{Medium}
-use Rattle.iot_disk.specs.declared.faults.JournalFault.{JournalFault}
+use Rattle.iot_server_node.specs.Prelude.{Medium, JournalFault, Encodes, EachDecodes, IsHandled, Server, Commit, IsMessage, IsRequest}
+use Rattle.iot_server_node.specs.Prelude.{request_spelling, counts_on, Keeping, Failed, ServerKeeper}
 use Rattle.iot_disk.specs.declared.faults.JournalFault.TheVariants as append
-use Rattle.iot_journal.specs.Decoding.{Encodes}
-use Rattle.iot_journal.specs.Images.{EachDecodes}
 use Rattle.iot_server.specs.Faults.{CutsOff}
-use Rattle.iot_server.specs.Replies.{IsHandled}
 use Rattle.iot_server.specs.Servers as servers
-use Rattle.iot_server.specs.declared.server.Server.{Server}
 use Rattle.iot_server.specs.declared.traffic.Traffic.{Traffic}
-use Rattle.iot_machine.specs.Machine.{Commit}
-use Rattle.iot_wire.specs.Messages.{IsMessage}
-use Rattle.iot_wire.specs.Rules.{IsRequest}
-use Rattle.iot_wire.specs.Spelling.{request_spelling}
-use Rattle.iot_node.specs.Disks.{counts_on}
-use Rattle.iot_node.specs.Keeping.{Keeping, Failed}
 use Rattle.iot_server_node.specs.Records.{IsImage, records_of, state_of}
-use Rattle.iot_server_node.specs.declared.keeper.ServerKeeper.{ServerKeeper}
 
 -- what was received and sent since the start
 abbrev pub traffic_in : {D : Type 0} → ServerKeeper D → Traffic

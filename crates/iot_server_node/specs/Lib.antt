@@ -1,3 +1,4 @@
+pub mod Prelude
 pub mod Deciding
 pub mod Keepers
 pub mod Messages

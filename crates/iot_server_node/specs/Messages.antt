@@ -1,16 +1,8 @@
 -- Messages between a client and the server, and what they say.
 use Rattle.std.specs.Prelude.{◌≡◌, ℕ, ◌++◌, List, [], leb, if◌then◌else◌, Option, Some, None}
-use Rattle.iot_tree.specs.Tree.{Nodes, IsTree, IsWhole}
-use Rattle.iot_tree.specs.declared.want.Want.{Want}
-use Rattle.iot_wire.specs.Messages.{IsMessage}
-use Rattle.iot_wire.specs.Rules.{IsRequest}
-use Rattle.iot_wire.specs.Spelling.{request_spelling}
-use Rattle.iot_wire.specs.declared.requests.Request.{Request}
+use Rattle.iot_server_node.specs.Prelude.{Nodes, IsTree, IsWhole, Want, IsMessage, IsRequest, request_spelling, Request, snapshot}
+use Rattle.iot_server_node.specs.Prelude.{commit_line, Handed, Spells}
 use Rattle.iot_wire.specs.declared.replies.Reply.TheVariants as replies
-use Rattle.iot_machine.specs.Clients.{snapshot}
-use Rattle.iot_machine.specs.Texts.{commit_line}
-use Rattle.iot_server_node.specs.declared.message.Handed.{Handed}
-use Rattle.iot_wire.specs.Meanings.{Spells}
 use Rattle.iot_node.specs.Lines.{name_of}
 
 -- ---- requests

@@ -1,16 +1,8 @@
 -- What the server's disk keeps of the machine's list: one record for each commit.
 use Rattle.std.specs.Prelude.{◌≡◌, ℕ, List, [], ◌∷◌, ◌++◌, ◌+◌, length, map, Option, None, Some}
-use Rattle.iot_disk.specs.Disk.{Medium}
-use Rattle.iot_tree.specs.Tree.{Nodes, root_alone}
-use Rattle.iot_tree.specs.declared.nodes.Node.TheVariants.{Dir}
-use Rattle.iot_exec.specs.Serial.{run_entry}
-use Rattle.iot_journal.specs.Decoding.{Encodes, decoded}
-use Rattle.iot_stamp.specs.Stamps.{Stamps}
+use Rattle.iot_server_node.specs.Prelude.{Medium, Nodes, root_alone, Dir, run_entry, Encodes, decoded, Stamps, State, opening}
+use Rattle.iot_server_node.specs.Prelude.{record_spelling, Leads, Commit, tree_after}
 use Rattle.iot_store.specs.Stamps.{opening_stamps, next_stamp, stamped_acts}
-use Rattle.iot_store.specs.States.{State, opening}
-use Rattle.iot_store.specs.Records.{record_spelling}
-use Rattle.iot_store.specs.Standing.{Leads}
-use Rattle.iot_machine.specs.Machine.{Commit, tree_after}
 pub use Rattle.iot_machine.specs.Recorded.{label_of}
 
 -- the records of commits from a tree on: of each its label, and the acts of its script's run

@@ -2,44 +2,19 @@
 use Rattle.std.specs.Prelude.{◌≡◌, ℕ, ◌+◌, ◌<◌, ◌%◌, ◌^◌, Bool, true, false, List, [], ◌++◌, length, map, Option, Some, None, IsSome}
 use Rattle.std.specs.Prelude.{slice_index_or, option_map, Err}
 use Rattle.std.specs.List.{AllByRecursion}
-use Rattle.iot_tree.specs.Tree.{Nodes, IsTree}
-use Rattle.iot_tree.specs.declared.acts.Act.{Act}
-use Rattle.iot_tree.specs.declared.labels.Label.{Label}
-use Rattle.iot_acts.specs.Traces.{after_acts}
-use Rattle.iot_acts.specs.Turns.{reads_of}
-use Rattle.iot_disk.specs.Disk.{Medium}
-use Rattle.iot_disk.specs.declared.faults.JournalFault.{JournalFault}
-use Rattle.iot_exec.specs.Serial.{run_entry}
+use Rattle.iot_server_node.specs.Prelude.{Nodes, IsTree, Act, Label, after_acts, reads_of, Medium, JournalFault, run_entry, Call, Commit}
+use Rattle.iot_server_node.specs.Prelude.{tree_after, Node, server_name, kept_text, Appends, transaction_name, acts_output, IsEmpty}
+use Rattle.iot_server_node.specs.Prelude.{Appended, Doubts, PostStands, UpStands, StepsFrom, is_on, StepsTo, Doubt, Post, Up, Down, Between}
+use Rattle.iot_server_node.specs.Prelude.{Server, IsMessage, IsRequest, request_spelling, ServerKeeper, Handed, Message, Served, ServerNode}
 use Rattle.iot_judging.specs.Entries.{IsSpelledEntry}
-use Rattle.iot_machine.specs.Calls.{Call}
-use Rattle.iot_machine.specs.Machine.{Commit, tree_after}
-use Rattle.iot_machine.specs.Nodes.{Node}
-use Rattle.iot_machine.specs.Serving.{Submission, server_name, kept_text}
-use Rattle.iot_machine.specs.Stops.{Appends}
-use Rattle.iot_machine.specs.Texts.{transaction_name, acts_output}
-use Rattle.iot_node.specs.Disks.{IsEmpty}
+use Rattle.iot_machine.specs.Serving.{Submission}
 use Rattle.iot_node.specs.Posts as posts
-use Rattle.iot_node.specs.Keeping.{Appended, Doubts}
-use Rattle.iot_node.specs.Posts.{PostStands, UpStands, StepsFrom, is_on}
-use Rattle.iot_node.specs.Steps.{StepsTo}
 use Rattle.iot_node.specs.declared.lines.Transaction.{Transaction}
-use Rattle.iot_node.specs.declared.post.Doubt.{Doubt}
-use Rattle.iot_node.specs.declared.post.Post.{Post}
-use Rattle.iot_node.specs.declared.post.Post.TheVariants.{Up, Down, Between}
 use Rattle.iot_server.specs.Servers as servers
-use Rattle.iot_server.specs.declared.server.Server.{Server}
-use Rattle.iot_wire.specs.Messages.{IsMessage}
-use Rattle.iot_wire.specs.Rules.{IsRequest}
-use Rattle.iot_wire.specs.Spelling.{request_spelling}
 use Rattle.iot_wire.specs.declared.requests.Request.TheVariants as requests
 use Rattle.iot_server_node.specs.Keepers.{lists, traffic_in, Handles, Refuses}
 use Rattle.iot_server_node.specs.Messages.{said_of}
 use Rattle.iot_server_node.specs.Records.{DiskBegins, label_of, records_of}
-use Rattle.iot_server_node.specs.declared.keeper.ServerKeeper.{ServerKeeper}
-use Rattle.iot_server_node.specs.declared.message.Handed.{Handed}
-use Rattle.iot_server_node.specs.declared.message.Message.{Message}
-use Rattle.iot_server_node.specs.declared.server.Served.{Served}
-use Rattle.iot_server_node.specs.declared.server.ServerNode.{ServerNode}
 
 -- ---- what it has
 

@@ -67,6 +67,7 @@ impl<D: Disk> ServerNode<D> {
     }
 
     /// Starts for the first time, and tells whether it did. Else it has stopped, which is said.
+    #[tactic(auto, using(crate::proofs::ServersLaws::is_standing))]
     pub fn open(&mut self, alloc: Global, out: &mut Text) -> Result<bool, NoMemory>
         requires { IsUnopened D.medium self.old }
         ensures step { IfOk result (λ on. (names : List (List ℕ)) (n : ℕ)
@@ -196,6 +197,7 @@ impl<D: Disk> ServerNode<D> {
 
     /// Comes back from one of the images that its disk may have. A commit that was in doubt is printed if it was kept. If the disk fails
     /// in that, the server has stopped again, and what was in doubt still is.
+    #[tactic(auto, using(crate::proofs::BeginningLaws::commits_same))]
     pub fn restart(&mut self, alloc: Global, out: &mut Text) -> Result<(), NoMemory>
         requires { ServerIsSound D.medium self.old }
 

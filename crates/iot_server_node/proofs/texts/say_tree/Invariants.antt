@@ -1,5 +1,5 @@
-use Rattle.std.proofs.Common.{◌≡◌, ◌++◌, take}
-use Rattle.iot_machine.specs.Texts.{rows_text}
+use Rattle.iot_server_node.proofs.Common.{◌≡◌, ◌++◌, take}
+use Rattle.iot_server_node.specs.Prelude.{rows_text}
 use Rattle.iot_server_node.proofs.texts.say_tree.Given as goal
 
 -- the rows so far are said

@@ -1,5 +1,5 @@
 use Rattle.std.proofs.Common.{Err, ap, ◌∙◌}
-use Rattle.iot_disk.specs.declared.faults.JournalFault.{JournalFault}
+use Rattle.iot_node.specs.Prelude.{JournalFault}
 use Rattle.iot_node.proofs.PostsLaws.{post_goes, post_stops}
 use Rattle.iot_node.proofs.post.Post.take.Goals as goal
 

@@ -1,7 +1,5 @@
-use Rattle.std.proofs.Common.{sym, ◌∙◌}
+use Rattle.iot_server_node.proofs.Common.{sym, ◌∙◌, same_counts, state_of}
 use Rattle.iot_server.specs.Servers as servers
-use Rattle.iot_node.proofs.PostsLaws.{same_counts}
-use Rattle.iot_server_node.specs.Records.{state_of}
 use Rattle.iot_server_node.proofs.KeepersLaws.{same_bodies, image_stands, hold_too, counts_start}
 use Rattle.iot_server_node.proofs.keeper.ServerKeeperKeeper.start.Goals as goal
 

@@ -1,5 +1,5 @@
-use Rattle.iot_machine.specs.Serving.{kept_text}
 use Rattle.std.proofs.lemmas.Result.{on_ok_weaker}
+use Rattle.iot_server_node.specs.Prelude.{kept_text}
 use Rattle.iot_server_node.proofs.ServersLaws.{with_known, known_armed, answered_same}
 use Rattle.iot_server_node.proofs.server.ServerNode.arm.Goals as goal
 

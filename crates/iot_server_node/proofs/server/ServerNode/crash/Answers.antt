@@ -1,5 +1,5 @@
-use Rattle.iot_machine.specs.Serving.{kept_text}
-use Rattle.iot_server_node.specs.Servers.{disk_of}
+use Rattle.iot_server_node.proofs.Common.{disk_of}
+use Rattle.iot_server_node.specs.Prelude.{kept_text}
 use Rattle.iot_server_node.proofs.KeepersLaws.{if_ok_both}
 use Rattle.iot_server_node.proofs.ServersLaws.{with_known, known_crash, answered_off, keeps_same}
 use Rattle.iot_server_node.proofs.server.ServerNode.crash.Goals as goal

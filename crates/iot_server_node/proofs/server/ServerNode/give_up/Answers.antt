@@ -1,6 +1,5 @@
-use Rattle.std.proofs.Common.{◌+◌, ◌++◌, ℕ, List, ap, ◌∙◌}
-use Rattle.iot_machine.specs.Serving.{kept_text}
-use Rattle.iot_server_node.specs.Messages.{printed_under}
+use Rattle.iot_server_node.proofs.Common.{◌+◌, ◌++◌, ℕ, List, ap, ◌∙◌, printed_under}
+use Rattle.iot_server_node.specs.Prelude.{kept_text}
 use Rattle.iot_server_node.proofs.server.ServerNode.give_up.Goals as goal
 
 pub returns-in-Over-clause-step : goal.returns-in-Over-clause-step

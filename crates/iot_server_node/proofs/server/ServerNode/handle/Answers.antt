@@ -1,5 +1,5 @@
 use Rattle.std.proofs.lemmas.Result.{IfOk-weaker, IfErr-weaker}
-use Rattle.iot_server_node.specs.Keepers.{Handles, Refuses}
+use Rattle.iot_server_node.proofs.Common.{Handles, Refuses}
 use Rattle.iot_server_node.proofs.ServersLaws.{lives}
 use Rattle.iot_server_node.proofs.server.ServerNode.handle.Goals as goal
 

@@ -1,11 +1,8 @@
-use Rattle.iot_machine.specs.Serving.{kept_text}
+use Rattle.iot_server_node.specs.Prelude.{kept_text}
 use Rattle.iot_server_node.proofs.KeepersLaws.{if_ok_both}
-use Rattle.iot_server_node.proofs.ServersLaws.{is_standing, with_known, known_opens, answered_fresh}
+use Rattle.iot_server_node.proofs.ServersLaws.{with_known, known_opens, answered_fresh}
 use Rattle.iot_server_node.proofs.BeginningLaws.{commits_last}
 use Rattle.iot_server_node.proofs.server.ServerNode.open.Goals as goal
-
-pub open-requires-clause-stands : goal.open-requires-clause-stands
-open-requires-clause-stands g c = is_standing g.D.Disk.medium c.args.self.now c.requires
 
 pub returns-clause-step : goal.returns-clause-step
 returns-clause-step g c =

@@ -1,9 +1,8 @@
-use Rattle.std.proofs.Common.{false, refl, sym, ◌∙◌}
-use Rattle.iot_machine.specs.Serving.{kept_text}
+use Rattle.iot_server_node.proofs.Common.{false, sym, ◌∙◌, bind, nothing}
+use Rattle.iot_server_node.specs.Prelude.{kept_text}
 use Rattle.iot_server_node.proofs.DecidingLaws.{decides}
 use Rattle.iot_server_node.proofs.ServersLaws.{lasts, restarts, with_known, known_comes_back, answered_fresh}
-use Rattle.iot_node.proofs.StepsToLaws.{bind, nothing}
-use Rattle.iot_server_node.proofs.BeginningLaws.{commits_last, commits_same}
+use Rattle.iot_server_node.proofs.BeginningLaws.{commits_last}
 use Rattle.iot_server_node.proofs.server.ServerNode.restart.Goals as goal
 
 pub returns-in_err-say-clause-lasts : goal.returns-in_err-say-clause-lasts
@@ -27,15 +26,9 @@ returns-clause-step g c names n =
 pub returns-clause-decided : goal.returns-clause-decided
 returns-clause-decided g c =
     let sound = c.requires in
-    decides g.D.Disk.medium sound.names sound.node c.come_back.new.self c.args.out.now c.come_back.new.out c.args.self.now.post
+    decides g.D.Disk.medium sound.names sound.node c.args.out.now c.come_back.new.out c.args.self.now.post c.come_back.new.self
     c.in_ok-come_back.field-0 sound.stands.post (c.in_ok-come_back.ensures.step (kept_text sound.names))
     (c.in_ok-come_back.ensures.came (kept_text sound.names) sound.node sound.stands.post)
-
-pub returns-in_err-say-clause-records : goal.returns-in_err-say-clause-records
-returns-in_err-say-clause-records g c = commits_same g.D.Disk.medium c.args.self.now c.args.self.now refl
-
-pub returns-then-is_up-clause-records : goal.returns-then-is_up-clause-records
-returns-then-is_up-clause-records g c = commits_same g.D.Disk.medium c.args.self.now c.args.self.now refl
 
 pub returns-in_err-come_back-clause-records : goal.returns-in_err-come_back-clause-records
 returns-in_err-come_back-clause-records g c =

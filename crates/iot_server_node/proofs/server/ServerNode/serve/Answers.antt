@@ -1,10 +1,7 @@
-use Rattle.std.proofs.Common.{arith, ap, ◌∙◌}
-use Rattle.iot_server_node.specs.Messages.{committed_since}
-use Rattle.iot_server_node.proofs.KeepersLaws.{always_err}
-use Rattle.iot_server_node.proofs.LendingLaws.{lends, lends_always, lends_lasts}
-use Rattle.iot_server_node.proofs.JudgesLaws.{judges, judges_stopped, judges_lasts}
+use Rattle.iot_server_node.proofs.Common.{arith, ap, ◌∙◌, committed_since}
+use Rattle.iot_server_node.proofs.KeepersLaws.{always_err, few_commits}
+use Rattle.iot_server_node.proofs.ServingLaws.{lends, lends_always, lends_lasts, judges, judges_stopped, judges_lasts}
 use Rattle.iot_server_node.proofs.ServersLaws.{is_live, answered_off}
-use Rattle.iot_server_node.proofs.RecordsLaws.{few_commits}
 use Rattle.iot_server_node.specs.Servers.{count_of}
 use Rattle.iot_server_node.proofs.BeginningLaws.{handled_records, refused_records}
 use Rattle.iot_server_node.proofs.server.ServerNode.serve.Goals as goal
