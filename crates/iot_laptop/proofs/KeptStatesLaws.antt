@@ -1,77 +1,61 @@
 -- What a client keeps, as it is on a disk, and what is known besides of what runs, before and after each of its changes; and that
 -- the resolution that it makes is the one that the machine plans.
-use Rattle.std.proofs.Common.{◌≡◌, ◌+◌, ◌<◌, ◌≤◌, ℕ, Bool, true, false, List, [], ◌∷◌, ◌++◌, drop, Option, Some, None, option_map}
-use Rattle.std.proofs.Common.{length, refl, sym, ap, subst, ◌∙◌, arith, length-append, rules, IsTrue, cond, if◌then◌else◌}
+use Rattle.std.proofs.Common.{◌≡◌, ◌+◌, ◌<◌, ◌≤◌, ℕ, Bool, true, false, List, [], ◌∷◌, ◌++◌, drop, Option, Some, None, option_map, length}
+use Rattle.std.proofs.Common.{refl, sym, ap, subst, ◌∙◌, arith, length-append, rules, IsTrue}
 use Rattle.std.proofs.Math.Seq.{drop-append_seam}
 use Rattle.std.proofs.lemmas.List.{append-nil}
-use Rattle.std.proofs.lemmas.Option.{same_Some, none-some}
+use Rattle.std.proofs.lemmas.Option.{same_Some}
 use Rattle.std.specs.Prelude.{IsSome}
-use Rattle.std.specs.FinMap.{empty, entries, entries_sorted, get-entries, get-from_entries, find, is_sorted}
-use Rattle.std.specs.List.{AllByRecursion, filter_map, cons_option}
-use Rattle.iot_tree.specs.Tree.{Nodes, IsTree, Path, Row}
-use Rattle.iot_tree.specs.declared.acts.Act.{Act}
+use Rattle.std.specs.FinMap.{empty, entries, entries_sorted, get-entries, get-from_entries, is_sorted}
+use Rattle.std.specs.List.{AllByRecursion}
+use Rattle.std.specs.FinMap.Entries.{same_entries}
+use Rattle.iot_laptop.specs.Below.{Nodes, IsTree, Path, Act, ACT_LIMIT, IsScript, IsSpelledTree, after_acts, Ran, Item, Stage, Transaction}
+use Rattle.iot_laptop.specs.Below.{State, after_each, CanFollow, HeadIs, after, Live, verdict_change, CanAct, next_acts, may_end}
+use Rattle.iot_laptop.specs.Below.{second_class, IsHeadsRun, Declared, ClientState, base, so_far, plain_run, begin, act_once, cut, leave}
+use Rattle.iot_laptop.specs.Below.{local_run, item_of, reach, repair, Plan, resolution_of, OnConflict, Code, run, Resolution, Resolved}
+use Rattle.iot_client.proofs.SpelledLaws.{AreGood, tree_files_good, among_good, kept_spelled}
+use Rattle.iot_machine.proofs.FollowsLaws.{all_push}
+use Rattle.iot_machine.specs.Clients.{fetch, hold, anew, one_more, cut_by, leave_by, change_first, with_first, joined, end, plan_by}
+use Rattle.iot_machine.specs.Clients.{found_by}
 use Rattle.iot_tree.specs.declared.labels.OnConflict.{OnConflict as OnConflictNamed}
-use Rattle.iot_tree.specs.declared.limits.TheConstants.{ACT_LIMIT}
 use Rattle.iot_tree.specs.declared.questions.Question.{Question}
-use Rattle.iot_tree.specs.declared.labels.OnConflict.TheVariants as on
-use Rattle.iot_lang.specs.Scripts.{IsScript}
-use Rattle.iot_limits.specs.Spelled.{IsSpelledTree, IsSpelledRow}
-use Rattle.iot_acts.specs.Traces.{after_acts, after_update}
-use Rattle.iot_exec.specs.declared.ran.Ran.{Ran}
+use Rattle.iot_acts.specs.Traces.{after_update}
 use Rattle.iot_exec.proofs.PlaceLaws.{exec_from_start}
 use Rattle.iot_queue.specs.Queues.{with_head, staged}
-use Rattle.iot_queue.specs.declared.items.Item.{Item}
-use Rattle.iot_queue.specs.declared.items.Stage.{Stage}
-use Rattle.iot_queue.specs.declared.items.Stage.TheVariants as stages
-use Rattle.iot_changes.specs.declared.changes.Change.TheVariants as changes
-use Rattle.iot_kept.specs.States.{Transaction, State, after_each}
-use Rattle.iot_kept.specs.Changes as records
-use Rattle.iot_kept.specs.Changes.{CanFollow, HeadIs, MayLeave, after, ended, left, stays_in, stage_by, conflicted, repaired}
-use Rattle.iot_kept.specs.Changes.{with_acts}
-use Rattle.iot_client.specs.Ties.{Live}
+use Rattle.iot_kept.specs.Changes.{MayLeave, ended, left, stays_in, stage_by, conflicted, with_acts}
 use Rattle.iot_client.specs.declared.noted.Noted.{Noted as NotedIn}
-use Rattle.iot_client.specs.declared.noted.Noted.TheVariants as noteds
-use Rattle.iot_client.specs.Calls.{verdict_change, CanAct, next_acts, may_end, second_class, IsPlannedRun, IsHeadsRun}
-use Rattle.iot_machine.specs.Clients as clients
-use Rattle.iot_machine.specs.Clients.{Declared, ClientState, base, so_far, plain_run, begin, fetch, anew, act_once, one_more, cut_by, cut}
-use Rattle.iot_machine.specs.Clients.{leave, leave_by, change_first, with_first, local_run, item_of, joined, end, hold, reach}
-use Rattle.iot_machine.specs.Clients.{at_stage, resolved_by, repair, Plan, plan_by, found_by, resolution_of}
-use Rattle.iot_machine.specs.Options as options
-use Rattle.iot_machine.specs.Options.{OnConflict}
-use Rattle.iot_machine.specs.Serving as serving
+use Rattle.iot_client.specs.Calls.{IsPlannedRun}
 use Rattle.iot_machine.specs.Sound.{CanResolve, IsPlanned}
 use Rattle.iot_judging.proofs.BudgetLaws.{HasOneMore, has_one_more, nothing_done}
 use Rattle.iot_judging.proofs.JudgingLaws.{run_tree}
 use Rattle.iot_judging.proofs.NextLaws.{base_stays}
 use Rattle.iot_judging.proofs.SpelledTreesLaws.{run_spelled}
+use Rattle.iot_text.specs.Paths.{path_cmp}
+use Rattle.iot_text.proofs.PathsLaws.{path_total, path_same}
+use Rattle.iot_tree.proofs.RowLaws.{tested}
+use Rattle.iot_exec.specs.Commands.{kept_files}
+use Rattle.iot_exec.specs.Files.{files_of}
+use Rattle.iot_exec.specs.Finding.{found_in, files_among}
+use Rattle.iot_exec.proofs.FindingLaws.{are_found}
+use Rattle.iot_resolve.specs.Files.{offered}
+use Rattle.iot_resolve.specs.Plans.{plan_for}
+use Rattle.iot_resolve.specs.Resolved.{resolved}
+use Rattle.iot_resolve.proofs.FilesLaws.{offers_files}
+use Rattle.iot_tree.specs.declared.labels.OnConflict.TheVariants as on
+use Rattle.iot_queue.specs.declared.items.Stage.TheVariants as stages
+use Rattle.iot_changes.specs.declared.changes.Change.TheVariants as changes
+use Rattle.iot_kept.specs.Changes as records
+use Rattle.iot_client.specs.declared.noted.Noted.TheVariants as noteds
+use Rattle.iot_machine.specs.Clients as clients
+use Rattle.iot_machine.specs.Options as options
+use Rattle.iot_machine.specs.Serving as serving
+use Rattle.iot_resolve.specs.declared.plan.Plan as plans
 use Rattle.iot_laptop.specs.Calls.{head_option, head_plan}
 use Rattle.iot_laptop.specs.Laptops.{ItemStands, ItemsStand, StageStands, RunningStandsIfAny, StateStands, RunningKept, RunningKeptIfAny}
 use Rattle.iot_laptop.specs.Laptops.{StateKept, waits_of, ResolutionStands}
 use Rattle.iot_laptop.specs.Messages.{told_change}
 use Rattle.iot_laptop.specs.Scripts.{ItemIsNamed, RunIsNamedIfAny, AreNamed, IsNamed, HasNamed, option_named}
 use Rattle.iot_laptop.proofs.LaptopsLaws.{base_of, counted, own_ends, own_next, over_waits}
-use Rattle.std.specs.FinMap.Entries.{same_entries}
-use Rattle.std.specs.Ordering.{eq_by_cmp}
-use Rattle.iot_text.specs.Paths.{path_cmp, IsPath}
-use Rattle.iot_text.proofs.PathsLaws.{path_total, path_same}
-use Rattle.iot_tree.specs.declared.nodes.Node.TheVariants.{Dir, File, FarDir, FarFile}
-use Rattle.iot_tree.proofs.EachLaws.{each_entry}
-use Rattle.iot_tree.proofs.RowLaws.{tested}
-use Rattle.iot_codec.specs.Rules.{IsContents}
-use Rattle.iot_lang.specs.Code.{Code}
-use Rattle.iot_exec.specs.Commands.{kept_files}
-use Rattle.iot_exec.specs.Files.{file_of, files_of}
-use Rattle.iot_exec.specs.Finding.{found_in, is_among, files_among}
-use Rattle.iot_exec.specs.Runs.{run}
-use Rattle.iot_exec.proofs.FindingLaws.{are_found}
-use Rattle.iot_queue.specs.declared.items.Resolution.{Resolution}
-use Rattle.iot_resolve.specs.Files.{offered}
-use Rattle.iot_resolve.specs.Plans as resolves
-use Rattle.iot_resolve.specs.Plans.{plan_for}
-use Rattle.iot_resolve.specs.Resolved.{resolved}
-use Rattle.iot_resolve.specs.declared.plan.Plan as plans
-use Rattle.iot_resolve.proofs.FilesLaws.{offers_files}
-use Rattle.iot_changes.specs.declared.changes.Change.TheVariants.{Resolved}
 
 -- ---- what is known besides of what runs
 
@@ -106,13 +90,12 @@ stands_with s live first m kept runs =
     search rules
 
 -- nothing runs
-idle_is : (t : Nodes) (r : Option Transaction) (o : Option clients.Running) → r ≡ None → RunningKeptIfAny t r o → o ≡ None
-idle_is t None None none kept = refl
-idle_is t None (Some it) none kept = absurd kept
-idle_is t (Some running) o none kept = absurd cc
+pub idle_is : (t : Nodes) (o : Option clients.Running) → RunningKeptIfAny t None o → o ≡ None
+idle_is t None kept = refl
+idle_is t (Some it) kept = absurd kept
 
 pub idle_runs : (first : Bool) (s : State) (m : ClientState) → s.running ≡ None → StateKept s m → None ≡ live_with first m.running
-idle_runs first s m none kept = sym (ap (live_with first) (idle_is (base m) s.running m.running none kept.running))
+idle_runs first s m none kept = sym (ap (live_with first) (idle_is (base m) m.running (rw none at kept.running)))
 
 -- it has done another number of acts
 same_live : (acts : ℕ → ℕ) (first : Bool) (o : Option clients.Running)
@@ -128,10 +111,9 @@ second_live first (Some it) = refl
 -- ---- the transactions that wait
 
 -- if none waits, that is so on each tree
-none_stand : (items : List Item) (t u : Nodes) (ms : List clients.Item) → items ≡ [] → ItemsStand items t ms → ItemsStand items u ms
-none_stand [] t u [] none stand = tt
-none_stand [] t u (m ∷ ms) none stand = absurd stand
-none_stand (item ∷ items) t u ms none stand = absurd cc
+none_stand : (t u : Nodes) (ms : List clients.Item) → ItemsStand [] t ms → ItemsStand [] u ms
+none_stand t u [] stand = tt
+none_stand t u (m ∷ ms) stand = absurd stand
 
 more_stand : (items : List Item) (t : Nodes) (ms : List clients.Item) (item : Item) (m : clients.Item) → ItemsStand items t ms
     → ItemStands (after_each t items) item m → ItemsStand (items ++ item ∷ []) t (ms ++ m ∷ [])
@@ -150,8 +132,7 @@ joined_waits items r some = refl
 can_resolve : (o : OnConflict Declared) → stage_by (option_named o) ≡ Some stages.Conflict → CanResolve o
 can_resolve options.Reexec is = tt
 can_resolve (options.Resolver script) is = tt
-can_resolve options.Abort is = absurd cc
-can_resolve options.Manual is = absurd cc
+can_resolve o is = absurd cc
 
 -- ---- the scripts of a client's transactions
 
@@ -159,20 +140,13 @@ module _ (scripts : List Declared) where
   abbrev AllNamed : List clients.Item → Type 0
   AllNamed items = AllByRecursion (ItemIsNamed scripts) items
 
-  all_named : (items : List clients.Item) (item : clients.Item) → AllNamed items → ItemIsNamed scripts item → AllNamed (items ++ item ∷ [])
-  all_named [] item all one = (one, tt)
-  all_named (head ∷ items) item all one = (all.0, all_named items item all.1 one)
-
-  joined_named : (items : List clients.Item) (o : Option clients.Running) → AllNamed items → RunIsNamedIfAny scripts o
-      → AllNamed (joined items o)
-  joined_named items None all run = all
-  joined_named items (Some it) all run = all_named items (item_of it) all (record { script = run.script; resolver = run.resolver })
-
-  cut_off_named : (items : List clients.Item) (o : Option clients.Running) → AllNamed items → RunIsNamedIfAny scripts o
-      → AllNamed (cut_by items o)
-  cut_off_named items None all run = all
-  cut_off_named items (Some it) all run =
-      all_named items (clients.waiting it.acts it) all (record { script = run.script; resolver = run.resolver })
+  queued_named : (items : List clients.Item) (o : Option clients.Running) → AllNamed items → RunIsNamedIfAny scripts o
+      → AllNamed (joined items o) × AllNamed (cut_by items o)
+  queued_named items None all run = (all, all)
+  queued_named items (Some it) all run =
+      let named : (budget : ℕ) → ItemIsNamed scripts (clients.waiting budget it) =
+      λ budget. record { script = run.script; resolver = run.resolver } in
+      (all_push (ItemIsNamed scripts) items _ (named ACT_LIMIT) all, all_push (ItemIsNamed scripts) items _ (named it.acts) all)
 
   acts_named : (acts : ℕ → ℕ) (o : Option clients.Running) → RunIsNamedIfAny scripts o
       → RunIsNamedIfAny scripts (option_map (λ (it : clients.Running). record it { acts = acts it.acts }) o)
@@ -217,19 +191,9 @@ more_kept t running it act kept within on next =
     let count : length (running.acts ++ act ∷ []) ≡ it.acts + 1 =
     length-append running.acts (act ∷ []) ∙ ap (λ (n : ℕ). n + 1) kept.count in
     let acts : running.acts ++ act ∷ [] ≡ (so_far t (one_more it)).acts =
-    ap (λ (acts : List Act). acts ++ act ∷ []) kept.acts ∙ ap (λ (a : Act). (so_far t it).acts ++ a ∷ []) (sym same) ∙ sym more.acts in
+    ap (λ (acts : List Act). acts ++ act ∷ []) kept.acts ∙ sym (rw same at more.acts) in
     let tree : after_acts t (running.acts ++ act ∷ []) ≡ (so_far t (one_more it)).tree =
-    acts_more running.acts act t ∙ ap (λ (u : Nodes). after_update u act.update) kept.tree
-    ∙ ap (λ (a : Act). after_update (so_far t it).tree a.update) (sym same) ∙ sym more.tree in
-    search rules
-
--- one that does no more than it has done, as one that waits with this budget
-waits_item : (t : Nodes) (running : Transaction) (it : clients.Running) (budget n : ℕ) → RunningKept t running it → budget ≡ n
-    → n ≤ ACT_LIMIT → local_run t (clients.waiting n it) ≡ so_far t it
-    → ItemStands t (records.waiting budget running) (clients.waiting n it)
-waits_item t running it budget n is same few run =
-    let acts : running.acts ≡ (local_run t (clients.waiting n it)).acts = is.acts ∙ ap (λ (ran : Ran). ran.acts) (sym run) in
-    let tree : after_acts t running.acts ≡ (local_run t (clients.waiting n it)).tree = is.tree ∙ ap (λ (ran : Ran). ran.tree) (sym run) in
+    acts_more running.acts act t ∙ ap (λ (u : Nodes). after_update u act.update) kept.tree ∙ sym (rw same at more.tree) in
     search rules
 
 -- ---- a state
@@ -246,15 +210,19 @@ module _ (s : State) (m : ClientState) (here : StateKept s m) where
       → RunningKeptIfAny (clients.after_items t m.items) r o
       → StateKept (record s { held = t; running = r }) (record m { held = t; running = o })
   with_tree t r o none tree spelled runs =
-      let stand : ItemsStand s.items t m.items = none_stand s.items s.held t m.items none here.items in
+      let stand : ItemsStand s.items t m.items = rw none (none_stand s.held t m.items (rw none at here.items)) in
       search rules
 
-  -- one more waits, and none runs
-  one_waits : (item : Item) (it : clients.Item) → ItemStands (base m) item it
-      → ItemsStand (s.items ++ item ∷ []) s.held (m.items ++ it ∷ [])
-  one_waits item it stands =
-      more_stand s.items s.held m.items item it here.items
-      (subst (λ (t : Nodes). ItemStands t item it) (sym (base_of s m here.held here.items)) stands)
+  -- one that ran waits with this budget, and does no more than it has done
+  one_waits : (running : Transaction) (it : clients.Running) (budget n : ℕ) → RunningKept (base m) running it → budget ≡ n
+      → n ≤ ACT_LIMIT → local_run (base m) (clients.waiting n it) ≡ so_far (base m) it
+      → ItemsStand (s.items ++ records.waiting budget running ∷ []) s.held (m.items ++ clients.waiting n it ∷ [])
+  one_waits running it budget n is same few run =
+      let acts : running.acts ≡ (local_run (base m) (clients.waiting n it)).acts = is.acts ∙ ap (λ (ran : Ran). ran.acts) (sym run) in
+      let tree : after_acts (base m) running.acts ≡ (local_run (base m) (clients.waiting n it)).tree =
+      is.tree ∙ ap (λ (ran : Ran). ran.tree) (sym run) in
+      let stands : ItemStands (base m) (records.waiting budget running) (clients.waiting n it) = search rules in
+      more_stand s.items s.held m.items _ _ here.items (rw (base_of s m here.held here.items) stands)
 
   same_queue : ItemsStand (s.items ++ []) s.held m.items
   same_queue = subst (λ (items : List Item). ItemsStand items s.held m.items) (sym (append-nil s.items)) here.items
@@ -263,17 +231,13 @@ module _ (s : State) (m : ClientState) (here : StateKept s m) where
       → ((it : clients.Running) → o ≡ Some it → it.acts ≤ ACT_LIMIT → local_run (base m) (item_of it) ≡ so_far (base m) it)
       → ItemsStand (s.items ++ ended r) s.held (joined m.items o)
   ended_items None None kept same = same_queue
-  ended_items (Some running) (Some it) kept same =
-      one_waits (records.waiting ACT_LIMIT running) (item_of it)
-      (waits_item (base m) running it ACT_LIMIT ACT_LIMIT kept refl (omega arith) (same it refl kept.few))
+  ended_items (Some running) (Some it) kept same = one_waits running it ACT_LIMIT ACT_LIMIT kept refl (omega arith) (same it refl kept.few)
   ended_items r o kept same = absurd kept
 
   cut_items : (r : Option Transaction) (o : Option clients.Running) → RunningKeptIfAny (base m) r o
       → ItemsStand (s.items ++ records.cut r) s.held (cut_by m.items o)
   cut_items None None is = same_queue
-  cut_items (Some running) (Some it) is =
-      one_waits (records.waiting (length running.acts) running) (clients.waiting it.acts it)
-      (waits_item (base m) running it (length running.acts) it.acts is is.count is.few refl)
+  cut_items (Some running) (Some it) is = one_waits running it (length running.acts) it.acts is is.count is.few refl
   cut_items r o is = absurd is
 
   pub cut_live : (scripts : List Declared) (first : Bool) → AreNamed scripts m
@@ -281,152 +245,67 @@ module _ (s : State) (m : ClientState) (here : StateKept s m) where
   cut_live scripts first named = record {
     kept = with_queue _ _ None None (cut_items s.running m.running here.running) tt;
     runs = refl;
-    named = record { items = cut_off_named scripts m.items m.running named.items named.running; running = tt };
+    named = record { items = (queued_named scripts m.items m.running named.items named.running).1; running = tt };
   }
 
-abbrev OneFile : Type 0
-OneFile = Path × List ℕ
+-- ---- a resolution
 
--- ---- files that rise
-
--- they are the entries of their map
-pub files_are : (files : List OneFile) → IsTrue (is_sorted path_cmp files) → files ≡ entries (kept_files files)
+-- files that rise are the entries of their map
+files_are : (files : List (Path × List ℕ)) → IsTrue (is_sorted path_cmp files) → files ≡ entries (kept_files files)
 files_are files rising =
     sym
     (same_entries path_cmp path_total path_same (entries (kept_files files)) files (entries_sorted (kept_files files)) (tested _ rising)
     (λ q. sym (get-entries (kept_files files) q) ∙ get-from_entries path_total files q))
 
--- ---- files that have spellings
-
-abbrev pub AreGood : List OneFile → Type 0
-AreGood files = AllByRecursion (λ (file : OneFile). IsPath file.0 × IsContents file.1) files
-
--- those of the rows of a tree that has one
-rows_good : (rows : List Row) → AllByRecursion (λ (row : Row). IsSpelledRow row.0 row.1) rows → AreGood (filter_map file_of rows)
-rows_good [] each = tt
-rows_good ((p, File bytes) ∷ rows) each = ((each.0.is_path, each.0.is_node), rows_good rows each.1)
-rows_good ((p, Dir) ∷ rows) each = rows_good rows each.1
-rows_good ((p, FarDir) ∷ rows) each = rows_good rows each.1
-rows_good ((p, FarFile) ∷ rows) each = rows_good rows each.1
-
--- those among them
-among_good : (paths : List Path) (files : List OneFile) → AreGood files → AreGood (files_among paths files)
-among_good paths [] good = tt
-among_good paths (file ∷ files) good = by (is_among file.0 paths) (among_good paths files good.1)
-  where
-    by : (b : Bool) → AreGood (files_among paths files) → AreGood (cons_option (if b then Some file else None) (files_among paths files))
-    by true rest = (good.0, rest)
-    by false rest = rest
-
-found_good : (files : List OneFile) → AreGood files → (p : Path) (bytes : List ℕ) → find path_cmp p files ≡ Some bytes → IsContents bytes
-found_good [] good p bytes is = absurd (none-some _ is)
-found_good (file ∷ files) good p bytes is = by (eq_by_cmp path_cmp p file.0) is (found_good files good.1 p bytes)
-  where
-    by : (b : Bool) → cond b (Some file.1) (find path_cmp p files) ≡ Some bytes → (find path_cmp p files ≡ Some bytes → IsContents bytes)
-        → IsContents bytes
-    by true is rest = subst IsContents (same_Some _ _ is) good.0.1
-    by false is rest = rest is
-
--- ---- a resolution
-
--- what a plan comes to that has this name, this budget and this code, if these files are offered
-abbrev shaped : (name : List ℕ) (budget : ℕ) (code : Code) (files : List OneFile) (t : Nodes) → Resolution
-shaped name budget code files t = record {
-  script = name;
-  budget = budget;
-  kept = files_among (found_in code (kept_files files) t budget) files;
-  acts = (run code (kept_files files) t budget).acts;
-}
-
--- what is to be known of a plan
-record IsGoodPlan (plan : Plan) : Type 0 where
-  pub few : plan.budget ≤ ACT_LIMIT
-  pub rising : IsTrue (is_sorted path_cmp plan.offered)
-  pub good : AreGood plan.offered
-
--- it is the machine's
-shaped_stands : (plan : Plan) (t : Nodes) → IsGoodPlan plan → IsScript plan.script.code → IsTree t
-    → ResolutionStands (shaped plan.script.name plan.budget plan.script.code plan.offered t) (resolution_of plan t)
-shaped_stands plan t is_good script tree =
+-- what the plan of the client comes to is what that of the machine does, if both say the same and offer the same files
+plans_agree : (p : plans.Plan) (plan : Plan) (code : Code) (local t : Nodes) (done : Resolution) → p.script ≡ plan.script.name
+    → p.budget ≡ plan.budget → code ≡ plan.script.code → offered p.keeps local ≡ plan.offered → AreGood plan.offered → IsScript code
+    → IsTree t → done ≡ resolved p code local t → ResolutionStands done (resolution_of plan t)
+plans_agree p plan code local t done name budget same files good script tree ran =
     let found = are_found plan.script.code plan.offered t plan.budget in
+    let rising : IsTrue (is_sorted path_cmp plan.offered) =
+    subst (λ (f : List (Path × List ℕ)). IsTrue (is_sorted path_cmp f)) files (offers_files p.keeps local).rising in
     record {
-      name = refl;
-      budget = refl;
-      kept = files_are (found_by plan t) (found.rising is_good.rising);
-      script = script;
-      acts = sym (ap (λ (ran : Ran). ran.acts) found.same_run);
+      name = ap (λ (d : Resolution). d.script) ran ∙ name;
+      budget = ap (λ (d : Resolution). d.budget) ran ∙ budget;
+      kept =
+          ap (λ (d : Resolution). d.kept) ran
+          ∙ (λ i. files_among (found_in (same i) (kept_files (files i)) t (budget i)) (files i))
+          ∙ files_are (found_by plan t) (found.rising rising);
+      script = subst IsScript same script;
+      acts =
+          ap (λ (d : Resolution). d.acts) ran ∙ (λ i. (run (same i) (kept_files (files i)) t (budget i)).acts)
+          ∙ sym (ap (λ (ran : Ran). ran.acts) found.same_run);
       tree = tree;
-      files = record {
-        each = λ p bytes is.
-            found_good (found_by plan t)
-            (among_good (found_in plan.script.code (kept_files plan.offered) t plan.budget) plan.offered is_good.good) p bytes
-            (sym (get-from_entries path_total (found_by plan t) p) ∙ is);
-      };
+      files = kept_spelled (found_by plan t)
+          (among_good (found_in plan.script.code (kept_files plan.offered) t plan.budget) plan.offered good);
     }
 
--- ---- the plan of the client and that of the machine
-
-record PlansAgree (local : Nodes) (p : plans.Plan) (plan : Plan) : Type 0 where
-  pub name : p.script ≡ plan.script.name
-  pub budget : p.budget ≡ plan.budget
-  pub files : offered p.keeps local ≡ plan.offered
-  pub good : IsGoodPlan plan
-
-module _ (held : Nodes) (item : Item) (first : clients.Item) (stands : ItemStands held item first) (spelled : IsSpelledTree held)
-    (p : plans.Plan) (plan : Plan) where
-  abbrev local : Nodes
-  local = after_acts held item.acts
-
-  as_planned : (a : plans.Plan) (b : Plan) → Some a ≡ Some p → Some b ≡ Some plan → PlansAgree local a b → PlansAgree local p plan
-  as_planned a b theirs ours agree =
-      subst (λ (p : plans.Plan). PlansAgree local p plan) (same_Some _ _ theirs)
-      (subst (PlansAgree local a) (same_Some _ _ ours) agree)
-
-  -- and one for which something is planned can be resolved
-  agree_by : (o : OnConflict Declared) → item.option ≡ option_named o → plan_for item.script item.budget item.option ≡ Some p
-      → plan_by held first o ≡ Some plan → PlansAgree local p plan × CanResolve o
-  agree_by options.Reexec is theirs ours = (
-    as_planned _ _ (ap (λ (option : OnConflictNamed). plan_for item.script item.budget option) (sym is) ∙ theirs) ours (record {
-      name = stands.name;
-      budget = stands.budget;
-      files = refl;
-      good = record { few = stands.few; rising = refl; good = tt };
-    }),
-    tt,
-  )
-  agree_by (options.Resolver script) is theirs ours = (
-    as_planned _ _ (ap (λ (option : OnConflictNamed). plan_for item.script item.budget option) (sym is) ∙ theirs) ours (record {
-      name = refl;
-      budget = refl;
-      files = ap files_of stands.tree;
-      good = record {
-        few = omega arith;
-        rising = (offers_files true (local_run held first).tree).rising;
-        good = rows_good (entries (local_run held first).tree)
-            (each_entry IsSpelledRow _ (run_spelled first.script.code held first.budget stands.script spelled).each);
-      };
-    }),
-    tt,
-  )
-  agree_by options.Abort is theirs ours = absurd cc
-  agree_by options.Manual is theirs ours = absurd cc
-
--- ---- the first that waits
-
-module _ (held : Nodes) (item : Item) (first : clients.Item) (stands : ItemStands held item first) (spelled : IsSpelledTree held)
-    (plan : Plan) (ours : clients.plan_of held first ≡ Some plan) (code : Code) (same : plan.script.code ≡ code) (script : IsScript code)
-    (t : Nodes) (tree : IsTree t) (done : Resolution) where
-  run_by : (o : Option plans.Plan) → resolves.plan_of item ≡ o → IsPlannedRun o code (after_acts held item.acts) t done
-      → ResolutionStands done (resolution_of plan t) × CanResolve first.option
-  run_by None theirs ran = absurd ran
-  run_by (Some p) theirs ran =
-      let agree = agree_by held item first stands spelled p plan first.option stands.option theirs ours in
-      let shape : resolved p code (after_acts held item.acts) t ≡ shaped plan.script.name plan.budget plan.script.code plan.offered t =
-      (λ i. shaped (agree.0.name i) (agree.0.budget i) (sym same i) (agree.0.files i) t) in (
-        subst (λ (done : Resolution). ResolutionStands done (resolution_of plan t)) (sym (ran ∙ shape))
-            (shaped_stands plan t agree.0.good (subst IsScript (sym same) script) tree),
-        agree.1,
-      )
+-- so the first that waits is resolved as the machine plans it, and one for which something is planned can be resolved
+planned_by : (held : Nodes) (item : Item) (first : clients.Item) (plan : Plan) (code : Code) (t : Nodes) (done : Resolution)
+    → ItemStands held item first → IsSpelledTree held → IsScript code → IsTree t → code ≡ plan.script.code
+    → (o : OnConflict Declared) → clients.plan_by held first o ≡ Some plan
+    → IsPlannedRun (plan_for item.script item.budget (option_named o)) code (after_acts held item.acts) t done
+    → ResolutionStands done (resolution_of plan t) × CanResolve o
+planned_by held item first plan code t done stands spelled script tree same options.Reexec ours ran =
+    let is = same_Some _ _ ours in (
+      plans_agree (record { script = item.script; budget = item.budget; keeps = false }) plan code (after_acts held item.acts) t done
+          (stands.name ∙ ap (λ (p : Plan). p.script.name) is)
+          (stands.budget ∙ ap (λ (p : Plan). p.budget) is) same (ap (λ (p : Plan). p.offered) is)
+          (subst (λ (p : Plan). AreGood p.offered) is tt) script tree ran,
+      tt,
+    )
+planned_by held item first plan code t done stands spelled script tree same (options.Resolver other) ours ran =
+    let is = same_Some _ _ ours in
+    let good : AreGood (files_of (local_run held first).tree) =
+    tree_files_good _ (run_spelled first.script.code held first.budget stands.script spelled) in (
+      plans_agree (record { script = other.name; budget = ACT_LIMIT; keeps = true }) plan code (after_acts held item.acts) t done
+          (ap (λ (p : Plan). p.script.name) is)
+          (ap (λ (p : Plan). p.budget) is) same (ap files_of stands.tree ∙ ap (λ (p : Plan). p.offered) is)
+          (subst (λ (p : Plan). AreGood p.offered) is good) script tree ran,
+      tt,
+    )
+planned_by held item first plan code t done stands spelled script tree same o ours ran = absurd ran
 
 -- what is said of the first that was submitted
 abbrev pub noted_as : serving.Verdict → NotedIn
@@ -443,7 +322,7 @@ module _ {scripts : List Declared} {s : State} {live : Option Live} {first : Boo
   pub held_live : (t : Nodes) → CanFollow s (changes.Held t) → IsTree t → IsSpelledTree t
       → KeptLive scripts (after s (changes.Held t)) None first (hold t m)
   held_live t can tree spelled =
-      let none : m.running ≡ None = idle_is (base m) s.running m.running can.0 here.kept.running in
+      let none : m.running ≡ None = idle_is (base m) m.running (rw can.0 at here.kept.running) in
       record {
         kept = with_tree s m here.kept t s.running m.running can.1 tree spelled (rw (can.0, none) tt);
         runs = sym (ap (live_with first) none);
@@ -457,10 +336,9 @@ module _ {scripts : List Declared} {s : State} {live : Option Live} {first : Boo
       (begin script on_conflict m)
   begun_live number script option class on_conflict can is option_is named has =
       let same : number ≡ m.last + 1 = can.1 ∙ ap (λ (n : ℕ). n + 1) here.kept.last in
-      let running : RunningKept (base m) (record { number = number; script = script.name; option = option; acts = [] })
-      (record { number = m.last + 1; script = script; option = on_conflict; acts = 0 }) =
-      new_kept (base m) (record { number = number; script = script.name; option = option; acts = [] })
-      (record { number = m.last + 1; script = script; option = on_conflict; acts = 0 }) same refl is option_is in
+      let own : Transaction = record { number = number; script = script.name; option = option; acts = [] } in
+      let it : clients.Running = record { number = m.last + 1; script = script; option = on_conflict; acts = 0 } in
+      let running : RunningKept (base m) own it = new_kept (base m) own it same refl is option_is in
       record { kept = search rules; runs = refl; named = search rules }
 
   pub fetched_live : (t : Nodes) → CanFollow s (changes.Fetched t) → IsTree t → IsSpelledTree t
@@ -498,7 +376,7 @@ module _ {scripts : List Declared} {s : State} {live : Option Live} {first : Boo
         (ended_items s m here.kept s.running m.running here.kept.running
         (λ it runs. over_waits s live first m stands_so it runs may)) tt;
     runs = refl;
-    named = record { items = joined_named scripts m.items m.running here.named.items here.named.running; running = tt };
+    named = record { items = (queued_named scripts m.items m.running here.named.items here.named.running).0; running = tt };
   }
 
   -- the first is at this stage, with this option
@@ -614,7 +492,6 @@ module _ {scripts : List Declared} {s : State} {live : Option Live} {first : Boo
   resolved_live plan planned code same script t tree done ran =
       reached_live (stages.Resolved done) (clients.Resolved (resolution_of plan t))
       (λ item later it others some all stands.
-      let ours : clients.plan_of s.held it ≡ Some plan =
-      ap (λ (held : Nodes). clients.plan_of held it) here.kept.held ∙ ap (head_plan m.held) (sym all) ∙ planned in
-      run_by s.held item it stands here.kept.spelled plan ours code same script t tree done _ refl
-      (subst (λ (items : List Item). IsHeadsRun s.held items code t done) some ran))
+      planned_by s.held item it plan code t done stands here.kept.spelled script tree (sym same) it.option
+      (ap (λ (held : Nodes). clients.plan_of held it) here.kept.held ∙ ap (head_plan m.held) (sym all) ∙ planned)
+      (rw stands.option at (subst (λ (items : List Item). IsHeadsRun s.held items code t done) some ran)))

@@ -2,6 +2,5 @@ pub mod CallsLaws
 pub mod KeptStatesLaws
 pub mod LaptopsLaws
 pub mod NodesLaws
-pub mod RepliesLaws
 pub mod RestartLaws
 pub mod SeatsLaws

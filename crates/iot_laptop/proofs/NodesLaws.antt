@@ -1,35 +1,20 @@
 -- What is known of a client by its node.
-use Rattle.std.proofs.Common.{◌≡◌, ℕ, Bool, true, false, List}
-use Rattle.std.proofs.Common.{Option, Some, None, refl, sym, ap, subst, ◌∙◌, rules}
-use Rattle.iot_kept.specs.States.{Transaction}
-use Rattle.iot_client.specs.Ties as client
-use Rattle.iot_client.specs.Ties.{Live, IsBegunIfAny, IsOwnRunIfAny, state_of}
-use Rattle.iot_client.proofs.StepsLaws.{own}
-use Rattle.iot_client.specs.declared.client.Client.{Client}
-use Rattle.iot_disk.specs.Disk.{Medium}
-use Rattle.iot_machine.specs.Clients as clients
-use Rattle.iot_machine.specs.Clients.{Declared, ClientState}
-use Rattle.iot_machine.specs.Machine as machine
-use Rattle.iot_machine.specs.Calls.{Call, At}
-use Rattle.iot_machine.specs.Nodes.{Node}
-use Rattle.iot_machine.specs.Refining.{Refines}
-use Rattle.iot_machine.specs.Sound.{Possibly}
+use Rattle.std.proofs.Common.{◌≡◌, ℕ, Bool, true, false, List, Option, Some, None, refl, sym, ap, subst, ◌∙◌, rules}
+use Rattle.iot_laptop.specs.Below.{Transaction, Live, IsOwnRunIfAny, state_of, Client, Medium, Declared, ClientState, Call, At, Node}
+use Rattle.iot_laptop.specs.Below.{Refines, Possibly, Keeping, PostStands, UpStands, StepsFrom, is_on, StepsTo, Post, Up, Down, Between}
+use Rattle.iot_laptop.specs.Below.{no_text, Laptop, Seated}
 use Rattle.iot_machine.proofs.PossiblyLaws.{possibly_sure}
-use Rattle.iot_node.specs.Keeping.{Keeping}
-use Rattle.iot_node.specs.Posts.{PostStands, UpStands, StepsFrom, is_on}
-use Rattle.iot_node.specs.Steps.{StepsTo}
-use Rattle.iot_node.specs.declared.post.Post.{Post}
-use Rattle.iot_node.specs.declared.post.Post.TheVariants.{Up, Down, Between}
+use Rattle.iot_client.specs.Ties.{IsBegunIfAny}
+use Rattle.iot_client.proofs.StepsLaws.{own}
 use Rattle.iot_node.proofs.PostsLaws.{on_has}
-use Rattle.iot_machine.specs.Events.{no_text}
+use Rattle.iot_client.specs.Ties as client
+use Rattle.iot_machine.specs.Clients as clients
+use Rattle.iot_machine.specs.Machine as machine
 use Rattle.iot_laptop.specs.Kept.{StateKept}
-use Rattle.iot_laptop.specs.Laptops.{LaptopStands, FallenStands, ClientStands, awake}
-use Rattle.iot_laptop.specs.Laptops.{fallen, RunningStandsIfAny, StateStands, Stands, StandsAnyhow, IsLent}
-use Rattle.iot_laptop.specs.Laptops.{state_by, live_by, is_alive, state_in, live_in, NodeStands}
+use Rattle.iot_laptop.specs.Laptops.{LaptopStands, FallenStands, ClientStands, awake, fallen, RunningStandsIfAny, StateStands, Stands}
+use Rattle.iot_laptop.specs.Laptops.{StandsAnyhow, IsLent, state_by, live_by, is_alive, state_in, live_in, NodeStands}
 use Rattle.iot_laptop.specs.Scripts.{AreNamed}
 use Rattle.iot_laptop.specs.Seats.{seating}
-use Rattle.iot_laptop.specs.declared.laptop.Laptop.{Laptop}
-use Rattle.iot_laptop.specs.declared.seated.Seated.{Seated}
 use Rattle.iot_laptop.proofs.KeptStatesLaws.{live_with, stands_with}
 
 pub not_both : true ≡ false → ⊥

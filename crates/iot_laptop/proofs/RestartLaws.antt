@@ -1,70 +1,50 @@
 -- What befalls a laptop: its link, and a start, a crash, a restart and an armed disk of its node.
-use Rattle.std.proofs.Common.{◌≡◌, ◌⊎◌, ℕ, Bool, true, false, List, [], ◌++◌, length}
-use Rattle.std.proofs.Common.{Option, Some, None, Result, Ok, Err, inl, inr}
-use Rattle.std.proofs.Common.{refl, sym, ap, subst, ◌∙◌, codes, if◌then◌else◌, arith, rules}
+use Rattle.std.proofs.lemmas.Result.{IfOk-weaker, on_ok_weaker, IfOk-at_ok}
+use Rattle.std.proofs.Common.{◌≡◌, ◌⊎◌, ℕ, Bool, true, false, List, [], ◌++◌, length, Option, Some, None, Result, Ok, Err, inl, inr, refl}
+use Rattle.std.proofs.Common.{sym, ap, subst, ◌∙◌, codes, if◌then◌else◌, arith, rules}
 use Rattle.std.specs.Prelude.{IfOk, OnOk, IsErrOf}
 use Rattle.std.proofs.lemmas.List.{append-nil}
 use Rattle.std.proofs.lemmas.Option.{same_Some}
-use Rattle.std.proofs.lemmas.Result.{IfOk-at_ok}
-use Rattle.iot_count.specs.Counts.{Rose}
-use Rattle.iot_tree.specs.Tree.{Nodes, IsTree, root_alone}
-use Rattle.iot_changes.specs.declared.changes.Change.TheVariants.{Cut}
-use Rattle.iot_kept.specs.States.{Transaction, opening}
-use Rattle.iot_client.specs.Calls.{Notes, CutsIfAny, second_class}
-use Rattle.iot_client.specs.Calls as client
-use Rattle.iot_client.specs.Ties.{state_of, live_of, disk_of, bodies_on, IsTied, place_of, records_of}
-use Rattle.iot_client.specs.declared.client.Client.{Client}
-use Rattle.iot_client.specs.declared.fault.ClientFault.{ClientFault}
-use Rattle.iot_client.specs.declared.fault.ClientFault.TheVariants.{Stopped}
-use Rattle.iot_disk.specs.Disk.{Medium}
-use Rattle.iot_machine.specs.Calls.{goes_on, Does}
-use Rattle.iot_machine.specs.Clients as clients
-use Rattle.iot_machine.specs.Clients.{Declared, ClientState, base, cut, new_client}
-use Rattle.iot_machine.specs.Machine as machine
-use Rattle.iot_machine.specs.Nodes.{Node, armed, unopened}
-use Rattle.iot_machine.specs.Refining.{Refines}
-use Rattle.iot_machine.specs.Sound.{Possibly}
-use Rattle.iot_machine.specs.Stops.{ComesBack, Crashes, ArmsDisk, OpensNode}
-use Rattle.iot_machine.specs.Texts.{line, stopped_line, cut_line, transaction_name, disconnect_line}
-use Rattle.iot_machine.proofs.PossiblyLaws.{comes_within, possibly_same, opens_states, crashes_within}
-use Rattle.iot_node.specs.Disks.{KeepsDisk, counts_on, IsEmpty}
-use Rattle.iot_node.specs.Posts as posts
-use Rattle.iot_node.specs.Posts.{is_on, PostStands, UpStands, StepsFrom, IsStanding, CameIf, Ready}
-use Rattle.iot_node.specs.Steps.{StepsTo}
-use Rattle.iot_node.specs.declared.halt.Halt.{Halt}
-use Rattle.iot_node.specs.declared.halt.Halt.TheVariants.{Over}
-use Rattle.iot_node.specs.declared.lines.Transaction as names
-use Rattle.iot_node.specs.declared.post.Post.{Post}
-use Rattle.iot_node.specs.declared.post.Post.TheVariants.{Up, Down, Between}
-use Rattle.iot_node.proofs.StepsToLaws.{bind, asks, says, says_this, nothing}
-use Rattle.iot_machine.specs.Events.{no_text, CutsOff, RestartsClient, cuts_off, Disconnects, CrashesClient, ArmsClient}
-use Rattle.iot_laptop.specs.Calls.{ReturnedStands, Returned, Came, running_name}
-use Rattle.iot_laptop.specs.Kept.{RunningKeptIfAny, StateKept}
-use Rattle.iot_laptop.specs.Laptops.{LaptopStands, FallenStands, ClientStands, awake, StandsAnyhow, is_alive, disk_by}
-use Rattle.iot_laptop.specs.Laptops.{state_in, live_by, state_by, fallen, Stands, Relinked, IsSecondNow, IsCutLink, after_passage}
-use Rattle.iot_node.specs.Lines.{name_of}
-use Rattle.iot_laptop.specs.Scripts.{AreNamed}
-use Rattle.iot_laptop.specs.Seats.{seating, besides, IsClientImage}
-use Rattle.iot_laptop.specs.declared.laptop.Laptop.{Laptop}
-use Rattle.iot_laptop.specs.declared.seated.Seated.{Seated}
-use Rattle.iot_laptop.proofs.CallsLaws.{Called, Before, Fits, each_ok, goes_at, halts_at, fits_with}
-use Rattle.iot_laptop.proofs.KeptStatesLaws.{live_with, cut_live, live_then, second_live, idle_runs}
-use Rattle.iot_laptop.proofs.NodesLaws.{Posted}
-use Rattle.iot_laptop.proofs.NodesLaws.{not_both, on_is, kept_up, node_stands, fallen_stands, awake_stands, awake_at, fallen_at, refines}
-use Rattle.iot_laptop.proofs.NodesLaws.{at_node, same_name, same_link, may_be_named}
+use Rattle.iot_journal.specs.Decoding.{decoded}
+use Rattle.iot_laptop.specs.Below.{Nodes, IsTree, Transaction, opening, Notes, second_class, state_of, live_of, disk_of, bodies_on, IsTied}
+use Rattle.iot_laptop.specs.Below.{place_of, records_of, Client, ClientFault, Stopped, Medium, At, Declared, ClientState, base, cut}
+use Rattle.iot_laptop.specs.Below.{new_client, Node, unopened, Refines, Possibly, OpensNode, stopped_line, transaction_name, KeepsDisk}
+use Rattle.iot_laptop.specs.Below.{counts_on, IsEmpty, is_on, PostStands, UpStands, StepsFrom, CameIf, StepsTo, Halt, Over, Post, Up, Down}
+use Rattle.iot_laptop.specs.Below.{no_text, name_of, Laptop, Seated, Passage, FarDir}
 use Rattle.iot_link.specs.Links.{LinkState, after_exchange}
-use Rattle.iot_link.specs.declared.passages.Passage.{Passage}
+use Rattle.iot_node.proofs.StepsToLaws.{bind, asks, says, says_this, nothing}
+use Rattle.iot_count.specs.Counts.{Rose}
+use Rattle.iot_changes.specs.declared.changes.Change.TheVariants.{Cut}
+use Rattle.iot_client.specs.Calls.{CutsIfAny}
+use Rattle.iot_machine.specs.Calls.{goes_on, Does}
+use Rattle.iot_machine.specs.Nodes.{armed}
+use Rattle.iot_machine.specs.Stops.{ComesBack, Crashes, ArmsDisk}
+use Rattle.iot_machine.specs.Texts.{line, cut_line, disconnect_line}
+use Rattle.iot_machine.proofs.PossiblyLaws.{comes_within, possibly_same, opens_states, crashes_within}
+use Rattle.iot_node.specs.Posts.{IsStanding, Ready}
+use Rattle.iot_machine.specs.Events.{CutsOff, RestartsClient, cuts_off, Disconnects, CrashesClient, ArmsClient}
 use Rattle.iot_link.specs.declared.passages.Passage.TheVariants.{Away, RequestLost, ReplyLost, Both}
 use Rattle.iot_node.proofs.StepsLaws.{does}
-use Rattle.iot_machine.specs.Machine.{break}
-use Rattle.iot_laptop.specs.Laptops.{IsUnopened, unopened_laptop}
 use Rattle.iot_disk.specs.declared.disk.Pick.{Pick}
-use Rattle.iot_journal.specs.Decoding.{decoded}
-use Rattle.iot_tree.specs.declared.nodes.Node.TheVariants.{FarDir}
 use Rattle.iot_tree.proofs.RowLaws.{root_rows, root_map}
 use Rattle.iot_judging.proofs.SpelledTreesLaws.{far_root_spelled}
-use Rattle.iot_laptop.specs.Alone.{OpensClient}
+use Rattle.iot_client.specs.Calls as client
+use Rattle.iot_machine.specs.Clients as clients
+use Rattle.iot_machine.specs.Machine as machine
+use Rattle.iot_node.specs.Posts as posts
+use Rattle.iot_node.specs.declared.lines.Transaction as names
 use Rattle.iot_link.specs.Links as links
+use Rattle.iot_laptop.specs.Calls.{GoesOn, ReturnedStands, Returned, Came, running_name}
+use Rattle.iot_laptop.specs.Kept.{RunningKeptIfAny, StateKept}
+use Rattle.iot_laptop.specs.Laptops.{LaptopStands, FallenStands, ClientStands, awake, StandsAnyhow, is_alive, disk_by, state_in, live_by}
+use Rattle.iot_laptop.specs.Laptops.{state_by, fallen, Stands, Relinked, IsSecondNow, IsCutLink, after_passage, IsUnopened, unopened_laptop}
+use Rattle.iot_laptop.specs.Scripts.{AreNamed}
+use Rattle.iot_laptop.specs.Seats.{seating, besides, IsClientImage}
+use Rattle.iot_laptop.proofs.CallsLaws.{keeps_post, Behaves, Before, Fits, goes_at, halts_at, fits_with}
+use Rattle.iot_laptop.proofs.KeptStatesLaws.{live_with, cut_live, live_then, second_live, idle_is, idle_runs}
+use Rattle.iot_laptop.proofs.NodesLaws.{Posted, not_both, on_is, kept_up, node_stands, fallen_stands, awake_stands, awake_at, fallen_at}
+use Rattle.iot_laptop.proofs.NodesLaws.{refines, at_node, same_name, same_link, may_be_named}
+use Rattle.iot_laptop.specs.Alone.{OpensClient}
 
 pub not_through : (p : Passage) → (p ≡ Away) ⊎ ((p ≡ RequestLost) ⊎ (p ≡ ReplyLost)) → p ≡ Both → ⊥
 not_through p (inl is) both = cc
@@ -89,24 +69,24 @@ module _ {D : Type 0} (medium : Medium D) (laptop : Laptop D) where
       record { scripts = _; machine = _; stands = over_link link stands.scripts stands.machine stands.stands }
 
   -- its link is made another one, and that is said
-  pub relinks : (change : LinkState → LinkState) (line : List ℕ → List ℕ) (link : LinkState) (x y : List ℕ)
-      → link ≡ change laptop.link → y ≡ x ++ line laptop.name → (scripts : List Declared)
+  pub relinks : {E : Type 0} (r : Result (Unit {0}) E) (change : LinkState → LinkState) (line : List ℕ → List ℕ) (link : LinkState)
+      (x y : List ℕ) → link ≡ change laptop.link → OnOk r (y ≡ x ++ line laptop.name)
+      → OnOk r ((scripts : List Declared)
       → Refines (ClientStands medium scripts) (Does (λ m. line m.name) (λ m. record m { link = change m.link }))
-      laptop (record laptop { link = link }) x y tt
-  relinks change line link x y is wrote scripts =
-      does laptop (record laptop { link = link }) x y (λ m here. (
-        wrote ∙ ap (λ (n : List ℕ). x ++ line n) (same_name medium scripts laptop m here),
-        subst (λ (l : LinkState). ClientStands medium scripts (record laptop { link = link }) (record m { link = l }))
-            (is ∙ ap change (same_link medium scripts laptop m here)) (linked link scripts m here),
-      ))
+      laptop (record laptop { link = link }) x y tt)
+  relinks r change line link x y is = on_ok_weaker r (λ wrote scripts. does laptop (record laptop { link = link }) x y (λ m here. (
+    wrote ∙ ap (λ (n : List ℕ). x ++ line n) (same_name medium scripts laptop m here),
+    subst (λ (l : LinkState). ClientStands medium scripts (record laptop { link = link }) (record m { link = l }))
+        (is ∙ ap change (same_link medium scripts laptop m here)) (linked link scripts m here),
+  )))
 
-  pub disconnects : (mid : Laptop D) (x y : List ℕ) → IsCutLink medium laptop mid → y ≡ x ++ disconnect_line mid.name
-      → (scripts : List Declared) → Refines (ClientStands medium scripts) Disconnects laptop mid x y tt
-  disconnects mid x y cut wrote scripts =
-      does laptop mid x y (λ m here. (
-        wrote ∙ ap (λ (n : List ℕ). x ++ disconnect_line n) (cut.name ∙ same_name medium scripts laptop m here),
-        cut.stands scripts m here,
-      ))
+  pub disconnects : {E : Type 0} (r : Result (Unit {0}) E) (mid : Laptop D) (x y : List ℕ) → IsCutLink medium laptop mid
+      → OnOk r (y ≡ x ++ disconnect_line mid.name)
+      → OnOk r ((scripts : List Declared) → Refines (ClientStands medium scripts) Disconnects laptop mid x y tt)
+  disconnects r mid x y cut = on_ok_weaker r (λ wrote scripts. does laptop mid x y (λ m here. (
+    wrote ∙ ap (λ (n : List ℕ). x ++ disconnect_line n) (cut.name ∙ same_name medium scripts laptop m here),
+    cut.stands scripts m here,
+  )))
 
   -- ---- second class
 
@@ -143,35 +123,27 @@ module _ {D : Type 0} (medium : Medium D) (laptop : Laptop D) where
 
   -- ---- an exchange that does not get through
 
-  -- after one in which the server stopped, what runs is second class
-  pub is_broken : (link : LinkState) (new : Laptop D) → link ≡ links.broken → IsSecondNow medium (record laptop { link = link }) new
-      → Relinked medium break laptop new
-  is_broken link new is second = record {
+  -- over another link, with what runs second class, by a change of the client of the machine that does both
+  pub over_second : (link : LinkState) (new : Laptop D) {change : machine.Client → machine.Client}
+      → ((m : machine.Client) → laptop.link ≡ m.link → record m { link = link; first = false } ≡ change m)
+      → IsSecondNow medium (record laptop { link = link }) new → Relinked medium change laptop new
+  over_second link new is second = record {
     place = second.place;
     state = second.state;
     stands = λ scripts m here.
-        subst (λ (l : LinkState). LaptopStands medium scripts new (record m { link = l; first = false })) is
+        subst (LaptopStands medium scripts new) (is m here.link)
         (second.stands scripts (record m { link = link }) (over_link link scripts m here));
   }
 
-  -- and after any that did not get through
+  -- so it is after any that did not get through
   pub is_over : (p : Passage) (link : LinkState) (new : Laptop D) → link ≡ after_exchange p laptop.link
       → (p ≡ Away) ⊎ ((p ≡ RequestLost) ⊎ (p ≡ ReplyLost))
       → IsSecondNow medium (record laptop { link = link }) new → Relinked medium (after_passage p) laptop new
-  is_over Away link new is lost second = record {
-    place = second.place;
-    state = second.state;
-    stands = λ scripts m here. let linked : link ≡ m.link = is ∙ here.link in second.stands scripts m (search rules);
-  }
-  is_over RequestLost link new is lost second = is_broken link new is second
-  is_over ReplyLost link new is lost second = is_broken link new is second
+  is_over Away link new is lost second = over_second link new (λ m same. λ i. record m { link = (is ∙ same) i; first = false }) second
   is_over Both link new is lost second = absurd (not_through Both lost refl)
+  is_over p link new is lost second = over_second link new (λ m same. λ i. record m { link = is i; first = false }) second
 
 -- ---- its node
-
-pub if_two : {T E : Type 0} {P Q R : T → Type 0} (r : Result T E) → IfOk r P → IfOk r Q → ((t : T) → P t → Q t → R t) → IfOk r R
-if_two (Ok t) p q both = both t p q
-if_two (Err e) p q both = tt
 
 module _ {D : Type 0} (medium : Medium D) (laptop : Laptop D) (post : Post (Seated D) D) where
   abbrev next : Laptop D
@@ -219,12 +191,6 @@ module _ {D : Type 0} (medium : Medium D) (laptop : Laptop D) (post : Post (Seat
 
 -- ---- a new laptop
 
-far_root_is_tree : IsTree (root_alone FarDir)
-far_root_is_tree = subst IsTree (root_map FarDir) (root_rows FarDir refl).tree
-
-new_kept : StateKept opening new_client
-new_kept = record { held = refl; items = tt; running = tt; last = refl; tree = far_root_is_tree; spelled = far_root_spelled }
-
 -- an empty disk is that of a client that knows nothing
 empty_image : (bytes : List ℕ) → bytes ≡ [] → IsClientImage bytes 0 new_client
 unfolding decoded
@@ -232,7 +198,14 @@ empty_image bytes none = record {
   state = opening;
   stands = record { bodies = []; read = ap decoded none; leads = refl };
   counted = refl;
-  kept = new_kept;
+  kept = record {
+    held = refl;
+    items = tt;
+    running = tt;
+    last = refl;
+    tree = subst IsTree (root_map FarDir) (root_rows FarDir refl).tree;
+    spelled = far_root_spelled;
+  };
 }
 
 module _ {D : Type 0} (medium : Medium D) (disk : D) (empty : IsEmpty medium disk) (place : ℕ) where
@@ -248,24 +221,24 @@ module _ {D : Type 0} (medium : Medium D) (disk : D) (empty : IsEmpty medium dis
     };
   }
 
-  pub new_stands : (name : List ℕ) (laptop : Laptop D) → laptop.name ≡ name → laptop.place ≡ place → laptop.link ≡ links.opened
-      → laptop.post ≡ Down (record { disk = disk; doubt = None })
-      → (scripts : List Declared) → FallenStands medium scripts laptop (unopened_laptop name (counts_on medium disk))
-  new_stands name laptop named placed linked is scripts = record {
-    name = named;
+  pub new_stands : (name : List ℕ) (link : LinkState) → link ≡ links.opened → (scripts : List Declared)
+      → FallenStands medium scripts
+      (record { name = name; place = place; post = Down (record { disk = disk; doubt = None }); link = link })
+      (unopened_laptop name (counts_on medium disk))
+  new_stands name link linked scripts = record {
+    name = refl;
     link = linked;
     alive = refl;
-    node = rw (placed, is) new_node;
+    node = new_node;
     named = record { is = record { items = tt; running = tt }; may_be = tt };
   }
 
 -- ---- it starts for the first time
 
 -- nothing runs
-none_runs : (t : Nodes) (r : Option Transaction) (o : Option clients.Running) → o ≡ None → RunningKeptIfAny t r o → r ≡ None
-none_runs t None o none kept = refl
-none_runs t (Some running) None none kept = absurd kept
-none_runs t (Some running) (Some it) none kept = absurd cc
+none_runs : (t : Nodes) (r : Option Transaction) → RunningKeptIfAny t r None → r ≡ None
+none_runs t None kept = refl
+none_runs t (Some running) kept = absurd kept
 
 module _ {D : Type 0} (medium : Medium D) (laptop : Laptop D) (new : IsUnopened medium laptop) where
   pub opens_ready : Ready medium laptop.post
@@ -287,8 +260,9 @@ module _ {D : Type 0} (medium : Medium D) (laptop : Laptop D) (new : IsUnopened 
     started_idle up =
         let s = it.step opens_standing.node opens_standing.stands in
         let kept = kept_up medium laptop.place post s.1 s.4 (on_is (seating medium laptop.place) medium no_text post s.1 s.4 ∙ up) in
-        none_runs (base s.1.durable) (state_by post).running s.1.durable.running
-        (ap (λ (state : ClientState). state.running) (opens_states laptop.name opens_standing.node s.1 s.0 on s.3).durable) kept.running
+        none_runs (base s.1.durable) (state_by post).running
+        (subst (λ (o : Option clients.Running). RunningKeptIfAny (base s.1.durable) (state_by post).running o)
+        (ap (λ (state : ClientState). state.running) (opens_states laptop.name opens_standing.node s.1 s.0 on s.3).durable) kept.running)
 
     opens_at : (scripts : List Declared) (m : machine.Client) (n : Node ClientState) → FallenStands medium scripts laptop m
         → Posted medium laptop post n → (b : Bool) → is_on post ≡ b
@@ -362,22 +336,26 @@ module _ {D : Type 0} (medium : Medium D) (old : Laptop D) where
     alive_is : {on : Bool} → CameBack medium old post x y on → (n : Node ClientState) → Posted medium old post n → n.alive ≡ on
     alive_is back n stands = on_is (seating medium old.place) medium no_text post n stands ∙ back.is
 
-    -- what it does when its node is back, or has stopped again, makes the whole of its restart
-    comes : (on : Bool) → CameBack medium old post x y on → (scripts : List Declared) (stands : Laptop D → machine.Client → Type 0)
+    -- its node is back, or has stopped again
+    steps_back : {on : Bool} → CameBack medium old post x y on → (scripts : List Declared) {stands : Laptop D → machine.Client → Type 0}
         → ((m : machine.Client) → FallenStands medium scripts old m → (n : Node ClientState) → Posted medium old post n
         → Possibly (AreNamed scripts) n → stands mid (record m { node = n }))
-        → (new : Laptop D) (z : List ℕ) → StepsTo stands (ClientStands medium scripts) (goes_on CutsOff on) mid new y z tt
-        → Refines (ClientStands medium scripts) RestartsClient old new x z tt
-    comes on back scripts stands each new z rest =
-        let whole : StepsTo (FallenStands medium scripts) (ClientStands medium scripts) RestartsClient old new x z tt =
-        bind old old new x x z false tt (asks old x false (λ m down. sym down.alive))
-        (bind old old new x x z old.name tt (asks old x old.name (λ m down. down.name))
-        (bind {mid = stands} old mid new x y z on tt
-        (at_node medium old post (λ name. ComesBack name no_text) (λ _. old.name) x y on
+        → StepsTo (FallenStands medium scripts) stands (At machine.node (ComesBack old.name no_text)) old mid x y on
+    steps_back {on} back scripts each =
+        at_node medium old post (λ name. ComesBack name no_text) (λ _. old.name) x y on
         (λ m down. (refl, back.steps.step m.node down.node))
         (λ m down n text step there.
-        each m down n there ((comes_within old.name no_text m.node n text on step).each (AreNamed scripts) down.named)))
-        rest)) in
+        each m down n there ((comes_within old.name no_text m.node n text on step).each (AreNamed scripts) down.named))
+
+    -- what it does then makes the whole of its restart
+    comes : {on : Bool} → CameBack medium old post x y on → (scripts : List Declared) {stands : Laptop D → machine.Client → Type 0}
+        → StepsTo (FallenStands medium scripts) stands (At machine.node (ComesBack old.name no_text)) old mid x y on
+        → (new : Laptop D) (z : List ℕ) → StepsTo stands (ClientStands medium scripts) (goes_on CutsOff on) mid new y z tt
+        → Refines (ClientStands medium scripts) RestartsClient old new x z tt
+    comes {on} back scripts first new z rest =
+        let whole : StepsTo (FallenStands medium scripts) (ClientStands medium scripts) RestartsClient old new x z tt =
+        bind old old new x x z false tt (asks old x false (λ m down. sym down.alive))
+        (bind old old new x x z old.name tt (asks old x old.name (λ m down. down.name)) (bind old mid new x y z on tt first rest)) in
         record { step = λ m here. whole.step m (fallen_stands medium scripts old m back.off here) }
 
     -- ---- it has stopped again
@@ -385,9 +363,8 @@ module _ {D : Type 0} (medium : Medium D) (old : Laptop D) where
     module _ (back : CameBack medium old post x y false) where
       pub stops_again : (scripts : List Declared) → Refines (ClientStands medium scripts) RestartsClient old mid x y tt
       stops_again scripts =
-          comes false back scripts (ClientStands medium scripts)
-          (λ m down n stands named. fallen_at medium scripts old m down.name down.link post n stands (alive_is back n stands) named)
-          mid y (nothing mid y)
+          comes back scripts (steps_back back scripts (λ m down n stands named.
+          fallen_at medium scripts old m down.name down.link post n stands (alive_is back n stands) named)) mid y (nothing mid y)
 
       pub came_again : (scripts : List Declared) (m : machine.Client) → ClientStands medium scripts old m → Came medium old x y m
       came_again scripts m here =
@@ -405,36 +382,29 @@ module _ {D : Type 0} (medium : Medium D) (old : Laptop D) where
     -- ---- it is back
 
     module _ (back : CameBack medium old post x y true) where
-      returned : (scripts : List Declared) (m : machine.Client) → FallenStands medium scripts old m → (n : Node ClientState)
-          → Posted medium old post n → Possibly (AreNamed scripts) n → ReturnedStands medium scripts mid (record m { node = n })
-      returned scripts m down n stands named =
+      returns : (scripts : List Declared)
+          → StepsTo (FallenStands medium scripts) (ReturnedStands medium scripts) (At machine.node (ComesBack old.name no_text)) old mid x y
+          true
+      returns scripts = steps_back back scripts (λ m down n stands named.
           let alive : n.alive ≡ true = alive_is back n stands in
           let live : live_by post ≡ None = live_fresh post true back.live in
-          search rules
-
-      returned_at : (scripts : List Declared) (m : machine.Client) → FallenStands medium scripts old m
-          → (n : Node ClientState) × ReturnedStands medium scripts mid (record m { node = n })
-      returned_at scripts m down =
-          let s = back.steps.step m.node down.node in (
-            s.1,
-            returned scripts m down s.1 s.4 ((comes_within old.name no_text m.node s.1 s.0 true s.3).each (AreNamed scripts) down.named),
-          )
+          search rules)
 
       pub is_back : StandsAnyhow medium old → Returned medium mid
       is_back stands =
           let down = fallen_stands medium stands.scripts old stands.machine back.off stands.stands in
-          record { scripts = stands.scripts; machine = _; stands = (returned_at stands.scripts stands.machine down).1 }
+          record { scripts = stands.scripts; machine = _; stands = ((returns stands.scripts).step stands.machine down).4 }
 
       module _ (new : Laptop D) (z : List ℕ)
           (cut : (scripts : List Declared)
           → StepsTo (ReturnedStands medium scripts) (ClientStands medium scripts) CutsOff mid new y z tt) where
         pub comes_back : (scripts : List Declared) → Refines (ClientStands medium scripts) RestartsClient old new x z tt
-        comes_back scripts = comes true back scripts (ReturnedStands medium scripts) (returned scripts) new z (cut scripts)
+        comes_back scripts = comes back scripts (returns scripts) new z (cut scripts)
 
         pub came_back : (scripts : List Declared) (m : machine.Client) → ClientStands medium scripts old m → Came medium old x z m
         came_back scripts m here =
             let down : FallenStands medium scripts old m = fallen_stands medium scripts old m back.off here in
-            let t = (cut scripts).step _ (returned_at scripts m down).1 in
+            let t = (cut scripts).step _ ((returns scripts).step m down).4 in
             record {
               on = true;
               mid = y;
@@ -466,11 +436,9 @@ module _ {D : Type 0} (medium : Medium D) (laptop : Laptop D) where
       sym (same_Some _ _ name) ∙ ap (λ (n : ℕ). record { client = laptop.name; number = n }) kept.number in
       record { own = own; is = refl; it = it; runs = refl; name = named; acts = kept.count }
 
-  none_found : (t : Nodes) (r : Option Transaction) (o : Option clients.Running) → running_name laptop r ≡ None → RunningKeptIfAny t r o
-      → o ≡ None
-  none_found t None None none kept = refl
-  none_found t None (Some it) none kept = absurd kept
-  none_found t (Some running) o none kept = absurd cc
+  nameless : (r : Option Transaction) → running_name laptop r ≡ None → r ≡ None
+  nameless None none = refl
+  nameless (Some running) none = absurd cc
 
   -- by what runs in the client of the machine
   cuts_by : (scripts : List Declared) (new : Laptop D) (x z : List ℕ)
@@ -496,50 +464,41 @@ module _ {D : Type 0} (medium : Medium D) (laptop : Laptop D) where
   cuts_nothing x found scripts =
       cuts_by scripts laptop x x (λ m here.
       let kept = kept_up medium laptop.place laptop.post m.node here.node here.alive in
-      let none = none_found (base m.node.durable) (state_in laptop).running m.node.durable.running found kept.running in (
+      let none = idle_is (base m.node.durable) m.node.durable.running (rw (nameless _ found) at kept.running) in (
         None,
         none,
-        (
-          [],
-          m,
-          sym (append-nil x),
-          (refl, refl),
-          awake
-              (awake_at medium scripts laptop m here.name here.link laptop.post m.node here.node here.alive m.first
-              (here.live ∙ sym (ap (live_with m.first) none)) here.named),
-        ),
+        (nothing {stands = ClientStands medium scripts} laptop x).step m
+            (awake
+            (awake_at medium scripts laptop m here.name here.link laptop.post m.node here.node here.alive m.first
+            (here.live ∙ sym (ap (live_with m.first) none)) here.named)),
       ))
 
-  module _ {was now : Client D} {answer : Result (Option ℕ) ClientFault} {new : Laptop D} {x y : List ℕ}
-      {result : Result (Option ℕ) Halt} (call : Called medium laptop was now answer new x y result)
+  module _ {was now : Client D} {answer : Result (Option ℕ) ClientFault} {new : Laptop D} {count : ℕ} {x y : List ℕ}
+      {result : Result (Option ℕ) Halt} (post_up : laptop.post ≡ Up (record { client = was }))
+      (goes : GoesOn medium (record laptop { post = Up (record { client = now }) }) new count answer x y result)
+      (behaves : Behaves medium laptop was now answer count)
       (transaction : names.Transaction) (found : running_name laptop (state_in laptop).running ≡ Some transaction)
       (cuts : IfOk answer (λ told. CutsIfAny (state_of was).running told was now)) (lives : OnOk answer (live_of now ≡ None))
       (stops : IsErrOf answer Stopped → client.CutsOff Cut (state_of was) (bodies_on medium was) (medium.may_leave (disk_of now))) where
-    up_in : (scripts : List Declared) (m : machine.Client) → ReturnedStands medium scripts laptop m
-        → UpStands (seating medium laptop.place) medium no_text (record { client = was }) m.node
-    up_in scripts m here = rw call.is at here.node
+    module _ (scripts : List Declared) (m : machine.Client) (here : ReturnedStands medium scripts laptop m) where
+      up_in : UpStands (seating medium laptop.place) medium no_text (record { client = was }) m.node
+      up_in = rw post_up at here.node
 
-    found_in : (scripts : List Declared) (m : machine.Client) → ReturnedStands medium scripts laptop m
-        → Found laptop.name transaction (state_of was).running m.node.durable.running
-    found_in scripts m here =
-        found_by transaction (base m.node.durable) (state_of was).running m.node.durable.running
-        (rw call.is at found) (up_in scripts m here).stands.kept.running
+      found_in : Found laptop.name transaction (state_of was).running m.node.durable.running
+      found_in =
+          found_by transaction (base m.node.durable) (state_of was).running m.node.durable.running
+          (rw post_up at found) up_in.stands.kept.running
 
-    cut_so : (running : Transaction) → (state_of was).running ≡ Some running → (told : Option ℕ) → answer ≡ Ok told
-        → (told ≡ Some (length running.acts)) × Notes Cut was now
-    cut_so running is told ok =
-        rw is at (IfOk-at_ok (λ told. CutsIfAny (state_of was).running told was now) ok cuts)
+      cuts_so : IfOk answer (λ told. (told ≡ Some (length found_in.own.acts)) × Notes Cut was now)
+      cuts_so = rw found_in.is at cuts
 
-    fits : (scripts : List Declared) (m : machine.Client) → ReturnedStands medium scripts laptop m
-        → Before medium laptop was scripts m × Fits medium was now answer scripts (cut m.node.durable) m.first
-    fits scripts m here =
-        let up = up_in scripts m here in
-        let it = found_in scripts m here in (
-          record { name = here.name; link = here.link; alive = here.alive; up = up; named = here.named },
-          fits_with call scripts (cut m.node.durable) m.first Cut None
-              (record { notes = each_ok answer (λ told ok. (cut_so it.own it.is told ok).1); lives = lives; stops = stops })
-              (λ follows. cut_live (state_of was) m.node.durable up.stands.kept scripts m.first here.named),
-        )
+      fits : Before medium laptop scripts m × Fits medium was now answer scripts (cut m.node.durable) m.first
+      fits = (
+        search rules,
+        fits_with post_up goes behaves scripts (cut m.node.durable) m.first Cut None
+            (record { notes = IfOk-weaker answer _ _ (λ told is. is.1) cuts_so; lives = lives; stops = stops })
+            (λ follows. cut_live (state_of was) m.node.durable up_in.stands.kept scripts m.first here.named),
+      )
 
     -- what was found waits now, which is said
     pub cuts_off_now : (acts : ℕ) → result ≡ Ok (Some acts) → (z : List ℕ)
@@ -549,15 +508,15 @@ module _ {D : Type 0} (medium : Medium D) (laptop : Laptop D) where
         cuts_by scripts new x z (λ m here.
         let it = found_in scripts m here in
         let many : acts ≡ it.it.acts =
-        same_Some _ _ (cut_so it.own it.is (Some acts) (IfOk-at_ok _ same call.goes.answers)).0 ∙ it.acts in
+        same_Some _ _ (IfOk-at_ok _ (IfOk-at_ok _ same goes.answers) (cuts_so scripts m here)).0 ∙ it.acts in
         let steps : StepsTo (ReturnedStands medium scripts) (LaptopStands medium scripts) (cuts_off (Some it.it)) laptop new x z tt =
         bind laptop new new x y z true tt
-        (goes_at call scripts (ReturnedStands medium scripts) cut (λ b. b) (fits scripts) (Some acts) same)
+        (goes_at post_up goes behaves scripts (ReturnedStands medium scripts) cut (λ b. b) (fits scripts) (Some acts) same)
         (says new y z (λ k there.
         wrote ∙ ap (λ (w : List ℕ). y ++ w)
         ((λ i. cut_line (name_of (it.name i)) (many i))
         ∙ ap (λ (n : List ℕ). cut_line (transaction_name n it.it.number) it.it.acts)
-        (ap (λ (l : Laptop D). l.name) (sym call.goes.rest) ∙ there.name)))) in
+        (ap (λ (l : Laptop D). l.name) (sym goes.rest) ∙ there.name)))) in
         let s = steps.step m here in
         (Some it.it, it.runs, (s.0, s.1, s.2, s.3, awake s.4)))
 
@@ -568,8 +527,8 @@ module _ {D : Type 0} (medium : Medium D) (laptop : Laptop D) where
         cuts_by scripts new x y (λ m here.
         let it = found_in scripts m here in
         let steps : StepsTo (ReturnedStands medium scripts) (ClientStands medium scripts) (cuts_off (Some it.it)) laptop new x y tt =
-        bind laptop new new x y y false tt (halts_at call scripts (ReturnedStands medium scripts) cut (λ b. b) (fits scripts) same)
-        (nothing new y) in
+        bind laptop new new x y y false tt
+        (halts_at post_up goes behaves scripts (ReturnedStands medium scripts) cut (λ b. b) (fits scripts) same) (nothing new y) in
         (Some it.it, it.runs, steps.step m here))
 
 -- ---- its disk
@@ -594,15 +553,7 @@ keeps_then medium old between new first second =
     }
 
 -- nothing was done
-keeps_node : {D : Type 0} (medium : Medium D) (place : ℕ) (post : Post (Seated D) D) (node : Node ClientState)
-    → PostStands (seating medium place) medium no_text post node → KeepsDisk medium (disk_by post) (disk_by post)
-keeps_node medium place (Up seated) node here =
-    record { was = _; now = _; old_has = refl; new_has = refl; arms = refl; faults = inl refl }
-keeps_node medium place (Down down) node here =
-    record { was = _; now = _; old_has = refl; new_has = refl; arms = refl; faults = inl refl }
-keeps_node medium place Between node here = absurd here
-
 pub keeps_any : {D : Type 0} (medium : Medium D) (old : Laptop D) → StandsAnyhow medium old → KeepsDisk medium (disk_by old.post)
     (disk_by old.post)
 keeps_any medium old stands =
-    keeps_node medium old.place old.post stands.machine.node (node_stands medium stands.scripts old stands.machine stands.stands)
+    keeps_post medium old.post (λ is. rw is at (node_stands medium stands.scripts old stands.machine stands.stands))

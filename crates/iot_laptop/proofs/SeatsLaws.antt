@@ -1,22 +1,17 @@
 -- What a client is as the keeper of a node: how it starts, and what its disk holds.
 use Rattle.std.proofs.Common.{◌≡◌, ℕ, List, length, sym, ap, subst, ◌∙◌}
-use Rattle.iot_disk.specs.Disk.{Medium}
-use Rattle.iot_disk.specs.declared.faults.StartFault.{StartFault}
-use Rattle.iot_disk.specs.declared.faults.StartFault.TheVariants as faults
-use Rattle.iot_journal.specs.Decoding.{Encodes, decoded}
-use Rattle.iot_journal.specs.Images.{EachDecodes}
-use Rattle.iot_kept.specs.Causes as kept_causes
-use Rattle.iot_kept.specs.Standing.{StandFor}
-use Rattle.iot_kept.specs.States.{State}
-use Rattle.iot_client.specs.Ties.{IsTied, state_of, place_of, disk_of, bodies_on}
-use Rattle.iot_client.specs.declared.client.Client.{Client}
-use Rattle.iot_machine.specs.Clients.{ClientState}
-use Rattle.iot_node.specs.Disks.{counts_on}
+use Rattle.iot_journal.specs.Decoding.{decoded}
+use Rattle.iot_laptop.specs.Below.{Medium, StandFor, State, IsTied, state_of, place_of, disk_of, bodies_on, Client, ClientState}
+use Rattle.iot_laptop.specs.Below.{counts_on, Seated}
 use Rattle.iot_node.proofs.PostsLaws.{same_counts}
+use Rattle.iot_disk.specs.declared.faults.StartFault.{StartFault}
+use Rattle.iot_journal.specs.Decoding.{Encodes}
+use Rattle.iot_journal.specs.Images.{EachDecodes}
 use Rattle.iot_node.specs.Keeping.{EachIs, Comes, Fails, CountsStart}
+use Rattle.iot_disk.specs.declared.faults.StartFault.TheVariants as faults
+use Rattle.iot_kept.specs.Causes as kept_causes
 use Rattle.iot_laptop.specs.Kept.{StateKept}
 use Rattle.iot_laptop.specs.Seats.{IsSeated, IsClientImage, seating}
-use Rattle.iot_laptop.specs.declared.seated.Seated.{Seated}
 
 -- images that decode as one does which is what the client keeps are that too
 same_images : (images : List ℕ → Type 0) (bytes : List ℕ) (count : ℕ) (m : ClientState) → EachDecodes images (decoded bytes)
@@ -74,8 +69,7 @@ module _ {D : Type 0} (medium : Medium D) where
         → medium.arms left ≡ medium.arms disk → CountsStart fault (counts_on medium disk) (counts_on medium left)
     counts_by faults.NoMemory left takes cause arms = same_counts medium disk left cause arms
     counts_by faults.Stopped left takes cause arms = record { faults = cause; arms = arms }
-    counts_by faults.Foreign left takes cause arms = absurd takes
-    counts_by (faults.Damaged at) left takes cause arms = absurd takes
+    counts_by other left takes cause arms = absurd takes
 
     pub seat_fails : (place : ℕ) (fault : StartFault) (left : D)
         → ((state : State) → StandFor (medium.reads disk) state → kept_causes.TakesBytes fault)

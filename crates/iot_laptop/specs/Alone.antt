@@ -1,11 +1,9 @@
 -- What a client of the machine does alone, and how a call ends its event.
 use Rattle.std.specs.Prelude.{Bool, Some}
-use Rattle.iot_machine.specs.Calls.{Try, Goes, Call, Gets, Answers, Then, At}
-use Rattle.iot_machine.specs.Clients.{Declared, ClientState, begin}
+use Rattle.iot_laptop.specs.Below.{Try, Call, At, Declared, ClientState, begin, Writes, OnConflict, OpensNode}
+use Rattle.iot_machine.specs.Calls.{Goes, Gets, Answers, Then}
 use Rattle.iot_machine.specs.Machine.{Client, node}
-use Rattle.iot_machine.specs.Transactions.{Writes, unless_stopped}
-use Rattle.iot_machine.specs.Options.{OnConflict}
-use Rattle.iot_machine.specs.Stops.{OpensNode}
+use Rattle.iot_machine.specs.Transactions.{unless_stopped}
 
 -- ---- its record
 

@@ -1,68 +1,45 @@
 -- What the calls of a laptop answer, and what they make of the client of the machine.
-use Rattle.std.specs.Prelude.{◌≡◌, ℕ, Bool, true, false, List, [], ◌∷◌, ◌++◌, Option, Some, None, Result, Ok, Err, codes}
-use Rattle.std.specs.Prelude.{IfOk, OnOk, IsErrOf}
-use Rattle.iot_acts.specs.Turns.{reads_of}
-use Rattle.iot_tree.specs.Tree.{Nodes}
-use Rattle.iot_tree.specs.declared.acts.Act.{Act}
-use Rattle.iot_tree.specs.declared.acts.Read.{Read}
+use Rattle.std.specs.Prelude.{◌≡◌, ℕ, Bool, true, false, List, [], ◌∷◌, ◌++◌, Option, Some, None, Result, Ok, Err, codes, IfOk, OnOk}
+use Rattle.std.specs.Prelude.{IsErrOf}
+use Rattle.iot_laptop.specs.Below.{reads_of, Nodes, Act, Read, Item, Stage, Transaction, IsRefresh, records_of, ClientFault, Step, Medium}
+use Rattle.iot_laptop.specs.Below.{Declared, ClientState, base, so_far, act_once, repair, reach, Plan, resolution_of, Acts, next_step}
+use Rattle.iot_laptop.specs.Below.{transaction_name, acts_output, stopped_line, no_text, Node, Appends, Appended, CameIf, Answered}
+use Rattle.iot_laptop.specs.Below.{StepsFrom, PostStands, UpStands, Up, Halt, NoMemory, Over, Try, name_of, SpellsVerdict, Laptop, Gone}
+use Rattle.iot_laptop.specs.Below.{Seated}
 use Rattle.iot_tree.specs.declared.labels.Label.{Label}
 use Rattle.iot_tree.specs.declared.labels.OnConflict.{OnConflict}
-use Rattle.iot_tree.specs.declared.want.Want.TheVariants as wanted
 use Rattle.iot_wire.specs.Messages.{IsMessage}
 use Rattle.iot_wire.specs.Rules.{IsRequest}
 use Rattle.iot_wire.specs.Spelling.{request_spelling}
 use Rattle.iot_wire.specs.declared.requests.Request.TheVariants.{Commit}
-use Rattle.iot_queue.specs.declared.items.Item.{Item}
-use Rattle.iot_queue.specs.declared.items.Stage.{Stage}
+use Rattle.iot_kept.specs.Changes.{IsSubmitted}
+use Rattle.iot_client.specs.Messages.{IsWholeRequest, label_of, resolved_label}
+use Rattle.iot_disk.specs.declared.faults.JournalFault.{JournalFault}
+use Rattle.iot_machine.specs.Clients.{plan_of, Next, AtEnd, AtLimit, Fetches}
+use Rattle.iot_node.specs.Steps.{Ends}
+use Rattle.iot_tree.specs.declared.want.Want.TheVariants as wanted
 use Rattle.iot_queue.specs.declared.items.Stage.TheVariants as stages
 use Rattle.iot_resolve.specs.Plans as resolves
 use Rattle.iot_resolve.specs.declared.plan.Plan as plans
-use Rattle.iot_kept.specs.Changes.{IsSubmitted}
-use Rattle.iot_kept.specs.States.{Transaction}
-use Rattle.iot_wire.specs.Meanings.{IsRefresh}
-use Rattle.iot_client.specs.Messages.{IsWholeRequest, label_of, resolved_label}
-use Rattle.iot_client.specs.Ties.{records_of}
-use Rattle.iot_client.specs.declared.fault.ClientFault.{ClientFault}
 use Rattle.iot_client.specs.declared.fault.ClientFault.TheVariants as faults
-use Rattle.iot_client.specs.declared.steps.Step.{Step}
 use Rattle.iot_client.specs.declared.steps.Step.TheVariants as steps
-use Rattle.iot_disk.specs.Disk.{Medium}
-use Rattle.iot_disk.specs.declared.faults.JournalFault.{JournalFault}
 use Rattle.iot_disk.specs.declared.faults.JournalFault.TheVariants as append
 use Rattle.iot_machine.specs.Clients as clients
-use Rattle.iot_machine.specs.Clients.{Declared, ClientState, base, so_far, begin, act_once, repair, reach, Plan, plan_of, resolution_of}
-use Rattle.iot_machine.specs.Clients.{Next, AtEnd, AtLimit, Acts, Fetches, next_step}
 use Rattle.iot_machine.specs.Machine as machine
 use Rattle.iot_machine.specs.Options as options
 use Rattle.iot_machine.specs.Serving as serving
-use Rattle.iot_machine.specs.Texts.{transaction_name, acts_output, stopped_line}
-use Rattle.iot_machine.specs.Events.{no_text}
-use Rattle.iot_machine.specs.Nodes.{Node}
-use Rattle.iot_machine.specs.Stops.{Appends}
-use Rattle.iot_node.specs.Keeping.{Appended}
-use Rattle.iot_node.specs.Posts.{CameIf, Answered, StepsFrom, PostStands, UpStands}
-use Rattle.iot_node.specs.declared.post.Post.TheVariants.{Up}
-use Rattle.iot_node.specs.Steps.{Ends}
-use Rattle.iot_node.specs.declared.halt.Halt.{Halt}
-use Rattle.iot_node.specs.declared.halt.Halt.TheVariants.{NoMemory, Over}
 use Rattle.iot_node.specs.declared.lines.Transaction as names
-use Rattle.iot_machine.specs.Calls.{Try}
 use Rattle.iot_laptop.specs.Alone.{NotesAlone, StartsAlone}
 use Rattle.iot_laptop.specs.Laptops.{LaptopStands, ClientStands, NodeStands, state_in, live_in, waits_of, IsFirst}
-use Rattle.iot_node.specs.Lines.{name_of}
-use Rattle.iot_judging.specs.Verdicts.{SpellsVerdict}
 use Rattle.iot_laptop.specs.Messages.{verdict_of, told_change}
 use Rattle.iot_laptop.specs.Scripts.{IsNamed, HasNamed, AreNamed, option_named}
 use Rattle.iot_laptop.specs.Seats.{seating}
-use Rattle.iot_laptop.specs.declared.laptop.Laptop.{Laptop}
-use Rattle.iot_laptop.specs.declared.needs.Gone.{Gone}
 use Rattle.iot_laptop.specs.declared.needs.Need.{Need}
-use Rattle.iot_laptop.specs.declared.needs.Need.TheVariants as needs
 use Rattle.iot_laptop.specs.declared.needs.Submitted.{Submitted}
 use Rattle.iot_laptop.specs.declared.needs.Undecided.{Undecided}
 use Rattle.iot_laptop.specs.declared.needs.Undecided.TheVariants.{Nothing, NotManual}
-use Rattle.iot_laptop.specs.declared.seated.Seated.{Seated}
 use Rattle.iot_laptop.specs.declared.verdict.Told.{Told}
+use Rattle.iot_laptop.specs.declared.needs.Need.TheVariants as needs
 
 -- ---- a record
 
@@ -151,10 +128,8 @@ head_option (item ∷ items) = Some item.option
 
 -- the first that waits, if it is to be decided by hand
 abbrev pub decision_on : {D : Type 0} → Laptop D → Item → Stage → Result names.Transaction Undecided
-decision_on laptop item stages.Waiting = Err NotManual
-decision_on laptop item stages.Conflict = Err NotManual
 decision_on laptop item stages.Manual = Ok (record { client = laptop.name; number = item.tid })
-decision_on laptop item (stages.Resolved done) = Err NotManual
+decision_on laptop item other = Err NotManual
 
 abbrev pub decision : {D : Type 0} → Laptop D → List Item → Result names.Transaction Undecided
 decision laptop [] = Err Nothing
@@ -231,8 +206,7 @@ abbrev pub TakesStep : {D : Type 0} → Medium D → (old new : Laptop D) → (x
 TakesStep medium old new x y (Ok (steps.Acted acts ended)) = Changes medium act_once old new x y (Ok tt)
 TakesStep medium old new x y (Ok (steps.Fetch request path)) =
     (new ≡ old) × (y ≡ x) × IsRefresh (old.place) (state_in old).held (wanted.Path path) request × IsFirst old
-TakesStep medium old new x y (Ok (steps.AtEnd acts)) = (new ≡ old) × (y ≡ x)
-TakesStep medium old new x y (Ok (steps.AtLimit acts)) = (new ≡ old) × (y ≡ x)
+TakesStep medium old new x y (Ok over) = (new ≡ old) × (y ≡ x)
 TakesStep medium old new x y (Err halt) = Changes medium act_once old new x y (Err halt)
 
 -- ---- the end
@@ -240,14 +214,12 @@ TakesStep medium old new x y (Err halt) = Changes medium act_once old new x y (E
 abbrev pub IsOver : Next → Type 0
 IsOver AtEnd = Unit {0}
 IsOver AtLimit = Unit {0}
-IsOver Acts = ⊥
-IsOver (Fetches path) = ⊥
+IsOver other = ⊥
 
 abbrev pub IsUnended : Next → Type 0
 IsUnended AtEnd = ⊥
 IsUnended AtLimit = ⊥
-IsUnended Acts = Unit {0}
-IsUnended (Fetches path) = Unit {0}
+IsUnended other = Unit {0}
 
 -- each client for which it stands has done all that its transaction may do
 abbrev pub IsDoneIn : {D : Type 0} → Medium D → Laptop D → Type 0

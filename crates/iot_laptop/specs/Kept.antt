@@ -1,20 +1,12 @@
 -- What a client keeps, as it is on its disk, beside what a client of the machine keeps.
 use Rattle.std.specs.Prelude.{◌≡◌, ◌≤◌, List, [], ◌∷◌, length, Option, Some, None}
 use Rattle.std.specs.FinMap.{entries}
-use Rattle.iot_tree.specs.Tree.{Nodes, IsTree}
-use Rattle.iot_tree.specs.declared.limits.TheConstants.{ACT_LIMIT}
-use Rattle.iot_lang.specs.Scripts.{IsScript}
-use Rattle.iot_acts.specs.Traces.{after_acts}
-use Rattle.iot_exec.specs.Runs.{run}
-use Rattle.iot_limits.specs.Spelled.{IsSpelledTree, AreSpelledFiles}
-use Rattle.iot_queue.specs.declared.items.Item.{Item}
-use Rattle.iot_queue.specs.declared.items.Resolution.{Resolution}
-use Rattle.iot_queue.specs.declared.items.Stage.{Stage}
-use Rattle.iot_queue.specs.declared.items.Stage.TheVariants as stages
-use Rattle.iot_kept.specs.States.{Transaction, State}
-use Rattle.iot_machine.specs.Clients as clients
-use Rattle.iot_machine.specs.Clients.{ClientState, local_run, base, so_far}
+use Rattle.iot_laptop.specs.Below.{Nodes, IsTree, ACT_LIMIT, IsScript, after_acts, run, IsSpelledTree, Item, Resolution, Stage, Transaction}
+use Rattle.iot_laptop.specs.Below.{State, ClientState, local_run, base, so_far}
+use Rattle.iot_limits.specs.Spelled.{AreSpelledFiles}
 use Rattle.iot_machine.specs.Sound.{HasPlan}
+use Rattle.iot_queue.specs.declared.items.Stage.TheVariants as stages
+use Rattle.iot_machine.specs.Clients as clients
 use Rattle.iot_laptop.specs.Scripts.{option_named}
 
 -- ---- what is durable
@@ -51,9 +43,8 @@ pub record ItemStands (t : Nodes) (item : Item) (m : clients.Item) : Type 0 wher
 
 abbrev pub ItemsStand : List Item → Nodes → List clients.Item → Type 0
 ItemsStand [] t [] = Unit {0}
-ItemsStand [] t (m ∷ ms) = ⊥
-ItemsStand (item ∷ items) t [] = ⊥
 ItemsStand (item ∷ items) t (m ∷ ms) = ItemStands t item m × ItemsStand items (after_acts t item.acts) ms
+ItemsStand items t ms = ⊥
 
 -- ---- on a disk
 
@@ -70,9 +61,8 @@ pub record RunningKept (t : Nodes) (running : Transaction) (m : clients.Running)
 
 abbrev pub RunningKeptIfAny : Nodes → Option Transaction → Option clients.Running → Type 0
 RunningKeptIfAny t None None = Unit {0}
-RunningKeptIfAny t None (Some m) = ⊥
-RunningKeptIfAny t (Some running) None = ⊥
 RunningKeptIfAny t (Some running) (Some m) = RunningKept t running m
+RunningKeptIfAny t running m = ⊥
 
 -- the state is what a client of the machine keeps
 pub record StateKept (state : State) (m : ClientState) : Type 0 where

@@ -1,61 +1,43 @@
 -- Which client of the machine a laptop stands for.
 use Rattle.std.specs.Prelude.{◌≡◌, ℕ, Bool, true, false, List, [], ◌∷◌, length, Option, Some, None}
-use Rattle.iot_tree.specs.Tree.{Nodes, IsTree}
-use Rattle.iot_lang.specs.Scripts.{IsScript}
-use Rattle.iot_limits.specs.Spelled.{IsSpelledTree}
-use Rattle.iot_queue.specs.declared.items.Item.{Item}
-use Rattle.iot_kept.specs.States.{Transaction, State, opening}
+use Rattle.iot_laptop.specs.Below.{Nodes, IsTree, IsScript, IsSpelledTree, Item, Transaction, State, opening, Live, Client, Medium, Passage}
+use Rattle.iot_laptop.specs.Below.{Declared, ClientState, new_client, unopened, Possibly, IsEmpty, is_on, PostStands, Post, Up, Down}
+use Rattle.iot_laptop.specs.Below.{no_text, Laptop, Seated}
+use Rattle.iot_machine.specs.Machine.{break, cut_off}
+use Rattle.iot_machine.specs.Clients.{view}
+use Rattle.iot_machine.specs.Nodes.{Counts}
+use Rattle.iot_node.specs.Posts.{disk_of}
 use Rattle.iot_client.specs.Ties as client
-use Rattle.iot_client.specs.Ties.{Live}
-use Rattle.iot_client.specs.declared.client.Client.{Client}
-use Rattle.iot_disk.specs.Disk.{Medium}
 use Rattle.iot_link.specs.Links as link
-use Rattle.iot_link.specs.Links.{LinkState}
-use Rattle.iot_link.specs.declared.passages.Passage.{Passage}
 use Rattle.iot_link.specs.declared.passages.Passage.TheVariants as passages
 use Rattle.iot_machine.specs.Clients as clients
-use Rattle.iot_machine.specs.Clients.{Declared, ClientState, new_client, view}
 use Rattle.iot_machine.specs.Machine as machine
-use Rattle.iot_machine.specs.Nodes.{Counts, unopened}
-use Rattle.iot_machine.specs.Sound.{Possibly}
-use Rattle.iot_node.specs.Disks.{IsEmpty}
-use Rattle.iot_node.specs.Posts.{is_on, disk_of, PostStands}
-use Rattle.iot_node.specs.declared.post.Post.{Post}
-use Rattle.iot_node.specs.declared.post.Post.TheVariants.{Up, Down, Between}
-use Rattle.iot_machine.specs.Events.{no_text}
-use Rattle.iot_machine.specs.Machine.{break, cut_off}
 use Rattle.iot_laptop.specs.Kept.{ItemsStand}
-pub use Rattle.iot_laptop.specs.Kept.{ResolutionStands, StageStands, ItemStands, ItemsStand, RunningKept, RunningKeptIfAny, StateKept}
 use Rattle.iot_laptop.specs.Scripts.{AreNamed, option_named}
 use Rattle.iot_laptop.specs.Seats.{seating}
-use Rattle.iot_laptop.specs.declared.laptop.Laptop.{Laptop}
-use Rattle.iot_laptop.specs.declared.seated.Seated.{Seated}
+pub use Rattle.iot_laptop.specs.Kept.{ResolutionStands, StageStands, ItemStands, ItemsStand, RunningKept, RunningKeptIfAny, StateKept}
 
 -- ---- what a laptop has
 
 -- what is durable of a client that is alive
 abbrev pub state_by : {D : Type 0} → Post (Seated D) D → State
 state_by (Up seated) = client.state_of seated.client
-state_by (Down fallen) = opening
-state_by Between = opening
+state_by other = opening
 
 -- what is known of its running transaction besides
 abbrev pub live_by : {D : Type 0} → Post (Seated D) D → Option Live
 live_by (Up seated) = client.live_of seated.client
-live_by (Down fallen) = None
-live_by Between = None
+live_by other = None
 
 -- the live client itself
 abbrev pub lent_by : {D : Type 0} → Post (Seated D) D → Option (Client D)
 lent_by (Up seated) = Some seated.client
-lent_by (Down fallen) = None
-lent_by Between = None
+lent_by other = None
 
 -- how many records a client has that is alive
 abbrev pub records_by : {D : Type 0} → Post (Seated D) D → ℕ
 records_by (Up seated) = client.records_of seated.client
-records_by (Down fallen) = 0
-records_by Between = 0
+records_by other = 0
 
 abbrev pub is_alive : {D : Type 0} → Laptop D → Bool
 is_alive laptop = is_on laptop.post
@@ -90,10 +72,9 @@ pub record RunningStands (running : Transaction) (live : Live) (first : Bool) (m
 
 abbrev pub RunningStandsIfAny : Option Transaction → Option Live → Bool → Option clients.Running → Type 0
 RunningStandsIfAny None live first None = live ≡ None
-RunningStandsIfAny None live first (Some m) = ⊥
 RunningStandsIfAny (Some running) live first None = ⊥
-RunningStandsIfAny (Some running) None first (Some m) = ⊥
 RunningStandsIfAny (Some running) (Some live) first (Some m) = RunningStands running live first m
+RunningStandsIfAny running live first m = ⊥
 
 pub record StateStands (state : State) (live : Option Live) (first : Bool) (m : ClientState) : Type 0 where
   pub held : state.held ≡ m.held
@@ -191,9 +172,8 @@ SamePlace old new = new.place ≡ old.place
 -- after an exchange that got so far
 abbrev pub after_passage : Passage → machine.Client → machine.Client
 after_passage passages.Away m = record m { first = false }
-after_passage passages.RequestLost m = break m
-after_passage passages.ReplyLost m = break m
 after_passage passages.Both m = m
+after_passage lost m = break m
 
 -- its link is another now, and what runs is first class or not
 pub record Relinked {D : Type 0} (medium : Medium D) (change : machine.Client → machine.Client)

@@ -1,4 +1,5 @@
 pub mod Alone
+pub mod Below
 pub mod Calls
 pub mod Kept
 pub mod Laptops

@@ -1,17 +1,13 @@
 -- What the server's replies say, and what becomes of a transaction by what its client is told.
 use Rattle.std.specs.Prelude.{ℕ, List}
-use Rattle.iot_tree.specs.Tree.{Nodes}
-use Rattle.iot_tree.specs.declared.acts.Read.{Read}
+use Rattle.iot_laptop.specs.Below.{Nodes, Read, ClientState, leave, reach, Spells, SpellsVerdict}
 use Rattle.iot_tree.specs.declared.labels.OnConflict.{OnConflict}
 use Rattle.iot_tree.specs.declared.labels.OnConflict.TheVariants.{Reexec, Resolver, Abort, Manual}
 use Rattle.iot_wire.specs.declared.replies.Reply.TheVariants as replies
 use Rattle.iot_machine.specs.Clients as stages
-use Rattle.iot_machine.specs.Clients.{ClientState, leave, reach}
 use Rattle.iot_machine.specs.Serving as serving
 use Rattle.iot_laptop.specs.declared.verdict.Verdict.{Verdict}
 use Rattle.iot_laptop.specs.declared.verdict.Verdict.TheVariants.{Settled, Conflict}
-use Rattle.iot_wire.specs.Meanings.{Spells}
-use Rattle.iot_judging.specs.Verdicts.{SpellsVerdict}
 
 -- ---- replies
 

@@ -1,9 +1,9 @@
 -- Scripts by their names.
 use Rattle.std.specs.Prelude.{◌≡◌, ℕ, List, Option, Some, None, bytes_eq}
 use Rattle.std.specs.List.{find, AllByRecursion}
-use Rattle.iot_machine.specs.Clients.{Declared, Item, Running, ClientState}
+use Rattle.iot_laptop.specs.Below.{Declared, ClientState, OnConflict}
+use Rattle.iot_machine.specs.Clients.{Item, Running}
 use Rattle.iot_machine.specs.Options as options
-use Rattle.iot_machine.specs.Options.{OnConflict}
 pub use Rattle.iot_machine.specs.Recorded.{option_named}
 
 -- the first script of this name
@@ -16,10 +16,8 @@ IsNamed scripts script = script_named script.name scripts ≡ Some script
 
 -- so is the resolver of an option, if it has one
 abbrev pub HasNamed : List Declared → OnConflict Declared → Type 0
-HasNamed scripts options.Reexec = Unit {0}
 HasNamed scripts (options.Resolver script) = IsNamed scripts script
-HasNamed scripts options.Abort = Unit {0}
-HasNamed scripts options.Manual = Unit {0}
+HasNamed scripts other = Unit {0}
 
 -- ---- the scripts of a client's transactions
 

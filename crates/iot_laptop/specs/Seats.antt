@@ -1,13 +1,8 @@
 -- For which state of the machine a client stands as the keeper of a node, and the bytes of a disk.
 use Rattle.std.specs.Prelude.{◌≡◌, ℕ, List, Option, length}
-use Rattle.iot_client.specs.Ties.{Live, state_of, place_of, disk_of, records_of, live_of, IsTied}
-use Rattle.iot_disk.specs.Disk.{Medium}
-use Rattle.iot_kept.specs.States.{State}
-use Rattle.iot_kept.specs.Standing.{StandFor}
-use Rattle.iot_machine.specs.Clients.{ClientState}
-use Rattle.iot_node.specs.Keeping.{Keeping}
+use Rattle.iot_laptop.specs.Below.{Live, state_of, place_of, disk_of, records_of, live_of, IsTied, Medium, State, StandFor, ClientState}
+use Rattle.iot_laptop.specs.Below.{Keeping, Seated}
 use Rattle.iot_laptop.specs.Kept.{StateKept}
-use Rattle.iot_laptop.specs.declared.seated.Seated.{Seated}
 
 -- it knows its place, its state is tied to its disk, which has so many records, and that is what a client of the machine keeps
 pub record IsSeated {D : Type 0} (medium : Medium D) (place : ℕ) (seated : Seated D) (count : ℕ) (m : ClientState) : Type 0 where

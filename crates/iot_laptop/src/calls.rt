@@ -10,7 +10,7 @@ ghost use Rattle.iot_machine.specs.Texts.{acts_output};
 ghost use Rattle.iot_node.specs.Disks.{KeepsDisk};
 ghost use Rattle.iot_queue.specs.declared.items.Stage.TheVariants.{Conflict as in_conflict};
 ghost use Rattle.iot_tree.specs.Tree.{Nodes, IsWhole};
-ghost use Rattle.iot_laptop.specs.Calls.{of_client, appended, done};
+ghost use Rattle.iot_laptop.specs.Calls.{appended, done};
 ghost use Rattle.iot_laptop.specs.Messages.{BringsTree, SpellsTree, IsVerdict};
 
 use crate::laptop::Laptop;
@@ -266,23 +266,8 @@ fn journaled<T>(answer: Result<T, ClientFault>) -> Result<T, JournalFault>
 {
     match answer {
         Ok(done) => Ok(done),
-        Err(fault) => Err(of_journal(fault)),
-    }
-}
-
-fn of_journal(fault: ClientFault) -> JournalFault
-    requires { MayFail fault }
-    ensures { result ≡ of_client fault }
-{
-    match fault {
-        ClientFault::NoMemory => JournalFault::NoMemory,
-        ClientFault::Stopped => JournalFault::Stopped,
-        ClientFault::Busy
-        | ClientFault::Pending
-        | ClientFault::Idle
-        | ClientFault::NotAtEnd
-        | ClientFault::Nothing
-        | ClientFault::NotManual
-        | ClientFault::BadReply { .. } => unreachable!(),
+        Err(ClientFault::NoMemory) => Err(JournalFault::NoMemory),
+        Err(ClientFault::Stopped) => Err(JournalFault::Stopped),
+        Err(_refusal) => unreachable!(),
     }
 }

@@ -9,7 +9,7 @@ ghost use Rattle.iot_node.specs.Steps.{StepsTo};
 ghost use Rattle.iot_text.specs.Texts.{Extends};
 
 use crate::laptop::Laptop;
-use crate::texts::{say_connect, say_cut, say_disconnect, say_lose};
+use crate::texts::{say_cut, say_lose, say_named};
 use iot_disk::{Disk, Pick};
 use iot_link::Loss;
 use iot_node::{Halt, Post, Transaction, say};
@@ -34,7 +34,7 @@ impl<D: Disk> Laptop<D> {
         ensures disk { disk_in self.new ≡ disk_in self.old }
     {
         self.link.connect();
-        say_connect(&self.name, out)
+        say_named(b"connect ", &self.name, out)
     }
 
     /// Makes its link not up. What runs is second class from then on.
@@ -47,7 +47,7 @@ impl<D: Disk> Laptop<D> {
         ensures disk { disk_in self.new ≡ disk_in self.old }
     {
         self.cut_link();
-        say_disconnect(&self.name, out)
+        say_named(b"disconnect ", &self.name, out)
     }
 
     /// Arms its link to lose a message.

@@ -209,13 +209,6 @@ pub(crate) fn memory(fault: ClientFault) -> NoMemory
 {
     match fault {
         ClientFault::NoMemory => NoMemory,
-        ClientFault::Stopped
-        | ClientFault::Busy
-        | ClientFault::Pending
-        | ClientFault::Idle
-        | ClientFault::NotAtEnd
-        | ClientFault::Nothing
-        | ClientFault::NotManual
-        | ClientFault::BadReply { .. } => unreachable!(),
+        _refusal => unreachable!(),
     }
 }

@@ -1,6 +1,6 @@
 //! The lines of a client alone.
 ghost use Rattle.std.specs.Prelude.{◌≡◌, ◌++◌, IfOk, OnOk};
-ghost use Rattle.iot_machine.specs.Texts.{connect_line, disconnect_line, lose_line, cut_line, output, acts_output, output_line};
+ghost use Rattle.iot_machine.specs.Texts.{line, lose_line, cut_line, output, acts_output, output_line};
 ghost use Rattle.iot_node.specs.Lines.{name_of};
 
 use iot_link::Loss;
@@ -9,20 +9,11 @@ use iot_text::{Name, NoMemory, Text};
 use iot_tree::Act;
 use std::alloc::Global;
 
-/// `connect C`
-pub(crate) fn say_connect(name: &Name, out: &mut Text) -> Result<(), NoMemory>
-    ensures { OnOk result (out.new ≡ out.old ++ connect_line name.now) }
+/// A line of a word and a client's name.
+pub(crate) fn say_named(word: &[u8], name: &Name, out: &mut Text) -> Result<(), NoMemory>
+    ensures { OnOk result (out.new ≡ out.old ++ line (word.now ++ name.now)) }
 {
-    out.append(b"connect ")?;
-    out.append(name.as_bytes())?;
-    out.push(b'\n')
-}
-
-/// `disconnect C`
-pub(crate) fn say_disconnect(name: &Name, out: &mut Text) -> Result<(), NoMemory>
-    ensures { OnOk result (out.new ≡ out.old ++ disconnect_line name.now) }
-{
-    out.append(b"disconnect ")?;
+    out.append(word)?;
     out.append(name.as_bytes())?;
     out.push(b'\n')
 }

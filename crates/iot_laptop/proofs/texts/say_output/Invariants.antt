@@ -1,5 +1,5 @@
 use Rattle.std.proofs.Common.{◌≡◌, ◌++◌, take}
-use Rattle.iot_machine.specs.Texts.{acts_output}
+use Rattle.iot_laptop.specs.Below.{acts_output}
 use Rattle.iot_laptop.proofs.texts.say_output.Given as goal
 
 -- the lines of the acts so far are said

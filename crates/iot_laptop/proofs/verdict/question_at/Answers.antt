@@ -1,10 +1,9 @@
 use Rattle.std.proofs.Common.{◌-◌, List, length, slice_get, drop, ◌+◌, sym, ap, ◌∙◌}
 use Rattle.std.proofs.lemmas.Option.{same_Some}
 use Rattle.std.proofs.lemmas.Result.{IfOk-weaker}
-use Rattle.iot_tree.specs.declared.acts.Read.{Read}
-use Rattle.iot_acts.specs.Turns.{reads_of}
+use Rattle.iot_laptop.specs.Below.{Read, reads_of}
 use Rattle.iot_judging.proofs.ReadPlaceLaws.{read_here, read_later, no_read}
-use Rattle.iot_laptop.proofs.RepliesLaws.{is_there}
+use Rattle.iot_laptop.proofs.CallsLaws.{is_there}
 use Rattle.iot_laptop.proofs.verdict.question_at.Goals as goal
 
 pub returns-then-left-reads : goal.returns-then-left-reads

@@ -1,5 +1,5 @@
 use Rattle.std.proofs.Common.{◌≡◌, ◌-◌, drop, slice_get}
-use Rattle.iot_acts.specs.Turns.{reads_of}
+use Rattle.iot_laptop.specs.Below.{reads_of}
 use Rattle.iot_laptop.proofs.verdict.question_at.Given as goal
 
 -- the read at the place among all is the one at what is left among the rest

@@ -1,5 +1,5 @@
 use Rattle.std.proofs.lemmas.Result.{IfOk-weaker}
-use Rattle.iot_machine.specs.Events.{no_text}
+use Rattle.iot_laptop.specs.Below.{no_text}
 use Rattle.iot_laptop.proofs.RestartLaws.{arms, live_again}
 use Rattle.iot_laptop.proofs.laptop.Laptop.arm.Goals as goal
 

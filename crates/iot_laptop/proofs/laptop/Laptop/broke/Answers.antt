@@ -1,4 +1,5 @@
-use Rattle.iot_laptop.proofs.RestartLaws.{stands_over, is_broken}
+use Rattle.std.proofs.Common.{false}
+use Rattle.iot_laptop.proofs.RestartLaws.{stands_over, over_second}
 use Rattle.iot_laptop.proofs.laptop.Laptop.broke.Goals as goal
 
 pub second-requires : goal.second-requires
@@ -6,4 +7,5 @@ second-requires g c = stands_over g.D.Disk.medium c.args.self.now c.broke.new.se
 
 pub returns-clause-after : goal.returns-clause-after
 returns-clause-after g c =
-    is_broken g.D.Disk.medium c.args.self.now c.broke.new.self c.second.new.self c.broke.ensures c.second.ensures
+    over_second g.D.Disk.medium c.args.self.now c.broke.new.self c.second.new.self
+    (λ m same. λ i. record m { link = c.broke.ensures i; first = false }) c.second.ensures

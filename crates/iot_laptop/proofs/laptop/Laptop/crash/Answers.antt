@@ -1,5 +1,6 @@
-use Rattle.iot_machine.specs.Events.{no_text}
-use Rattle.iot_laptop.proofs.RestartLaws.{if_two, crashes}
+use Rattle.iot_laptop.specs.Below.{no_text}
+use Rattle.iot_laptop.proofs.CallsLaws.{if_two}
+use Rattle.iot_laptop.proofs.RestartLaws.{crashes}
 use Rattle.iot_laptop.proofs.laptop.Laptop.crash.Goals as goal
 
 pub returns-clause-step : goal.returns-clause-step

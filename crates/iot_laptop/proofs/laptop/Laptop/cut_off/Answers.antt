@@ -1,5 +1,4 @@
 use Rattle.std.proofs.Common.{Ok, Err, ap, sym, ◌∙◌, rules}
-use Rattle.iot_laptop.proofs.CallsLaws.{called}
 use Rattle.iot_laptop.proofs.RestartLaws.{cuts_nothing, cuts_off_now, cut_halts}
 use Rattle.iot_laptop.proofs.laptop.Laptop.cut_off.Goals as goal
 
@@ -9,13 +8,13 @@ returns-in_default-clause-cuts g c =
 
 pub returns-in-Err-Over-clause-cuts : goal.returns-in-Err-Over-clause-cuts
 returns-in-Err-Over-clause-cuts g c =
-    let call = called c.in-Up.is c.goes_on.ensures.goes (search rules) in
-    cut_halts g.D.Disk.medium c.args.self.now call c.in-Some.transaction (sym c.found.ensures ∙ c.in-Some.is)
-    c.cut-answer.ensures.cuts c.cut-answer.ensures.live c.cut-answer.ensures.stopped (c.in-Err-Over.is ∙ ap Err c.in-Err-Over.field-0-is)
+    let is = c.cut-answer.ensures in
+    cut_halts g.D.Disk.medium c.args.self.now c.in-Up.is c.goes_on.ensures.goes (search rules) c.in-Some.transaction
+    (sym c.found.ensures ∙ c.in-Some.is) is.cuts is.live is.stopped (c.in-Err-Over.is ∙ ap Err c.in-Err-Over.field-0-is)
 
 pub returns-in_ok-say_cut-in-Ok-Some-clause-cuts : goal.returns-in_ok-say_cut-in-Ok-Some-clause-cuts
 returns-in_ok-say_cut-in-Ok-Some-clause-cuts g c =
-    let call = called c.in-Up.is c.goes_on.ensures.goes (search rules) in
-    cuts_off_now g.D.Disk.medium c.args.self.now call c.in-Some.transaction (sym c.found.ensures ∙ c.in-Some.is)
-    c.cut-answer.ensures.cuts c.cut-answer.ensures.live c.cut-answer.ensures.stopped c.in-Ok-Some.acts
+    let is = c.cut-answer.ensures in
+    cuts_off_now g.D.Disk.medium c.args.self.now c.in-Up.is c.goes_on.ensures.goes (search rules) c.in-Some.transaction
+    (sym c.found.ensures ∙ c.in-Some.is) is.cuts is.live is.stopped c.in-Ok-Some.acts
     (c.in-Ok-Some.is ∙ ap Ok c.in-Ok-Some.field-0-is) c.say_cut.new.out c.in_ok-say_cut-in-Ok-Some.ensures

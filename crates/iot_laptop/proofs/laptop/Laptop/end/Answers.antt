@@ -1,18 +1,17 @@
 use Rattle.std.proofs.Common.{ap, ◌∙◌, rules}
 use Rattle.std.proofs.lemmas.Result.{IfOk-at_ok}
+use Rattle.iot_laptop.specs.Below.{Laptop}
 use Rattle.iot_laptop.specs.Laptops.{state_in, waits_of}
-use Rattle.iot_laptop.specs.declared.laptop.Laptop.{Laptop}
-use Rattle.iot_laptop.proofs.CallsLaws.{called}
 use Rattle.iot_laptop.proofs.CallsLaws.{ends, is_done, waits_now}
 use Rattle.iot_laptop.proofs.laptop.Laptop.end.Goals as goal
 
 pub returns-in-Ok-clause-does : goal.returns-in-Ok-clause-does
 returns-in-Ok-clause-does g c =
-    rw c.in-Ok.is at (ends (called c.in-Up.is c.goes_on.ensures.goes (search rules)) c.requires.over (search rules))
+    rw c.in-Ok.is at (ends c.in-Up.is c.goes_on.ensures.goes (search rules) c.requires.over (search rules))
 
 pub returns-in-Err-clause-does : goal.returns-in-Err-clause-does
 returns-in-Err-clause-does g c =
-    rw c.in-Err.is at (ends (called c.in-Up.is c.goes_on.ensures.goes (search rules)) c.requires.over (search rules))
+    rw c.in-Err.is at (ends c.in-Up.is c.goes_on.ensures.goes (search rules) c.requires.over (search rules))
 
 pub returns-in-Ok-clause-waits : goal.returns-in-Ok-clause-waits
 returns-in-Ok-clause-waits g c =

@@ -1,6 +1,6 @@
 use Rattle.std.proofs.Common.{refl, sym, ◌∙◌}
 use Rattle.std.proofs.lemmas.Result.{IfOk-weaker}
-use Rattle.iot_machine.specs.Events.{no_text}
+use Rattle.iot_laptop.specs.Below.{no_text}
 use Rattle.iot_laptop.proofs.CallsLaws.{was_ok, was_stopped}
 use Rattle.iot_laptop.proofs.NodesLaws.{at_post}
 use Rattle.iot_laptop.proofs.laptop.Laptop.goes_on.Goals as goal

@@ -1,7 +1,7 @@
 use Rattle.std.proofs.Common.{sym, ◌∙◌}
 use Rattle.iot_laptop.proofs.NodesLaws.{some_awake}
-use Rattle.iot_laptop.proofs.laptop.Laptop.is_drained.Goals as goal
 use Rattle.iot_laptop.proofs.laptop.Laptop.is_drained.Goals.{then-is_alive, else-is_alive}
+use Rattle.iot_laptop.proofs.laptop.Laptop.is_drained.Goals as goal
 
 pub waits-requires : goal.waits-requires
 waits-requires g c = some_awake _ c.args.self.now c.requires (sym c.is_alive.ensures ∙ c.if-is_alive.true)

@@ -1,4 +1,3 @@
-use Rattle.std.proofs.lemmas.Result.{IfOk-weaker}
 use Rattle.iot_link.specs.Links.{arming}
 use Rattle.iot_machine.specs.Texts.{lose_line}
 use Rattle.iot_laptop.proofs.RestartLaws.{relinks}
@@ -6,7 +5,5 @@ use Rattle.iot_laptop.proofs.laptop.Laptop.lose.Goals as goal
 
 pub returns-clause-step : goal.returns-clause-step
 returns-clause-step g c =
-    IfOk-weaker c.say_lose.result _ _
-    (λ _.
-    relinks g.D.Disk.medium c.args.self.now (arming c.args.loss) (λ name. lose_line name c.args.loss) c.arm.new.self _ _ c.arm.ensures)
+    relinks g.D.Disk.medium c.args.self.now _ (arming c.args.loss) (λ name. lose_line name c.args.loss) c.arm.new.self _ _ c.arm.ensures
     c.say_lose.ensures

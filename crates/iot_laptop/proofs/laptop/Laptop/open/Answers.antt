@@ -1,5 +1,6 @@
-use Rattle.iot_machine.specs.Events.{no_text}
-use Rattle.iot_laptop.proofs.RestartLaws.{if_two, opens, opens_standing, live_fresh}
+use Rattle.iot_laptop.specs.Below.{no_text}
+use Rattle.iot_laptop.proofs.CallsLaws.{if_two}
+use Rattle.iot_laptop.proofs.RestartLaws.{opens, opens_standing, live_fresh}
 use Rattle.iot_laptop.proofs.laptop.Laptop.open.Goals as goal
 
 pub open-requires-clause-stands : goal.open-requires-clause-stands

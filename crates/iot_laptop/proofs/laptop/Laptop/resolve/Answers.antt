@@ -1,10 +1,7 @@
 use Rattle.std.proofs.Common.{◌≡◌, sym, rules}
-use Rattle.iot_queue.specs.declared.items.Item.{Item}
+use Rattle.iot_laptop.specs.Below.{Item, state_of}
 use Rattle.iot_queue.specs.declared.items.Stage.TheVariants.{Conflict}
-use Rattle.iot_client.specs.Ties.{state_of}
-use Rattle.iot_laptop.proofs.CallsLaws.{called, as_is}
-use Rattle.iot_laptop.proofs.RepliesLaws.{none_bad, whole_read}
-use Rattle.iot_laptop.proofs.CallsLaws.{resolves}
+use Rattle.iot_laptop.proofs.CallsLaws.{as_is, resolves, none_bad, whole_read}
 use Rattle.iot_laptop.proofs.laptop.Laptop.resolve.Goals as goal
 
 pub goes_on-requires-clause-fault : goal.goes_on-requires-clause-fault
@@ -17,7 +14,6 @@ goes_on-requires-clause-fault g c =
 
 pub returns-clause-does : goal.returns-clause-does
 returns-clause-does g c =
-    let call = called c.in-Up.is c.goes_on.ensures.goes (search rules) in
-    rw (sym (as_is c.goes_on.result))
-    (resolves call c.args.reply.now c.args.script.value c.requires.script c.resolve-answer.ensures.only c.resolve-answer.ensures.resolves
-    c.resolve-answer.ensures.live c.resolve-answer.ensures.stopped)
+    let is = c.resolve-answer.ensures in
+    rw (sym (as_is c.goes_on.result)) (resolves c.in-Up.is c.goes_on.ensures.goes (search rules)
+    c.args.reply.now c.args.script.value c.requires.script is.only is.resolves is.live is.stopped)

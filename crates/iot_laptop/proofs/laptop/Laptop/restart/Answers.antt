@@ -1,8 +1,8 @@
 use Rattle.std.proofs.Common.{◌≡◌, Bool, sym, subst, ◌∙◌}
 use Rattle.std.proofs.lemmas.Result.{IfOk-weaker}
-use Rattle.iot_machine.specs.Events.{no_text}
-use Rattle.iot_laptop.proofs.RestartLaws.{CameBack}
-use Rattle.iot_laptop.proofs.RestartLaws.{says_up, is_standing, stops_again, came_again, is_back, comes_back, came_back, keeps_then}
+use Rattle.iot_laptop.specs.Below.{no_text}
+use Rattle.iot_laptop.proofs.RestartLaws.{CameBack, says_up, is_standing, stops_again, came_again, is_back, comes_back, came_back}
+use Rattle.iot_laptop.proofs.RestartLaws.{keeps_then}
 use Rattle.iot_laptop.proofs.laptop.Laptop.restart.Given.{Over}
 use Rattle.iot_laptop.proofs.laptop.Laptop.restart.Goals.{In_ok-come_back}
 use Rattle.iot_laptop.proofs.laptop.Laptop.restart.Goals as goal

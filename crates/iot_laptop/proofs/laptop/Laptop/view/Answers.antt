@@ -1,5 +1,5 @@
 use Rattle.std.proofs.Common.{ap, ◌∙◌}
-use Rattle.iot_kept.specs.States.{view}
+use Rattle.iot_laptop.specs.Below.{view}
 use Rattle.iot_laptop.proofs.LaptopsLaws.{view_is}
 use Rattle.iot_laptop.proofs.NodesLaws.{own_in}
 use Rattle.iot_laptop.specs.Laptops.{state_in, live_in}
