@@ -1,31 +1,16 @@
 -- A client with the server: what they are that are ready, what is known of their disks, and how what they do goes together.
-use Rattle.std.proofs.Common.{◌≡◌, ◌≤◌, ℕ, List, Option, Some, inl, refl, sym, ap, subst, ◌∙◌, suc, ◌+◌, ◌-◌, ◌<◌, Bool, true}
-use Rattle.std.proofs.Common.{false, ◌++◌, None, Result, Ok, Err, IsErrAnd, arith}
-use Rattle.iot_disk.specs.Disk.{Medium}
-use Rattle.iot_machine.specs.Calls.{Call, Try, Gets, Asks, Answers, Tells, Then, Goes, unless_over, either, Repeats, OrSays, or_text}
-use Rattle.iot_machine.specs.Clients.{Declared, ClientState, begin}
-use Rattle.iot_machine.specs.Machine.{Client, Pair}
-use Rattle.iot_machine.specs.Options.{OnConflict}
-use Rattle.iot_machine.specs.Transactions.{unless_stopped, Notes, Starts}
-use Rattle.iot_node.specs.Disks.{KeepsDisk}
-use Rattle.iot_node.specs.Steps.{StepsTo, Ends}
-use Rattle.iot_node.specs.declared.halt.Halt.{Halt}
-use Rattle.iot_node.specs.declared.halt.Halt.TheVariants.{NoMemory, Over}
-use Rattle.iot_server_node.specs.Servers.{disk_of, ServerStands}
-use Rattle.iot_server_node.specs.declared.server.ServerNode.{ServerNode}
-use Rattle.iot_server_node.specs.Records.{KeepsRecords}
+use Rattle.std.proofs.Common.{◌≡◌, ◌≤◌, ℕ, List, Option, Some, inl, refl, sym, ap, subst, ◌∙◌, suc, ◌+◌, ◌-◌, ◌<◌, Bool, true, false, ◌++◌}
+use Rattle.std.proofs.Common.{None, Result, Ok, Err, IsErrAnd, arith}
 use Rattle.iot_server_node.proofs.BeginningLaws.{records_same, records_then}
-use Rattle.iot_server_node.proofs.ServersLaws as servers
-use Rattle.iot_laptop.specs.Laptops.{Stands, StandsAnyhow, awake, disk_in, SamePlace}
-use Rattle.iot_laptop.specs.declared.laptop.Laptop.{Laptop}
 use Rattle.iot_laptop.proofs.NodesLaws.{is_awake}
-use Rattle.iot_laptop.specs.Alone.{NotesAlone, StartsAlone}
-use Rattle.iot_laptop.specs.Alone as alone
-use Rattle.iot_laptop.specs.Calls.{EndsAlone}
+use Rattle.iot_server_node.proofs.ServersLaws as servers
 use Rattle.iot_laptop.proofs.CallsLaws as laptops
 use Rattle.iot_laptop.proofs.RestartLaws as restarts
-use Rattle.iot_exchange.specs.Pairs.{Both, two, IsAt, UpStands, AnyStands, IsReadyWith, IsReady, IsStandingWith, KeepsDisks, PairStands}
-use Rattle.iot_exchange.specs.Pairs.{Does}
+use Rattle.iot_exchange.specs.Words.{unless_over, begin, Starts, StandsAnyhow, StartsAlone, set_class, EndsAlone, Medium, Call, Try, Gets}
+use Rattle.iot_exchange.specs.Words.{Asks, Answers, Tells, Then, Goes, either, Repeats, OrSays, or_text, Declared, ClientState, Client}
+use Rattle.iot_exchange.specs.Words.{Pair, OnConflict, unless_stopped, Notes, KeepsDisk, StepsTo, Halt, NoMemory, Over, disk_of}
+use Rattle.iot_exchange.specs.Words.{ServerStands, ServerNode, KeepsRecords, Stands, awake, disk_in, SamePlace, Laptop, NotesAlone}
+use Rattle.iot_exchange.specs.Pairs.{Both, two, IsAt, UpStands, AnyStands, IsReadyWith, KeepsDisks, PairStands, Does}
 use Rattle.iot_exchange.proofs.StepsLaws.{From}
 use Rattle.iot_exchange.proofs.StepsLaws as steps
 
@@ -79,11 +64,7 @@ module _ {D : Type 0} {medium : Medium D} where
   pub keeps_served : {u : Both D} {laptop : Laptop D} {server : ServerNode D} → KeepsDisks medium u u → disk_in laptop ≡ disk_in u.laptop
       → KeepsDisk medium (disk_of u.server) (disk_of server) → KeepsRecords medium (disk_of u.server) (disk_of server)
       → KeepsDisks medium u (two laptop server)
-  keeps_served {u} keeps same served records = record {
-    client = subst (λ (disk : Option D). KeepsDisk medium (disk_in u.laptop) disk) (sym same) keeps.client;
-    server = served;
-    records = records;
-  }
+  keeps_served keeps same served records = record { client = rw same keeps.client; server = served; records = records }
 
   pub laptop_keeps : {laptop : Laptop D} → Stands medium laptop → KeepsDisk medium (disk_in laptop) (disk_in laptop)
   laptop_keeps {laptop} here = laptops.keeps_same medium laptop.post (is_awake medium here.scripts laptop here.machine here.stands)
@@ -95,35 +76,36 @@ module _ {D : Type 0} {medium : Medium D} where
       → AnyStands medium scripts names c u pair
   still here = record { place = here.place; client = at_as here.client (awake here.client.is) refl refl; server = here.server }
 
-  pub anyhow : {scripts : List Declared} {u : Both D} → IsStandingWith medium scripts u → StandsAnyhow medium u.laptop
-  anyhow {scripts} it = record { scripts = scripts; machine = it.pair.client; stands = it.stands.client.is }
+  module _ {scripts : List Declared} {names : List (List ℕ)} {c : ℕ} {u : Both D} {pair : Pair} where
+    pub anyhow : AnyStands medium scripts names c u pair → StandsAnyhow medium u.laptop
+    anyhow here = record { scripts = scripts; machine = pair.client; stands = here.client.is }
 
-  pub standing : {scripts : List Declared} {u : Both D} → IsReadyWith medium scripts u → IsStandingWith medium scripts u
-  standing it = record { names = it.names; c = it.c; pair = it.pair; stands = still it.stands }
+    pub keeps_standing : AnyStands medium scripts names c u pair → KeepsDisks medium u u
+    keeps_standing here = record {
+      client = restarts.keeps_any medium u.laptop (anyhow here);
+      server =
+          servers.keeps_same medium (disk_of u.server) (disk_of u.server)
+          (servers.has_disk medium names u.server.post pair.server here.server.post) refl;
+      records = records_same medium (disk_of u.server) (disk_of u.server) refl;
+    }
 
-  pub keeps_standing : {scripts : List Declared} {u : Both D} → IsStandingWith medium scripts u → KeepsDisks medium u u
-  keeps_standing {u = u} it = record {
-    client = restarts.keeps_any medium u.laptop (anyhow it);
-    server =
-        servers.keeps_same medium (disk_of u.server) (disk_of u.server)
-        (servers.has_disk medium it.names u.server.post it.pair.server it.stands.server.post) refl;
-    records = records_same medium (disk_of u.server) (disk_of u.server) refl;
-  }
-
-  -- ---- a client that is alive
-
-  pub any_ready : {scripts : List Declared} {u : Both D} → IsReadyWith medium scripts u → IsReady medium u
-  any_ready {scripts} ready = record { scripts = scripts; is = ready }
-
-  module _ {u : Both D} (ready : IsReady medium u) where
-    pub stands : Stands medium u.laptop
-    stands = record { scripts = ready.scripts; machine = ready.is.pair.client; stands = ready.is.stands.client.is }
-
-    pub low : u.laptop.place ≤ 7
-    low = subst (λ (c : ℕ). c ≤ 7) (sym ready.is.stands.client.place) ready.is.stands.client.few
-
-    pub keeps_same : KeepsDisks medium u u
-    keeps_same = keeps_standing (standing ready.is)
+    pub ready_by : UpStands medium scripts names c u pair → IsReadyWith medium scripts u
+    ready_by here = record {
+      names = names;
+      c = c;
+      pair = pair;
+      stands = here;
+      ready = record {
+        scripts = scripts;
+        names = names;
+        c = c;
+        pair = pair;
+        stands = here;
+        alive = record { scripts = scripts; machine = pair.client; stands = here.client.is };
+        low = subst (λ (c : ℕ). c ≤ 7) (sym here.client.place) here.client.few;
+        keeps = keeps_standing (still here);
+      };
+    }
 
 -- a fact of each pair for which the two stand
 abbrev pub OfEach : {D : Type 0} → Medium D → List Declared → Both D → (Pair → Type 0) → Type 0
@@ -193,9 +175,10 @@ module _ {D : Type 0} {medium : Medium D} {scripts : List Declared} where
       → OfEach medium scripts v (λ pair. y ≡ x ++ text pair) → Does medium scripts (Tells text (Some a)) v v x y (Ok a)
   tells keeps wrote = record { step = λ names c. steps.says (wrote names c); disks = keeps_now keeps }
 
-  pub refuses : {A : Type 0} {text : Pair → List ℕ} {u v : Both D} {x y : List ℕ} → KeepsDisks medium u v
-      → OfEach medium scripts v (λ pair. y ≡ x ++ text pair) → Does {A = A} medium scripts (Tells text None) v v x y (Err Over)
-  refuses keeps wrote = record { step = λ names c. steps.refuses (wrote names c) (λ pair here. still here); disks = keeps_now keeps }
+  pub refuses : {A : Type 0} {text : List ℕ} {u v : Both D} {x y : List ℕ} → KeepsDisks medium u v → y ≡ x ++ text
+      → Does {A = A} medium scripts (Tells (λ _. text) None) v v x y (Err Over)
+  refuses keeps wrote =
+      record { step = λ names c. steps.refuses (λ pair here. wrote) (λ pair here. still here); disks = keeps_now keeps }
 
   -- it goes on, and then this is answered, or said
   pub then_answers : {A B : Type 0} {one : Try Pair A} {f : A → B} {u v : Both D} {x y : List ℕ} {a : A} {b : B} {inner : Result A Halt}
@@ -226,11 +209,9 @@ module _ {D : Type 0} {medium : Medium D} {scripts : List Declared} where
   -- ---- after a call that goes on
 
   pub ready_after : {A : Type 0} {call : Try Pair A} {u v : Both D} {x y : List ℕ} {a : A} {inner : Result A Halt} → inner ≡ Ok a
-      → Does medium scripts call u v x y inner → IsReadyWith medium scripts u → IsReadyWith medium scripts v
-  ready_after was it ready =
-      let done = rw was at it in
-      let t = (done.step ready.names ready.c).is.step ready.pair ready.stands in
-      record { names = ready.names; c = ready.c; pair = t.1; stands = t.4 }
+      → Does medium scripts call u v x y inner → {names : List (List ℕ)} {c : ℕ} {pair : Pair} → UpStands medium scripts names c u pair
+      → IsReadyWith medium scripts v
+  ready_after was it {names} {c} {pair} here = let done = rw was at it in ready_by ((done.step names c).is.step pair here).4
 
 -- ---- what the client does alone
 
@@ -259,8 +240,9 @@ lift_class a change same = record {
       ((it.0, it.1, (λ i. record pair { client = it.2 i })), ap (λ (client : Client). client.name) it.2 ∙ same pair.client);
 }
 
-lift_notes : (change : ClientState → ClientState) → Lifts (NotesAlone change) (Notes change)
-lift_notes change = lift_then (record {
+-- a change of what it keeps
+pub notes : (change : ClientState → ClientState) → Lifts (NotesAlone change) (Notes change)
+notes change = lift_then (record {
   lift = λ pair text a n it. (record { inner = n; step = it; is = refl }, ap (λ (client : Client). client.name) it.is);
 }) (λ on. lift_class (unless_stopped on) (λ m. m) (λ m. refl))
 
@@ -268,6 +250,12 @@ lift_unless : {A B : Type 0} {next : A → Try Client B} {more : A → Try Pair 
     → Lifts (unless_over next o) (unless_over more o)
 lift_unless each None = lift_class None (λ m. m) (λ m. refl)
 lift_unless each (Some a) = each a
+
+-- the beginning of a transaction
+pub starts : (script : Declared) (option : OnConflict Declared) (first : Bool)
+    → Lifts (StartsAlone script option first) (Starts script option first)
+starts script option first =
+    lift_then (notes (begin script option)) (lift_unless (λ done. lift_class (Some tt) (set_class first) (λ m. refl)))
 
 module _ {D : Type 0} {medium : Medium D} where
   lifted : {A : Type 0} {one : Try Client A} {call : Try Pair A} {P Q : Laptop D → Client → Type 0} {old new : Laptop D}
@@ -283,35 +271,16 @@ module _ {D : Type 0} {medium : Medium D} where
         (t.0, record pair { client = t.1 }, t.2, did.0, record { place = here.place; client = client; server = here.server });
   }
 
-  by_client : {scripts : List Declared} {one : Try Client (Unit {0})} {call : Try Pair (Unit {0})} {u v : Both D} {new : Laptop D}
+  pub by_client : {scripts : List Declared} {one : Try Client (Unit {0})} {call : Try Pair (Unit {0})} {u v : Both D} {new : Laptop D}
       {x y : List ℕ} {result : Result (Unit {0}) Halt} → Lifts one call → KeepsDisks medium u v → SamePlace v.laptop new
       → EndsAlone medium scripts one v.laptop new x y result → KeepsDisk medium (disk_in v.laptop) (disk_in new)
       → Does medium scripts call v (two new v.server) x y result
-  by_client {scripts} {one} {call} {u} {v} {new} {x} {y} {result} lifts keeps place it more = record {
-    step = λ names c. by names c result it;
+  by_client {result = Err NoMemory} lifts keeps place it more =
+      record { step = λ names c. record { is = tt }; disks = keeps_more (keeps_now keeps) more }
+  by_client lifts keeps place it more = record {
+    step = λ names c. record { is = lifted names c lifts place it.is };
     disks = keeps_more (keeps_now keeps) more;
   }
-    where
-      by : (names : List (List ℕ)) (c : ℕ) (r : Result (Unit {0}) Halt) → EndsAlone medium scripts one v.laptop new x y r
-          → Ends (UpStands medium scripts names c) (AnyStands medium scripts names c) call v (two new v.server) x y r
-      by names c (Err NoMemory) it = record { is = tt }
-      by names c result it = record { is = lifted names c lifts place it.is }
-
-  -- a change of what it keeps
-  pub notes : {scripts : List Declared} (change : ClientState → ClientState) {u v : Both D} {new : Laptop D} {x y : List ℕ}
-      {result : Result (Unit {0}) Halt} → KeepsDisks medium u v → SamePlace v.laptop new
-      → EndsAlone medium scripts (NotesAlone change) v.laptop new x y result → KeepsDisk medium (disk_in v.laptop) (disk_in new)
-      → Does medium scripts (Notes change) v (two new v.server) x y result
-  notes change keeps place it more = by_client (lift_notes change) keeps place it more
-
-  -- the beginning of a transaction
-  pub starts : {scripts : List Declared} (script : Declared) (option : OnConflict Declared) (first : Bool) {u v : Both D}
-      {new : Laptop D} {x y : List ℕ} {result : Result (Unit {0}) Halt} → KeepsDisks medium u v → SamePlace v.laptop new
-      → EndsAlone medium scripts (StartsAlone script option first) v.laptop new x y result
-      → KeepsDisk medium (disk_in v.laptop) (disk_in new)
-      → Does medium scripts (Starts script option first) v (two new v.server) x y result
-  starts script option first keeps place it more = by_client (lift_then (lift_notes (begin script option))
-      (lift_unless (λ done. lift_class (Some tt) (alone.set_class first) (λ m. refl)))) keeps place it more
 
 -- ---- again and again
 

@@ -1,40 +1,16 @@
 -- An exchange of a client with the server; what a client asks for, and holds if it comes; and what it knows of its transactions.
-use Rattle.std.proofs.Common.{◌≡◌, ℕ, ◌+◌, List, ◌++◌, Option, Some, None, Result, Ok, Err, Bool, false, Vec, refl, sym, ap, subst}
-use Rattle.std.proofs.Common.{◌∙◌, [], ◌∷◌, is_some, inl, inr}
+use Rattle.std.proofs.Common.{◌≡◌, ℕ, ◌+◌, List, ◌++◌, Option, Some, None, Result, Ok, Err, Bool, false, Vec, refl, sym, ap, subst, ◌∙◌, []}
+use Rattle.std.proofs.Common.{◌∷◌, is_some, inl, inr}
 use Rattle.std.specs.Prelude.{IfErr}
 use Rattle.std.specs.declared.alloc.Global.{Global}
-use Rattle.iot_tree.specs.Tree.{Nodes}
-use Rattle.iot_tree.specs.declared.want.Want.{Want}
-use Rattle.iot_link.specs.Links.{passage}
-use Rattle.iot_link.specs.declared.passages.Passage.{Passage}
-use Rattle.iot_link.specs.declared.passages.Passage.TheVariants.{Away, RequestLost, ReplyLost, Both as Reaches}
-use Rattle.iot_queue.specs.declared.items.Item.{Item}
-use Rattle.iot_kept.specs.States.{State}
-use Rattle.iot_disk.specs.Disk.{Medium}
-use Rattle.iot_machine.specs.Calls.{Call, At}
-use Rattle.iot_machine.specs.Clients.{Declared, ClientState, hold}
-use Rattle.iot_machine.specs.Machine.{Client, Commit, Pair, its_server, break}
-use Rattle.iot_machine.specs.Machine as machine
-use Rattle.iot_machine.specs.Nodes.{Node}
-use Rattle.iot_machine.specs.Serving.{Submission, Lends, Judges}
-use Rattle.iot_machine.specs.Transactions.{Handles, exchange_by, Exchange, unless_stopped, Brings, holds, Holds, runs, pends, is_queued}
-use Rattle.iot_machine.specs.Stops.{Appends}
-use Rattle.iot_node.specs.Steps.{StepsTo}
-use Rattle.iot_node.specs.declared.halt.Halt.{Halt}
-use Rattle.iot_wire.specs.Meanings.{IsRefresh}
-use Rattle.iot_judging.specs.Verdicts.{SpellsVerdict}
-use Rattle.iot_server_node.specs.Messages.{SpellsCut, said_of}
-use Rattle.iot_server_node.specs.Servers.{ServerStands, HavingAnswered, ServesBy, IsHanded, IsNamedIn, is_up}
-use Rattle.iot_server_node.specs.declared.message.Message.{Message}
-use Rattle.iot_server_node.specs.declared.server.Served.{Served}
-use Rattle.iot_server_node.specs.declared.server.ServerNode.{ServerNode}
 use Rattle.iot_server_node.proofs.ServersLaws.{up_is}
-use Rattle.iot_laptop.specs.Laptops.{LaptopStands, Relinked, after_passage, Stands, state_in, waits_of}
-use Rattle.iot_laptop.specs.declared.laptop.Laptop.{Laptop}
-use Rattle.iot_laptop.specs.Alone.{NotesAlone}
-use Rattle.iot_laptop.specs.Calls.{Changes}
-use Rattle.iot_laptop.specs.Messages.{SpellsTree, BringsTree}
 use Rattle.iot_laptop.proofs.LaptopsLaws.{runs_is, waits_is}
+use Rattle.iot_exchange.specs.Words.{passage, Passage, Away, RequestLost, ReplyLost, Both as Reaches, At, its_server, break, Handles}
+use Rattle.iot_exchange.specs.Words.{exchange_by, Brings, holds, is_queued, Appends, HavingAnswered, ServesBy, Served, Relinked}
+use Rattle.iot_exchange.specs.Words.{after_passage, Changes, Nodes, Want, Item, State, Medium, Call, Declared, ClientState, hold, Client}
+use Rattle.iot_exchange.specs.Words.{Commit, Pair, Node, Submission, Lends, Judges, Exchange, unless_stopped, Holds, runs, pends, StepsTo}
+use Rattle.iot_exchange.specs.Words.{Halt, IsRefresh, SpellsVerdict, SpellsCut, said_of, ServerStands, IsHanded, IsNamedIn, is_up, Message}
+use Rattle.iot_exchange.specs.Words.{ServerNode, LaptopStands, Stands, state_in, waits_of, Laptop, NotesAlone, SpellsTree, BringsTree}
 use Rattle.iot_exchange.specs.Pairs.{Both, two, IsAt, UpStands, Query, Objects, Judgment, AsksFor, Spells, request_of, Serves, Exchanges}
 use Rattle.iot_exchange.specs.Pairs.{Asked, IsReady, IsFree, KeepsDisks, Does}
 use Rattle.iot_exchange.proofs.DoesLaws.{StepsOn, at_as, OfEach, then_does, answers}
@@ -64,22 +40,15 @@ module _ {D : Type 0} (medium : Medium D) (message : Message) (old new : ServerN
       (served : Served) {mid y : List ℕ} → y ≡ mid ++ said_of served.committed message.handed
       → ServesBy medium names call Spelled message.handed (Some served) old new x mid
       → Serves (ServerStands medium names) Spelled call (Some served.reply) old new x y
-  replies {names = names} {call} served wrote it = record {
+  replies served wrote it = record {
     is = (
       it.1.0,
       it.1.1,
-      λ n. subst
-          (λ (z : List ℕ). StepsTo (HavingAnswered medium names n) (HavingAnswered medium names (n + 1)) call old new x z (Some it.1.0))
-          (sym (wrote ∙ ap (λ (z : List ℕ). z ++ said_of served.committed message.handed) it.0)) (it.1.2 n x),
+      λ n. rw (wrote ∙ ap (λ (z : List ℕ). z ++ said_of served.committed message.handed) it.0) (it.1.2 n x),
     );
   }
 
 -- ---- how far a message gets
-
--- nothing is sent over a link that is not up
-pub away_if_down : {D : Type 0} (laptop : Laptop D) (server_up : Bool) {p : Passage} → p ≡ passage laptop.link server_up
-    → laptop.link.up ≡ false → p ≡ Away
-away_if_down laptop server_up is down = rw down at is
 
 same_name : (p : Passage) (m : Client) → (after_passage p m).name ≡ m.name
 same_name Away m = refl
@@ -161,18 +130,19 @@ module _ {D : Type 0} {medium : Medium D} {old new : Laptop D} {server : ServerN
       away it = exchanged it (gets (λ pair here. (refl, linked it here)))
 
       -- or it was lost
-      pub request_lost : {x : List ℕ} → Passed medium old new server RequestLost
-          → StepsOn medium scripts names c (Exchange request) (two old server) (two new server) x x None
-      request_lost it = exchanged it (gets (λ pair here. (refl, linked it here)))
+      pub request_lost : {Spelled : List ℕ → A → Type 0} {x : List ℕ} → Passed medium old new server RequestLost
+          → Exchanges (UpStands medium scripts names c) Spelled (Exchange request) None (two old server) (two new server) x x
+      request_lost it = record { is = exchanged it (gets (λ pair here. (refl, linked it here))) }
 
       module _ {Spelled : List ℕ → A → Type 0} {later : ServerNode D} {x y : List ℕ} where
         -- the server handled it, and its reply is lost
         pub reply_lost : (reply : Option (Vec ℕ Global)) → Passed medium old new server ReplyLost
             → Serves (ServerStands medium names) Spelled request reply server later x y
-            → StepsOn medium scripts names c (Exchange request) (two old server) (two new later) x y None
-        reply_lost None it served = exchanged it (bind (handles None served).is (gets (λ pair here. (refl, linked it here))))
+            → Exchanges (UpStands medium scripts names c) Spelled (Exchange request) None (two old server) (two new later) x y
+        reply_lost None it served =
+            record { is = exchanged it (bind (handles None served).is (gets (λ pair here. (refl, linked it here)))) }
         reply_lost (Some reply) it served =
-            exchanged it (bind (handles (Some reply) served).is.2 (gets (λ pair here. (refl, linked it here))))
+            record { is = exchanged it (bind (handles (Some reply) served).is.2 (gets (λ pair here. (refl, linked it here)))) }
 
         -- the reply comes
         pub comes : {reply : Vec ℕ Global} → Passed medium old new server Reaches
@@ -185,11 +155,13 @@ module _ {D : Type 0} {medium : Medium D} {old new : Laptop D} {server : ServerN
         -- none comes, since the server stopped
         pub none_comes : {last : Laptop D} → Passed medium old new server Reaches
             → Serves (ServerStands medium names) Spelled request None server later x y → Relinked medium break new last
-            → StepsOn medium scripts names c (Exchange request) (two old server) (two last later) x y None
-        none_comes it served broke = exchanged it (bind (handles None served).is (gets (λ pair here.
-            let its = (linked it here).client in
-            let client = at_as its (broke.stands scripts pair.client its.is) broke.place refl in
-            (refl, record { place = here.place; client = client; server = here.server }))))
+            → Exchanges (UpStands medium scripts names c) Spelled (Exchange request) None (two old server) (two last later) x y
+        none_comes it served broke = record {
+          is = exchanged it (bind (handles None served).is (gets (λ pair here.
+              let its = (linked it here).client in
+              let client = at_as its (broke.stands scripts pair.client its.is) broke.place refl in
+              (refl, record { place = here.place; client = client; server = here.server }))));
+        }
 
 -- ---- tests
 
@@ -201,16 +173,8 @@ no_items : (items : List Item) → waits_of items ≡ false → items ≡ []
 no_items [] is = refl
 no_items (item ∷ items) is = absurd cc
 
-pub is_free : {D : Type 0} {laptop : Laptop D} → is_some (state_in laptop).running ≡ false → waits_of (state_in laptop).items ≡ false
-    → IsFree laptop
-is_free {laptop = laptop} idle none = record { idle = no_some (state_in laptop).running idle; none = no_items (state_in laptop).items none }
-
--- so it is still
-pub free_as : {D : Type 0} (old : Laptop D) {new : Laptop D} → state_in new ≡ state_in old → IsFree old → IsFree new
-free_as old same free = record {
-  idle = ap (λ (s : State). s.running) same ∙ free.idle;
-  none = ap (λ (s : State). s.items) same ∙ free.none;
-}
+pub is_free : {s : State} → is_some s.running ≡ false → waits_of s.items ≡ false → IsFree s
+is_free {s} idle none = record { idle = no_some s.running idle; none = no_items s.items none }
 
 module _ {D : Type 0} {medium : Medium D} {scripts : List Declared} {u : Both D} {b : Bool} where
   -- whether a transaction runs
@@ -254,23 +218,24 @@ pub brings_tree : {D : Type 0} {medium : Medium D} (client : ℕ) (held : Nodes)
     → ((scripts : List Declared) → Asked medium scripts message (Some reply) u v x y)
     → IsRefresh client held want message.request.items → BringsTree reply.items
 brings_tree client held want ready asked is =
-    let e = ((asked ready.scripts).is ready.is.names ready.is.c (Objects client held want) is).is in
+    let e = ((asked ready.scripts).is ready.names ready.c (Objects client held want) is).is in
     record { tree = e.0; is = e.1.spelled }
 
 -- ---- if nothing ran or waited, nothing does
 
 -- what the machine's client keeps then
-noted : (change : ClientState → ClientState) (m n : machine.Client) (text : List ℕ) (done : Unit {0})
+noted : (change : ClientState → ClientState) (m n : Client) (text : List ℕ) (done : Unit {0})
     → NotesAlone change m text (Some done) n → n.node.durable ≡ change m.node.durable
 noted change m n text done it = by it.first.step
   where
     by : Appends m.name change m.node it.front it.answer it.first.inner → n.node.durable ≡ change m.node.durable
     by (inl went) =
-        ap (λ (k : machine.Client). k.node.durable) (it.second.2 ∙ it.first.is) ∙ ap (λ node. node.durable) went.2
+        ap (λ (k : Client). k.node.durable) (it.second.2 ∙ it.first.is) ∙ ap (λ node. node.durable) went.2
     by (inr stopped) = let e : Some done ≡ None = it.second.1 ∙ ap unless_stopped stopped.1 in absurd cc
 
 pub free_still : {D : Type 0} {medium : Medium D} (t : Nodes) {old new : Laptop D} {x y : List ℕ} {inner : Result (Unit {0}) Halt}
-    {done : Unit {0}} → inner ≡ Ok done → Stands medium old → Changes medium (hold t) old new x y inner → IsFree old → IsFree new
+    {done : Unit {0}} → inner ≡ Ok done → Stands medium old → Changes medium (hold t) old new x y inner → IsFree (state_in old)
+    → IsFree (state_in new)
 free_still t {done = done} was here changes free =
     let went = rw was at (changes here.scripts) in
     let s = went.is.step here.machine here.stands in

@@ -1,77 +1,43 @@
 -- The first transaction that waits, in a client and in each pair for which it stands with the server: how it is decided of, submitted and
 -- resolved. What a client is told of one is what the machine says, and one that conflicts is resolved by the script that is planned for
 -- it, on the server's whole tree.
-use Rattle.std.proofs.Common.{◌≡◌, ℕ, true, false, List, [], ◌∷◌, ◌++◌, Some, None, Result, Ok, Err, refl, sym, ap, subst, ◌∙◌}
-use Rattle.std.proofs.Common.{codes, ◌<◌, length, Vec, Global, IsErrAnd, slice_get, slice_index_or, ◌^◌, IsSome, if◌then◌else◌}
+use Rattle.std.proofs.Common.{◌≡◌, ℕ, true, false, List, [], ◌∷◌, ◌++◌, Some, None, Result, Ok, Err, refl, sym, ap, subst, ◌∙◌, codes, ◌<◌}
+use Rattle.std.proofs.Common.{length, Vec, Global, IsErrAnd, slice_get, slice_index_or, ◌^◌, IsSome, if◌then◌else◌}
 use Rattle.std.proofs.lemmas.Option.{same_Some, slice_get-get_or, slice_get_within}
+use Rattle.std.proofs.lemmas.List.{nil_from_length}
 use Rattle.std.specs.List.{AllByRecursion}
 use Rattle.std.specs.FinMap.{empty, entries, len-entries, len-empty}
-use Rattle.iot_text.specs.Paths.{path_cmp}
-use Rattle.iot_tree.specs.Tree.{Nodes, Row, root_alone, IsWhole}
-use Rattle.iot_tree.specs.declared.acts.Read.{Read}
-use Rattle.iot_tree.specs.declared.labels.Way.TheVariants.{Certified}
 use Rattle.iot_tree.proofs.RowLaws.{root_map, entries_rows}
-use Rattle.iot_tree.specs.Snapshots.{known, is_known, paths_where}
-use Rattle.iot_tree.specs.declared.limits.TheConstants.{ACT_LIMIT}
-use Rattle.iot_tree.specs.declared.nodes.Node.TheVariants.{FarDir}
+use Rattle.iot_limits.proofs.SpelledLaws.{no_files_are_spelled}
+use Rattle.iot_wire.proofs.MessagesLaws.{call_one}
+use Rattle.iot_wire.proofs.SpellingLaws.{reply_laws}
+use Rattle.iot_machine.proofs.WholeLaws.{whole_comes}
+use Rattle.iot_laptop.proofs.LaptopsLaws.{HeadStands, head_stands}
 use Rattle.iot_tree.specs.declared.want.Want.TheVariants as wanted
 use Rattle.iot_tree.specs.declared.labels.OnConflict as labels
-use Rattle.iot_lang.specs.Code.{Code}
-use Rattle.iot_acts.specs.Turns.{reads_of}
-use Rattle.iot_acts.specs.Traces.{after_acts}
-use Rattle.iot_exec.specs.Files.{files_of}
-use Rattle.iot_limits.proofs.SpelledLaws.{no_files_are_spelled}
-use Rattle.iot_queue.specs.declared.items.Item.{Item}
-use Rattle.iot_queue.specs.declared.items.Resolution.{Resolution}
-use Rattle.iot_queue.specs.declared.items.Stage.{Stage}
 use Rattle.iot_queue.specs.declared.items.Stage.TheVariants as kept_stages
 use Rattle.iot_resolve.specs.Plans as resolves
 use Rattle.iot_resolve.specs.declared.plan.Plan as plans
-use Rattle.iot_kept.specs.Changes.{HeadIs, IsByHand, IsSubmittedIn, IsSubmitted}
-use Rattle.iot_wire.specs.Meanings.{IsRefresh}
-use Rattle.iot_client.specs.Messages.{way_of}
-use Rattle.iot_wire.proofs.MessagesLaws.{call_one}
-use Rattle.iot_wire.proofs.SpellingLaws.{reply_laws}
-use Rattle.iot_wire.specs.Messages.{IsOneMessage}
-use Rattle.iot_wire.specs.Rules.{IsReply}
-use Rattle.iot_wire.specs.Spelling.{reply_spelling}
-use Rattle.iot_disk.specs.Disk.{Medium}
-use Rattle.iot_machine.specs.Calls.{Try, Asks, Then}
-use Rattle.iot_machine.specs.Clients.{Declared, Plan, new_client, plan_of, plan_by, local_run, reach, resolution_of}
 use Rattle.iot_machine.specs.Clients as clients
-use Rattle.iot_machine.specs.Machine.{Pair, kept}
-use Rattle.iot_machine.specs.Machine as machine
-use Rattle.iot_machine.specs.Options.{OnConflict}
 use Rattle.iot_machine.specs.Options as options
-use Rattle.iot_machine.specs.Sound.{CanResolve, IsPlanned}
-use Rattle.iot_machine.specs.Texts.{line, transaction_name, manual_line, resolve_line}
-use Rattle.iot_machine.specs.Transactions.{Synced, Stays, Unanswered, Syncs, Submits, submits, resolves, sync_head, sync_at}
-use Rattle.iot_machine.specs.Transactions.{IfManual, if_manual, is_manual, item_name, submission_of, NotesAloud, told, Moved}
-use Rattle.iot_machine.specs.Serving.{Verdict, Settled, Conflict}
-use Rattle.iot_machine.proofs.WholeLaws.{whole_comes}
-use Rattle.iot_node.specs.declared.halt.Halt.{Halt}
-use Rattle.iot_node.specs.declared.halt.Halt.TheVariants.{Over}
-use Rattle.iot_node.specs.declared.lines.Transaction.{Transaction}
-use Rattle.iot_server_node.specs.Servers.{IsSubmission}
-use Rattle.iot_server_node.specs.declared.message.Message.{Message}
-use Rattle.iot_server_node.specs.Messages as at_server
-use Rattle.iot_laptop.specs.Calls.{head_name, decision, decision_on, undecided_word, HandsIn, acts_in, label_in, head_reads, head_option}
-use Rattle.iot_laptop.specs.Calls.{AsksAll, IsHeadPlan, head_plan, Plans}
-use Rattle.iot_laptop.specs.Kept.{ResolutionStands, StageStands, ItemStands, ItemsStand}
-use Rattle.iot_laptop.specs.Laptops.{state_in, LaptopStands}
-use Rattle.iot_node.specs.Lines.{name_of}
-use Rattle.iot_judging.specs.Verdicts.{SpellsVerdict}
-use Rattle.iot_laptop.specs.Messages.{IsVerdict, told_change, SpellsTree, BringsTree}
-use Rattle.iot_laptop.specs.Scripts.{ItemIsNamed, option_named, script_named, HasNamed}
-use Rattle.iot_laptop.specs.declared.laptop.Laptop.{Laptop}
-use Rattle.iot_laptop.specs.declared.needs.Undecided.{Undecided}
-use Rattle.iot_laptop.proofs.LaptopsLaws.{HeadStands, head_stands}
-use Rattle.iot_laptop.specs.declared.needs.Submitted.{Submitted}
 use Rattle.iot_laptop.specs.declared.needs.Undecided.TheVariants as why
-use Rattle.iot_exchange.specs.Pairs.{Both, UpStands, KeepsDisks, Objects, Judgment, MissesAll, Does, AsksFor, Asked, IsReady, IsReadyWith}
+use Rattle.iot_exchange.specs.Words.{Client, path_cmp, Row, root_alone, IsWhole, Read, Certified, known, is_known, paths_where, FarDir}
+use Rattle.iot_exchange.specs.Words.{reads_of, files_of, Resolution, IsSubmittedIn, way_of, IsOneMessage, IsReply, reply_spelling, Plan}
+use Rattle.iot_exchange.specs.Words.{new_client, plan_of, plan_by, local_run, CanResolve, IsPlanned, Synced, Stays, Unanswered, Submits}
+use Rattle.iot_exchange.specs.Words.{submits, resolves, sync_head, sync_at, IfManual, if_manual, is_manual, item_name, submission_of}
+use Rattle.iot_exchange.specs.Words.{NotesAloud, told, Moved, IsSubmission, decision, decision_on, undecided_word, acts_in, label_in}
+use Rattle.iot_exchange.specs.Words.{head_reads, head_option, IsHeadPlan, head_plan, Plans, ResolutionStands, StageStands, ItemStands}
+use Rattle.iot_exchange.specs.Words.{IsVerdict, ItemIsNamed, Undecided, Submitted, Nodes, ACT_LIMIT, Code, after_acts, Item, Stage, HeadIs}
+use Rattle.iot_exchange.specs.Words.{IsByHand, IsRefresh, Medium, Try, Asks, Then, Declared, reach, resolution_of, Pair, kept, OnConflict}
+use Rattle.iot_exchange.specs.Words.{line, transaction_name, manual_line, resolve_line, Syncs, Verdict, Conflict, Halt, Over, Transaction}
+use Rattle.iot_exchange.specs.Words.{Message, waits_of, head_name, HandsIn, AsksAll, ItemsStand, state_in, LaptopStands, name_of}
+use Rattle.iot_exchange.specs.Words.{SpellsVerdict, told_change, SpellsTree, BringsTree, option_named, script_named, HasNamed, Laptop}
+use Rattle.iot_exchange.specs.Words.{ServerNode}
+use Rattle.iot_exchange.specs.Pairs.{Both, two, UpStands, KeepsDisks, Objects, Judgment, MissesAll, Does, AsksFor, Asked, IsReady}
+use Rattle.iot_exchange.specs.Pairs.{IsReadyWith}
 use Rattle.iot_exchange.specs.Saying.{synced_by, told_text, told_synced, resolver_said}
 use Rattle.iot_exchange.specs.declared.synced.Synced.{Synced as Sync}
-use Rattle.iot_exchange.specs.Queues.{IsCodeOf}
+use Rattle.iot_exchange.specs.Queues.{First, IsCodeOf}
 use Rattle.iot_exchange.proofs.DoesLaws.{DoesFrom, each_from, still}
 use Rattle.iot_exchange.proofs.StepsLaws.{from, asks_from, then_from, says, refuses}
 
@@ -103,28 +69,27 @@ conflict_stage same is = absurd cc
 
 -- ---- the first that waits
 
-pub record First {D : Type 0} (laptop : Laptop D) (t : Transaction) : Type 0 where
-  pub item : Item
-  pub rest : List Item
-  pub items : (state_in laptop).items ≡ item ∷ rest
-  pub named : t ≡ record { client = laptop.name; number = item.tid }
+module _ {D : Type 0} {laptop : Laptop D} {Is : Item → Type 0} {t : Transaction} where
+  first_by : (items : List Item) → (state_in laptop).items ≡ items → head_name laptop items ≡ Some t → HeadIs Is items → First Is laptop t
+  first_by [] same named is = absurd cc
+  first_by (item ∷ rest) same named is =
+      record { item = item; rest = rest; items = same; named = sym (same_Some _ _ named); is = is }
 
-module _ {D : Type 0} {laptop : Laptop D} where
-  first_by : {t : Transaction} (items : List Item) → (state_in laptop).items ≡ items → head_name laptop items ≡ Some t → First laptop t
-  first_by [] same is = absurd cc
-  first_by (item ∷ rest) same is = record { item = item; rest = rest; items = same; named = sym (same_Some _ _ is) }
+  pub first_of : head_name laptop (state_in laptop).items ≡ Some t → HeadIs Is (state_in laptop).items → First Is laptop t
+  first_of named is = first_by (state_in laptop).items refl named is
 
-  pub first_of : {t : Transaction} → head_name laptop (state_in laptop).items ≡ Some t → First laptop t
-  first_of is = first_by (state_in laptop).items refl is
-
-  -- what is so of the head is so of it
-  pub head_is : {t : Transaction} (Is : Item → Type 0) (first : First laptop t) → HeadIs Is (state_in laptop).items → Is first.item
-  head_is Is first head = subst (HeadIs Is) first.items head
+  -- what is so of it is so of the head
+  pub head_is : (P : Item → Type 0) (first : First Is laptop t) → P first.item → HeadIs P (state_in laptop).items
+  head_is P first it = subst (HeadIs P) (sym first.items) it
 
 module _ {D : Type 0} (laptop : Laptop D) where
   pub none_waits : (items : List Item) → head_name laptop items ≡ None → items ≡ []
   none_waits [] is = refl
   none_waits (item ∷ items) is = absurd cc
+
+  pub some_waits : {t : Transaction} (items : List Item) → head_name laptop items ≡ Some t → waits_of items ≡ true
+  some_waits [] is = absurd cc
+  some_waits (item ∷ items) is = refl
 
   -- if it is decided of, it waits for that
   decided_on : {t : Transaction} (item : Item) (stage : Stage) → decision_on laptop item stage ≡ Ok t
@@ -143,12 +108,11 @@ module _ {D : Type 0} (laptop : Laptop D) where
   refused_on item manual is = absurd cc
   refused_on item same is = (cc, refl)
 
--- if nothing is decided of it, it does not wait for that
-pub is_undecided : {D : Type 0} {laptop : Laptop D} {t : Transaction} {u : Undecided} (first : First laptop t)
-    → decision laptop (state_in laptop).items ≡ Err u → first.item.stage ≡ kept_stages.Manual → ⊥
-is_undecided {laptop = laptop} {u = u} first is by_hand =
-    let e = sym is ∙ ap (decision laptop) first.items ∙ ap (decision_on laptop first.item) by_hand in
-    absurd cc
+  -- if nothing is decided of it, it does not wait for that
+  pub is_undecided : {t : Transaction} {u : Undecided} (items : List Item) → head_name laptop items ≡ Some t → decision laptop items ≡ Err u
+      → HeadIs (λ item. IsByHand item → ⊥) items
+  is_undecided [] named is = absurd cc
+  is_undecided (item ∷ items) named is = λ by_hand. let e = sym is ∙ ap (decision_on laptop item) by_hand in absurd cc
 
 -- an option that resolves has a plan
 some_plan : (held : Nodes) (mi : clients.Item) (option : OnConflict Declared) → CanResolve option
@@ -173,7 +137,7 @@ module _ {D : Type 0} {medium : Medium D} {scripts : List Declared} {names : Lis
       asks_from (subst (λ (ms : List clients.Item). DoesFrom medium scripts names c (next ms) pair new x z result)
       (sym (none_there _ (kept pair).items none here.client.is.state.items)) it)
 
-  module _ {t : Transaction} (first : First old.laptop t) where
+  module _ {Is : Item → Type 0} {t : Transaction} (first : First Is old.laptop t) where
     -- it is the first of the machine's
     pub head : HeadStands (state_in old.laptop).held first.item first.rest (kept pair).items
     head = head_stands _ _ _ _ here.client.is.state first.item first.rest first.items
@@ -251,24 +215,23 @@ module _ {D : Type 0} {medium : Medium D} {scripts : List Declared} {old : Both 
   syncs_none none keeps wrote =
       each_from keeps (λ names c pair here. at_none here {next = sync_head} none (from (says (λ pair here. wrote)) here))
 
-  module _ {t : Transaction} (first : First old.laptop t) where
-    -- it waits for a decision by hand
-    pub syncs_by_hand : first.item.stage ≡ kept_stages.Manual → KeepsDisks medium old old → y ≡ x ++ manual_line (name_of t)
-        → Does medium scripts Syncs old old x y (Ok Stays)
-    syncs_by_hand is keeps wrote =
-        each_from keeps (λ names c pair here.
-        at_first here first {next = sync_head}
-        (rw (manual_stage (stage_there here first) is)
-        (from (says (λ pair there. wrote ∙ ap (λ (n : List ℕ). x ++ manual_line n) (sym (name_there here first there)))) here)))
+  -- it waits for a decision by hand
+  pub syncs_by_hand : {t : Transaction} → First IsByHand old.laptop t → KeepsDisks medium old old → y ≡ x ++ manual_line (name_of t)
+      → Does medium scripts Syncs old old x y (Ok Stays)
+  syncs_by_hand first keeps wrote =
+      each_from keeps (λ names c pair here.
+      at_first here first {next = sync_head}
+      (rw (manual_stage (stage_there here first) first.is)
+      (from (says (λ pair there. wrote ∙ ap (λ (n : List ℕ). x ++ manual_line n) (sym (name_there here first there)))) here)))
 
-    -- no message gets through
-    pub syncs_away : {new : Both D} → (first.item.stage ≡ kept_stages.Manual → ⊥) → KeepsDisks medium old new
-        → ((names : List (List ℕ)) (c : ℕ) → MissesAll medium scripts names c old new) → y ≡ x ++ line (codes "away")
-        → Does medium scripts Syncs old new x y (Ok Unanswered)
-    syncs_away {new} not_manual keeps misses wrote =
-        each_from keeps (λ names c pair here.
-        at_first here first {next = sync_head}
-        (misses_at here first (stage_there here first) not_manual (planned_there here first) (misses names c) wrote))
+  -- no message gets through
+  pub syncs_away : {new : Both D} {t : Transaction} → First (λ item. IsByHand item → ⊥) old.laptop t → KeepsDisks medium old new
+      → ((names : List (List ℕ)) (c : ℕ) → MissesAll medium scripts names c old new) → y ≡ x ++ line (codes "away")
+      → Does medium scripts Syncs old new x y (Ok Unanswered)
+  syncs_away first keeps misses wrote =
+      each_from keeps (λ names c pair here.
+      at_first here first {next = sync_head}
+      (misses_at here first (stage_there here first) first.is (planned_there here first) (misses names c) wrote))
 
 -- ---- decisions by hand
 
@@ -283,8 +246,8 @@ module _ {D : Type 0} {medium : Medium D} {scripts : List Declared} {old : Both 
       at_none here {next = if_manual call} same
       (from (refuses (λ pair here. wrote ∙ ap (λ (u : Undecided). x ++ line (undecided_word u)) nothing) (λ pair here. still here)) here)
   undecided_by (item ∷ items) same is wrote names c pair here =
-      let first : First old.laptop (record { client = old.laptop.name; number = item.tid }) =
-      record { item = item; rest = items; items = same; named = refl } in
+      let first : First (λ _. Unit {0}) old.laptop (record { client = old.laptop.name; number = item.tid }) =
+      record { item = item; rest = items; items = same; named = refl; is = tt } in
       let refused = refused_on old.laptop item (stage_there here first) is in
       at_first here first {next = if_manual call}
       (rw refused.1
@@ -301,22 +264,17 @@ module _ {D : Type 0} {medium : Medium D} {scripts : List Declared} {old : Both 
       → ((after : Pair) → UpStands medium scripts names c new after → item_name mi after ≡ name_of t)
       → (pair : Pair) → UpStands medium scripts names c old pair → DoesFrom medium scripts names c (call mi) pair new x y result)
       → Does medium scripts (IfManual call) old new x y result
-  decides {result = result} is keeps each = each_from keeps (λ names c pair here.
+  decides {t = t} is keeps each = each_from keeps (λ names c pair here.
       let head_is_it = decided old.laptop (state_in old.laptop).items is in
-      let first = first_of head_is_it.0 in
+      let first : First IsByHand old.laptop t = first_of head_is_it.0 head_is_it.1 in
       let mi = (head here first).first in
-      let manual : is_manual mi.stage ≡ true =
-      ap is_manual (manual_stage (stage_there here first) (head_is IsByHand first head_is_it.1)) in
+      let manual : is_manual mi.stage ≡ true = ap is_manual (manual_stage (stage_there here first) first.is) in
       at_first here first {next = if_manual call}
       (rw manual (each names c mi (λ after there. name_there here first there) pair here)))
 
 -- no files are listed if none are kept
 no_files : entries (empty {K = List (List ℕ)} {X = List ℕ} {R = path_cmp}) ≡ []
-no_files = none _ (sym (len-entries empty) ∙ len-empty path_cmp (List ℕ))
-  where
-    none : {A : Type 0} (xs : List A) → length xs ≡ 0 → xs ≡ []
-    none [] is = refl
-    none (x ∷ xs) is = absurd cc
+no_files = nil_from_length _ (sym (len-entries empty) ∙ len-empty path_cmp (List ℕ))
 
 -- a resolution's way by the option as it is kept, and by the machine's
 ways_are : (option : OnConflict Declared) → CanResolve option → clients.way_of option ≡ way_of (option_named option)
@@ -331,7 +289,7 @@ message_of it = record { request = it.request; handed = Some (record { printed =
 -- ---- what is submitted
 
 module _ {D : Type 0} {medium : Medium D} {scripts : List Declared} {names : List (List ℕ)} {c : ℕ} {old : Both D} {pair : Pair}
-    (here : UpStands medium scripts names c old pair) {t : Transaction} (first : First old.laptop t) where
+    (here : UpStands medium scripts names c old pair) {Is : Item → Type 0} {t : Transaction} (first : First Is old.laptop t) where
   abbrev mi : clients.Item
   mi = (head here first).first
 
@@ -437,54 +395,44 @@ pub synced_err : (fault : Halt) (outer : Result Sync Halt) → IsErrAnd outer (�
 synced_err fault (Ok synced) is = absurd is
 synced_err fault (Err halt) is = is
 
-module _ {D : Type 0} (old : Both D) {t : Transaction} (it : Submitted)
-    (head_is_it : head_name old.laptop (state_in old.laptop).items ≡ Some t)
-    (hands : HeadIs (λ item. HandsIn old.laptop item it) (state_in old.laptop).items) where
-  pub first : First old.laptop t
-  first = first_of head_is_it
-
-  pub hands_in : HandsIn old.laptop first.item it
-  hands_in = head_is (λ item. HandsIn old.laptop item it) first hands
-
-  pub submitted_head : HeadIs IsSubmitted (state_in old.laptop).items
-  submitted_head = subst (HeadIs IsSubmitted) (sym first.items) hands_in.submitted
-
+module _ {D : Type 0} {laptop : Laptop D} {t : Transaction} (it : Submitted) (first : First (λ item. HandsIn laptop item it) laptop t)
+    {server : ServerNode D} where
   -- no reply came
   pub submits_away : {medium : Medium D} {scripts : List Declared} {mid : Both D} {x y z : List ℕ}
-      → Asked medium scripts (message_of it) None old mid x y → z ≡ y ++ line (codes "away")
-      → Does medium scripts Syncs old mid x z (Ok Unanswered)
+      → Asked medium scripts (message_of it) None (two laptop server) mid x y → z ≡ y ++ line (codes "away")
+      → Does medium scripts Syncs (two laptop server) mid x z (Ok Unanswered)
   submits_away asked wrote = each_from asked.disks (λ names c pair here.
-      submits_from here first hands_in.submitted (then_from here
-      (asked.is names c (Judgment (submission_of (mi here first) pair)) (asks_judgment here first hands_in)).is
+      submits_from here first first.is.submitted (then_from here
+      (asked.is names c (Judgment (submission_of (mi here first) pair)) (asks_judgment here first first.is)).is
       (says (λ pair here. wrote))))
 
   -- a verdict came
-  pub verdict_came : {medium : Medium D} {mid : Both D} {x y : List ℕ} {reply : Vec ℕ Global} → IsReady medium old
-      → ((scripts : List Declared) → Asked medium scripts (message_of it) (Some reply) old mid x y)
-      → IsVerdict (head_reads (state_in old.laptop).items) reply.items
+  pub verdict_came : {medium : Medium D} {mid : Both D} {x y : List ℕ} {reply : Vec ℕ Global} → IsReady medium (two laptop server)
+      → ((scripts : List Declared) → Asked medium scripts (message_of it) (Some reply) (two laptop server) mid x y)
+      → IsVerdict (head_reads (state_in laptop).items) reply.items
   verdict_came {reply = reply} ready asked =
-      let here = ready.is.stands in
-      let e = ((asked ready.scripts).is ready.is.names ready.is.c (Judgment (submission_of (mi here first) ready.is.pair))
-      (asks_judgment here first hands_in)).is in
-      record { told = e.0; is = says_it here first hands_in reply.items e.0 e.1 }
+      let here = ready.stands in
+      let e = ((asked ready.scripts).is ready.names ready.c (Judgment (submission_of (mi here first) ready.pair))
+      (asks_judgment here first first.is)).is in
+      record { told = e.0; is = says_it here first first.is reply.items e.0 e.1 }
 
   -- what the reply says of it becomes of it
   pub submits_told : {medium : Medium D} {scripts : List Declared} {mid new : Both D} {x y z : List ℕ} {reply : Vec ℕ Global}
       {result : Result Synced Halt}
-      → KeepsDisks medium old new → Asked medium scripts (message_of it) (Some reply) old mid x y
-      → ((verdict : Verdict) (option : labels.OnConflict) → SpellsVerdict (head_reads (state_in old.laptop).items) reply.items verdict
-      → head_option (state_in old.laptop).items ≡ Some option
+      → KeepsDisks medium (two laptop server) new → Asked medium scripts (message_of it) (Some reply) (two laptop server) mid x y
+      → ((verdict : Verdict) (option : labels.OnConflict) → SpellsVerdict (head_reads (state_in laptop).items) reply.items verdict
+      → head_option (state_in laptop).items ≡ Some option
       → Does medium scripts (NotesAloud (told_change verdict option) (told_text (name_of t) verdict option) (told_synced verdict option))
       mid new y z result)
-      → Does medium scripts Syncs old new x z result
+      → Does medium scripts Syncs (two laptop server) new x z result
   submits_told {reply = reply} keeps asked each = each_from keeps (λ names c pair here.
       let m = mi here first in
-      let e = (asked.is names c (Judgment (submission_of m pair)) (asks_judgment here first hands_in)).is in
-      let has : head_option (state_in old.laptop).items ≡ Some (option_named m.option) =
+      let e = (asked.is names c (Judgment (submission_of m pair)) (asks_judgment here first first.is)).is in
+      let has : head_option (state_in laptop).items ≡ Some (option_named m.option) =
       ap head_option first.items ∙ ap (λ (l : labels.OnConflict). Some l) (head here first).stands.option in
-      submits_from here first hands_in.submitted (then_from here e.2
+      submits_from here first first.is.submitted (then_from here e.2
       ((told_by e.0 m.option (name_there here first here)
-      (each e.0 (option_named m.option) (says_it here first hands_in reply.items e.0 e.1) has)).step names c)))
+      (each e.0 (option_named m.option) (says_it here first first.is reply.items e.0 e.1) has)).step names c)))
 
 -- ---- the whole tree
 
@@ -533,9 +481,9 @@ module _ {scripts : List Declared} {held : Nodes} {item : Item} {mi : clients.It
   planned named is = planned_by mi.option named.resolver named.script (rw stands.option at is)
 
 -- the same is planned in each client of the machine for which it stands
-module _ {D : Type 0} {medium : Medium D} {scripts : List Declared} {laptop : Laptop D} {t : Transaction} (first : First laptop t)
-    {plan : plans.Plan} (is : resolves.plan_of first.item ≡ Some plan) where
-  module _ (m : machine.Client) (here : LaptopStands medium scripts laptop m) where
+module _ {D : Type 0} {medium : Medium D} {scripts : List Declared} {laptop : Laptop D} {Is : Item → Type 0} {t : Transaction}
+    (first : First Is laptop t) {plan : plans.Plan} (is : resolves.plan_of first.item ≡ Some plan) where
+  module _ (m : Client) (here : LaptopStands medium scripts laptop m) where
     its_head : HeadStands (state_in laptop).held first.item first.rest m.node.durable.items
     its_head = head_stands _ _ _ _ here.state first.item first.rest first.items
 
@@ -557,37 +505,33 @@ module _ {D : Type 0} {medium : Medium D} {scripts : List Declared} {laptop : La
 abbrev pub asking : Vec ℕ Global → Message
 asking request = record { request = request; handed = None }
 
-module _ {D : Type 0} (old : Both D) {t : Transaction} (request : Vec ℕ Global)
-    (head_is_it : head_name old.laptop (state_in old.laptop).items ≡ Some t)
-    (asks : HeadIs (λ item. AsksAll old.laptop item request.items) (state_in old.laptop).items) where
-  pub head_first : First old.laptop t
-  head_first = first_of head_is_it
+asks_below : {D : Type 0} {laptop : Laptop D} {item : Item} {request : List ℕ} → AsksAll laptop item request
+    → IsRefresh laptop.place new_client.held (wanted.Below []) request
+asks_below asks = rw nothing_known asks.asked
 
-  pub asks_all : AsksAll old.laptop head_first.item request.items
-  asks_all = head_is (λ item. AsksAll old.laptop item request.items) head_first asks
+-- what is planned for the head is planned for it
+plan_is : {D : Type 0} {laptop : Laptop D} {Is : Item → Type 0} {t : Transaction} {plan : plans.Plan} (first : First Is laptop t)
+    → IsHeadPlan (state_in laptop).items plan → resolves.plan_of first.item ≡ Some plan
+plan_is {plan = plan} first is = (subst (λ (items : List Item). IsHeadPlan items plan) first.items is).1
 
-  asks_below : IsRefresh old.laptop.place new_client.held (wanted.Below []) request.items
-  asks_below = rw nothing_known asks_all.asked
-
-  pub in_conflict : HeadIs (λ item. item.stage ≡ kept_stages.Conflict) (state_in old.laptop).items
-  in_conflict = subst (HeadIs (λ item. item.stage ≡ kept_stages.Conflict)) (sym head_first.items) asks_all.conflict
-
+module _ {D : Type 0} {laptop : Laptop D} {t : Transaction} (request : Vec ℕ Global)
+    (first : First (λ item. AsksAll laptop item request.items) laptop t) {server : ServerNode D} where
   -- no reply came
   pub resolves_away : {medium : Medium D} {scripts : List Declared} {mid : Both D} {x y z : List ℕ}
-      → Asked medium scripts (asking request) None old mid x y → z ≡ y ++ line (codes "away")
-      → Does medium scripts Syncs old mid x z (Ok Unanswered)
+      → Asked medium scripts (asking request) None (two laptop server) mid x y → z ≡ y ++ line (codes "away")
+      → Does medium scripts Syncs (two laptop server) mid x z (Ok Unanswered)
   resolves_away asked wrote = each_from asked.disks (λ names c pair here.
-      let p = planned_there here head_first asks_all.conflict in
-      resolves_from here head_first asks_all.conflict p.1 (then_from here
-      (asked.is names c (Objects old.laptop.place new_client.held (wanted.Below [])) asks_below).is (says (λ pair here. wrote))))
+      let p = planned_there here first first.is.conflict in
+      resolves_from here first first.is.conflict p.1 (then_from here
+      (asked.is names c (Objects laptop.place new_client.held (wanted.Below [])) (asks_below first.is)).is (says (λ pair here. wrote))))
 
   -- the server's whole tree came
-  pub whole_came : {medium : Medium D} {mid : Both D} {x y : List ℕ} {reply : Vec ℕ Global} → IsReady medium old
-      → ((scripts : List Declared) → Asked medium scripts (asking request) (Some reply) old mid x y)
+  pub whole_came : {medium : Medium D} {mid : Both D} {x y : List ℕ} {reply : Vec ℕ Global} → IsReady medium (two laptop server)
+      → ((scripts : List Declared) → Asked medium scripts (asking request) (Some reply) (two laptop server) mid x y)
       → BringsTree reply.items × (length reply.items < 2 ^ 64 → (u : Nodes) → SpellsTree reply.items u → IsWhole u)
   whole_came {reply = reply} ready asked =
-      let e = ((asked ready.scripts).is ready.is.names ready.is.c (Objects old.laptop.place new_client.held (wanted.Below []))
-      asks_below).is in (
+      let e = ((asked ready.scripts).is ready.names ready.c (Objects laptop.place new_client.held (wanted.Below []))
+      (asks_below first.is)).is in (
         record { tree = e.0; is = e.1.spelled },
         λ short u spells.
             let one : IsOneMessage IsReply reply_spelling reply.items = call_one _ _ _ reply_laws reply.items short in
@@ -595,27 +539,25 @@ module _ {D : Type 0} (old : Both D) {t : Transaction} (request : Vec ℕ Global
             subst IsWhole (sym (same ∙ e.1.cut ∙ whole_comes e.1.server e.1.tree)) e.1.whole,
       )
 
-  module _ (plan : plans.Plan) (is : IsHeadPlan (state_in old.laptop).items plan) where
-    its : resolves.plan_of head_first.item ≡ Some plan
-    its = (subst (λ (items : List Item). IsHeadPlan items plan) head_first.items is).1
-
+  module _ (plan : plans.Plan) (is : IsHeadPlan (state_in laptop).items plan) where
     -- its script is declared
-    pub declared_for : {medium : Medium D} {scripts : List Declared} → IsReadyWith medium scripts old
+    pub declared_for : {medium : Medium D} {scripts : List Declared} → IsReadyWith medium scripts (two laptop server)
         → IsSome (script_named plan.script scripts)
-    declared_for ready = rw (its_plan head_first its ready.pair.client ready.stands.client.is).named refl
+    declared_for ready = rw (its_plan first (plan_is first is) ready.pair.client ready.stands.client.is).named refl
 
     -- it is resolved on that by what is planned for it
     pub resolves_told : {medium : Medium D} {scripts : List Declared} {mid new : Both D} {x y z : List ℕ} {reply : Vec ℕ Global}
         {code : Code} {result : Result Synced Halt}
-        → IsCodeOf plan.script scripts code → KeepsDisks medium old new → Asked medium scripts (asking request) (Some reply) old mid x y
-        → ((p : Plan) (u : Nodes) → SpellsTree reply.items u → Plans medium scripts old.laptop p → p.script.code ≡ code
+        → IsCodeOf plan.script scripts code → KeepsDisks medium (two laptop server) new
+        → Asked medium scripts (asking request) (Some reply) (two laptop server) mid x y
+        → ((p : Plan) (u : Nodes) → SpellsTree reply.items u → Plans medium scripts laptop p → p.script.code ≡ code
         → Does medium scripts
         (NotesAloud (reach (clients.Resolved (resolution_of p u))) (resolve_line (name_of t) (resolver_said plan)) Moved)
         mid new y z result)
-        → Does medium scripts Syncs old new x z result
+        → Does medium scripts Syncs (two laptop server) new x z result
     resolves_told {medium} {scripts} coded keeps asked each = each_from keeps (λ names c pair here.
-        let plans = plans_it {medium = medium} {scripts = scripts} head_first its coded.is in
-        let e = (asked.is names c (Objects old.laptop.place new_client.held (wanted.Below [])) asks_below).is in
-        resolves_from here head_first asks_all.conflict
-        (sym (ap (head_plan (kept pair).held) (head here head_first).split) ∙ plans pair.client here.client.is)
+        let plans = plans_it {medium = medium} {scripts = scripts} first (plan_is first is) coded.is in
+        let e = (asked.is names c (Objects laptop.place new_client.held (wanted.Below [])) (asks_below first.is)).is in
+        resolves_from here first first.is.conflict
+        (sym (ap (head_plan (kept pair).held) (head here first).split) ∙ plans pair.client here.client.is)
         (then_from here e.2 ((each _ e.0 e.1.spelled plans coded.has).step names c)))

@@ -1,17 +1,13 @@
 -- Scripts that are declared, by their names and by their places.
-use Rattle.std.proofs.Common.{◌≡◌, ◌<◌, ℕ, Bool, true, false, cond, List, [], ◌∷◌, length, Option, Some, None, Bor}
-use Rattle.std.proofs.Common.{map, option_map, slice_index_or, IsSome, bytes_eq, refl, sym, ap, subst, ◌∙◌}
+use Rattle.std.proofs.Common.{◌≡◌, ◌<◌, ℕ, Bool, true, false, cond, List, [], ◌∷◌, length, Option, Some, None, Bor, map, option_map}
+use Rattle.std.proofs.Common.{slice_index_or, IsSome, bytes_eq, refl, sym, ap, subst, ◌∙◌}
 use Rattle.std.proofs.lemmas.List.{length-map, get_or-map}
 use Rattle.std.proofs.lemmas.Option.{slice_get-get_or}
 use Rattle.std.specs.List.{find}
-use Rattle.iot_event.specs.Declarations.{ResolverIsDeclared}
-use Rattle.iot_event.specs.declared.event.Choice.{Choice}
 use Rattle.iot_event.specs.declared.event.Choice.TheVariants as choices
 use Rattle.iot_tree.specs.declared.labels.OnConflict as named
-use Rattle.iot_lang.specs.Code.{Code}
-use Rattle.iot_machine.specs.Events.{chosen}
-use Rattle.iot_machine.specs.Machine.{no_script, script_at}
-use Rattle.iot_laptop.specs.Scripts.{script_named, IsNamed, HasNamed, option_named}
+use Rattle.iot_exchange.specs.Words.{Choice, no_script, ResolverIsDeclared, Code, chosen, script_at, script_named, IsNamed, HasNamed}
+use Rattle.iot_exchange.specs.Words.{option_named}
 use Rattle.iot_exchange.specs.Queues.{IsCodeOf}
 use Rattle.iot_exchange.specs.Scripts.{script_of, scripts_of, AreApart, IsMeant}
 use Rattle.iot_exchange.specs.declared.declared.DeclaredScript.{DeclaredScript}

@@ -1,11 +1,8 @@
 -- How calls that may end their event go together, over any world and any machine.
-use Rattle.std.proofs.Common.{◌≡◌, ℕ, List, [], ◌++◌, Some, None}
-use Rattle.std.proofs.Common.{Result, Ok, Err, IsErrAnd, refl, sym, ap, ◌∙◌, append_assoc}
+use Rattle.std.proofs.Common.{◌≡◌, ℕ, List, [], ◌++◌, Some, None, Result, Ok, Err, IsErrAnd, refl, sym, ap, ◌∙◌, append_assoc}
 use Rattle.std.proofs.lemmas.List.{append-nil}
-use Rattle.iot_machine.specs.Calls.{Call, Try, Gets, Asks, Tells, Then, Goes, OrSays, or_text}
-use Rattle.iot_node.specs.Steps.{StepsTo, Ends}
-use Rattle.iot_node.specs.declared.halt.Halt.{Halt}
-use Rattle.iot_node.specs.declared.halt.Halt.TheVariants.{NoMemory, Over}
+use Rattle.iot_node.specs.Steps.{Ends}
+use Rattle.iot_exchange.specs.Words.{Call, Try, Gets, Asks, Tells, Then, Goes, OrSays, or_text, StepsTo, Halt, NoMemory, Over}
 
 -- from this machine the call says so much, answers this, and leaves a machine for which the world stands
 pub record Steps {W M A : Type 0} (after : W → M → Type 0) (call : Call M A) (m : M) (v : W) (x y : List ℕ) (a : A) : Type 0 where

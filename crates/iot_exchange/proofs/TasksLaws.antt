@@ -1,30 +1,17 @@
 -- A task of a client, alive or down, is one of the machine, and so are all syncs together.
-use Rattle.std.proofs.Common.{◌≡◌, ℕ, suc, ◌*◌, ◌&&◌, not, is_some, Bool, List, [], ◌∷◌, ◌++◌, length, Result, sym, ap, ◌∙◌, arith}
-use Rattle.std.proofs.Common.{codes, refl, length-append, true, false, Option, Ok, Err}
+use Rattle.std.proofs.Common.{◌≡◌, ℕ, suc, ◌*◌, ◌&&◌, not, is_some, Bool, List, [], ◌∷◌, ◌++◌, length, Result, sym, ap, ◌∙◌, arith, codes}
+use Rattle.std.proofs.Common.{refl, length-append, true, false, Option, Ok, Err}
 use Rattle.std.proofs.lemmas.List.{append-nil}
-use Rattle.iot_tree.specs.Tree.{Nodes}
-use Rattle.iot_acts.specs.Traces.{after_acts}
-use Rattle.iot_queue.specs.declared.items.Item.{Item}
-use Rattle.iot_disk.specs.Disk.{Medium}
-use Rattle.iot_machine.specs.Calls.{Repeats, or_text, Try, Whole}
-use Rattle.iot_machine.specs.Clients.{Declared}
-use Rattle.iot_machine.specs.Clients as clients
-use Rattle.iot_machine.specs.Events.{is_drained, IfUp}
-use Rattle.iot_machine.specs.Texts.{line}
-use Rattle.iot_machine.specs.Transactions.{pends, runs, SyncsAll}
-use Rattle.iot_machine.specs.Machine.{Client, Pair}
-use Rattle.iot_node.specs.declared.halt.Halt.{Halt}
-use Rattle.iot_node.specs.Steps.{StepsTo}
-use Rattle.iot_node.specs.declared.halt.Halt.TheVariants.{Over}
-use Rattle.iot_node.proofs.StepsToLaws as calls
-use Rattle.iot_laptop.specs.Kept.{ItemsStand}
-use Rattle.iot_laptop.specs.Laptops.{is_alive, state_in, waits_of, ClientStands, awake, fallen}
+use Rattle.iot_laptop.proofs.NodesLaws.{is_down, awake_stands, is_awake}
 use Rattle.iot_laptop.proofs.LaptopsLaws.{runs_is, waits_is}
-use Rattle.iot_laptop.proofs.NodesLaws.{is_awake, is_down, awake_stands}
-use Rattle.iot_laptop.specs.declared.laptop.Laptop.{Laptop}
+use Rattle.iot_machine.specs.Clients as clients
+use Rattle.iot_node.proofs.StepsToLaws as calls
+use Rattle.iot_exchange.specs.Words.{Whole, is_alive, fallen, Nodes, after_acts, Item, Medium, Repeats, or_text, Try, Declared, is_drained}
+use Rattle.iot_exchange.specs.Words.{IfUp, line, pends, runs, SyncsAll, Client, Pair, Halt, StepsTo, Over, ItemsStand, state_in, waits_of}
+use Rattle.iot_exchange.specs.Words.{ClientStands, awake, Laptop}
 use Rattle.iot_exchange.specs.Pairs.{Both, Does, UpStands, AnyStands, IsReadyWith, IsStandingWith}
 use Rattle.iot_exchange.specs.Queues.{SyncsNext}
-use Rattle.iot_exchange.proofs.DoesLaws.{OfEach, asks_then, at_as, still}
+use Rattle.iot_exchange.proofs.DoesLaws.{OfEach, asks_then, at_as, still, ready_by}
 use Rattle.iot_exchange.proofs.StepsLaws.{Steps, at_each, at_one, joined, bind, asks}
 
 items_long : (items : List Item) (t : Nodes) (ms : List clients.Item) → ItemsStand items t ms → length items ≡ length ms
@@ -92,7 +79,7 @@ module _ {D : Type 0} {medium : Medium D} {scripts : List Declared} {u : Both D}
   }
 
   pub ready_there : is_alive u.laptop ≡ true → IsStandingWith medium scripts u → IsReadyWith medium scripts u
-  ready_there alive it = record { names = it.names; c = it.c; pair = it.pair; stands = up_there alive it.stands }
+  ready_there alive it = ready_by (up_there alive it.stands)
 
   module _ {call : Try Pair (Unit {0})} {x y : List ℕ} where
     -- it says that it is down

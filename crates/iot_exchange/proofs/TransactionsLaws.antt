@@ -7,48 +7,26 @@ use Rattle.std.specs.Option.{option_copied}
 use Rattle.std.specs.Slice.{IsItemAt}
 use Rattle.std.proofs.lemmas.Bool.{leb-true, leb-false}
 use Rattle.std.proofs.lemmas.List.{append-nil}
-use Rattle.iot_tree.specs.Tree.{Nodes, Path}
-use Rattle.iot_tree.specs.declared.limits.TheConstants.{ACT_LIMIT}
-use Rattle.iot_acts.specs.Traces.{after_acts}
-use Rattle.iot_inspect.specs.declared.waiting.RunLine.{RunLine}
-use Rattle.iot_queue.specs.declared.items.Item.{Item}
-use Rattle.iot_queue.specs.declared.items.Stage.{Stage}
-use Rattle.iot_queue.specs.declared.items.Stage.TheVariants as stages
 use Rattle.iot_kept.specs.States.{Transaction}
-use Rattle.iot_client.specs.Ties.{Live, class_by}
-use Rattle.iot_client.specs.Calls.{is_over_if_any, may_end}
-use Rattle.iot_client.specs.declared.steps.Step.{Step}
 use Rattle.iot_judging.proofs.NextLaws.{is_at_end, is_at_limit, is_next}
-use Rattle.iot_disk.specs.Disk.{Medium}
-use Rattle.iot_machine.specs.Clients.{Declared, Next, AtEnd, AtLimit, Acts, Fetches, base, so_far, next_step, next_by, next_away, end}
-use Rattle.iot_machine.specs.Clients.{act_once}
-use Rattle.iot_machine.specs.Clients as clients
-use Rattle.iot_machine.specs.Events.{ReadsOf, running_of, says_reads, said_of, place_text}
-use Rattle.iot_machine.specs.Recorded.{stage_kept, items_kept, queue_kept}
-use Rattle.iot_machine.specs.Texts.{queue_text, transaction_name, begin_line, step_line, fetch_line, end_line, line}
-use Rattle.iot_machine.specs.Calls.{Try, Asks, Then}
-use Rattle.iot_machine.specs.Machine.{Client, Pair, kept}
-use Rattle.iot_machine.specs.Machine as machine
-use Rattle.iot_machine.specs.Transactions.{Notes, if_runs, fetched, step_by, next_of, step_of, Steps, Ended, ended_of}
-use Rattle.iot_machine.specs.Transactions.{syncs_or_waits, joins, end_by, Ends, Refuses}
-use Rattle.iot_node.specs.declared.halt.Halt.{Halt}
-use Rattle.iot_node.specs.Disks.{KeepsDisk}
-use Rattle.iot_node.specs.declared.halt.Halt.TheVariants.{NoMemory, Over}
-use Rattle.iot_node.proofs.StepsToLaws as calls
-use Rattle.iot_server_node.specs.declared.server.ServerNode.{ServerNode}
-use Rattle.iot_laptop.specs.Kept.{ItemsStand}
-use Rattle.iot_laptop.specs.Laptops.{LaptopStands, RunningStands, RunningStandsIfAny, state_in, live_in, SamePlace, disk_in}
-use Rattle.iot_laptop.specs.declared.laptop.Laptop.{Laptop}
-use Rattle.iot_laptop.specs.Calls.{done, NextIs, IsNext, IsOver, IsUnended, IsDoneIn, IsGone}
-use Rattle.iot_laptop.specs.Calls as laptop
-use Rattle.iot_node.specs.Lines.{name_of}
-use Rattle.iot_laptop.specs.declared.needs.Gone.{Gone}
+use Rattle.iot_machine.specs.Events.{said_of}
 use Rattle.iot_laptop.proofs.LaptopsLaws.{runs_is}
+use Rattle.iot_queue.specs.declared.items.Stage.TheVariants as stages
+use Rattle.iot_machine.specs.Clients as clients
+use Rattle.iot_node.proofs.StepsToLaws as calls
 use Rattle.iot_laptop.proofs.LaptopsLaws as laptops
+use Rattle.iot_exchange.specs.Words.{ClientState, TakesStep, Path, RunLine, Live, class_by, is_over_if_any, may_end, Next, AtEnd, AtLimit}
+use Rattle.iot_exchange.specs.Words.{base, so_far, next_step, next_by, next_away, says_reads, place_text, stage_kept, items_kept, end_line}
+use Rattle.iot_exchange.specs.Words.{step_by, Ended, ended_of, syncs_or_waits, joins, Ends, Refuses, RunningStands, RunningStandsIfAny}
+use Rattle.iot_exchange.specs.Words.{live_in, NextIs, IsNext, IsOver, IsUnended, IsDoneIn, IsGone, Gone, Nodes, ACT_LIMIT, after_acts, Item}
+use Rattle.iot_exchange.specs.Words.{Stage, Step, Medium, Declared, end, act_once, ReadsOf, running_of, queue_kept, queue_text}
+use Rattle.iot_exchange.specs.Words.{transaction_name, begin_line, step_line, fetch_line, line, Try, Asks, Then, Client, Pair, kept, Notes}
+use Rattle.iot_exchange.specs.Words.{if_runs, fetched, next_of, step_of, Steps, end_by, Halt, KeepsDisk, NoMemory, Over, ServerNode}
+use Rattle.iot_exchange.specs.Words.{ItemsStand, LaptopStands, state_in, SamePlace, disk_in, Laptop, done, name_of}
 use Rattle.iot_exchange.specs.Pairs.{Both, Does, two, UpStands, KeepsDisks}
 use Rattle.iot_exchange.specs.Saying.{place_said}
 use Rattle.iot_exchange.proofs.DoesLaws.{asks_then, OfEach, DoesFrom, goes_then, hands_on, then_does, each_from, from, refuses, tells}
-use Rattle.iot_exchange.proofs.DoesLaws.{answers, notes, no_memory, keeps_now, keeps_more}
+use Rattle.iot_exchange.proofs.DoesLaws.{answers, by_client, notes, no_memory, keeps_now, keeps_more}
 use Rattle.iot_exchange.proofs.FirstLaws.{SameStage, resolved, same_stage}
 use Rattle.iot_exchange.proofs.ExchangeLaws.{no_some}
 use Rattle.iot_exchange.proofs.StepsLaws.{asks_from}
@@ -75,6 +53,9 @@ items_are (item ∷ items) t (m ∷ ms) it =
     } ∷ rest i)
 items_are items t ms it = absurd it
 
+pub queue_are : (items : List Item) (t : Nodes) (m : ClientState) → t ≡ m.held → ItemsStand items t m.items → items ≡ queue_kept m
+queue_are items t m held it = items_are items t m.items it ∙ ap (λ (u : Nodes). items_kept u m.items) held
+
 -- ---- the transaction that runs
 
 -- it is one of the machine's
@@ -99,7 +80,7 @@ runs_as (Some s) live first None is stands = absurd stands
 runs_as (Some s) None first (Some it) is stands = absurd stands
 
 -- or none of the machine's runs
-none_runs_there : {D : Type 0} {medium : Medium D} {scripts : List Declared} {laptop : Laptop D} {m : machine.Client}
+none_runs_there : {D : Type 0} {medium : Medium D} {scripts : List Declared} {laptop : Laptop D} {m : Client}
     → LaptopStands medium scripts laptop m → is_some (state_in laptop).running ≡ false → m.node.durable.running ≡ None
 none_runs_there {m = m} here none = no_some m.node.durable.running (sym (runs_is _ _ _ _ here.state) ∙ none)
 
@@ -109,21 +90,20 @@ lent_element : {A : Type 0} (xs : List A) (place : ℕ) (o : Option (Bor A)) →
 lent_element xs place None it = sym (slice_get_past xs place it.3)
 lent_element xs place (Some x) it = sym (slice_get_read xs (length xs) place x.now refl it.3.0 it.1)
 
-queue_is : {D : Type 0} {medium : Medium D} {scripts : List Declared} {laptop : Laptop D} {m : machine.Client}
+queue_is : {D : Type 0} {medium : Medium D} {scripts : List Declared} {laptop : Laptop D} {m : Client}
     → LaptopStands medium scripts laptop m → (state_in laptop).items ≡ queue_kept m.node.durable
 queue_is {laptop = laptop} {m} here =
-    items_are (state_in laptop).items (state_in laptop).held m.node.durable.items here.state.items
-    ∙ ap (λ (t : Nodes). items_kept t m.node.durable.items) here.state.held
+    queue_are (state_in laptop).items (state_in laptop).held m.node.durable here.state.held here.state.items
 
 -- all of them are said
 abbrev pub SaysQueue : {D : Type 0} → Medium D → Laptop D → (before after : List ℕ) → Type 0
 SaysQueue medium laptop before after =
-    (scripts : List Declared) (m : machine.Client) → LaptopStands medium scripts laptop m
+    (scripts : List Declared) (m : Client) → LaptopStands medium scripts laptop m
     → after ≡ before ++ queue_text m.name (queue_kept m.node.durable) (running_of m.first m.node.durable.running)
 
 module _ {D : Type 0} (medium : Medium D) (laptop : Laptop D) (x : List ℕ) {y : List ℕ} where
   says_lines : (lines : List RunLine)
-      → ((scripts : List Declared) (m : machine.Client) → LaptopStands medium scripts laptop m
+      → ((scripts : List Declared) (m : Client) → LaptopStands medium scripts laptop m
       → lines ≡ running_of m.first m.node.durable.running)
       → y ≡ x ++ queue_text laptop.name (state_in laptop).items lines → SaysQueue medium laptop x y
   says_lines lines are wrote scripts m here =
@@ -231,17 +211,17 @@ module _ {D : Type 0} {medium : Medium D} {scripts : List Declared} {u : Both D}
     not_ended runs may keeps wrote =
         for_running {next = if_runs (λ it. Then (Asks (next_of it)) (end_by it))} runs keeps (λ names c pair it here same.
         asks_from (unended_at it (next_of it pair) ((laptops.may_end_is _ _ _ _ here.client.is.state it same).1 may)
-        (from (refuses keeps (λ names c pair here. wrote)) here)))
+        (from (refuses keeps wrote) here)))
 
 -- it stopped in an act, or memory ran out
 pub step_halted : {D : Type 0} {medium : Medium D} {scripts : List Declared} {u : Both D} {new : Laptop D} {x y : List ℕ} (loud : Bool)
     {result : Result Step Halt} {outer : Result Bool Halt} {fault : Halt} → result ≡ Err fault
     → is_some (state_in u.laptop).running ≡ true → NextIs medium u.laptop result → IsErrAnd outer (λ other. other ≡ fault)
-    → KeepsDisks medium u u → SamePlace u.laptop new → laptop.TakesStep medium u.laptop new x y result
+    → KeepsDisks medium u u → SamePlace u.laptop new → TakesStep medium u.laptop new x y result
     → KeepsDisk medium (disk_in u.laptop) (disk_in new) → Does medium scripts (Steps loud) u (two new u.server) x y outer
 step_halted loud {fault = NoMemory} was runs nexts is keeps place did more = no_memory is (keeps_more keeps more)
 step_halted {scripts = scripts} loud {fault = Over} was runs nexts is keeps place did more =
-    steps_by loud runs (rw was at nexts) (hands_on refl is (notes act_once keeps place ((rw was at did) scripts) more))
+    steps_by loud runs (rw was at nexts) (hands_on refl is (by_client (notes act_once) keeps place ((rw was at did) scripts) more))
 
 -- a client that is as it was
 pub does_as : {D A : Type 0} {medium : Medium D} {scripts : List Declared} {call : Try Pair A} {old new : Laptop D} {server : ServerNode D}

@@ -1,3 +1,4 @@
+pub mod Words
 pub mod Scripts
 pub mod Pairs
 pub mod Queues

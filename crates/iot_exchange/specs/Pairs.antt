@@ -1,28 +1,12 @@
 -- A client with the server, as the code has them: which pair of the machine they stand for, and how they change.
-use Rattle.std.specs.Prelude.{◌≡◌, ℕ, ◌+◌, ◌≤◌, List, [], Option, None, Some, Result, Vec, slice_get}
 use Rattle.std.specs.declared.alloc.Global.{Global}
-use Rattle.iot_disk.specs.Disk.{Medium}
-use Rattle.iot_tree.specs.Tree.{Nodes}
 use Rattle.iot_tree.specs.declared.labels.OnConflict.{OnConflict}
-use Rattle.iot_tree.specs.declared.want.Want.{Want}
-use Rattle.iot_wire.specs.Meanings.{IsRefresh}
-use Rattle.iot_machine.specs.Calls.{Call, Try}
-use Rattle.iot_machine.specs.Clients.{Declared}
-use Rattle.iot_machine.specs.Machine.{Client, Commit, Pair}
-use Rattle.iot_machine.specs.Nodes.{Node}
-use Rattle.iot_machine.specs.Serving.{Submission, Verdict, Lends, Judges}
-use Rattle.iot_machine.specs.Transactions.{Exchange}
-use Rattle.iot_node.specs.Disks.{KeepsDisk}
-use Rattle.iot_node.specs.Steps.{StepsTo, Ends}
-use Rattle.iot_node.specs.declared.halt.Halt.{Halt}
-use Rattle.iot_judging.specs.Verdicts.{SpellsVerdict}
-use Rattle.iot_server_node.specs.Messages.{SpellsCut}
-use Rattle.iot_server_node.specs.Records.{KeepsRecords}
-use Rattle.iot_server_node.specs.Servers.{ServerStands, IsHanded, IsNamedIn, disk_of}
-use Rattle.iot_server_node.specs.declared.message.Message.{Message}
-use Rattle.iot_server_node.specs.declared.server.ServerNode.{ServerNode}
-use Rattle.iot_laptop.specs.Laptops.{LaptopStands, ClientStands, state_in, disk_in}
-use Rattle.iot_laptop.specs.declared.laptop.Laptop.{Laptop}
+use Rattle.iot_node.specs.Steps.{Ends}
+use Rattle.std.specs.Prelude.{◌+◌, ◌≡◌, ◌≤◌}
+use Rattle.iot_exchange.specs.Words.{Option, Vec, ℕ, List, [], None, Some, Result, slice_get, Medium, Nodes, Want, IsRefresh}
+use Rattle.iot_exchange.specs.Words.{Call, Try, Declared, Client, Commit, Pair, Node, Submission, Verdict, Lends, Judges, Exchange}
+use Rattle.iot_exchange.specs.Words.{KeepsDisk, StepsTo, Halt, SpellsVerdict, SpellsCut, KeepsRecords, ServerStands, IsHanded, IsNamedIn}
+use Rattle.iot_exchange.specs.Words.{disk_of, Message, ServerNode, Stands, LaptopStands, ClientStands, state_in, disk_in, Laptop, State}
 use Rattle.iot_exchange.specs.Scripts.{IsMeant}
 
 -- ---- a client and the server
@@ -53,35 +37,46 @@ pub record IsAt {D : Type 0} (stands : Laptop D → Client → Type 0) (names : 
   pub few : c ≤ 7
 
 -- the client is alive
-abbrev pub UpStands : {D : Type 0} → Medium D → List Declared → (names : List (List ℕ)) → (c : ℕ) → Two (Laptop D) (ServerNode D)
-    → Pair → Type 0
+abbrev pub UpStands : {D : Type 0} → Medium D → List Declared → (names : List (List ℕ)) → (c : ℕ) → Both D → Pair → Type 0
 UpStands medium scripts names c = PairStands c (IsAt (LaptopStands medium scripts) names c) (ServerStands medium names)
 
 -- it may be down
-abbrev pub AnyStands : {D : Type 0} → Medium D → List Declared → (names : List (List ℕ)) → (c : ℕ) → Two (Laptop D) (ServerNode D)
-    → Pair → Type 0
+abbrev pub AnyStands : {D : Type 0} → Medium D → List Declared → (names : List (List ℕ)) → (c : ℕ) → Both D → Pair → Type 0
 AnyStands medium scripts names c = PairStands c (IsAt (ClientStands medium scripts) names c) (ServerStands medium names)
 
--- they stand for some pair, among these scripts, or among some
-pub record IsReadyWith {D : Type 0} (medium : Medium D) (scripts : List Declared) (w : Two (Laptop D) (ServerNode D)) : Type 0 where
+-- both have their disks, and neither was armed; the server's has lost no record
+pub record KeepsDisks {D : Type 0} (medium : Medium D) (old new : Both D) : Type 0 where
+  pub client : KeepsDisk medium (disk_in old.laptop) (disk_in new.laptop)
+  pub server : KeepsDisk medium (disk_of old.server) (disk_of new.server)
+  pub records : KeepsRecords medium (disk_of old.server) (disk_of new.server)
+
+-- they stand for some pair, among some scripts; so the client is alive, and one of at most eight
+pub record IsReady {D : Type 0} (medium : Medium D) (w : Both D) : Type 0 where
+  pub scripts : List Declared
   pub names : List (List ℕ)
   pub c : ℕ
   pub pair : Pair
   pub stands : UpStands medium scripts names c w pair
+  pub alive : Stands medium w.laptop
+  pub low : w.laptop.place ≤ 7
+  pub keeps : KeepsDisks medium w w
 
-pub record IsReady {D : Type 0} (medium : Medium D) (w : Two (Laptop D) (ServerNode D)) : Type 0 where
-  pub scripts : List Declared
-  pub is : IsReadyWith medium scripts w
+-- among these scripts
+pub record IsReadyWith {D : Type 0} (medium : Medium D) (scripts : List Declared) (w : Both D) : Type 0 where
+  pub names : List (List ℕ)
+  pub c : ℕ
+  pub pair : Pair
+  pub stands : UpStands medium scripts names c w pair
+  pub ready : IsReady medium w
 
 -- they stand for some pair, among some scripts, among which this one is named, and the option means something
-pub record IsReadyFor {D : Type 0} (medium : Medium D) (script : Declared) (option : OnConflict) (w : Two (Laptop D) (ServerNode D)) : Type
-    0 where
+pub record IsReadyFor {D : Type 0} (medium : Medium D) (script : Declared) (option : OnConflict) (w : Both D) : Type 0 where
   pub scripts : List Declared
   pub ready : IsReadyWith medium scripts w
   pub meant : IsMeant scripts script option
 
 -- alive or down
-pub record IsStandingWith {D : Type 0} (medium : Medium D) (scripts : List Declared) (w : Two (Laptop D) (ServerNode D)) : Type 0 where
+pub record IsStandingWith {D : Type 0} (medium : Medium D) (scripts : List Declared) (w : Both D) : Type 0 where
   pub names : List (List ℕ)
   pub c : ℕ
   pub pair : Pair
@@ -89,15 +84,9 @@ pub record IsStandingWith {D : Type 0} (medium : Medium D) (scripts : List Decla
 
 -- ---- what they do
 
--- both have their disks, and neither was armed; the server's has lost no record
-pub record KeepsDisks {D : Type 0} (medium : Medium D) (old new : Two (Laptop D) (ServerNode D)) : Type 0 where
-  pub client : KeepsDisk medium (disk_in old.laptop) (disk_in new.laptop)
-  pub server : KeepsDisk medium (disk_of old.server) (disk_of new.server)
-  pub records : KeepsRecords medium (disk_of old.server) (disk_of new.server)
-
 -- Among these scripts, whatever the names of the clients and the place of this one, each pair for which they stand does this: the client
 -- is alive then, or the event is over, and it may be down. If memory runs out, nothing is said but of the disks.
-pub record Does {D A : Type 0} (medium : Medium D) (scripts : List Declared) (call : Try Pair A) (old new : Two (Laptop D) (ServerNode D))
+pub record Does {D A : Type 0} (medium : Medium D) (scripts : List Declared) (call : Try Pair A) (old new : Both D)
     (x y : List ℕ) (result : Result A Halt) : Type 0 where
   pub step : (names : List (List ℕ)) (c : ℕ)
       → Ends (UpStands medium scripts names c) (AnyStands medium scripts names c) call old new x y result
@@ -171,6 +160,6 @@ pub record MissesAll {D : Type 0} (medium : Medium D) (scripts : List Declared) 
 -- ---- a client with nothing to do
 
 -- no transaction of it runs or waits
-pub record IsFree {D : Type 0} (laptop : Laptop D) : Type 0 where
-  pub idle : (state_in laptop).running ≡ None
-  pub none : (state_in laptop).items ≡ []
+pub record IsFree (state : State) : Type 0 where
+  pub idle : state.running ≡ None
+  pub none : state.items ≡ []

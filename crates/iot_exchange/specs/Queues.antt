@@ -1,12 +1,15 @@
 -- How the transactions that wait are synced.
-use Rattle.std.specs.Prelude.{◌≡◌, ℕ, Bool, List, Some}
-use Rattle.iot_lang.specs.Code.{Code}
-use Rattle.iot_machine.specs.Calls.{Try, Asks, Answers, Then, Goes, either}
-use Rattle.iot_machine.specs.Clients.{Declared}
-use Rattle.iot_machine.specs.Events.{is_drained, Refreshes}
-use Rattle.iot_machine.specs.Machine.{Pair}
-use Rattle.iot_machine.specs.Transactions.{pends, sync_if, SyncsAll}
-use Rattle.iot_laptop.specs.Scripts.{script_named}
+use Rattle.std.specs.Prelude.{◌≡◌, ◌∷◌}
+use Rattle.iot_exchange.specs.Words.{ℕ, Bool, List, Some, Code, Try, Asks, Answers, Then, Goes, either, Declared, is_drained}
+use Rattle.iot_exchange.specs.Words.{Refreshes, Pair, pends, sync_if, SyncsAll, script_named, Item, Laptop, Transaction, state_in}
+
+-- the first that waits has this name, and this is so of it
+pub record First {D : Type 0} (Is : Item → Type 0) (laptop : Laptop D) (t : Transaction) : Type 0 where
+  pub item : Item
+  pub rest : List Item
+  pub items : (state_in laptop).items ≡ item ∷ rest
+  pub named : t ≡ record { client = laptop.name; number = item.tid }
+  pub is : Is item
 
 -- the first that waits is synced, if one does, and whether the next may follow
 abbrev pub SyncsNext : Try Pair Bool

@@ -1,13 +1,11 @@
 -- How a sync went, and what is said of how far a transaction is and of how it is resolved.
-use Rattle.std.specs.Prelude.{◌++◌, ℕ, Bool, true, false, List, [], leb, codes, if◌then◌else◌, Result, Ok, Err}
-use Rattle.iot_tree.specs.declared.limits.TheConstants.{ACT_LIMIT}
 use Rattle.iot_tree.specs.declared.labels.OnConflict.{OnConflict}
-use Rattle.iot_tree.specs.declared.labels.OnConflict.TheVariants.{Reexec, Resolver, Abort, Manual}
 use Rattle.iot_resolve.specs.declared.plan.Plan.{Plan}
-use Rattle.iot_machine.specs.Serving.{Verdict, Settled, Conflict}
-use Rattle.iot_machine.specs.Texts.{settled_line, conflict_line, abort_line, manual_line}
 use Rattle.iot_machine.specs.Transactions as machine
-use Rattle.iot_node.specs.declared.halt.Halt.{Halt}
+use Rattle.std.specs.Prelude.{◌++◌, if◌then◌else◌}
+use Rattle.iot_exchange.specs.Words.{codes, Ok, Err, Reexec, Resolver, Abort, Manual, abort_line, ℕ, Bool, true, false, List, [], leb}
+use Rattle.iot_exchange.specs.Words.{Result, ACT_LIMIT, Verdict, Settled, Conflict, settled_line, conflict_line, manual_line}
+use Rattle.iot_exchange.specs.Words.{Halt}
 use Rattle.iot_exchange.specs.declared.synced.Synced.{Synced}
 use Rattle.iot_exchange.specs.declared.synced.Synced.TheVariants.{Moved, Stays, Unanswered}
 

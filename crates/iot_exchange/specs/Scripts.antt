@@ -1,12 +1,9 @@
 -- Scripts as they were declared, and what a client may be asked to do with them.
-use Rattle.std.specs.Prelude.{◌≡◌, ℕ, ◌<◌, ◌≤◌, List, Some, map, slice_get}
-use Rattle.iot_event.specs.Declarations.{ResolverIsDeclared}
-use Rattle.iot_event.specs.declared.event.Task.{Task}
 use Rattle.iot_event.specs.declared.event.Task.TheVariants as tasks
 use Rattle.iot_tree.specs.declared.labels.OnConflict as named
-use Rattle.iot_machine.specs.Clients.{Declared}
-use Rattle.iot_machine.specs.Options.{OnConflict}
-use Rattle.iot_laptop.specs.Scripts.{IsNamed, HasNamed, option_named}
+use Rattle.std.specs.Prelude.{◌<◌, ◌≡◌, ◌≤◌}
+use Rattle.iot_exchange.specs.Words.{map, Task, ℕ, List, Some, slice_get, ResolverIsDeclared, Declared, OnConflict, IsNamed}
+use Rattle.iot_exchange.specs.Words.{HasNamed, option_named}
 use Rattle.iot_exchange.specs.declared.declared.DeclaredScript.{DeclaredScript}
 
 -- a script as it was declared

@@ -1,10 +1,6 @@
 //! Decisions by hand, of which the server knows nothing.
-ghost use Rattle.std.specs.Prelude.{◌≡◌, List};
-ghost use Rattle.iot_machine.specs.Clients.{Declared};
-ghost use Rattle.iot_machine.specs.Events.{Repairs, Discards};
-ghost use Rattle.iot_laptop.specs.Laptops.{Stands};
-ghost use Rattle.iot_laptop.specs.Scripts.{IsNamed};
-ghost use Rattle.iot_server_node.specs.declared.server.ServerNode.{ServerNode};
+ghost use Rattle.std.specs.Prelude.{◌≡◌};
+ghost use Rattle.iot_exchange.specs.Words.{Repairs, Discards, List, Declared, Stands, IsNamed, ServerNode};
 ghost use Rattle.iot_exchange.specs.Pairs.{two, IsReady, Does};
 
 use crate::texts::{say_of, say_repair};

@@ -1,11 +1,7 @@
 //! A message to the server over a client's link, and its reply.
-ghost use Rattle.std.specs.Prelude.{◌≡◌, ◌++◌, ℕ, List, true, false, IfOk, IfErr, OnOk, IfSome};
-ghost use Rattle.iot_machine.specs.Clients.{Declared};
-ghost use Rattle.iot_laptop.specs.Laptops.{state_in};
-ghost use Rattle.iot_node.specs.Disks.{KeepsDisk};
-ghost use Rattle.iot_server_node.specs.Messages.{IsSomeRequest, said_of};
-ghost use Rattle.iot_server_node.specs.Records.{KeepsRecords};
-ghost use Rattle.iot_server_node.specs.Servers.{ServerStands, ServerIsSound, is_up, disk_of};
+ghost use Rattle.std.specs.Prelude.{◌≡◌, ◌++◌};
+ghost use Rattle.iot_exchange.specs.Words.{IfSome, IsSomeRequest, ServerIsSound, ℕ, List, true, false, IfOk, IfErr, OnOk};
+ghost use Rattle.iot_exchange.specs.Words.{Declared, state_in, KeepsDisk, said_of, KeepsRecords, ServerStands, is_up, disk_of};
 ghost use Rattle.iot_exchange.specs.Pairs.{two, IsReady, KeepsDisks, Query, AsksFor, Spells, request_of, Serves, Asked, MissesAll};
 
 use iot_disk::Disk;

@@ -1,13 +1,7 @@
 //! Looking in at a client's transactions.
-ghost use Rattle.std.specs.Prelude.{◌≡◌, ◌≤◌, ◌++◌, ◌-◌, List, OnOk, length, slice_get};
-ghost use Rattle.std.specs.Option.{option_copied};
-ghost use Rattle.iot_laptop.specs.Laptops.{Stands, LaptopStands, state_in};
-ghost use Rattle.iot_machine.specs.Clients.{Declared};
-ghost use Rattle.iot_machine.specs.Events.{ReadsOf, running_of};
-ghost use Rattle.iot_machine.specs.Machine.{Client};
-ghost use Rattle.iot_machine.specs.Recorded.{queue_kept};
-ghost use Rattle.iot_machine.specs.Texts.{queue_text};
-ghost use Rattle.iot_server_node.specs.declared.server.ServerNode.{ServerNode};
+ghost use Rattle.std.specs.Prelude.{◌-◌, ◌≡◌, ◌≤◌, ◌++◌};
+ghost use Rattle.iot_exchange.specs.Words.{List, OnOk, Stands, LaptopStands, Declared, ReadsOf, running_of, Client};
+ghost use Rattle.iot_exchange.specs.Words.{queue_kept, queue_text, ServerNode};
 ghost use Rattle.iot_exchange.specs.Pairs.{two, IsReady, Does};
 
 use iot_client::Running;

@@ -1,11 +1,6 @@
 //! What a client asks of the server: objects, over its link.
-ghost use Rattle.std.specs.Prelude.{List, IfOk};
-ghost use Rattle.iot_wire.specs.Meanings.{IsRefresh};
-ghost use Rattle.iot_laptop.specs.Laptops.{IsFirst, state_in};
-ghost use Rattle.iot_machine.specs.Clients.{Declared, hold, fetch};
-ghost use Rattle.iot_machine.specs.Events.{Hoards, Refreshes};
-ghost use Rattle.iot_machine.specs.Transactions.{Holds, Takes};
-ghost use Rattle.iot_tree.specs.declared.want.Want.{Want as Wanted};
+ghost use Rattle.iot_exchange.specs.Words.{IsFirst, Hoards, Takes, List, IfOk, IsRefresh, state_in, Declared, hold, fetch, Refreshes};
+ghost use Rattle.iot_exchange.specs.Words.{Holds, Want as Wanted};
 ghost use Rattle.iot_exchange.specs.Pairs.{two, IsReady, IsFree, IsAsked, Does};
 
 use crate::exchange::{exchange, miss};
@@ -88,10 +83,10 @@ pub(crate) fn bring<D: Disk>(
     out: &mut Text,
 ) -> Result<bool, Halt>
     requires ready { IsReady D.medium (two laptop.old server.old) }
-    requires free { IsFree laptop.old }
+    requires free { IsFree (state_in laptop.old) }
     ensures does { (scripts : List Declared) → Does D.medium scripts (Holds hold want.now)
         (two laptop.old server.old) (two laptop.new server.new) out.old out.new result }
-    ensures free { IfOk result (λ _. IsFree laptop.new) }
+    ensures free { IfOk result (λ _. IsFree (state_in laptop.new)) }
 {
     if !laptop.is_connected() {
         miss(laptop, server);

@@ -1,16 +1,8 @@
 //! The transactions of a client that wait for the server.
-ghost use Rattle.std.specs.Prelude.{◌≡◌, false, List, Some, IfOk, IsSome};
-ghost use Rattle.iot_machine.specs.Clients.{Declared};
-ghost use Rattle.iot_kept.specs.Changes.{HeadIs};
-ghost use Rattle.iot_lang.specs.Scripts.{IsScript};
-ghost use Rattle.iot_laptop.specs.Calls.{head_name, HandsIn, AsksAll};
-ghost use Rattle.iot_laptop.specs.Laptops.{state_in};
-ghost use Rattle.iot_laptop.specs.Scripts.{script_named};
-ghost use Rattle.iot_machine.specs.Events.{Drains};
-ghost use Rattle.iot_machine.specs.Transactions.{Syncs, SyncsAll};
+ghost use Rattle.iot_exchange.specs.Words.{Drains, List, Some, Declared, HandsIn, AsksAll, Syncs, SyncsAll};
 ghost use Rattle.iot_exchange.specs.Scripts.{scripts_of};
 ghost use Rattle.iot_exchange.specs.Pairs.{two, IsReady, IsReadyWith, Does};
-ghost use Rattle.iot_exchange.specs.Queues.{SyncsNext, DrainsQuietly, IsCodeOf};
+ghost use Rattle.iot_exchange.specs.Queues.{First, DrainsQuietly};
 ghost use Rattle.iot_exchange.specs.Saying.{synced_by};
 
 use crate::declared::DeclaredScript;
@@ -79,8 +71,7 @@ fn submit<D: Disk>(
     out: &mut Text,
 ) -> Result<Synced, Halt>
     requires ready { IsReady D.medium (two laptop.old server.old) }
-    requires head { head_name laptop.old (state_in laptop.old).items ≡ Some transaction.now }
-    requires hands { HeadIs (λ item. HandsIn laptop.old item submitted) (state_in laptop.old).items }
+    requires first { First (λ item. HandsIn laptop.old item submitted) laptop.old transaction.now }
     ensures { (scripts : List Declared) → Does D.medium scripts Syncs
         (two laptop.old server.old) (two laptop.new server.new) out.old out.new (synced_by result) }
 {
@@ -115,8 +106,7 @@ fn resolve<D: Disk>(
     out: &mut Text,
 ) -> Result<Synced, Halt>
     requires ready { IsReadyWith D.medium (scripts_of scripts.now) (two laptop.old server.old) }
-    requires head { head_name laptop.old (state_in laptop.old).items ≡ Some transaction.now }
-    requires asks { HeadIs (λ item. AsksAll laptop.old item request.items) (state_in laptop.old).items }
+    requires first { First (λ item. AsksAll laptop.old item request.items) laptop.old transaction.now }
     ensures { Does D.medium (scripts_of scripts.now) Syncs
         (two laptop.old server.old) (two laptop.new server.new) out.old out.new (synced_by result) }
 {

@@ -1,8 +1,5 @@
 //! A whole run of a script, as a transaction.
-ghost use Rattle.std.specs.Prelude.{◌≡◌, List};
-ghost use Rattle.iot_machine.specs.Clients.{Declared};
-ghost use Rattle.iot_machine.specs.Events.{Runs, runs_script};
-ghost use Rattle.iot_machine.specs.Options.{OnConflict as Chosen};
+ghost use Rattle.iot_exchange.specs.Words.{Runs, Declared, runs_script, OnConflict as Chosen};
 ghost use Rattle.iot_exchange.specs.Scripts.{script_of, scripts_of, Means, IsMeant};
 ghost use Rattle.iot_exchange.specs.Pairs.{two, IsReadyWith, Does};
 

@@ -1,7 +1,6 @@
 //! How a sync went.
 ghost use Rattle.std.specs.Prelude.{◌≡◌};
-ghost use Rattle.iot_laptop.specs.Messages.{verdict_of};
-ghost use Rattle.iot_machine.specs.Transactions.{moves};
+ghost use Rattle.iot_exchange.specs.Words.{verdict_of, moves};
 ghost use Rattle.iot_exchange.specs.Saying.{synced_of, told_synced};
 
 use iot_laptop::{Told, Verdict};

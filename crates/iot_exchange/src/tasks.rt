@@ -1,9 +1,6 @@
 //! What a client is asked to do.
-ghost use Rattle.std.specs.Prelude.{◌≡◌, ℕ, List, OnOk, length};
-ghost use Rattle.iot_event.specs.Declarations.{ResolverIsDeclared};
-ghost use Rattle.iot_laptop.specs.Scripts.{option_named};
-ghost use Rattle.iot_machine.specs.Events.{chosen, task_part, IfUp};
-ghost use Rattle.iot_node.specs.Steps.{StepsTo};
+ghost use Rattle.std.specs.Prelude.{◌≡◌};
+ghost use Rattle.iot_exchange.specs.Words.{task_part, ℕ, List, OnOk, length, ResolverIsDeclared, option_named, chosen, IfUp, StepsTo};
 ghost use Rattle.iot_exchange.specs.Scripts.{scripts_of, AreApart, MayDo};
 ghost use Rattle.iot_exchange.specs.Pairs.{two, AnyStands, IsStandingWith, IsReadyWith, KeepsDisks, Does};
 

@@ -1,9 +1,7 @@
 //! The lines of a client's transactions.
-ghost use Rattle.std.specs.Prelude.{◌≡◌, ◌++◌, OnOk};
-ghost use Rattle.iot_node.specs.Lines.{name_of};
-ghost use Rattle.iot_laptop.specs.Messages.{verdict_of};
-ghost use Rattle.iot_machine.specs.Texts.{hoard_line, refresh_line, begin_line, fetch_line, step_line, settled_line};
-ghost use Rattle.iot_machine.specs.Texts.{line, conflict_line, question_text, resolve_line, repair_line, pending_line};
+ghost use Rattle.std.specs.Prelude.{◌≡◌, ◌++◌};
+ghost use Rattle.iot_exchange.specs.Words.{question_text, pending_line, OnOk, name_of, verdict_of, hoard_line, refresh_line};
+ghost use Rattle.iot_exchange.specs.Words.{begin_line, fetch_line, step_line, line, resolve_line, repair_line};
 ghost use Rattle.iot_exchange.specs.Saying.{place_said, resolver_said, told_text};
 
 use iot_laptop::{Told, Verdict};

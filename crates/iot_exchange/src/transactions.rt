@@ -1,14 +1,8 @@
 //! What a client does with its transactions: they begin, are stepped and end.
-ghost use Rattle.std.specs.Prelude.{◌≡◌, ◌++◌, List, None, [], true, OnOk, IfOk};
-ghost use Rattle.iot_machine.specs.Calls.{Repeats};
-ghost use Rattle.iot_machine.specs.Clients.{Declared};
-ghost use Rattle.iot_machine.specs.Events.{BeginsAloud, StepsAloud, begin_text, step_text};
-ghost use Rattle.iot_machine.specs.Machine.{Pair};
-ghost use Rattle.iot_machine.specs.Options.{OnConflict as Chosen};
-ghost use Rattle.iot_machine.specs.Transactions.{Begins, Steps, Ends};
 ghost use Rattle.iot_laptop.specs.Calls.{Begins as Starts};
-ghost use Rattle.iot_laptop.specs.Laptops.{Stands, LaptopStands, SamePlace, state_in, disk_in};
-ghost use Rattle.iot_node.specs.Disks.{KeepsDisk};
+ghost use Rattle.std.specs.Prelude.{◌≡◌};
+ghost use Rattle.iot_exchange.specs.Words.{Begins, BeginsAloud, StepsAloud, Ends, List, None, [], true, Repeats, Declared};
+ghost use Rattle.iot_exchange.specs.Words.{OnConflict as Chosen, Steps, Stands, SamePlace, state_in, disk_in, KeepsDisk};
 ghost use Rattle.iot_exchange.specs.Scripts.{script_of, scripts_of, Means};
 ghost use Rattle.iot_exchange.specs.Pairs.{two, IsReady, IsReadyWith, IsReadyFor, Does};
 

@@ -1,7 +1,6 @@
 use Rattle.std.proofs.Common.{◌++◌, List, ℕ, sym, ap, ◌∙◌}
-use Rattle.iot_machine.specs.Clients.{leave}
-use Rattle.iot_machine.specs.Texts.{line, discard_line}
-use Rattle.iot_exchange.proofs.DoesLaws.{notes, no_memory, keeps_same, keeps_more}
+use Rattle.iot_exchange.specs.Words.{leave, discard_line, line}
+use Rattle.iot_exchange.proofs.DoesLaws.{by_client, notes}
 use Rattle.iot_exchange.proofs.FirstLaws.{decided, undecided, decides}
 use Rattle.iot_exchange.proofs.StepsLaws as steps
 use Rattle.iot_exchange.proofs.decisions.discard.Goals as goal
@@ -11,21 +10,17 @@ discard-requires-clause-manual g c = (decided c.args.laptop.now _ (sym c.decisio
 
 pub returns-in_err-discard-in-Ok : goal.returns-in_err-discard-in-Ok
 returns-in_err-discard-in-Ok g c server ready scripts =
-    let noted = notes leave (keeps_same ready) c.discard.ensures.place (c.discard.ensures.does scripts) c.discard.ensures.disk in
+    let noted = by_client (notes leave) ready.keeps c.discard.ensures.place (c.discard.ensures.does scripts) c.discard.ensures.disk in
     decides (sym c.decision.ensures ∙ c.in-Ok.is) noted.disks (λ names at mi named pair here.
     steps.from (steps.hands_on c.in_err-discard-in-Ok.was c.from_residual.ensures.1 (noted.step names at)) here)
 
 pub returns-in_ok-say_of-in-Ok : goal.returns-in_ok-say_of-in-Ok
 returns-in_ok-say_of-in-Ok g c server ready scripts =
-    let noted = notes leave (keeps_same ready) c.discard.ensures.place (c.discard.ensures.does scripts) c.discard.ensures.disk in
+    let noted = by_client (notes leave) ready.keeps c.discard.ensures.place (c.discard.ensures.does scripts) c.discard.ensures.disk in
     decides (sym c.decision.ensures ∙ c.in-Ok.is) noted.disks (λ names at mi named pair here.
     steps.from (steps.goes_then c.in_ok-discard-in-Ok.was (noted.step names at) (steps.says (λ after there.
     c.in_ok-say_of-in-Ok.ensures ∙ ap (λ (n : List ℕ). c.discard.new.out ++ discard_line n) (sym (named after there))))) here)
 
 pub returns-in_ok-say-in-Err : goal.returns-in_ok-say-in-Err
-returns-in_ok-say-in-Err g c server ready scripts = undecided (sym c.decision.ensures ∙ c.in-Err.is) (keeps_same ready)
+returns-in_ok-say-in-Err g c server ready scripts = undecided (sym c.decision.ensures ∙ c.in-Err.is) ready.keeps
     (c.in_ok-say-in-Err.ensures ∙ ap (λ (word : List ℕ). c.args.out.now ++ line word) c.word.ensures)
-
-pub returns-in_err-say_of-in-Ok : goal.returns-in_err-say_of-in-Ok
-returns-in_err-say_of-in-Ok g c server ready scripts =
-    no_memory c.from_residual-in_err-say_of-in-Ok.ensures.1 (keeps_more (keeps_same ready) c.discard.ensures.disk)

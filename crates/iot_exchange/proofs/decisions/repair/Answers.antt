@@ -1,7 +1,6 @@
 use Rattle.std.proofs.Common.{◌++◌, List, ℕ, sym, ap, ◌∙◌}
-use Rattle.iot_machine.specs.Clients.{repair}
-use Rattle.iot_machine.specs.Texts.{line, repair_line}
-use Rattle.iot_exchange.proofs.DoesLaws.{notes, keeps_same}
+use Rattle.iot_exchange.specs.Words.{repair, line, repair_line}
+use Rattle.iot_exchange.proofs.DoesLaws.{by_client, notes}
 use Rattle.iot_exchange.proofs.FirstLaws.{decided, undecided, decides}
 use Rattle.iot_exchange.proofs.StepsLaws as steps
 use Rattle.iot_exchange.proofs.decisions.repair.Goals as goal
@@ -11,19 +10,19 @@ repair-requires-clause-manual g c = (decided c.args.laptop.now _ (sym c.decision
 
 pub returns-in_err-repair-in-Ok : goal.returns-in_err-repair-in-Ok
 returns-in_err-repair-in-Ok g c server ready scripts declared named is =
-    let noted = notes (repair declared) (keeps_same ready) c.repair.ensures.place (c.repair.ensures.does scripts declared named is)
+    let noted = by_client (notes (repair declared)) ready.keeps c.repair.ensures.place (c.repair.ensures.does scripts declared named is)
     c.repair.ensures.disk in
     decides (sym c.decision.ensures ∙ c.in-Ok.is) noted.disks (λ names at mi its_name pair here.
     steps.from (steps.hands_on c.in_err-repair-in-Ok.was c.from_residual.ensures.1 (noted.step names at)) here)
 
 pub returns-in_ok-say_repair-in-Ok : goal.returns-in_ok-say_repair-in-Ok
 returns-in_ok-say_repair-in-Ok g c server ready scripts declared named is =
-    let noted = notes (repair declared) (keeps_same ready) c.repair.ensures.place (c.repair.ensures.does scripts declared named is)
+    let noted = by_client (notes (repair declared)) ready.keeps c.repair.ensures.place (c.repair.ensures.does scripts declared named is)
     c.repair.ensures.disk in
     decides (sym c.decision.ensures ∙ c.in-Ok.is) noted.disks (λ names at mi its_name pair here.
     steps.from (steps.goes_then c.in_ok-repair-in-Ok.was (noted.step names at) (steps.says (λ after there.
     c.in_ok-say_repair-in-Ok.ensures ∙ (λ i. c.repair.new.out ++ repair_line (sym (its_name after there) i) (sym is i))))) here)
 
 pub returns-in_ok-say-in-Err : goal.returns-in_ok-say-in-Err
-returns-in_ok-say-in-Err g c server ready scripts declared named is = undecided (sym c.decision.ensures ∙ c.in-Err.is) (keeps_same ready)
+returns-in_ok-say-in-Err g c server ready scripts declared named is = undecided (sym c.decision.ensures ∙ c.in-Err.is) ready.keeps
     (c.in_ok-say-in-Err.ensures ∙ ap (λ (word : List ℕ). c.args.out.now ++ line word) c.word.ensures)

@@ -1,63 +1,57 @@
 use Rattle.std.proofs.Common.{◌∙◌}
 use Rattle.iot_exchange.proofs.ExchangeLaws.{on_err, passed, away, request_lost, reply_lost, comes, none_comes}
-use Rattle.iot_exchange.proofs.DoesLaws.{stands, keeps_same, keeps_served}
+use Rattle.iot_exchange.proofs.DoesLaws.{keeps_served}
 use Rattle.iot_exchange.proofs.exchange.exchange.Goals as goal
 
-pub pass-requires : goal.pass-requires
-pass-requires g c = stands c.requires.ready
-
 pub returns-in-Away-clause-asked : goal.returns-in-Away-clause-asked
-returns-in-Away-clause-asked g c = λ scripts. record {
-  is = λ names at query asks.
-      record { is = away (passed c.is_up-up.ensures c.pass.ensures.passage c.pass.ensures.after c.in-Away.is) };
-  disks = let keeps = keeps_same c.requires.ready in keeps_served keeps c.pass.ensures.disk keeps.server keeps.records;
+returns-in-Away-clause-asked g c scripts = record {
+  is = λ names at query asks. record { is = away (passed c.is_up-up.ensures c.pass.ensures.passage c.pass.ensures.after c.in-Away.is) };
+  disks = let keeps = c.requires.ready.keeps in keeps_served keeps c.pass.ensures.disk keeps.server keeps.records;
 }
 
 pub returns-in-RequestLost-clause-asked : goal.returns-in-RequestLost-clause-asked
-returns-in-RequestLost-clause-asked g c = λ scripts. record {
+returns-in-RequestLost-clause-asked g c scripts = record {
   is = λ names at query asks.
-      record { is = request_lost (passed c.is_up-up.ensures c.pass.ensures.passage c.pass.ensures.after c.in-RequestLost.is) };
-  disks = let keeps = keeps_same c.requires.ready in keeps_served keeps c.pass.ensures.disk keeps.server keeps.records;
+      request_lost (passed c.is_up-up.ensures c.pass.ensures.passage c.pass.ensures.after c.in-RequestLost.is);
+  disks = let keeps = c.requires.ready.keeps in keeps_served keeps c.pass.ensures.disk keeps.server keeps.records;
 }
 
 pub returns-in_ok-_lost-in-ReplyLost-clause-asked : goal.returns-in_ok-_lost-in-ReplyLost-clause-asked
-returns-in_ok-_lost-in-ReplyLost-clause-asked g c = λ scripts. record {
-  is = λ names at query asks. record {
-    is = reply_lost _ (passed c.is_up-up.ensures c.pass.ensures.passage c.pass.ensures.after c.in-ReplyLost.is)
-        (c.in_ok-_lost-in-ReplyLost.ensures.asks names query asks);
-  };
-  disks = keeps_served (keeps_same c.requires.ready) c.pass.ensures.disk c.in_ok-_lost-in-ReplyLost.ensures.disk
+returns-in_ok-_lost-in-ReplyLost-clause-asked g c scripts = record {
+  is = λ names at query asks.
+      reply_lost _ (passed c.is_up-up.ensures c.pass.ensures.passage c.pass.ensures.after c.in-ReplyLost.is)
+      (c.in_ok-_lost-in-ReplyLost.ensures.asks names query asks);
+  disks = keeps_served c.requires.ready.keeps c.pass.ensures.disk c.in_ok-_lost-in-ReplyLost.ensures.disk
       c.in_ok-_lost-in-ReplyLost.ensures.records;
 }
 
 pub returns-in_err-_lost-in-ReplyLost-clause-disks : goal.returns-in_err-_lost-in-ReplyLost-clause-disks
 returns-in_err-_lost-in-ReplyLost-clause-disks g c =
-    on_err _ (keeps_served (keeps_same c.requires.ready) c.pass.ensures.disk c.in_err-_lost-in-ReplyLost.ensures.disk
+    on_err _ (keeps_served c.requires.ready.keeps c.pass.ensures.disk c.in_err-_lost-in-ReplyLost.ensures.disk
     c.in_err-_lost-in-ReplyLost.ensures.records)
 
 pub returns-in_err-reply-in-Both-clause-disks : goal.returns-in_err-reply-in-Both-clause-disks
 returns-in_err-reply-in-Both-clause-disks g c =
-    on_err _ (keeps_served (keeps_same c.requires.ready) c.pass.ensures.disk c.in_err-reply-in-Both.ensures.disk
+    on_err _ (keeps_served c.requires.ready.keeps c.pass.ensures.disk c.in_err-reply-in-Both.ensures.disk
     c.in_err-reply-in-Both.ensures.records)
 
 pub returns-in-Some-clause-asked : goal.returns-in-Some-clause-asked
-returns-in-Some-clause-asked g c = λ scripts. record {
+returns-in-Some-clause-asked g c scripts = record {
   is = λ names at query asks.
       comes (passed c.is_up-up.ensures c.pass.ensures.passage c.pass.ensures.after c.in-Both.is)
       (rw c.in-Some.is at (c.in_ok-reply-in-Both.ensures.asks names query asks));
-  disks = keeps_served (keeps_same c.requires.ready) c.pass.ensures.disk c.in_ok-reply-in-Both.ensures.disk
+  disks = keeps_served c.requires.ready.keeps c.pass.ensures.disk c.in_ok-reply-in-Both.ensures.disk
       c.in_ok-reply-in-Both.ensures.records;
 }
 
 pub returns-in-None-clause-asked : goal.returns-in-None-clause-asked
-returns-in-None-clause-asked g c = λ scripts. record {
-  is = λ names at query asks. record {
-    is = none_comes (passed c.is_up-up.ensures c.pass.ensures.passage c.pass.ensures.after c.in-Both.is)
-        (rw c.in-None.is at (c.in_ok-reply-in-Both.ensures.asks names query asks)) c.broke.ensures.after;
-  };
-  disks = keeps_served (keeps_same c.requires.ready) (c.broke.ensures.disk ∙ c.pass.ensures.disk) c.in_ok-reply-in-Both.ensures.disk
+returns-in-None-clause-asked g c scripts = record {
+  is = λ names at query asks.
+      none_comes (passed c.is_up-up.ensures c.pass.ensures.passage c.pass.ensures.after c.in-Both.is)
+      (rw c.in-None.is at (c.in_ok-reply-in-Both.ensures.asks names query asks)) c.broke.ensures.after;
+  disks = keeps_served c.requires.ready.keeps (c.broke.ensures.disk ∙ c.pass.ensures.disk) c.in_ok-reply-in-Both.ensures.disk
       c.in_ok-reply-in-Both.ensures.records;
 }
 
 pub broke-requires : goal.broke-requires
-broke-requires g c = rw (c.pass.ensures.both c.in-Both.is) (stands c.requires.ready)
+broke-requires g c = rw (c.pass.ensures.both c.in-Both.is) c.requires.ready.alive

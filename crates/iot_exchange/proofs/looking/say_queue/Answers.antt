@@ -2,8 +2,7 @@ use Rattle.std.proofs.Common.{[], ◌∷◌, ◌++◌, sym, ap, ◌∙◌}
 use Rattle.std.specs.Option.{option_copied}
 use Rattle.std.proofs.lemmas.Result.{on_ok_weaker}
 use Rattle.iot_inspect.specs.Texts.{queue_text}
-use Rattle.iot_kept.specs.Memory.{transaction_of, class_of}
-use Rattle.iot_kept.specs.States.{State}
+use Rattle.iot_exchange.specs.Words.{transaction_of, class_of, State}
 use Rattle.iot_exchange.proofs.TransactionsLaws.{says_running, says_waiting}
 use Rattle.iot_exchange.proofs.looking.say_queue.Goals as goal
 

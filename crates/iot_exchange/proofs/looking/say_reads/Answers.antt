@@ -1,7 +1,7 @@
 use Rattle.std.proofs.Common.{ap, ◌∙◌}
 use Rattle.std.specs.Option.{option_copied}
-use Rattle.iot_kept.specs.States.{State}
-use Rattle.iot_exchange.proofs.DoesLaws.{tells, refuses, keeps_same}
+use Rattle.iot_exchange.specs.Words.{State}
+use Rattle.iot_exchange.proofs.DoesLaws.{tells, refuses}
 use Rattle.iot_exchange.proofs.TransactionsLaws.{reads_at}
 use Rattle.iot_exchange.proofs.looking.say_reads.Goals as goal
 
@@ -9,10 +9,10 @@ pub returns-in_ok-reads-in-Some : goal.returns-in_ok-reads-in-Some
 returns-in_ok-reads-in-Some g c server ready scripts =
     reads_at c.args.place c.items.result.now c.get.result
     (c.items.ensures ∙ c.queue.ensures ∙ ap (λ (s : State). s.items) c.client.ensures.state) c.get.ensures.lookup
-    (ap option_copied c.in-Some.is) (tells (keeps_same ready) (λ names at pair here. c.in_ok-reads-in-Some.ensures.ok))
+    (ap option_copied c.in-Some.is) (tells ready.keeps (λ names at pair here. c.in_ok-reads-in-Some.ensures.ok))
 
 pub returns-in_ok-say-in-None : goal.returns-in_ok-say-in-None
 returns-in_ok-say-in-None g c server ready scripts =
     reads_at c.args.place c.items.result.now c.get.result
     (c.items.ensures ∙ c.queue.ensures ∙ ap (λ (s : State). s.items) c.client.ensures.state) c.get.ensures.lookup
-    (ap option_copied c.in-None.is) (refuses (keeps_same ready) (λ names at pair here. c.in_ok-say-in-None.ensures))
+    (ap option_copied c.in-None.is) (refuses ready.keeps c.in_ok-say-in-None.ensures)

@@ -1,47 +1,33 @@
 use Rattle.std.proofs.Common.{refl}
-use Rattle.iot_laptop.specs.Laptops.{state_in}
-use Rattle.iot_machine.specs.Clients.{hold}
+use Rattle.iot_exchange.specs.Words.{state_in, hold}
 use Rattle.iot_exchange.specs.Pairs.{Objects}
-use Rattle.iot_exchange.proofs.DoesLaws.{hands_on, then_answers, notes, stands, low, keeps_more}
-use Rattle.iot_exchange.proofs.ExchangeLaws.{missed, came, brings_tree, free_as, free_still}
+use Rattle.iot_exchange.proofs.DoesLaws.{hands_on, then_answers, by_client, notes, keeps_more}
+use Rattle.iot_exchange.proofs.ExchangeLaws.{missed, came, brings_tree, free_still}
 use Rattle.iot_exchange.proofs.objects.bring.Goals as goal
 
 pub returns-then-not-is_connected : goal.returns-then-not-is_connected
 returns-then-not-is_connected g c = record {
   does = λ scripts. missed c.args.want.now hold (λ names at.
       (c.miss.ensures.all scripts names at).none (Objects 0 (state_in c.args.laptop.now).held c.args.want.now) _) c.miss.ensures.disks;
-  free = free_as c.args.laptop.now c.miss.ensures.state c.requires.free;
+  free = rw c.miss.ensures.state c.requires.free;
 }
-
-pub ask-requires : goal.ask-requires
-ask-requires g c = record {
-  stands = stands c.requires.ready;
-  place = low c.requires.ready;
-  idle = c.requires.free.idle;
-  none = c.requires.free.none;
-}
-
-pub exchange-requires-clause-request : goal.exchange-requires-clause-request
-exchange-requires-clause-request g c = record { request = _; is = c.in_ok-request.ensures }
 
 pub take-requires : goal.take-requires
-take-requires g c =
-    let free = free_as c.args.laptop.now {new = c.exchange.new.laptop} c.in_ok-reply.ensures.state c.requires.free in
-    record {
-      stands = rw (rw c.in-Some.is at c.in_ok-reply.ensures.same) (stands c.requires.ready);
-      idle = free.idle;
-      none = free.none;
-      brings = rw c.deref.ensures.value
-          (brings_tree c.args.laptop.now.place (state_in c.args.laptop.now).held c.args.want.now c.requires.ready
-          (rw c.in-Some.is at c.in_ok-reply.ensures.asked) c.in_ok-request.ensures);
-    }
+take-requires g c = record {
+  stands = rw (rw c.in-Some.is at c.in_ok-reply.ensures.same) c.requires.ready.alive;
+  idle = rw c.in_ok-reply.ensures.state c.requires.free.idle;
+  none = rw c.in_ok-reply.ensures.state c.requires.free.none;
+  brings = rw c.deref.ensures.value
+      (brings_tree c.args.laptop.now.place (state_in c.args.laptop.now).held c.args.want.now c.requires.ready
+      (rw c.in-Some.is at c.in_ok-reply.ensures.asked) c.in_ok-request.ensures);
+}
 
 pub returns-in_err-take-in-Some-clause-does : goal.returns-in_err-take-in-Some-clause-does
 returns-in_err-take-in-Some-clause-does g c scripts =
     let asked = rw c.in-Some.is at (c.in_ok-reply.ensures.asked scripts) in
     came hold c.args.laptop.now.place c.args.want.now asked c.in_ok-request.ensures (keeps_more asked.disks c.take.ensures.disk)
     (λ t spells. hands_on c.in_err-take-in-Some.was c.from_residual-in_err-take-in-Some.ensures.1
-    (notes (hold t) asked.disks c.take.ensures.place ((rw c.deref.ensures.value at c.take.ensures.does) t spells scripts)
+    (by_client (notes (hold t)) asked.disks c.take.ensures.place ((rw c.deref.ensures.value at c.take.ensures.does) t spells scripts)
     c.take.ensures.disk))
 
 pub returns-in-Some : goal.returns-in-Some
@@ -50,14 +36,14 @@ returns-in-Some g c = record {
       let asked = rw c.in-Some.is at (c.in_ok-reply.ensures.asked scripts) in
       came hold c.args.laptop.now.place c.args.want.now asked c.in_ok-request.ensures (keeps_more asked.disks c.take.ensures.disk)
       (λ t spells. then_answers c.in_ok-take-in-Some.was refl
-      (notes (hold t) asked.disks c.take.ensures.place ((rw c.deref.ensures.value at c.take.ensures.does) t spells scripts)
+      (by_client (notes (hold t)) asked.disks c.take.ensures.place ((rw c.deref.ensures.value at c.take.ensures.does) t spells scripts)
       c.take.ensures.disk));
   free =
       let brings = brings_tree c.args.laptop.now.place (state_in c.args.laptop.now).held c.args.want.now c.requires.ready
       (rw c.in-Some.is at c.in_ok-reply.ensures.asked) c.in_ok-request.ensures in
-      free_still brings.tree c.in_ok-take-in-Some.was (rw (rw c.in-Some.is at c.in_ok-reply.ensures.same) (stands c.requires.ready))
+      free_still brings.tree c.in_ok-take-in-Some.was (rw (rw c.in-Some.is at c.in_ok-reply.ensures.same) c.requires.ready.alive)
       ((rw c.deref.ensures.value at c.take.ensures.does) brings.tree brings.is)
-      (free_as c.args.laptop.now c.in_ok-reply.ensures.state c.requires.free);
+      (rw c.in_ok-reply.ensures.state c.requires.free);
 }
 
 pub returns : goal.returns
@@ -67,5 +53,5 @@ returns g c = record {
       missed c.args.want.now hold (λ names at.
       (asked.is names at (Objects c.args.laptop.now.place (state_in c.args.laptop.now).held c.args.want.now) c.in_ok-request.ensures).is)
       asked.disks;
-  free = free_as c.args.laptop.now c.in_ok-reply.ensures.state c.requires.free;
+  free = rw c.in_ok-reply.ensures.state c.requires.free;
 }

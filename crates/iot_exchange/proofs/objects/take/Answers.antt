@@ -1,19 +1,17 @@
 use Rattle.std.proofs.Common.{Bool, Ok, sym, ap, ◌∙◌}
-use Rattle.iot_machine.specs.Transactions.{took}
-use Rattle.iot_exchange.proofs.DoesLaws.{asks_then, refuses, answers, hands_on, goes_then, no_memory, keeps_same}
+use Rattle.iot_exchange.specs.Words.{took}
+use Rattle.iot_exchange.proofs.DoesLaws.{asks_then, refuses, answers, hands_on, goes_then, no_memory}
 use Rattle.iot_exchange.proofs.ExchangeLaws.{runs_here, pends_here, is_free}
 use Rattle.iot_exchange.proofs.objects.take.Goals as goal
 
 pub returns-then-runs : goal.returns-then-runs
 returns-then-runs g c scripts =
-    asks_then (runs_here (sym c.runs.ensures ∙ c.if-runs.true))
-    (refuses (keeps_same c.requires) (λ names at pair here. c.in_ok-say.ensures))
+    asks_then (runs_here (sym c.runs.ensures ∙ c.if-runs.true)) (refuses c.requires.keeps c.in_ok-say.ensures)
 
 pub returns-then-waits : goal.returns-then-waits
 returns-then-waits g c scripts =
     asks_then (runs_here (sym c.runs.ensures ∙ c.if-runs.false))
-    (asks_then (pends_here (sym c.waits.ensures ∙ c.if-waits.true))
-    (refuses (keeps_same c.requires) (λ names at pair here. c.in_ok-say-2.ensures)))
+    (asks_then (pends_here (sym c.waits.ensures ∙ c.if-waits.true)) (refuses c.requires.keeps c.in_ok-say-2.ensures))
 
 pub bring-requires-clause-free : goal.bring-requires-clause-free
 bring-requires-clause-free g c = is_free (sym c.runs.ensures ∙ c.if-runs.false) (sym c.waits.ensures ∙ c.if-waits.false)
@@ -29,7 +27,7 @@ returns-then-not-branch g c scripts =
     asks_then (runs_here (sym c.runs.ensures ∙ c.if-runs.false))
     (asks_then (pends_here (sym c.waits.ensures ∙ c.if-waits.false))
     (goes_then {next = took} (c.in_ok-bring.was ∙ ap (λ (b : Bool). Ok b) c.if-not-branch.true) (c.bring.ensures.does scripts)
-    (refuses (c.bring.ensures.does scripts).disks (λ names at pair here. c.in_ok-say-3.ensures))))
+    (refuses (c.bring.ensures.does scripts).disks c.in_ok-say-3.ensures)))
 
 pub returns : goal.returns
 returns g c scripts =

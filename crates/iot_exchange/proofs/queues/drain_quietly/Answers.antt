@@ -1,7 +1,6 @@
 use Rattle.std.proofs.Common.{Some, sym, ◌∙◌}
-use Rattle.iot_machine.specs.Calls.{Then, Asks, Answers, either}
-use Rattle.iot_machine.specs.Events.{is_drained, Refreshes}
-use Rattle.iot_exchange.proofs.DoesLaws.{hands_on, goes_then, asks_then, answers, ready_after, any_ready, anyhow, standing}
+use Rattle.iot_exchange.specs.Words.{Then, Asks, Answers, either, is_drained, Refreshes}
+use Rattle.iot_exchange.proofs.DoesLaws.{hands_on, goes_then, asks_then, answers, ready_after, anyhow, still}
 use Rattle.iot_exchange.proofs.TasksLaws.{drained_is}
 use Rattle.iot_exchange.proofs.queues.drain_quietly.Goals as goal
 
@@ -9,10 +8,10 @@ pub returns-in_err-sync_all : goal.returns-in_err-sync_all
 returns-in_err-sync_all g c = hands_on c.in_err-sync_all.was c.from_residual.ensures.1 c.sync_all.ensures
 
 pub is_drained-requires : goal.is_drained-requires
-is_drained-requires g c = anyhow (standing (ready_after c.in_ok-sync_all.was c.sync_all.ensures c.requires))
+is_drained-requires g c = anyhow (still (ready_after c.in_ok-sync_all.was c.sync_all.ensures c.requires.stands).stands)
 
 pub refresh-requires : goal.refresh-requires
-refresh-requires g c = any_ready (ready_after c.in_ok-sync_all.was c.sync_all.ensures c.requires)
+refresh-requires g c = (ready_after c.in_ok-sync_all.was c.sync_all.ensures c.requires.stands).ready
 
 pub returns-then-not-is_drained : goal.returns-then-not-is_drained
 returns-then-not-is_drained g c =

@@ -1,26 +1,22 @@
 use Rattle.std.proofs.Common.{arith, rules, tests, bytes_eq}
 use Rattle.std.proofs.lemmas.Iterator.{YieldsList-from_slice}
 use Rattle.std.proofs.lemmas.Iterator.Search.{find_from_yields_List}
+use Rattle.iot_exchange.specs.Words.{IsInConflict, Resolved, reach, resolution_of, NoMemory}
 use Rattle.iot_exchange.proofs.NamesLaws.{code_found, none_found}
-use Rattle.iot_machine.specs.Clients.{Resolved, reach, resolution_of}
-use Rattle.iot_exchange.specs.Pairs.{two}
 use Rattle.iot_exchange.specs.Scripts.{scripts_of}
-use Rattle.iot_node.specs.declared.halt.Halt.TheVariants.{NoMemory}
-use Rattle.iot_exchange.proofs.DoesLaws.{notes, hands_on, then_tells, stands, keeps_more, no_memory, any_ready}
-use Rattle.iot_exchange.proofs.FirstLaws.{asks_all, in_conflict, whole_came, declared_for, resolves_away, resolves_told, synced_err}
+use Rattle.iot_exchange.proofs.DoesLaws.{by_client, notes, hands_on, then_tells, keeps_more, no_memory}
+use Rattle.iot_exchange.proofs.FirstLaws.{head_is, whole_came, declared_for, resolves_away, resolves_told, synced_err}
 use Rattle.iot_exchange.proofs.queues.resolve.Goals as goal
 
 pub exchange-requires-clause-request : goal.exchange-requires-clause-request
-exchange-requires-clause-request g c =
-    let asks = asks_all (two c.args.laptop.now c.args.server.now) c.args.request c.requires.head c.requires.asks in
-    record { request = _; is = asks.asked }
+exchange-requires-clause-request g c = record { request = _; is = c.requires.first.is.asked }
 
 pub plan-plan-requires : goal.plan-plan-requires
 plan-plan-requires g c =
     let same = rw c.in-Some.is at c.in_ok-reply.ensures.same in
     record {
-      stands = rw same (stands (any_ready c.requires.ready));
-      conflict = rw same (in_conflict (two c.args.laptop.now c.args.server.now) c.args.request c.requires.head c.requires.asks);
+      stands = rw same c.requires.ready.ready.alive;
+      conflict = rw same (head_is IsInConflict c.requires.first c.requires.first.is.conflict);
     }
 
 pub unreachable-requires : goal.unreachable-requires
@@ -29,18 +25,16 @@ unreachable-requires g c =
     (find_from_yields_List (λ w. bytes_eq c.plan-plan.result.script w.name) _ _ _ c.find.ensures.ran
     (YieldsList-from_slice c.args.scripts.now c.iter.ensures.rest) (λ x b q k. search (rules, tests)))
     c.in_default.is
-    (declared_for (two c.args.laptop.now c.args.server.now) c.args.request c.requires.head c.requires.asks c.plan-plan.result
+    (declared_for c.args.request c.requires.first c.plan-plan.result
     (rw (rw c.in-Some.is at c.in_ok-reply.ensures.same) at c.plan-plan.ensures) c.requires.ready)
 
 pub resolve-requires : goal.resolve-requires
 resolve-requires g c =
     let same = rw c.in-Some.is at c.in_ok-reply.ensures.same in
-    let old = two c.args.laptop.now c.args.server.now in
-    let whole = whole_came old c.args.request c.requires.head c.requires.asks (any_ready c.requires.ready)
-    (rw c.in-Some.is at c.in_ok-reply.ensures.asked) in
+    let whole = whole_came c.args.request c.requires.first c.requires.ready.ready (rw c.in-Some.is at c.in_ok-reply.ensures.asked) in
     record {
-      stands = rw same (stands (any_ready c.requires.ready));
-      conflict = rw same (in_conflict old c.args.request c.requires.head c.requires.asks);
+      stands = rw same c.requires.ready.ready.alive;
+      conflict = rw same (head_is IsInConflict c.requires.first c.requires.first.is.conflict);
       brings = rw c.deref.ensures.value whole.0;
       whole = rw c.deref.ensures.value (whole.1 (omega arith));
       script = rw c.in_ok-code-in-Some.ensures.value c.in_ok-code-in-Some.ensures.script;
@@ -51,15 +45,14 @@ returns-in_err-resolve-in-Some g c =
     let same = rw c.in-Some.is at c.in_ok-reply.ensures.same in
     let does = rw c.deref.ensures.value at c.resolve.ensures.does in
     let asked = rw c.in-Some.is at (c.in_ok-reply.ensures.asked (scripts_of c.args.scripts.now)) in
-    resolves_told (two c.args.laptop.now c.args.server.now) c.args.request c.requires.head c.requires.asks c.plan-plan.result
-    (rw same at c.plan-plan.ensures)
+    resolves_told c.args.request c.requires.first c.plan-plan.result (rw same at c.plan-plan.ensures)
     (code_found c.args.scripts.now c.plan-plan.result.script c.find.result
     (find_from_yields_List (λ w. bytes_eq c.plan-plan.result.script w.name) _ _ _ c.find.ensures.ran
     (YieldsList-from_slice c.args.scripts.now c.iter.ensures.rest) (λ x b q k. search (rules, tests)))
     c.in-Some-find.is c.in_ok-code-in-Some.ensures.value) (keeps_more asked.disks c.resolve.ensures.disk) asked
     (λ p u spells plans coded. hands_on c.in_err-resolve-in-Some.was
     (synced_err c.in_err-resolve-in-Some.field-0.0 _ c.from_residual-in_err-resolve-in-Some.ensures.1)
-    (notes (reach (Resolved (resolution_of p u))) asked.disks c.resolve.ensures.place
+    (by_client (notes (reach (Resolved (resolution_of p u)))) asked.disks c.resolve.ensures.place
     (does u spells _ p (rw same plans) coded) c.resolve.ensures.disk))
 
 pub returns-in-Some : goal.returns-in-Some
@@ -67,30 +60,29 @@ returns-in-Some g c =
     let same = rw c.in-Some.is at c.in_ok-reply.ensures.same in
     let does = rw c.deref.ensures.value at c.resolve.ensures.does in
     let asked = rw c.in-Some.is at (c.in_ok-reply.ensures.asked (scripts_of c.args.scripts.now)) in
-    resolves_told (two c.args.laptop.now c.args.server.now) c.args.request c.requires.head c.requires.asks c.plan-plan.result
-    (rw same at c.plan-plan.ensures)
+    resolves_told c.args.request c.requires.first c.plan-plan.result (rw same at c.plan-plan.ensures)
     (code_found c.args.scripts.now c.plan-plan.result.script c.find.result
     (find_from_yields_List (λ w. bytes_eq c.plan-plan.result.script w.name) _ _ _ c.find.ensures.ran
     (YieldsList-from_slice c.args.scripts.now c.iter.ensures.rest) (λ x b q k. search (rules, tests)))
     c.in-Some-find.is c.in_ok-code-in-Some.ensures.value) (keeps_more asked.disks c.resolve.ensures.disk) asked
     (λ p u spells plans coded. then_tells c.in_ok-resolve-in-Some.was
-    (notes (reach (Resolved (resolution_of p u))) asked.disks c.resolve.ensures.place
+    (by_client (notes (reach (Resolved (resolution_of p u)))) asked.disks c.resolve.ensures.place
     (does u spells _ p (rw same plans) coded) c.resolve.ensures.disk)
     (λ names at pair here. c.in_ok-say_resolve-in-Some.ensures))
 
 pub returns : goal.returns
-returns g c = resolves_away (two c.args.laptop.now c.args.server.now) c.args.request c.requires.head c.requires.asks
+returns g c = resolves_away c.args.request c.requires.first
     (rw c.in-None.is at (c.in_ok-reply.ensures.asked (scripts_of c.args.scripts.now))) c.in_ok-say-in-None.ensures
-
-pub returns-in_err-code-in-Some : goal.returns-in_err-code-in-Some
-returns-in_err-code-in-Some g c =
-    no_memory (synced_err NoMemory _ c.from_residual-in_err-code-in-Some.ensures.1)
-    (c.in_ok-reply.ensures.asked (scripts_of c.args.scripts.now)).disks
 
 pub returns-in_err-say_resolve-in-Some : goal.returns-in_err-say_resolve-in-Some
 returns-in_err-say_resolve-in-Some g c =
     no_memory (synced_err NoMemory _ c.from_residual-in_err-say_resolve-in-Some.ensures.1)
     (keeps_more (c.in_ok-reply.ensures.asked (scripts_of c.args.scripts.now)).disks c.resolve.ensures.disk)
+
+pub returns-in_err-code-in-Some : goal.returns-in_err-code-in-Some
+returns-in_err-code-in-Some g c =
+    no_memory (synced_err NoMemory _ c.from_residual-in_err-code-in-Some.ensures.1)
+    (c.in_ok-reply.ensures.asked (scripts_of c.args.scripts.now)).disks
 
 pub returns-in_err-say-in-None : goal.returns-in_err-say-in-None
 returns-in_err-say-in-None g c =

@@ -1,41 +1,33 @@
 use Rattle.std.proofs.Common.{◌++◌, ap, sym, ◌∙◌}
 use Rattle.std.proofs.lemmas.Option.{same_Some}
-use Rattle.iot_laptop.specs.Calls.{done}
-use Rattle.iot_node.specs.Lines.{name_of}
-use Rattle.iot_laptop.specs.Messages.{told_change}
-use Rattle.iot_exchange.specs.Pairs.{two}
+use Rattle.iot_exchange.specs.Words.{IsSubmitted, done, name_of, told_change, NoMemory}
 use Rattle.iot_exchange.specs.Saying.{told_text, told_synced}
-use Rattle.iot_node.specs.declared.halt.Halt.TheVariants.{NoMemory}
-use Rattle.iot_exchange.proofs.DoesLaws.{notes, hands_on, then_tells, stands, keeps_more, no_memory}
-use Rattle.iot_exchange.proofs.FirstLaws.{hands_in, submitted_head, verdict_came, submits_away, submits_told, synced_err}
+use Rattle.iot_exchange.proofs.DoesLaws.{by_client, notes, hands_on, then_tells, keeps_more, no_memory}
+use Rattle.iot_exchange.proofs.FirstLaws.{head_is, verdict_came, submits_away, submits_told, synced_err}
 use Rattle.iot_exchange.proofs.queues.submit.Goals as goal
 
 pub exchange-requires-clause-request : goal.exchange-requires-clause-request
-exchange-requires-clause-request g c =
-    let hands = hands_in (two c.args.laptop.now c.args.server.now) c.args.submitted c.requires.head c.requires.hands in
-    record { request = _; is = hands.asked }
+exchange-requires-clause-request g c = record { request = _; is = c.requires.first.is.asked }
 
 pub take_verdict-requires : goal.take_verdict-requires
 take_verdict-requires g c =
     let same = rw c.in-Some.is at c.in_ok-reply.ensures.same in
-    let old = two c.args.laptop.now c.args.server.now in
     record {
-      stands = rw same (stands c.requires.ready);
-      submitted = rw same (submitted_head old c.args.submitted c.requires.head c.requires.hands);
+      stands = rw same c.requires.ready.alive;
+      submitted = rw same (head_is IsSubmitted c.requires.first c.requires.first.is.submitted);
       told = rw (same, c.deref.ensures.value)
-          (verdict_came old c.args.submitted c.requires.head c.requires.hands c.requires.ready
-          (rw c.in-Some.is at c.in_ok-reply.ensures.asked));
+          (verdict_came c.args.submitted c.requires.first c.requires.ready (rw c.in-Some.is at c.in_ok-reply.ensures.asked));
     }
 
 pub returns-in_err-told-in-Some : goal.returns-in_err-told-in-Some
 returns-in_err-told-in-Some g c scripts =
     let settles = rw (c.in_ok-reply.ensures.state, c.deref.ensures.value) at c.take_verdict.ensures.does in
     let asked = rw c.in-Some.is at (c.in_ok-reply.ensures.asked scripts) in
-    submits_told (two c.args.laptop.now c.args.server.now) c.args.submitted c.requires.head c.requires.hands
-    (keeps_more asked.disks c.take_verdict.ensures.disk) asked (λ verdict option spells has.
+    submits_told c.args.submitted c.requires.first (keeps_more asked.disks c.take_verdict.ensures.disk) asked
+    (λ verdict option spells has.
     hands_on (ap done c.in_err-told-in-Some.was)
     (synced_err c.in_err-told-in-Some.field-0.0 _ c.from_residual-in_err-told-in-Some.ensures.1)
-    (notes (told_change verdict option) asked.disks c.take_verdict.ensures.place
+    (by_client (notes (told_change verdict option)) asked.disks c.take_verdict.ensures.place
     (settles verdict option spells has scripts) c.take_verdict.ensures.disk))
 
 pub returns-in-Some : goal.returns-in-Some
@@ -43,18 +35,18 @@ returns-in-Some g c scripts =
     let settles = rw (c.in_ok-reply.ensures.state, c.deref.ensures.value) at c.take_verdict.ensures.does in
     let is_told = rw (rw c.in-Some.is at c.in_ok-reply.ensures.same, c.deref.ensures.value) at c.in_ok-told-in-Some.ensures.told in
     let asked = rw c.in-Some.is at (c.in_ok-reply.ensures.asked scripts) in
-    submits_told (two c.args.laptop.now c.args.server.now) c.args.submitted c.requires.head c.requires.hands
-    (keeps_more asked.disks c.take_verdict.ensures.disk) asked (λ verdict option spells has.
+    submits_told c.args.submitted c.requires.first (keeps_more asked.disks c.take_verdict.ensures.disk) asked
+    (λ verdict option spells has.
     let which = is_told.verdict verdict spells in
     let chosen = same_Some _ _ (sym is_told.option ∙ has) in
     rw (c.by.ensures ∙ (λ i. told_synced (which i) (chosen i))) (then_tells (ap done c.in_ok-told-in-Some.was)
-    (notes (told_change verdict option) asked.disks c.take_verdict.ensures.place
+    (by_client (notes (told_change verdict option)) asked.disks c.take_verdict.ensures.place
     (settles verdict option spells has scripts) c.take_verdict.ensures.disk)
     (λ names at pair here. c.in_ok-say_told-in-Some.ensures
     ∙ (λ i. c.take_verdict.new.out ++ told_text (name_of c.args.transaction.now) (which i) (chosen i)))))
 
 pub returns : goal.returns
-returns g c scripts = submits_away (two c.args.laptop.now c.args.server.now) c.args.submitted c.requires.head c.requires.hands
+returns g c scripts = submits_away c.args.submitted c.requires.first
     (rw c.in-None.is at (c.in_ok-reply.ensures.asked scripts)) c.in_ok-say-in-None.ensures
 
 pub returns-in_err-say_told-in-Some : goal.returns-in_err-say_told-in-Some

@@ -1,8 +1,8 @@
 use Rattle.std.proofs.Common.{Err, refl, sym, ap, ◌∙◌}
-use Rattle.iot_machine.specs.Transactions.{moves, sync_if}
+use Rattle.iot_exchange.specs.Words.{moves, sync_if}
 use Rattle.iot_exchange.specs.Saying.{synced_by}
-use Rattle.iot_exchange.proofs.DoesLaws.{none_yet, one_more, last_round, halted_round, all_rounds, ready_after, any_ready, keeps_same}
-use Rattle.iot_exchange.proofs.DoesLaws.{asks_then, answers, hands_on, then_answers}
+use Rattle.iot_exchange.proofs.DoesLaws.{none_yet, one_more, last_round, halted_round, all_rounds, ready_after, asks_then, answers}
+use Rattle.iot_exchange.proofs.DoesLaws.{hands_on, then_answers}
 use Rattle.iot_exchange.proofs.ExchangeLaws.{pends_here}
 use Rattle.iot_exchange.proofs.TasksLaws.{all_by}
 use Rattle.iot_exchange.proofs.queues.sync_all.Goals as goal
@@ -13,7 +13,7 @@ syncs-init g c = (none_yet, c.requires)
 pub returns-then-not-waits : goal.returns-then-not-waits
 returns-then-not-waits g c = all_by c.in_ok-most.ensures (last_round c.syncs.invariant.0 c.syncs-test.true
     (asks_then {next = sync_if} (pends_here (sym c.waits.ensures ∙ c.if-not-waits.true))
-    (answers (keeps_same (any_ready c.syncs.invariant.1)))) refl refl)
+    (answers c.syncs.invariant.1.ready.keeps)) refl refl)
 
 pub returns-in_err-synced : goal.returns-in_err-synced
 returns-in_err-synced g c = all_by c.in_ok-most.ensures (halted_round c.syncs.invariant.0 c.syncs-test.true
@@ -31,9 +31,9 @@ syncs-preserved g c = (
   one_more c.syncs.invariant.0 c.syncs-test.true
       (asks_then {next = sync_if} (pends_here (sym c.waits.ensures ∙ c.if-not-waits.false))
       (then_answers {f = moves} (ap synced_by c.in_ok-synced.was) c.moves.ensures c.sync.ensures)) refl c.if-not-moves.false,
-  ready_after (ap synced_by c.in_ok-synced.was) c.sync.ensures c.syncs.invariant.1,
+  ready_after (ap synced_by c.in_ok-synced.was) c.sync.ensures c.syncs.invariant.1.stands,
 )
 
 pub returns : goal.returns
 returns g c =
-    all_by c.in_ok-most.ensures (all_rounds c.syncs.invariant.0 c.syncs-test.false (keeps_same (any_ready c.syncs.invariant.1)))
+    all_by c.in_ok-most.ensures (all_rounds c.syncs.invariant.0 c.syncs-test.false c.syncs.invariant.1.ready.keeps)

@@ -1,21 +1,21 @@
 use Rattle.std.proofs.Common.{refl, sym, ◌∙◌}
-use Rattle.iot_machine.specs.Events.{runs_script}
+use Rattle.iot_exchange.specs.Words.{runs_script}
 use Rattle.iot_exchange.specs.Scripts.{script_of}
-use Rattle.iot_exchange.proofs.DoesLaws.{asks_then, refuses, answers, goes_then, hands_on, ready_after, any_ready, keeps_same}
+use Rattle.iot_exchange.proofs.DoesLaws.{asks_then, refuses, answers, goes_then, hands_on, ready_after}
 use Rattle.iot_exchange.proofs.ExchangeLaws.{runs_here}
 use Rattle.iot_exchange.proofs.TasksLaws.{up_is}
 use Rattle.iot_exchange.proofs.runs.run.Goals as goal
 
 pub returns-then-runs : goal.returns-then-runs
-returns-then-runs g c option means = asks_then (runs_here (sym c.runs.ensures ∙ c.if-runs.true))
-    (refuses (keeps_same (any_ready c.requires.ready)) (λ names at pair here. c.in_ok-say.ensures))
+returns-then-runs g c option means =
+    asks_then (runs_here (sym c.runs.ensures ∙ c.if-runs.true)) (refuses c.requires.ready.ready.keeps c.in_ok-say.ensures)
 
 pub returns-then-not-is_connected : goal.returns-then-not-is_connected
 returns-then-not-is_connected g c option means =
     asks_then (runs_here (sym c.runs.ensures ∙ c.if-runs.false))
     (asks_then (up_is (sym c.is_connected.ensures ∙ c.if-not-is_connected.true))
     (goes_then {next = λ _. runs_script (script_of c.args.script.now) option} refl
-    (answers (keeps_same (any_ready c.requires.ready))) (c.run_script.ensures option means)))
+    (answers c.requires.ready.ready.keeps) (c.run_script.ensures option means)))
 
 pub returns-in_err-sync_all : goal.returns-in_err-sync_all
 returns-in_err-sync_all g c option means =
@@ -24,7 +24,7 @@ returns-in_err-sync_all g c option means =
     (hands_on c.in_err-sync_all.was c.from_residual-in_err-sync_all.ensures.1 c.sync_all.ensures))
 
 pub run_script-requires-2-clause-ready : goal.run_script-requires-2-clause-ready
-run_script-requires-2-clause-ready g c = ready_after c.in_ok-sync_all.was c.sync_all.ensures c.requires.ready
+run_script-requires-2-clause-ready g c = ready_after c.in_ok-sync_all.was c.sync_all.ensures c.requires.ready.stands
 
 pub returns : goal.returns
 returns g c option means =

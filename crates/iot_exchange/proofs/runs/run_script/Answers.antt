@@ -1,19 +1,14 @@
 use Rattle.std.proofs.Common.{false}
-use Rattle.iot_machine.specs.Calls.{Goes, Repeats}
-use Rattle.iot_machine.specs.Events.{run_steps}
-use Rattle.iot_machine.specs.Transactions.{Steps, Ends}
-use Rattle.iot_exchange.proofs.DoesLaws.{hands_on, goes_then, ready_after, any_ready}
+use Rattle.iot_exchange.specs.Words.{run_steps, Ends, Goes, Repeats, Steps}
+use Rattle.iot_exchange.proofs.DoesLaws.{hands_on, goes_then, ready_after}
 use Rattle.iot_exchange.proofs.runs.run_script.Goals as goal
-
-pub begin-requires : goal.begin-requires
-begin-requires g c = any_ready c.requires.ready
 
 pub returns-in_err-begin : goal.returns-in_err-begin
 returns-in_err-begin g c option means = hands_on c.in_err-begin.was c.from_residual.ensures.1 (c.begin.ensures _ option means)
 
 pub steps-requires : goal.steps-requires
-steps-requires g c = any_ready (ready_after c.in_ok-begin.was
-    (c.begin.ensures _ c.requires.meant.on_conflict c.requires.meant.means) c.requires.ready)
+steps-requires g c = (ready_after c.in_ok-begin.was
+    (c.begin.ensures _ c.requires.meant.on_conflict c.requires.meant.means) c.requires.ready.stands).ready
 
 pub returns-in_err-steps : goal.returns-in_err-steps
 returns-in_err-steps g c option means =
@@ -22,7 +17,7 @@ returns-in_err-steps g c option means =
 
 pub end-requires : goal.end-requires
 end-requires g c = ready_after c.in_ok-steps.was (c.steps.ensures _) (ready_after c.in_ok-begin.was
-    (c.begin.ensures _ c.requires.meant.on_conflict c.requires.meant.means) c.requires.ready)
+    (c.begin.ensures _ c.requires.meant.on_conflict c.requires.meant.means) c.requires.ready.stands).stands
 
 pub returns : goal.returns
 returns g c option means =

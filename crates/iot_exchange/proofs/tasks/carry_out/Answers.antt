@@ -1,24 +1,11 @@
 use Rattle.std.proofs.Common.{refl, sym, ap, ◌∙◌}
-use Rattle.iot_machine.specs.Clients.{Declared}
-use Rattle.iot_machine.specs.Machine.{script_at}
+use Rattle.iot_exchange.specs.Words.{Declared, script_at}
 use Rattle.iot_exchange.specs.Saying.{synced_by}
 use Rattle.iot_exchange.specs.Scripts.{scripts_of}
 use Rattle.iot_exchange.specs.declared.declared.DeclaredScript.{DeclaredScript}
-use Rattle.iot_exchange.proofs.DoesLaws.{hands_on, then_answers, tells, any_ready, stands, keeps_same}
+use Rattle.iot_exchange.proofs.DoesLaws.{hands_on, then_answers, tells}
 use Rattle.iot_exchange.proofs.NamesLaws.{script_there, named_there, meant_there}
 use Rattle.iot_exchange.proofs.tasks.carry_out.Goals as goal
-
-pub returns-in-Hoard : goal.returns-in-Hoard
-returns-in-Hoard g c = rw c.in-Hoard.is (c.hoard.ensures _)
-
-pub returns-in-Refresh : goal.returns-in-Refresh
-returns-in-Refresh g c = rw c.in-Refresh.is (c.refresh.ensures _)
-
-pub returns-in-Step : goal.returns-in-Step
-returns-in-Step g c = rw c.in-Step.is (c.step_aloud.ensures _)
-
-pub returns-in-End : goal.returns-in-End
-returns-in-End g c = rw c.in-End.is c.end.ensures
 
 pub returns-in_err-_synced-in-Sync : goal.returns-in_err-_synced-in-Sync
 returns-in_err-_synced-in-Sync g c =
@@ -28,11 +15,8 @@ pub returns-in_ok-_synced-in-Sync : goal.returns-in_ok-_synced-in-Sync
 returns-in_ok-_synced-in-Sync g c =
     rw c.in-Sync.is (then_answers {f = λ _. tt} (ap synced_by c.in_ok-_synced-in-Sync.was) refl c.sync.ensures)
 
-pub returns-in-Drain : goal.returns-in-Drain
-returns-in-Drain g c = rw c.in-Drain.is c.drain.ensures
-
 pub returns-in-Discard : goal.returns-in-Discard
-returns-in-Discard g c = rw c.in-Discard.is (c.discard.ensures c.args.server.now (any_ready c.requires.ready) _)
+returns-in-Discard g c = rw c.in-Discard.is (c.discard.ensures c.args.server.now c.requires.ready.ready _)
 
 pub run-requires-clause-meant : goal.run-requires-clause-meant
 run-requires-clause-meant g c =
@@ -64,24 +48,33 @@ returns-in-Begin g c =
     (meant_there c.args.scripts.now c.in-Begin.option may.0 c.index-scripts-script-in-Begin.is may.1 c.requires.apart
     c.by_name-chosen-in-Begin.ensures).means)
 
-pub repair-requires : goal.repair-requires
-repair-requires g c = stands (any_ready c.requires.ready)
-
 pub returns-in-Repair : goal.returns-in-Repair
 returns-in-Repair g c =
     let may = rw c.in-Repair.is at c.requires.may in
     rw c.in-Repair.is
-    (c.repair.ensures c.args.server.now (any_ready c.requires.ready) _ (script_at (scripts_of c.args.scripts.now) c.in-Repair.script)
+    (c.repair.ensures c.args.server.now c.requires.ready.ready _ (script_at (scripts_of c.args.scripts.now) c.in-Repair.script)
     (named_there c.args.scripts.now c.in-Repair.script may c.requires.apart)
     (ap (λ (s : Declared). s.name) (sym (script_there c.args.scripts.now may c.index-scripts-script-in-Repair.is))
     ∙ ap (λ (w : DeclaredScript). w.name) c.index-scripts-script-in-Repair.is))
 
-pub discard-requires : goal.discard-requires
-discard-requires g c = stands (any_ready c.requires.ready)
-
 pub returns-in_ok-say_queue-in-Queue : goal.returns-in_ok-say_queue-in-Queue
-returns-in_ok-say_queue-in-Queue g c = rw c.in-Queue.is (tells (keeps_same (any_ready c.requires.ready))
+returns-in_ok-say_queue-in-Queue g c = rw c.in-Queue.is (tells c.requires.ready.ready.keeps
     (λ names at pair here. c.in_ok-say_queue-in-Queue.ensures (scripts_of c.args.scripts.now) pair.client here.client.is))
 
 pub returns-in-Reads : goal.returns-in-Reads
-returns-in-Reads g c = rw c.in-Reads.is (c.say_reads.ensures c.args.server.now (any_ready c.requires.ready) _)
+returns-in-Reads g c = rw c.in-Reads.is (c.say_reads.ensures c.args.server.now c.requires.ready.ready _)
+
+pub returns-in-Hoard : goal.returns-in-Hoard
+returns-in-Hoard g c = rw c.in-Hoard.is (c.hoard.ensures _)
+
+pub returns-in-Refresh : goal.returns-in-Refresh
+returns-in-Refresh g c = rw c.in-Refresh.is (c.refresh.ensures _)
+
+pub returns-in-Step : goal.returns-in-Step
+returns-in-Step g c = rw c.in-Step.is (c.step_aloud.ensures _)
+
+pub returns-in-End : goal.returns-in-End
+returns-in-End g c = rw c.in-End.is c.end.ensures
+
+pub returns-in-Drain : goal.returns-in-Drain
+returns-in-Drain g c = rw c.in-Drain.is c.drain.ensures

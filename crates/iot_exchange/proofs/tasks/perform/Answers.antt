@@ -1,6 +1,6 @@
 use Rattle.std.proofs.Common.{Err, sym, ap, ◌∙◌}
-use Rattle.iot_node.specs.declared.halt.Halt.{Halt}
 use Rattle.std.proofs.lemmas.Result.{on_ok_weaker}
+use Rattle.iot_exchange.specs.Words.{Halt}
 use Rattle.iot_exchange.proofs.DoesLaws.{keeps_standing}
 use Rattle.iot_exchange.proofs.TasksLaws.{ready_there, says_down, all_done, all_over}
 use Rattle.iot_exchange.proofs.tasks.perform.Goals as goal
@@ -10,7 +10,7 @@ returns-then-not-is_alive-clause-step g c =
     on_ok_weaker c.say.result (λ wrote. says_down (sym c.is_alive.ensures ∙ c.if-not-is_alive.true) wrote) c.say.ensures
 
 pub returns-then-not-is_alive-clause-disks : goal.returns-then-not-is_alive-clause-disks
-returns-then-not-is_alive-clause-disks g c = keeps_standing c.requires.stands
+returns-then-not-is_alive-clause-disks g c = keeps_standing c.requires.stands.stands
 
 pub carry_out-requires-clause-ready : goal.carry_out-requires-clause-ready
 carry_out-requires-clause-ready g c = ready_there (sym c.is_alive.ensures ∙ c.if-not-is_alive.false) c.requires.stands

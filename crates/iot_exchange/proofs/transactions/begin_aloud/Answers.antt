@@ -1,22 +1,17 @@
 use Rattle.std.proofs.Common.{◌++◌, refl, sym, ap, ◌∙◌}
 use Rattle.std.specs.Option.{option_copied}
-use Rattle.iot_kept.specs.Memory.{transaction_of, class_of}
-use Rattle.iot_machine.specs.Texts.{begin_line, transaction_name}
-use Rattle.iot_node.specs.declared.lines.Transaction.{Transaction}
-use Rattle.iot_exchange.proofs.DoesLaws.{hands_on, then_tells, ready_after, stands, any_ready}
+use Rattle.iot_exchange.specs.Words.{transaction_of, class_of, begin_line, transaction_name, Transaction}
+use Rattle.iot_exchange.proofs.DoesLaws.{hands_on, then_tells, ready_after}
 use Rattle.iot_exchange.proofs.TransactionsLaws.{begun_said, none_said}
 use Rattle.iot_exchange.proofs.transactions.begin_aloud.Goals as goal
-
-pub begin-requires : goal.begin-requires
-begin-requires g c = any_ready c.requires.ready
 
 pub returns-in_err-begin : goal.returns-in_err-begin
 returns-in_err-begin g c scripts on_conflict means =
     hands_on c.in_err-begin.was c.from_residual.ensures.1 (c.begin.ensures scripts on_conflict means)
 
 pub running-requires : goal.running-requires
-running-requires g c = stands (any_ready (ready_after c.in_ok-begin.was
-    (c.begin.ensures c.requires.scripts c.requires.meant.on_conflict c.requires.meant.means) c.requires.ready))
+running-requires g c = (ready_after c.in_ok-begin.was
+    (c.begin.ensures c.requires.scripts c.requires.meant.on_conflict c.requires.meant.means) c.requires.ready.stands).ready.alive
 
 pub returns-in_ok-say_begin-in-Some : goal.returns-in_ok-say_begin-in-Some
 returns-in_ok-say_begin-in-Some g c scripts on_conflict means =

@@ -1,11 +1,8 @@
-use Rattle.iot_exchange.proofs.DoesLaws.{none_yet, one_more, last_round, halted_round, all_rounds, ready_after, any_ready, keeps_same}
+use Rattle.iot_exchange.proofs.DoesLaws.{none_yet, one_more, last_round, halted_round, all_rounds, ready_after}
 use Rattle.iot_exchange.proofs.transactions.steps.Goals as goal
 
 pub steps-init : goal.steps-init
 steps-init g c = ((λ scripts. none_yet), c.requires)
-
-pub step-requires : goal.step-requires
-step-requires g c = c.steps.invariant.1
 
 pub returns-in_err-step : goal.returns-in_err-step
 returns-in_err-step g c scripts =
@@ -18,8 +15,8 @@ returns-then-not-branch g c scripts =
 pub steps-preserved : goal.steps-preserved
 steps-preserved g c = (
   (λ scripts. one_more (c.steps.invariant.0 scripts) c.steps-test.true (c.step.ensures scripts) c.in_ok-step.was c.if-not-branch.false),
-  any_ready (ready_after c.in_ok-step.was (c.step.ensures _) c.steps.invariant.1.is),
+  (ready_after c.in_ok-step.was (c.step.ensures _) c.steps.invariant.1.stands).ready,
 )
 
 pub returns : goal.returns
-returns g c scripts = all_rounds (c.steps.invariant.0 scripts) c.steps-test.false (keeps_same c.steps.invariant.1)
+returns g c scripts = all_rounds (c.steps.invariant.0 scripts) c.steps-test.false c.steps.invariant.1.keeps

@@ -1,6 +1,5 @@
 use Rattle.std.proofs.Common.{List}
-use Rattle.iot_machine.specs.Clients.{Declared}
-use Rattle.iot_machine.specs.Transactions.{Steps}
+use Rattle.iot_exchange.specs.Words.{Declared, Steps}
 use Rattle.iot_exchange.specs.Pairs.{two, IsReady}
 use Rattle.iot_exchange.proofs.DoesLaws.{SoFar}
 use Rattle.iot_exchange.proofs.transactions.steps.Given as goal

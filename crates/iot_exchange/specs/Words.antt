@@ -1,0 +1,88 @@
+-- The words of the contracts and of their proofs, from one place.
+pub use Rattle.std.specs.Prelude.{Bool, Err, IfErr, IfOk, IfSome, List, None, Ok, OnOk, Option, Result, Some, Vec, [], codes, false}
+pub use Rattle.std.specs.Prelude.{if◌then◌else◌, leb, length, map, slice_get, true, ℕ, ◌++◌, ◌+◌, ◌-◌, ◌<◌, ◌∷◌, ◌≡◌, ◌≤◌}
+pub use Rattle.iot_text.specs.Paths.{path_cmp}
+pub use Rattle.iot_tree.specs.Snapshots.{is_known, known, paths_where}
+pub use Rattle.iot_tree.specs.Tree.{IsWhole, Nodes, Path, Row, root_alone}
+pub use Rattle.iot_tree.specs.declared.acts.Read.{Read}
+pub use Rattle.iot_tree.specs.declared.labels.OnConflict.TheVariants.{Abort, Manual, Reexec, Resolver}
+pub use Rattle.iot_tree.specs.declared.labels.Way.TheVariants.{Certified}
+pub use Rattle.iot_tree.specs.declared.limits.TheConstants.{ACT_LIMIT}
+pub use Rattle.iot_tree.specs.declared.nodes.Node.TheVariants.{FarDir}
+pub use Rattle.iot_tree.specs.declared.want.Want.{Want}
+pub use Rattle.iot_disk.specs.Disk.{Medium}
+pub use Rattle.iot_lang.specs.Code.{Code}
+pub use Rattle.iot_acts.specs.Traces.{after_acts}
+pub use Rattle.iot_acts.specs.Turns.{reads_of}
+pub use Rattle.iot_exec.specs.Files.{files_of}
+pub use Rattle.iot_event.specs.Declarations.{ResolverIsDeclared}
+pub use Rattle.iot_event.specs.declared.event.Choice.{Choice}
+pub use Rattle.iot_event.specs.declared.event.Task.{Task}
+pub use Rattle.iot_link.specs.Links.{passage}
+pub use Rattle.iot_link.specs.declared.passages.Passage.{Passage}
+pub use Rattle.iot_link.specs.declared.passages.Passage.TheVariants.{Away, Both, ReplyLost, RequestLost}
+pub use Rattle.iot_queue.specs.declared.items.Item.{Item}
+pub use Rattle.iot_queue.specs.declared.items.Resolution.{Resolution}
+pub use Rattle.iot_queue.specs.declared.items.Stage.{Stage}
+pub use Rattle.iot_kept.specs.Changes.{HeadIs, IsByHand, IsInConflict, IsSubmitted, IsSubmittedIn}
+pub use Rattle.iot_kept.specs.Memory.{class_of, transaction_of}
+pub use Rattle.iot_kept.specs.States.{State}
+pub use Rattle.iot_wire.specs.Meanings.{IsRefresh}
+pub use Rattle.iot_wire.specs.Messages.{IsOneMessage}
+pub use Rattle.iot_wire.specs.Rules.{IsReply}
+pub use Rattle.iot_wire.specs.Spelling.{reply_spelling}
+pub use Rattle.iot_client.specs.Calls.{is_over_if_any, may_end}
+pub use Rattle.iot_client.specs.Messages.{way_of}
+pub use Rattle.iot_client.specs.Ties.{Live, class_by}
+pub use Rattle.iot_client.specs.declared.steps.Step.{Step}
+pub use Rattle.iot_inspect.specs.declared.waiting.RunLine.{RunLine}
+pub use Rattle.iot_judging.specs.Verdicts.{SpellsVerdict}
+pub use Rattle.iot_machine.specs.Calls.{Answers, Asks, At, Call, Gets, Goes, OrSays, Repeats, Tells, Then, Try, Whole, either, or_text}
+pub use Rattle.iot_machine.specs.Calls.{unless_over}
+pub use Rattle.iot_machine.specs.Clients.{AtEnd, AtLimit, ClientState, Declared, Next, Plan, Resolved, act_once, base, begin, end, fetch}
+pub use Rattle.iot_machine.specs.Clients.{hold, leave, local_run, new_client, next_away, next_by, next_step, plan_by, plan_of, reach}
+pub use Rattle.iot_machine.specs.Clients.{repair, resolution_of, so_far}
+pub use Rattle.iot_machine.specs.Events.{BeginsAloud, Closes, Discards, Drains, Hoards, IfUp, ReadsOf, Refreshes, Repairs, Runs, StepsAloud}
+pub use Rattle.iot_machine.specs.Events.{chosen, is_drained, place_text, run_steps, running_of, runs_script, says_reads, step_text}
+pub use Rattle.iot_machine.specs.Events.{task_part}
+pub use Rattle.iot_machine.specs.Machine.{Client, Commit, Pair, break, its_server, kept, no_script, script_at}
+pub use Rattle.iot_machine.specs.Nodes.{Node}
+pub use Rattle.iot_machine.specs.Options.{OnConflict}
+pub use Rattle.iot_machine.specs.Recorded.{items_kept, queue_kept, stage_kept}
+pub use Rattle.iot_machine.specs.Serving.{Conflict, Judges, Lends, Settled, Submission, Verdict}
+pub use Rattle.iot_machine.specs.Sound.{CanResolve, IsPlanned}
+pub use Rattle.iot_machine.specs.Stops.{Appends}
+pub use Rattle.iot_machine.specs.Texts.{abort_line, begin_line, conflict_line, discard_line, end_line, fetch_line, hoard_line, line}
+pub use Rattle.iot_machine.specs.Texts.{manual_line, pending_line, question_text, queue_text, refresh_line, repair_line, resolve_line}
+pub use Rattle.iot_machine.specs.Texts.{settled_line, step_line, transaction_name}
+pub use Rattle.iot_machine.specs.Transactions.{Begins, Brings, Ended, Ends, Exchange, Handles, Holds, IfManual, Moved, Notes, NotesAloud}
+pub use Rattle.iot_machine.specs.Transactions.{Refuses, Starts, Stays, Steps, Submits, Synced, Syncs, SyncsAll, Takes, Unanswered, end_by}
+pub use Rattle.iot_machine.specs.Transactions.{ended_of, exchange_by, fetched, holds, if_manual, if_runs, is_manual, is_queued, item_name}
+pub use Rattle.iot_machine.specs.Transactions.{joins, moves, next_of, pends, resolves, runs, step_by, step_of, submission_of, submits}
+pub use Rattle.iot_machine.specs.Transactions.{sync_at, sync_head, sync_if, syncs_or_waits, told, took, unless_stopped, waits_unless}
+pub use Rattle.iot_node.specs.Disks.{KeepsDisk}
+pub use Rattle.iot_node.specs.Lines.{name_of}
+pub use Rattle.iot_node.specs.Steps.{StepsTo}
+pub use Rattle.iot_node.specs.declared.halt.Halt.{Halt}
+pub use Rattle.iot_node.specs.declared.halt.Halt.TheVariants.{NoMemory, Over}
+pub use Rattle.iot_node.specs.declared.lines.Transaction.{Transaction}
+pub use Rattle.iot_server_node.specs.Messages.{IsSomeRequest, SpellsCut, said_of}
+pub use Rattle.iot_server_node.specs.Records.{KeepsRecords}
+pub use Rattle.iot_server_node.specs.Servers.{HavingAnswered, IsHanded, IsNamedIn, IsSubmission, ServerIsSound, ServerStands, ServesBy}
+pub use Rattle.iot_server_node.specs.Servers.{disk_of, is_up}
+pub use Rattle.iot_server_node.specs.declared.message.Message.{Message}
+pub use Rattle.iot_server_node.specs.declared.server.Served.{Served}
+pub use Rattle.iot_server_node.specs.declared.server.ServerNode.{ServerNode}
+pub use Rattle.iot_laptop.specs.Alone.{NotesAlone, StartsAlone, set_class}
+pub use Rattle.iot_laptop.specs.Calls.{AsksAll, Changes, EndsAlone, HandsIn, IsDoneIn, IsGone, IsHeadPlan, IsNext, IsOver, IsUnended}
+pub use Rattle.iot_laptop.specs.Calls.{NextIs, Plans, TakesStep, acts_in, decision, decision_on, done, head_name, head_option, head_plan}
+pub use Rattle.iot_laptop.specs.Calls.{head_reads, label_in, undecided_word}
+pub use Rattle.iot_laptop.specs.Kept.{ItemStands, ItemsStand, ResolutionStands, StageStands}
+pub use Rattle.iot_laptop.specs.Laptops.{ClientStands, IsFirst, LaptopStands, Relinked, RunningStands, RunningStandsIfAny, SamePlace}
+pub use Rattle.iot_laptop.specs.Laptops.{Stands, StandsAnyhow, after_passage, awake, disk_in, fallen, is_alive, live_in, state_in, waits_of}
+pub use Rattle.iot_laptop.specs.Messages.{BringsTree, IsVerdict, SpellsTree, told_change, verdict_of}
+pub use Rattle.iot_laptop.specs.Scripts.{HasNamed, IsNamed, ItemIsNamed, option_named, script_named}
+pub use Rattle.iot_laptop.specs.declared.laptop.Laptop.{Laptop}
+pub use Rattle.iot_laptop.specs.declared.needs.Gone.{Gone}
+pub use Rattle.iot_laptop.specs.declared.needs.Submitted.{Submitted}
+pub use Rattle.iot_laptop.specs.declared.needs.Undecided.{Undecided}
