@@ -1,16 +1,11 @@
 -- Of events that are declared the next one may come, and those behind it stay declared.
-use Rattle.std.proofs.Common.{◌≡◌, ℕ, ◌+◌, ◌<◌, suc, List, [], ◌∷◌, length, drop, slice_index_or}
-use Rattle.std.proofs.Common.{sym, ap, subst, ◌∙◌, add-one}
-use Rattle.std.proofs.Math.Seq.{drop-cons}
-use Rattle.iot_event.specs.Declarations.{AreDeclared, ClientEventIsDeclared}
-use Rattle.iot_event.specs.declared.event.ClientEvent.{ClientEvent}
+use Rattle.iot_world.proofs.Common.{◌≡◌, ℕ, ◌+◌, ◌<◌, List, [], ◌∷◌, length, drop, slice_index_or, sym, ap, subst, ◌∙◌, drop_more}
+use Rattle.iot_world.proofs.Common.{DeclaredOn, client_count, script_names}
+use Rattle.iot_world.specs.Prelude.{AreDeclared, ClientEventIsDeclared, ClientEvent, Event, World}
 use Rattle.iot_event.specs.declared.event.ClientEvent.TheVariants as client_events
-use Rattle.iot_event.specs.declared.event.Event.{Event}
 use Rattle.iot_event.specs.declared.event.Event.TheVariants as events
 use Rattle.iot_event.specs.declared.event.Task.TheVariants as tasks
 use Rattle.iot_world.specs.Allowed.{IsAllowed, MayBefall}
-use Rattle.iot_world.specs.World.{DeclaredOn, client_count, script_names}
-use Rattle.iot_world.specs.declared.world.World.{World}
 
 -- what a client may be asked, if it says what it may say
 may_befall : (what : ClientEvent ℕ) (scripts : ℕ) → ClientEventIsDeclared what scripts → MayBefall what scripts
@@ -38,9 +33,7 @@ declared_new world no_clients no_scripts events declared =
 -- what is left of a list behind so many is the next one and what is behind it
 pub next_is : {A : Type 0} (xs : List A) (done : ℕ) (x : A) → done < length xs → x ≡ slice_index_or xs done x
     → drop done xs ≡ x ∷ drop (done + 1) xs
-next_is xs done x within here =
-    drop-cons xs done x within ∙ ap (λ (y : _). y ∷ drop (suc done) xs) (sym here)
-    ∙ ap (λ (k : ℕ). x ∷ drop k xs) (sym (add-one done))
+next_is xs done x within here = drop_more xs done x within ∙ ap (λ (y : _). y ∷ drop (done + 1) xs) (sym here)
 
 -- so many events are done in turn, those behind them are declared, and this is the next one
 module _ {D : Type 0} (events : List Event) (done : ℕ) (event : Event) (world : World D) (declared : DeclaredOn (drop done events) world)

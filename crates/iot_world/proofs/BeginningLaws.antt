@@ -1,15 +1,7 @@
 -- What each image of the first disk begins with.
-use Rattle.std.proofs.Common.{ℕ, List, ◌++◌, length, Option, None, Some, inl, inr, refl}
-use Rattle.iot_disk.specs.Disk.{Medium}
-use Rattle.iot_machine.specs.Events.{names_in}
-use Rattle.iot_machine.specs.Machine.{Machine, Commit}
-use Rattle.iot_server_node.specs.Records.{BeginsWith, DiskBegins, records_of}
-use Rattle.iot_server_node.specs.Servers.{IsLongerIfAny, disk_of}
-use Rattle.iot_server_node.proofs.BeginningLaws.{stands_begin, own_begins, image_begins}
-use Rattle.iot_world.specs.Disks.{FirstBegins}
-use Rattle.iot_world.specs.Holding.{HoldsList, DisksHold}
-use Rattle.iot_world.specs.World.{StandsFor, SameArms, with_first, with_clients, disks_of}
-use Rattle.iot_world.specs.declared.world.World.{World}
+use Rattle.iot_world.proofs.Common.{ℕ, List, ◌++◌, length, Option, None, Some, inl, inr, refl, stands_begin, own_begins, image_begins}
+use Rattle.iot_world.proofs.Common.{FirstBegins, HoldsList, DisksHold, StandsFor, SameArms, with_first, with_clients, disks_of}
+use Rattle.iot_world.specs.Prelude.{Medium, names_in, Machine, Commit, BeginsWith, DiskBegins, records_of, IsLongerIfAny, disk_of, World}
 
 module _ {D : Type 0} (medium : Medium D) where
   first_begins : (commits : List Commit) (disk : Option D) (rest : List D) → DiskBegins medium (records_of commits) disk

@@ -1,50 +1,27 @@
 -- What is said of a record in doubt is decided by its images, also if it is said in a text of its own first.
-use Rattle.std.proofs.Common.{◌≡◌, ◌⊎◌, ℕ, ◌+◌, if◌then◌else◌, Bool, true, false, List, [], ◌++◌, length, Option, Some, None}
-use Rattle.std.proofs.Common.{slice_get, inl, inr, refl, sym, ap, subst, ◌∙◌, arith, append_assoc}
 use Rattle.std.proofs.lemmas.Bool.{le-leb, lt-leb}
-use Rattle.std.proofs.lemmas.List.{append-nil}
-use Rattle.iot_disk.specs.Disk.{Medium}
+use Rattle.iot_world.proofs.Common.{◌≡◌, ◌⊎◌, ℕ, ◌+◌, Bool, true, false, List, [], ◌++◌, length, Option, Some, None, ◌<◌, slice_index_or}
+use Rattle.iot_world.proofs.Common.{inl, inr, refl, sym, ap, subst, ◌∙◌, arith, append_assoc, append-nil, ClientIs}
+use Rattle.iot_world.specs.Prelude.{Medium, Event, NodeEvent, Declared, ClientState, Client, Node, server_name, stopped_line, kept_line}
+use Rattle.iot_world.specs.Prelude.{lost_line, Keeping, is_fallen, CameIf, back_said, Post, Down, lists, Came, ClientStands, StandsAnyhow}
+use Rattle.iot_world.specs.Prelude.{Result, Ok, Err, OnOk, IsClientImage, seating, Laptop, Seated, World}
 use Rattle.iot_event.specs.declared.event.ClientEvent.TheVariants as client_events
-use Rattle.iot_event.specs.declared.event.Event.{Event}
 use Rattle.iot_event.specs.declared.event.Event.TheVariants as events
-use Rattle.iot_event.specs.declared.event.NodeEvent.{NodeEvent}
 use Rattle.iot_event.specs.declared.event.NodeEvent.TheVariants as nodes
 use Rattle.iot_journal.specs.Decoding.{Encodes}
-use Rattle.iot_machine.specs.Clients.{Declared, ClientState}
-use Rattle.iot_machine.specs.Machine.{Client}
-use Rattle.iot_machine.specs.Nodes.{Node}
-use Rattle.iot_machine.specs.Serving.{server_name}
-use Rattle.iot_machine.specs.Texts.{stopped_line, kept_line, lost_line}
-use Rattle.iot_node.specs.Keeping.{Keeping}
-use Rattle.iot_node.specs.Posts.{is_fallen, CameIf, back_said}
 use Rattle.iot_node.specs.declared.post.Doubt.{Doubt}
-use Rattle.iot_node.specs.declared.post.Post.{Post}
-use Rattle.iot_node.specs.declared.post.Post.TheVariants.{Down}
 use Rattle.iot_server_node.specs.Deciding as servers
-use Rattle.iot_server_node.specs.Deciding.{HasCount, Begins, DecidesBy, DecidesIfAny, DecidesServer}
-use Rattle.iot_server_node.specs.Keepers.{lists}
+use Rattle.iot_server_node.specs.Deciding.{HasCount, Begins, DecidesBy, DecidesIfAny}
 use Rattle.iot_server_node.specs.declared.keeper.ServerKeeper.{ServerKeeper}
-use Rattle.iot_laptop.specs.Calls.{Came}
-use Rattle.iot_laptop.specs.Laptops.{ClientStands, StandsAnyhow}
-use Rattle.std.specs.Prelude.{Result, Ok, Err, OnOk}
-use Rattle.iot_laptop.specs.Seats.{IsClientImage, seating}
-use Rattle.iot_laptop.specs.declared.laptop.Laptop.{Laptop}
-use Rattle.iot_laptop.specs.declared.seated.Seated.{Seated}
-use Rattle.iot_world.specs.Deciding.{DecidesPost, DecidesClient, ClientDecides, ServerDecides, Decides}
-use Rattle.iot_world.specs.World.{ClientIs}
-use Rattle.iot_world.specs.declared.world.World.{World}
-use Rattle.iot_world.proofs.LendingLaws.{one_at}
+use Rattle.iot_world.specs.Deciding.{DecidesPost, DecidesClient, ClientDecides, Decides}
+use Rattle.iot_world.proofs.ListLaws.{looked_up, one_at}
 
 begins_whole : (text x y : List ℕ) → y ≡ x ++ text → Begins text x y
 begins_whole text x y wrote = record { rest = []; is = wrote ∙ ap (λ (t : List ℕ). x ++ t) (sym (append-nil text)) }
 
-begins_more : (text x y z more : List ℕ) → z ≡ y ++ more → Begins text x y → Begins text x z
-begins_more text x y z more wrote begins = record {
-  rest = begins.rest ++ more;
-  is =
-      wrote ∙ ap (λ (t : List ℕ). t ++ more) begins.is ∙ append_assoc x (text ++ begins.rest) more
-      ∙ ap (λ (t : List ℕ). x ++ t) (append_assoc text begins.rest more);
-}
+-- also within a longer text
+begins_in : (text more rest : List ℕ) {x mid y said : List ℕ} → y ≡ mid ++ rest → mid ≡ x ++ said → said ≡ text ++ more → Begins text x y
+begins_in text more rest whole wrote is = record { rest = more ++ rest; is = rw (whole, wrote, is) (simp append_assoc) }
 
 -- ---- a client that comes back
 
@@ -62,28 +39,19 @@ module _ (images : List ℕ → Type 0) (doubt : Doubt) (name x mid y rest : Lis
       → mid ≡ x ++ back_said name (Some doubt) n → DecidesBy images doubt.count name x y
   by_image bytes n m left is wrote = record {
     kept = λ all.
-        let many : n ≡ doubt.count + 1 = many_there bytes n m (doubt.count + 1) is (all.each bytes left) in
-        inl (begins_more (kept_line name) x mid y rest whole (record {
-          rest = doubt.lines;
-          is = wrote
-              ∙ ap (λ (less : Bool). x ++ (if less then lost_line name else kept_line name ++ doubt.lines))
-              (lt-leb n doubt.count (omega (arith, many)));
-        }));
+        let many = many_there bytes n m (doubt.count + 1) is (all.each bytes left) in
+        inl (begins_in (kept_line name) doubt.lines rest whole wrote (rw (lt-leb n doubt.count (omega (arith, many))) refl));
     lost = λ all.
-        let many : n ≡ doubt.count = many_there bytes n m doubt.count is (all.each bytes left) in
-        inl (begins_more (lost_line name) x mid y rest whole (begins_whole (lost_line name) x mid
-        (wrote
-        ∙ ap (λ (less : Bool). x ++ (if less then lost_line name else kept_line name ++ doubt.lines))
-        (le-leb n doubt.count (omega (arith, many))))));
+        let many = many_there bytes n m doubt.count is (all.each bytes left) in
+        inl (begins_in (lost_line name) [] rest whole wrote
+        (rw (le-leb n doubt.count (omega (arith, many))) (sym (append-nil (lost_line name)))));
   }
 
 -- or it has stopped again
 stopped_again : (images : List ℕ → Type 0) (count : ℕ) (name x y : List ℕ) → y ≡ x ++ stopped_line name
     → DecidesBy images count name x y
-stopped_again images count name x y wrote = record {
-  kept = λ all. inr (begins_whole (stopped_line name) x y wrote);
-  lost = λ all. inr (begins_whole (stopped_line name) x y wrote);
-}
+stopped_again images count name x y wrote =
+    let it = begins_whole (stopped_line name) x y wrote in record { kept = λ all. inr it; lost = λ all. inr it }
 
 module _ {D : Type 0} (medium : Medium D) (place : ℕ) (name x mid y rest : List ℕ) (node : Node ClientState) (whole : y ≡ mid ++ rest) where
   by_doubt : (disk : D) (doubt : Option Doubt) (on : Bool)
@@ -114,23 +82,20 @@ module _ {D : Type 0} (medium : Medium D) where
 
   -- of the client at a place
   pub decides_here : (world : World D) (c : ℕ) (what : NodeEvent) (laptop : Laptop D) (x y : List ℕ)
-      → slice_get world.clients.items c ≡ Some laptop → ClientDecides medium what x y laptop
+      → c < length world.clients.items → laptop ≡ slice_index_or world.clients.items c laptop → ClientDecides medium what x y laptop
       → ClientIs (ClientDecides medium what x y) c world
-  decides_here world c what laptop x y get decides other at =
-      subst (ClientDecides medium what x y) (one_at world.clients.items c laptop other get at) decides
+  decides_here world c what laptop x y inside value decides other at =
+      subst (ClientDecides medium what x y) (one_at world.clients.items c laptop other (looked_up _ _ _ _ refl inside value) at) decides
 
 -- ---- a text that was said apart, and then stands behind another
 
-begins_behind : (text x y said : List ℕ) → y ≡ x ++ said → Begins text [] said → Begins text x y
-begins_behind text x y said wrote begins = record {
-  rest = begins.rest;
-  is = wrote ∙ ap (λ (t : List ℕ). x ++ t) begins.is;
-}
-
 module _ (x y said : List ℕ) (wrote : y ≡ x ++ said) where
+  begins_behind : (text : List ℕ) → Begins text [] said → Begins text x y
+  begins_behind text begins = begins_in text begins.rest [] (sym (append-nil y)) wrote begins.is
+
   either_behind : (one other : List ℕ) → Begins one [] said ⊎ Begins other [] said → Begins one x y ⊎ Begins other x y
-  either_behind one other (inl begins) = inl (begins_behind one x y said wrote begins)
-  either_behind one other (inr begins) = inr (begins_behind other x y said wrote begins)
+  either_behind one other (inl begins) = inl (begins_behind one begins)
+  either_behind one other (inr begins) = inr (begins_behind other begins)
 
   if_any_behind : (images : List ℕ → Type 0) (doubt : Option Doubt) (name : List ℕ) → DecidesIfAny images doubt name [] said
       → DecidesIfAny images doubt name x y
@@ -163,8 +128,8 @@ module _ {D : Type 0} (medium : Medium D) (x y said : List ℕ) (wrote : y ≡ x
   post_behind (Down fallen) name decides = if_any_behind x y said wrote (medium.may_leave fallen.disk) fallen.doubt name decides
   post_behind post name decides = tt
 
-  client_behind : (laptop : Laptop D) → DecidesClient medium [] said laptop → DecidesClient medium x y laptop
-  client_behind laptop decides = record {
+  node_behind : (what : NodeEvent) (laptop : Laptop D) → ClientDecides medium what [] said laptop → ClientDecides medium what x y laptop
+  node_behind nodes.Restart laptop decides = record {
     by_all = post_behind laptop.post laptop.name decides.by_all;
     by_image = λ down scripts m here.
         let it = decides.by_image down scripts m here in
@@ -173,26 +138,18 @@ module _ {D : Type 0} (medium : Medium D) (x y said : List ℕ) (wrote : y ≡ x
           mid = x ++ it.mid;
           rest = it.rest;
           came = came_behind x (x ++ it.mid) it.mid refl (seating medium laptop.place) medium it.on laptop.post laptop.name m.node it.came;
-          whole = wrote ∙ ap (λ (t : List ℕ). x ++ t) it.whole ∙ sym (append_assoc x it.mid it.rest);
+          whole = rw (wrote, it.whole) (sym (append_assoc x it.mid it.rest));
           stopped = λ off. wrote ∙ ap (λ (t : List ℕ). x ++ t) (it.stopped off);
         };
   }
-
-  node_behind : (what : NodeEvent) (laptop : Laptop D) → ClientDecides medium what [] said laptop → ClientDecides medium what x y laptop
-  node_behind nodes.Restart laptop decides = client_behind laptop decides
   node_behind what laptop decides = tt
 
-  restart_behind : (what : NodeEvent) (old new : World D) → ServerDecides medium what old new [] said
-      → ServerDecides medium what old new x y
-  restart_behind nodes.Restart old new decides = record {
+  -- what is decided in the text of its own still is
+  pub decides_behind : (event : Event) (old new : World D) → Decides medium event old new [] said → Decides medium event old new x y
+  decides_behind (events.Server nodes.Restart) old new decides = record {
     by_all = server_behind old.server.post decides.by_all;
     by_image = λ names n node here.
         came_behind x y said wrote (lists medium) medium _ old.server.post server_name node (decides.by_image names n node here);
   }
-  restart_behind what old new decides = tt
-
-  -- what is decided in the text of its own still is
-  pub decides_behind : (event : Event) (old new : World D) → Decides medium event old new [] said → Decides medium event old new x y
-  decides_behind (events.Server what) old new decides = restart_behind what old new decides
   decides_behind (events.At c (client_events.Node what)) old new decides = λ laptop get. node_behind what laptop (decides laptop get)
   decides_behind event old new decides = tt

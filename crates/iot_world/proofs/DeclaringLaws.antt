@@ -1,60 +1,106 @@
--- A client or a script that is declared in a world is declared in the machine.
-use Rattle.std.proofs.Common.{◌≡◌, ℕ, suc, ◌+◌, Bool, true, false, List, [], ◌∷◌, ◌++◌, length, map, drop, slice_set}
-use Rattle.std.proofs.Common.{slice_index_or, append_assoc, Some, refl, sym, ap, subst, ◌∙◌, arith}
-use Rattle.std.proofs.Math.Seq.{get_or-append_seam, set-append_seam}
-use Rattle.std.proofs.lemmas.List.{append-nil, length-append, map-append}
-use Rattle.std.specs.List.{AllByRecursion}
-use Rattle.std.specs.Vec.{vec_len, vec_capacity}
-use Rattle.iot_disk.specs.Disk.{Medium}
-use Rattle.iot_lang.specs.Code.{Code}
-use Rattle.iot_event.specs.Meanings.{is_declared}
-use Rattle.iot_event.specs.declared.event.Event.TheVariants as events
-use Rattle.iot_machine.specs.Calls.{Says, goes_on}
-use Rattle.iot_machine.specs.Clients.{Declared}
-use Rattle.iot_machine.specs.Events.{Declares, names_in, client_of, add_client, declare_script, event_part}
-use Rattle.iot_machine.specs.Machine as machine
-use Rattle.iot_machine.specs.Machine.{Machine, first_of, client_in, client_at, no_client}
-use Rattle.iot_machine.specs.Nodes.{Counts}
-use Rattle.iot_machine.specs.Stops.{OpensNode}
-use Rattle.iot_machine.specs.Texts.{client_line}
-use Rattle.iot_node.specs.Disks.{IsEmpty, KeepsDisk, counts_on}
-use Rattle.iot_server_node.specs.Servers.{ServerStands}
-use Rattle.iot_server_node.proofs.ServersLaws.{more_names}
-use Rattle.iot_laptop.specs.Laptops.{FallenStands, ClientStands, fallen, unopened_laptop, disk_in}
-use Rattle.iot_laptop.specs.Scripts.{script_named}
-use Rattle.iot_laptop.specs.declared.laptop.Laptop.{Laptop}
+-- A new world is that of a machine that has opened, and what is declared in a world is declared in the machine.
+use Rattle.iot_world.proofs.Common.{◌≡◌, ℕ, ◌<◌, Bool, List, [], ◌∷◌, length, map, Some, refl, sym, ap, subst, ◌∙◌, arith, suc, ◌+◌, true}
+use Rattle.iot_world.proofs.Common.{false, ◌++◌, drop, append_assoc, get_or-append_seam, set-append_seam, append-nil, length-append}
+use Rattle.iot_world.proofs.Common.{map-append, sound_opening, AreFresh, ArePlaced, AreUnarmed, GivesBack, Opens, with_first, with_clients}
+use Rattle.iot_world.proofs.Common.{StandsFor, MakesStep, KeepsDisks, SameArms, DeclaresClient, Starts, AddsScript, LaptopHasDisk}
+use Rattle.iot_world.proofs.Common.{client_count, script_names, said_of, more_names, commits_same, all_push}
+use Rattle.iot_world.specs.Prelude.{IsSome, Vec, is_some, Result, Ok, Err, OnOk, vec_len, vec_capacity, Medium, Machine, handed, first_of}
+use Rattle.iot_world.specs.Prelude.{client_in, client_at, no_client, Counts, unopened, server_name, OpensNode, Opening, KeepsDisk}
+use Rattle.iot_world.specs.Prelude.{counts_on, IsEmpty, StepsTo, disk_of, ServerStands, HavingAnswered, KeepsCommits, ServerNode, Laptop}
+use Rattle.iot_world.specs.Prelude.{DeclaredScript, World, AllByRecursion, Code, is_declared, Says, goes_on, Declared, Declares, names_in}
+use Rattle.iot_world.specs.Prelude.{client_of, add_client, declare_script, event_part, client_line, ClientStands, disk_in, script_named}
+use Rattle.iot_world.specs.Prelude.{Global}
 use Rattle.iot_exchange.specs.Scripts as exchange
-use Rattle.iot_exchange.specs.Scripts.{AreApart}
-use Rattle.iot_exchange.specs.declared.declared.DeclaredScript.{DeclaredScript}
-use Rattle.iot_world.specs.World.{StandsFor, MakesStep, ArePlaced, KeepsDisks, SameArms, DeclaresClient, Starts, AddsScript}
-use Rattle.iot_world.specs.World.{LaptopHasDisk, client_count, script_names, said_of}
-use Rattle.std.specs.Prelude.{Vec, is_some, Result, Ok, Err, OnOk}
-use Rattle.std.specs.declared.alloc.Global.{Global}
-use Rattle.iot_server_node.specs.Servers.{disk_of}
-use Rattle.iot_server_node.proofs.BeginningLaws.{commits_same}
-use Rattle.iot_world.specs.declared.world.World.{World}
-use Rattle.iot_machine.proofs.FollowsLaws.{all_push}
-use Rattle.iot_world.proofs.DisksLaws.{pushed_with, here_follows, kept_follows, same_clients, clients_follow, unarmed_same}
+use Rattle.iot_world.proofs.DisksLaws.{kept_follows, unarmed_same, pushed_with, here_follows, same_clients, clients_follow}
+use Rattle.iot_world.proofs.WorldsLaws.{then_silent, opens_keeps, gets_then}
+use Rattle.iot_event.specs.declared.event.Event.TheVariants as events
+use Rattle.iot_machine.specs.Machine as machine
+use Rattle.iot_laptop.specs.Laptops.{FallenStands, fallen, unopened_laptop}
 use Rattle.iot_world.proofs.ListLaws.{each_push, each_place_push}
-use Rattle.iot_world.proofs.NamesLaws.{opens_keeps}
 use Rattle.iot_world.proofs.ScriptsLaws.{clients_more, apart_more, undeclared}
 
--- A client joins: it is put at the end, on the first of the spare disks, and is looked up there; then another one stands at that place.
+-- ---- a new world
+
+module _ {D : Type 0} (medium : Medium D) (disks : List D) (first : D) (rest : List D) (split : disks ≡ first ∷ rest)
+    (fresh : AreFresh medium disks) where
+  -- a world of its server alone
+  pub opens : (world : World D) (was : ServerNode D) (x y : List ℕ) (on : Bool)
+      → ServerStands medium [] was (unopened [] (counts_on medium first)) 0
+      → StepsTo (HavingAnswered medium [] 0) (HavingAnswered medium [] 0) (OpensNode server_name) was world.server x y on
+      → IsSome (disk_of world.server) → world.clients.items ≡ [] → world.scripts.items ≡ [] → world.spare.items ≡ rest
+      → vec_len world.spare < vec_capacity world.spare → Opens medium disks x y world
+  opens world was x y on stands one some clients scripts spare room =
+      let counts : List Counts = map (counts_on medium) disks in
+      let s = one.step (unopened [] (counts_on medium first)) stands in
+      let m : Machine = record (handed (map (counts_on medium) (first ∷ rest))) { server = s.1 } in
+      let step : Opening (handed counts) s.0 tt m =
+      rw split (then_silent m on (record { inner = s.1; step = s.3; is = refl }) (refl, refl)) in
+      record {
+        machine = m;
+        text = s.0;
+        wrote = s.2;
+        step = step;
+        stands = record {
+          stands = record {
+            server = s.4;
+            clients_ = rw clients tt;
+            scripts = ap (λ (ss : List DeclaredScript). exchange.scripts_of ss) (sym scripts);
+            apart = λ place script at. absurd cc;
+            placed = subst ArePlaced (sym clients) (λ place laptop at. absurd cc);
+            spare = rw spare (rw split at fresh.each).1;
+            counts = ap (map (counts_on medium)) spare;
+            eight = omega (arith, ap length clients, ap length spare, ap length split, fresh.nine);
+          };
+          sound = sound_opening counts m s.0 step;
+        };
+        no_clients = ap length clients;
+        no_scripts = ap (map (λ (s : DeclaredScript). s.name)) scripts;
+        has = record {
+          server = some;
+          clients = rw clients tt;
+          room = omega (arith, ap length clients, room);
+        };
+        first = first;
+        were = split ∙ ap (λ (ds : List D). first ∷ ds) (sym spare);
+      }
+
+  -- in which no disk was armed
+  module _ (was now : ServerNode D) (has : disk_of was ≡ Some first) (keeps : KeepsDisk medium (disk_of was) (disk_of now)) where
+    unarmed_with : AreUnarmed medium (first ∷ rest) (with_first (disk_of now) rest)
+    unarmed_with = rw has at (kept_follows medium (disk_of was) (disk_of now) keeps rest rest (unarmed_same medium rest))
+
+    pub opens_unarmed : (laptops : List (Laptop D)) (spare : List D) → laptops ≡ [] → spare ≡ rest
+        → AreUnarmed medium disks (with_first (disk_of now) (with_clients laptops spare))
+    opens_unarmed laptops spare none others = rw (split, none, others) unarmed_with
+
+    -- the disks come back
+    pub gives_back : (back : List D) (disk : D) → disk_of now ≡ Some disk → back ≡ disk ∷ rest
+        → ServerStands medium [] was (unopened [] (counts_on medium first)) 0 → KeepsCommits medium was now → GivesBack medium disks back
+    gives_back back disk is put stands commits = record {
+      was = first;
+      now = disk;
+      rest = rest;
+      disks_are = split;
+      back_are = put;
+      unarmed = (rw is at unarmed_with).0;
+      begins = record {
+        first = disk;
+        rest = rest;
+        is = put;
+        begins = rw is at (commits.keeps [] (unopened [] (counts_on medium first)) 0 stands);
+      };
+    }
+
+-- ---- a client or a script
+
+-- A client joins: it takes the first of the spare disks, starts, and is put at the end.
 module _ {D : Type 0} (medium : Medium D) (name : List ℕ) (old : World D) (clients : Vec (Laptop D) Global) (rest : Vec D Global) (disk : D)
-    (laptop was next : Laptop D) (pushed : List (Laptop D)) (place : ℕ) (push : pushed ≡ old.clients.items ++ laptop ∷ [])
-    (at : place ≡ client_count old) (put : clients.items ≡ slice_set pushed place next) (found : was ≡ slice_index_or pushed place was)
-    (spare : old.spare.items ≡ disk ∷ rest.items) where
+    (was next : Laptop D) (push : clients.items ≡ old.clients.items ++ next ∷ []) (spare : old.spare.items ≡ disk ∷ rest.items) where
   abbrev joined : World D
   joined = record old { clients = clients; spare = rest }
 
-  changed : clients.items ≡ old.clients.items ++ next ∷ []
-  changed = put ∙ (λ i. slice_set (push i) (at i) next) ∙ set-append_seam old.clients.items laptop [] next
-
-  unchanged : was ≡ laptop
-  unchanged = found ∙ (λ i. slice_index_or (push i) (at i) was) ∙ get_or-append_seam old.clients.items laptop [] was
-
   one_more : length clients.items ≡ length old.clients.items + 1
-  one_more = ap length changed ∙ length-append old.clients.items (next ∷ [])
+  one_more = ap length push ∙ length-append old.clients.items (next ∷ [])
 
   pub joins : {T E : Type 0} (r : Result T E) → OnOk r (DeclaresClient old joined)
   joins (Ok done) = record { clients = one_more; scripts = refl }
@@ -62,15 +108,15 @@ module _ {D : Type 0} (medium : Medium D) (name : List ℕ) (old : World D) (cli
 
   -- ---- its disk
 
-  module _ (has : disk_in laptop ≡ Some disk) (keeps : KeepsDisk medium (disk_in was) (disk_in next)) where
+  module _ (has : disk_in was ≡ Some disk) (keeps : KeepsDisk medium (disk_in was) (disk_in next)) where
     same : KeepsDisk medium (Some disk) (disk_in next)
-    same = subst (λ o. KeepsDisk medium o (disk_in next)) (ap (λ (l : Laptop D). disk_in l) unchanged ∙ has) keeps
+    same = rw has at keeps
 
     pub joined_keeps : vec_len rest + 1 ≡ vec_len old.spare → vec_capacity rest ≡ vec_capacity old.spare → KeepsDisks old joined
     joined_keeps len capacity = record {
       has = λ has. record {
         server = has.server;
-        clients = rw changed (all_push LaptopHasDisk old.clients.items next (ap is_some same.new_has) has.clients);
+        clients = rw push (all_push LaptopHasDisk old.clients.items next (ap is_some same.new_has) has.clients);
         room = omega (arith, one_more, len, capacity, has.room);
       };
       spare = record { front = disk ∷ []; split = spare };
@@ -79,7 +125,7 @@ module _ {D : Type 0} (medium : Medium D) (name : List ℕ) (old : World D) (cli
     pub joined_arms : SameArms medium 1 old joined
     joined_arms = record {
       each = here_follows medium (disk_of old.server) _ _
-          (rw (changed, spare, pushed_with old.clients.items next rest.items)
+          (rw (push, spare, pushed_with old.clients.items next rest.items)
           (clients_follow medium old.clients.items old.clients.items _ _ (same_clients medium old.clients.items)
           (kept_follows medium (Some disk) (disk_in next) same rest.items rest.items (unarmed_same medium rest.items))));
       spare = let more : length old.spare.items ≡ suc (length rest.items) = ap length spare in omega (arith, more);
@@ -88,8 +134,8 @@ module _ {D : Type 0} (medium : Medium D) (name : List ℕ) (old : World D) (cli
 
   -- ---- the machine declares it
 
-  module _ (knows : laptop.place ≡ place) (stays : next.place ≡ was.place)
-      (unopened : (scripts : List Declared) → FallenStands medium scripts laptop (unopened_laptop name (counts_on medium disk))) where
+  module _ (knows : was.place ≡ client_count old) (stays : next.place ≡ was.place)
+      (unopened : (scripts : List Declared) → FallenStands medium scripts was (unopened_laptop name (counts_on medium disk))) where
     module _ (m : Machine) (here : StandsFor medium old m) where
       counts_are : counts_on medium disk ∷ map (counts_on medium) rest.items ≡ m.spare
       counts_are = ap (map (counts_on medium)) (sym spare) ∙ here.counts
@@ -101,13 +147,12 @@ module _ {D : Type 0} (medium : Medium D) (name : List ℕ) (old : World D) (cli
             subst (λ (names : List (List ℕ)). ServerStands medium names old.server m.server m.requests)
             (sym (map-append (λ (k : machine.Client). k.name) m.clients (k ∷ [])))
             (rw called (more_names medium (names_in m) name old.server m.server m.requests here.server));
-        clients_ = rw changed (each_push (ClientStands medium m.scripts) old.clients.items m.clients next k started here.clients_);
+        clients_ = rw push (each_push (ClientStands medium m.scripts) old.clients.items m.clients next k started here.clients_);
         scripts = here.scripts;
         apart = here.apart;
         placed =
-            subst ArePlaced (sym changed)
-            (each_place_push (λ n (l : Laptop D). l.place ≡ n) old.clients.items next here.placed
-            (stays ∙ ap (λ (l : Laptop D). l.place) unchanged ∙ knows ∙ at));
+            subst ArePlaced (sym push)
+            (each_place_push (λ n (l : Laptop D). l.place ≡ n) old.clients.items next here.placed (stays ∙ knows));
         spare = (subst (AllByRecursion (IsEmpty medium)) spare here.spare).1;
         counts = ap (drop 1) counts_are;
         eight = omega (arith, here.eight, ap length spare, one_more);
@@ -123,39 +168,31 @@ module _ {D : Type 0} (medium : Medium D) (name : List ℕ) (old : World D) (cli
           let there : ClientStands medium m.scripts was (client_in m' c) =
           subst (ClientStands medium m.scripts was)
           (ap (λ (cs : List Counts). unopened_laptop name (first_of cs)) (counts_are m here) ∙ sym is)
-          (rw unchanged (fallen (unopened m.scripts))) in
+          (fallen (unopened m.scripts)) in
           let s = (starts.opens m.scripts).step (client_in m' c) there in
           let said : List ℕ = said_of starts.on name in
           let n : Machine = (client_at c).set s.1 m' in (
             s.0 ++ said,
             n,
             starts.says ∙ ap (λ (t : List ℕ). t ++ said) s.2 ∙ append_assoc x s.0 said,
-            record {
-              mid = m';
-              front = [];
-              rest = s.0 ++ said;
-              answer = c;
-              first = (refl, refl, refl);
-              second = record {
-                mid = n;
-                front = s.0;
-                rest = said;
-                answer = starts.on;
-                first = record {
-                  inner = s.1;
-                  step = record {
-                    inner = s.3.inner;
-                    step = subst (λ (k : List ℕ). OpensNode k (client_in m' c).node s.0 starts.on s.3.inner)
-                        (ap (λ (k : machine.Client). k.name) is) s.3.step;
-                    is = s.3.is;
-                  };
-                  is = refl;
+            gets_then (record {
+              mid = n;
+              front = s.0;
+              rest = said;
+              answer = starts.on;
+              first = record {
+                inner = s.1;
+                step = record {
+                  inner = s.3.inner;
+                  step = subst (λ (k : List ℕ). OpensNode k (client_in m' c).node s.0 starts.on s.3.inner)
+                      (ap (λ (k : machine.Client). k.name) is) s.3.step;
+                  is = s.3.is;
                 };
-                second = then_says starts.on n;
-                whole = refl;
+                is = refl;
               };
+              second = then_says starts.on n;
               whole = refl;
-            },
+            }),
             subst (λ (ks : List machine.Client). StandsFor medium joined (record m' { clients = ks }))
                 (sym (set-append_seam m.clients (client_of name m) [] s.1))
                 (stands m here s.1 s.4

@@ -1,31 +1,16 @@
 -- The disks of a world, from one call to the next, and what is on them.
-use Rattle.std.proofs.Common.{◌≡◌, ℕ, ◌+◌, ◌<◌, Bool, true, false, List, [], ◌∷◌, ◌++◌, length, Option, Some, None}
-use Rattle.std.proofs.Common.{slice_get, slice_set, inl, refl, sym, ap, ◌∙◌, arith, append_assoc}
-use Rattle.std.proofs.lemmas.List.{length-append, length-set}
-use Rattle.std.specs.List.{AllByRecursion}
-use Rattle.std.specs.Prelude.{IsSome, is_some, Result, Ok, Err, IfErr, Vec}
-use Rattle.std.specs.declared.alloc.Global.{Global}
-use Rattle.iot_disk.specs.Disk.{Medium}
-use Rattle.iot_node.specs.Disks.{KeepsDisk}
-use Rattle.iot_laptop.specs.Laptops.{disk_in}
-use Rattle.iot_laptop.specs.declared.laptop.Laptop.{Laptop}
-use Rattle.iot_server_node.specs.Servers.{disk_of, KeepsCommits}
-use Rattle.iot_server_node.specs.declared.server.ServerNode.{ServerNode}
-use Rattle.iot_server_node.proofs.BeginningLaws.{commits_same}
-use Rattle.iot_world.specs.World.{with_first, with_clients, LaptopHasDisk, AreLast, AreUnarmed, UnlessArmed, KeepsNode}
-use Rattle.iot_world.specs.World.{Each, KeepsDisks, SameArms}
-use Rattle.iot_world.specs.Disks.{IsUnarmed}
-use Rattle.iot_world.specs.declared.world.World.{World}
-use Rattle.iot_world.proofs.ListLaws.{each_same, each_put}
-use Rattle.iot_machine.proofs.FollowsLaws.{all_set}
-use Rattle.std.proofs.Common.{slice_index_or, subst}
-use Rattle.iot_exchange.specs.declared.declared.DeclaredScript.{DeclaredScript}
+use Rattle.iot_world.proofs.Common.{◌≡◌, ℕ, ◌+◌, ◌<◌, Bool, true, List, [], ◌∷◌, ◌++◌, length, Option, Some, None, slice_set, inl, refl}
+use Rattle.iot_world.proofs.Common.{sym, ap, ◌∙◌, arith, append_assoc, slice_index_or, subst, length-append, length-set, commits_same}
+use Rattle.iot_world.proofs.Common.{with_first, with_clients, LaptopHasDisk, AreLast, AreUnarmed, UnlessArmed, KeepsNode, Each, KeepsDisks}
+use Rattle.iot_world.proofs.Common.{SameArms, IsUnarmed, all_set}
+use Rattle.iot_world.specs.Prelude.{AllByRecursion, IsSome, is_some, Result, Ok, Err, IfErr, Vec, Global, Medium, KeepsDisk, disk_in}
+use Rattle.iot_world.specs.Prelude.{Laptop, disk_of, KeepsCommits, ServerNode, World, DeclaredScript}
+use Rattle.iot_world.proofs.ListLaws.{looked_up, each_same, each_put}
 
 -- what is so of any answer is so unless a disk was armed
 pub unless_armed : {T E : Type 0} (arms : Bool) (r : Result T E) (P : Type 0) → P → UnlessArmed arms r P
-unless_armed false r P p = p
 unless_armed true (Ok done) P p = tt
-unless_armed true (Err fault) P p = p
+unless_armed arms r P p = p
 
 -- ---- spare disks
 
@@ -43,22 +28,6 @@ pub pushed_with : {D : Type 0} (laptops : List (Laptop D)) (laptop : Laptop D) (
     → with_clients (laptops ++ laptop ∷ []) spare ≡ with_clients laptops (with_first (disk_in laptop) spare)
 pushed_with [] laptop spare = refl
 pushed_with (l ∷ ls) laptop spare = ap (with_first (disk_in l)) (pushed_with ls laptop spare)
-
--- ---- each node has its disk
-
--- another client stands at a place, which has a disk if the one before had
-pub put_keeps : {D : Type 0} (old : World D) (clients : Vec (Laptop D) Global) (c : ℕ) (was now : Laptop D)
-    → was ≡ slice_index_or old.clients.items c was → clients.items ≡ slice_set old.clients.items c now
-    → (LaptopHasDisk was → LaptopHasDisk now) → KeepsDisks old (record old { clients = clients })
-put_keeps old clients c was now value put then_ = record {
-  has = λ has. record {
-    server = has.server;
-    clients = rw put (all_set LaptopHasDisk old.clients.items c now was
-        (λ had. then_ (subst (λ (one : Laptop _). LaptopHasDisk one) (sym value) had)) has.clients);
-    room = omega (arith, has.room, ap length put, length-set old.clients.items c now);
-  };
-  spare = last_here old.spare.items;
-}
 
 -- ---- none was armed
 
@@ -83,13 +52,9 @@ module _ {D : Type 0} (medium : Medium D) where
   abbrev ClientFollows : (was now : Laptop D) → Type 0
   ClientFollows was now = Follows (disk_in was) (disk_in now)
 
-  -- the same clients, and those of whom one has changed
+  -- the same clients
   pub same_clients : (laptops : List (Laptop D)) → Each ClientFollows laptops laptops
   same_clients = each_same ClientFollows (λ one. here_follows (disk_in one))
-
-  pub put_client : (laptops : List (Laptop D)) (c : ℕ) (was laptop : Laptop D) → slice_get laptops c ≡ Some was
-      → Follows (disk_in was) (disk_in laptop) → Each ClientFollows laptops (slice_set laptops c laptop)
-  put_client = each_put ClientFollows (λ one. here_follows (disk_in one))
 
   pub clients_follow : (laptops others : List (Laptop D)) (xs ys : List D) → Each ClientFollows laptops others → AreUnarmed medium xs ys
       → AreUnarmed medium (with_clients laptops xs) (with_clients others ys)
@@ -115,6 +80,33 @@ module _ {D : Type 0} (medium : Medium D) where
       arms_with old old.server clients scripts (here_follows (disk_of old.server)) (rw same (same_clients old.clients.items))
       (commits_same medium _ _ refl)
 
+  -- another client stands at a place
+  module _ (old : World D) (clients : Vec (Laptop D) Global) (c : ℕ) (was now : Laptop D) (inside : c < length old.clients.items)
+      (value : was ≡ slice_index_or old.clients.items c was) (put : clients.items ≡ slice_set old.clients.items c now) where
+    -- each node has its disk still, if that one has
+    pub put_keeps : (LaptopHasDisk was → LaptopHasDisk now) → KeepsDisks old (record old { clients = clients })
+    put_keeps then_ = record {
+      has = λ has. record {
+        server = has.server;
+        clients = rw put (all_set LaptopHasDisk old.clients.items c now was
+            (λ had. then_ (subst (λ (one : Laptop _). LaptopHasDisk one) (sym value) had)) has.clients);
+        room = omega (arith, has.room, ap length put, length-set old.clients.items c now);
+      };
+      spare = last_here old.spare.items;
+    }
+
+    -- none was armed, with the server as it was, or another one
+    pub pair_with : (server : ServerNode D) → Follows (disk_of old.server) (disk_of server) → KeepsCommits medium old.server server
+        → Follows (disk_in was) (disk_in now) → SameArms medium 0 old (record old { server = server; clients = clients })
+    pair_with server follows commits its_own =
+        arms_with old server clients old.scripts follows
+        (rw put (each_put ClientFollows (λ one. here_follows (disk_in one)) old.clients.items c was now
+        (looked_up _ _ _ _ refl inside value) its_own))
+        commits
+
+    pub client_with : Follows (disk_in was) (disk_in now) → SameArms medium 0 old (record old { clients = clients })
+    client_with = pair_with old.server (here_follows (disk_of old.server)) (commits_same medium _ _ refl)
+
   -- only the server has changed; or it has armed its disk, unless there was a fault
   module _ (old : World D) (server : ServerNode D) where
     pub server_with : Follows (disk_of old.server) (disk_of server) → KeepsCommits medium old.server server
@@ -135,15 +127,13 @@ module _ {D : Type 0} (medium : Medium D) where
 
   pub node_has : {T E : Type 0} (arms : Bool) (r : Result T E) (old new : Laptop D) → KeepsNode medium arms r old new → LaptopHasDisk old
       → LaptopHasDisk new
-  node_has false r old new keeps = λ had. now_has (disk_in old) (disk_in new) keeps
   node_has true (Ok done) old new keeps = keeps
-  node_has true (Err fault) old new keeps = λ had. now_has (disk_in old) (disk_in new) keeps
+  node_has arms r old new keeps = λ had. now_has (disk_in old) (disk_in new) keeps
 
   pub node_arms : {T E : Type 0} (arms : Bool) (r : Result T E) (was laptop : Laptop D) (P : Type 0) → KeepsNode medium arms r was laptop
       → (Follows (disk_in was) (disk_in laptop) → P) → UnlessArmed arms r P
-  node_arms false r was laptop P keeps then_ = then_ (kept_follows (disk_in was) (disk_in laptop) keeps)
   node_arms true (Ok done) was laptop P keeps then_ = tt
-  node_arms true (Err fault) was laptop P keeps then_ = then_ (kept_follows (disk_in was) (disk_in laptop) keeps)
+  node_arms arms r was laptop P keeps then_ = then_ (kept_follows (disk_in was) (disk_in laptop) keeps)
 
 -- ---- the disks that a world gives back
 

@@ -1,17 +1,8 @@
 -- An event of a world is one of the machine's, and what was declared before it still is.
-use Rattle.std.proofs.Common.{◌≡◌, ℕ, List, [], ◌++◌, Result, Ok, Err, OnOk}
-use Rattle.std.proofs.Common.{sym, ap, ◌∙◌}
-use Rattle.iot_disk.specs.Disk.{Medium}
-use Rattle.iot_event.specs.declared.event.ClientEvent.{ClientEvent}
-use Rattle.iot_event.specs.declared.event.Event.{Event}
+use Rattle.iot_world.proofs.Common.{◌≡◌, ℕ, List, [], ◌++◌, Result, Ok, Err, OnOk, sym, ap, ◌∙◌, sound_event, bind, asks, MakesStep}
+use Rattle.iot_world.proofs.Common.{EventSteps, IsWorldOfSome, scripts_of}
+use Rattle.iot_world.specs.Prelude.{Medium, ClientEvent, Event, Call, client_part, event_part, Refines, World}
 use Rattle.iot_event.specs.declared.event.Event.TheVariants as events
-use Rattle.iot_machine.specs.Calls.{Call}
-use Rattle.iot_machine.specs.Events.{client_part, event_part}
-use Rattle.iot_machine.specs.Refining.{Refines}
-use Rattle.iot_machine.proofs.SoundLaws.{sound_event}
-use Rattle.iot_node.proofs.StepsLaws.{bind, asks}
-use Rattle.iot_world.specs.World.{MakesStep, EventSteps, IsWorldOfSome, scripts_of}
-use Rattle.iot_world.specs.declared.world.World.{World}
 
 -- what follows from what is so if it was done
 pub then_ok : {T E P Q : Type 0} (r : Result T E) → OnOk r P → (P → Q) → OnOk r Q

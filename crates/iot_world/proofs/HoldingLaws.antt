@@ -1,44 +1,24 @@
 -- A node has its disk, and what the disks hold that a world gives back.
-use Rattle.std.proofs.Common.{◌≡◌, ◌+◌, ℕ, suc, List, [], ◌∷◌, ◌++◌, length, map, Option, Some, None}
-use Rattle.std.proofs.Common.{inl, inr, refl, sym, ap, subst, ◌∙◌, arith}
-use Rattle.std.proofs.lemmas.List.{length-append, map-append}
 use Rattle.std.proofs.lemmas.Option.{same_Some}
-use Rattle.std.specs.Prelude.{is_some, true, Result, Ok, Err, IfErr, OnOk}
-use Rattle.iot_kept.specs.Standing.{StandFor}
-use Rattle.iot_kept.specs.States.{State}
-use Rattle.iot_disk.specs.Disk.{Medium}
-use Rattle.iot_machine.specs.Calls.{Call}
-use Rattle.iot_machine.specs.Clients.{Declared, ClientState}
-use Rattle.iot_machine.specs.Events.{names_in, no_text}
+use Rattle.iot_world.proofs.Common.{◌≡◌, ◌+◌, ℕ, List, [], ◌∷◌, ◌++◌, length, map, Option, Some, None, inl, inr, refl, sym, ap, subst, ◌∙◌}
+use Rattle.iot_world.proofs.Common.{arith, length-append, map-append, lasts, has_disk, node_stands, IsListed, Holds, IsKept, KeepsClient}
+use Rattle.iot_world.proofs.Common.{DisksHold, counts_in, StandsForSome, KeepsNode, Each, StandsFor, Opens, KeepsDisks, with_clients}
+use Rattle.iot_world.proofs.Common.{disks_of}
+use Rattle.iot_world.specs.Prelude.{is_some, true, Result, Ok, Err, IfErr, OnOk, StandFor, State, Medium, Call, Declared, ClientState}
+use Rattle.iot_world.specs.Prelude.{names_in, no_text, Machine, Commit, Node, Counts, Refines, kept_text, CountsOn, KeepsDisk, counts_on}
+use Rattle.iot_world.specs.Prelude.{Keeping, PostStands, Lasts, HoldsEither, StepsTo, Post, Up, Down, Between, lists, IsImage, HasDisk}
+use Rattle.iot_world.specs.Prelude.{HavingAnswered, ServerNode, ClientStands, StandsAnyhow, disk_in, IsClientImage, seating, Laptop, Seated}
+use Rattle.iot_world.specs.Prelude.{World}
 use Rattle.iot_machine.specs.Machine as machine
-use Rattle.iot_machine.specs.Machine.{Machine, Commit}
-use Rattle.iot_machine.specs.Nodes.{Node, Counts}
-use Rattle.iot_machine.specs.Refining.{Refines}
-use Rattle.iot_machine.specs.Serving.{kept_text}
-use Rattle.iot_node.specs.Disks.{CountsOn, KeepsDisk, counts_on}
-use Rattle.iot_node.specs.Keeping.{Keeping}
-use Rattle.iot_node.specs.Posts.{PostStands, Lasts, HoldsEither, disk_of}
-use Rattle.iot_node.specs.Steps.{StepsTo}
-use Rattle.iot_node.specs.declared.post.Post.{Post}
-use Rattle.iot_node.specs.declared.post.Post.TheVariants.{Up, Down, Between}
+use Rattle.iot_node.specs.Posts.{disk_of}
 use Rattle.iot_node.proofs.PostsLaws.{holds_each}
-use Rattle.iot_server_node.specs.Keepers.{lists}
-use Rattle.iot_server_node.specs.Records.{IsImage}
 use Rattle.iot_server_node.specs.Servers as servers
-use Rattle.iot_server_node.specs.Servers.{HasDisk, HavingAnswered}
-use Rattle.iot_server_node.specs.declared.server.ServerNode.{ServerNode}
-use Rattle.iot_server_node.proofs.ServersLaws.{lasts, keeps_same, has_disk}
-use Rattle.iot_laptop.specs.Laptops.{ClientStands, StandsAnyhow, disk_in}
-use Rattle.iot_laptop.specs.Seats.{IsClientImage, seating}
-use Rattle.iot_laptop.specs.declared.laptop.Laptop.{Laptop}
-use Rattle.iot_laptop.specs.declared.seated.Seated.{Seated}
-use Rattle.iot_laptop.proofs.NodesLaws.{node_stands}
+use Rattle.iot_laptop.proofs.RestartLaws.{keeps_any}
 use Rattle.iot_laptop.proofs.SeatsLaws.{seat_images}
-use Rattle.iot_world.specs.Holding.{IsListed, Holds, IsKept, KeepsClient, DisksHold, counts_in}
-use Rattle.iot_world.specs.World.{StandsForSome, LaptopHasDisk, KeepsNode}
-use Rattle.iot_world.specs.World.{Each, StandsFor, Opens, KeepsDisks, with_first, with_clients, disks_of}
-use Rattle.iot_world.specs.declared.world.World.{World}
+use Rattle.iot_world.proofs.ListLaws.{each_length, each_map, each_same_as}
 use Rattle.iot_world.proofs.ListedLaws.{state_is}
+use Rattle.iot_world.proofs.SparesLaws.{clients_before}
+use Rattle.iot_world.proofs.WorldsLaws.{same_length}
 
 -- a node's disk, with what it holds and has counted
 record HasHeld {S D : Type 0} (medium : Medium D) (Is : S → List ℕ → Type 0) (node : Node S) (o : Option D) : Type 0 where
@@ -117,19 +97,14 @@ module _ {D : Type 0} (medium : Medium D) where
 
   -- ---- after a step
 
-  client_has : (scripts : List Declared) (laptop : Laptop D) (m : machine.Client) → ClientStands medium scripts laptop m
-      → LaptopHasDisk laptop
-  client_has scripts laptop m here = ap is_some (client_holds scripts laptop m here).is
-
   -- after a step that may have armed it the laptop has it, and if memory ran out it is as it was
   pub armed_keeps : {T E A : Type 0} (call : Call machine.Client A) (x y : List ℕ) (a : A) (r : Result T E) (old new : Laptop D)
       → StandsAnyhow medium old → IfErr r (λ _. new ≡ old)
       → OnOk r ((scripts : List Declared) → Refines (ClientStands medium scripts) call old new x y a) → KeepsNode medium true r old new
   armed_keeps call x y a (Ok done) old new some same one = λ had.
-      let s = (one some.scripts).step some.machine some.stands in client_has some.scripts new s.1 s.4
-  armed_keeps call x y a (Err fault) old new some same one =
-      keeps_same medium (disk_in old) (disk_in new) (client_has some.scripts old some.machine some.stands)
-      (ap (λ (l : Laptop D). disk_in l) same)
+      let s = (one some.scripts).step some.machine some.stands in
+      ap is_some (keeps_any medium new (record { scripts = some.scripts; machine = s.1; stands = s.4 })).new_has
+  armed_keeps call x y a (Err fault) old new some same one = rw same (keeps_any medium old some)
 
   -- so it is of the server
   pub server_after : {T E A : Type 0} (call : Call (Node (List Commit)) A) (x y : List ℕ) (a : A) (r : Result T E) (world : World D)
@@ -146,29 +121,15 @@ module _ {D : Type 0} (medium : Medium D) where
 
   -- ---- all of them
 
-  -- the disks of the clients are these, one each
-  record AreHeld (laptops : List (Laptop D)) (ms : List machine.Client) : Type 0 where
-    pub disks : List D
-    pub are : (rest : List D) → with_clients laptops rest ≡ disks ++ rest
-    pub each : Each (KeepsClient medium) disks ms
-    pub long : length disks ≡ length laptops
-    pub counts : map (counts_on medium) disks ≡ map (λ (m : machine.Client). m.node.counts) ms
+  -- a client's disk, with what it has counted
+  abbrev CountsClient : D → machine.Client → Type 0
+  CountsClient disk m = KeepsClient medium disk m × (counts_on medium disk ≡ m.node.counts)
 
   clients_hold : (scripts : List Declared) (laptops : List (Laptop D)) (ms : List machine.Client)
-      → Each (ClientStands medium scripts) laptops ms → AreHeld laptops ms
-  clients_hold scripts [] [] all = record { disks = []; are = λ rest. refl; each = tt; long = refl; counts = refl }
+      → Each (ClientStands medium scripts) laptops ms → Each CountsClient (with_clients laptops []) ms
+  clients_hold scripts [] [] all = tt
   clients_hold scripts (laptop ∷ laptops) (m ∷ ms) all =
-      let one = client_holds scripts laptop m all.0 in
-      let others = clients_hold scripts laptops ms all.1 in
-      record {
-        disks = one.disk ∷ others.disks;
-        are = λ rest.
-            ap (λ (o : Option D). with_first o (with_clients laptops rest)) one.is
-            ∙ ap (λ (ds : List D). one.disk ∷ ds) (others.are rest);
-        each = (one.holds, others.each);
-        long = ap suc others.long;
-        counts = λ i. one.counts i ∷ others.counts i;
-      }
+      let one = client_holds scripts laptop m all.0 in rw one.is ((one.holds, one.counts), clients_hold scripts laptops ms all.1)
   clients_hold scripts laptops ms all = absurd all
 
   module _ (world : World D) (m : Machine) (here : StandsFor medium world m) where
@@ -177,18 +138,20 @@ module _ {D : Type 0} (medium : Medium D) where
         has_held (lists medium) medium IsListed is_listed (kept_text (names_in m)) world.server.post m.server here.server.post
         (lasts medium (names_in m) world.server m.server m.requests here.server)
 
-    held : AreHeld world.clients.items m.clients
+    abbrev theirs : List D
+    theirs = with_clients world.clients.items []
+
+    held : Each CountsClient theirs m.clients
     held = clients_hold m.scripts world.clients.items m.clients here.clients_
 
-    disks_are : disks_of world ≡ server_held.disk ∷ held.disks ++ world.spare.items
-    disks_are =
-        ap (λ (o : Option D). with_first o (with_clients world.clients.items world.spare.items)) server_held.is
-        ∙ ap (λ (ds : List D). server_held.disk ∷ ds) (held.are world.spare.items)
+    disks_are : disks_of world ≡ server_held.disk ∷ theirs ++ world.spare.items
+    disks_are = rw (server_held.is, clients_before world.clients.items world.spare.items) refl
 
     -- they have counted what the machine's disks have
     pub disks_count : map (counts_on medium) (disks_of world) ≡ counts_in m
     disks_count =
-        let others = map-append (counts_on medium) held.disks world.spare.items ∙ (λ i. held.counts i ++ here.counts i) in
+        let clients = each_same_as CountsClient (counts_on medium) (λ k. k.node.counts) (λ disk k it. it.1) theirs m.clients held in
+        let others = map-append (counts_on medium) theirs world.spare.items ∙ (λ i. clients i ++ here.counts i) in
         ap (map (counts_on medium)) disks_are ∙ (λ i. server_held.counts i ∷ others i)
 
   -- each disk holds what its node keeps, and those behind them are as they were handed in
@@ -196,19 +159,20 @@ module _ {D : Type 0} (medium : Medium D) where
       → Opens medium disks x y before → KeepsDisks before world → DisksHold medium disks (disks_of world) m
   disks_hold disks before world m x y here opens same = record {
     server = (server_held world m here).disk;
-    clients = (held world m here).disks;
+    clients = theirs world m here;
     spare = world.spare.items;
     is = disks_are world m here;
     list = (server_held world m here).holds;
     longer = here.server.known.longer;
-    each = (held world m here).each;
+    each = each_map CountsClient (KeepsClient medium) (λ disk k it. it.0) (theirs world m here) m.clients (held world m here);
     first = opens.first;
     front = same.spare.front;
     was = opens.were ∙ ap (λ (ds : List D). opens.first ∷ ds) same.spare.split;
     aligned =
         omega (
           arith,
-          (held world m here).long,
+          each_length CountsClient (theirs world m here) m.clients (held world m here),
+          same_length medium world m here,
           here.eight,
           opens.stands.stands.eight,
           opens.no_clients,

@@ -1,35 +1,17 @@
 -- The clients that a world lends are the machine's.
-use Rattle.std.proofs.Common.{◌≡◌, ℕ, ◌<◌, ◌≤◌, List, length, Option, Some, None, sym, ap, subst, ◌∙◌, arith}
-use Rattle.std.proofs.Common.{slice_get, inl, inr, get_or, refl, false}
-use Rattle.std.proofs.lemmas.Option.{slice_get_read, same_Some}
-use Rattle.std.specs.Prelude.{IfSome}
+use Rattle.std.proofs.lemmas.Option.{same_Some}
+use Rattle.iot_world.proofs.Common.{◌≡◌, ℕ, ◌<◌, ◌≤◌, length, Option, Some, None, sym, ap, ◌∙◌, arith, slice_get, inl, inr, refl, false}
+use Rattle.iot_world.proofs.Common.{subst, own_in, lent_at, awake_stands, fallen_stands, StandsFor, IsWorldOfSome, LendsClient, ClientIs}
+use Rattle.iot_world.proofs.Common.{IsReady}
+use Rattle.iot_world.specs.Prelude.{IfSome, Medium, Machine, client_in, Post, Up, disk_in, Laptop, Seated, World}
 use Rattle.iot_kept.specs.States as kept
 use Rattle.iot_kept.specs.States.{view}
 use Rattle.iot_client.specs.Ties.{Live, disk_of as client_disk}
 use Rattle.iot_client.specs.declared.client.Client.{Client}
-use Rattle.iot_disk.specs.Disk.{Medium}
-use Rattle.iot_machine.specs.Machine.{Machine, client_in}
-use Rattle.iot_node.specs.declared.post.Post.{Post}
-use Rattle.iot_node.specs.declared.post.Post.TheVariants.{Up}
-use Rattle.iot_laptop.specs.Laptops.{IsLent, LaptopStands, ItemsStand, RunningStandsIfAny}
-use Rattle.iot_laptop.specs.Laptops.{lent_by, disk_by, state_in, live_in, disk_in, is_alive}
-use Rattle.iot_laptop.specs.declared.laptop.Laptop.{Laptop}
-use Rattle.iot_laptop.specs.declared.seated.Seated.{Seated}
+use Rattle.iot_laptop.specs.Laptops.{IsLent, LaptopStands, ItemsStand, RunningStandsIfAny, lent_by, disk_by, state_in, live_in, is_alive}
 use Rattle.iot_laptop.proofs.LaptopsLaws.{view_is}
-use Rattle.iot_laptop.proofs.NodesLaws.{own_in, lent_at, awake_stands, fallen_stands}
-use Rattle.iot_world.specs.World.{StandsFor, IsWorldOfSome, LendsClient, ClientIs, IsReady}
-use Rattle.iot_world.specs.declared.world.World.{World}
+use Rattle.iot_world.proofs.ListLaws.{one_at}
 use Rattle.iot_world.proofs.WorldsLaws.{same_length, inside_here, client_here}
-
--- what was looked up is there
-pub looked_up : {A : Type 0} (xs ys : List A) (place : ℕ) (x : A) → ys ≡ xs → place < length ys → x ≡ get_or ys place x
-    → slice_get xs place ≡ Some x
-looked_up xs ys place x same within value =
-    ap (λ l. slice_get l place) (sym same) ∙ slice_get_read ys (length ys) place x refl within value
-
--- one element is at a place
-pub one_at : {A : Type 0} (xs : List A) (c : ℕ) (x y : A) → slice_get xs c ≡ Some x → slice_get xs c ≡ Some y → x ≡ y
-one_at xs c x y one other = same_Some x y (sym one ∙ other)
 
 -- the client that is lent is the laptop's
 lent_up : {D : Type 0} (post : Post (Seated D) D) (it : Client D) → Some it ≡ lent_by post → post ≡ Up (record { client = it })
@@ -64,10 +46,12 @@ module _ {D : Type 0} (medium : Medium D) where
             running =
                 subst (λ (o : kept.State × Option Live). RunningStandsIfAny o.0.running o.1 (client_in m place).first
                 (client_in m place).node.durable.running) (λ i. (sym lent.state i, sym lent.live i)) there.state.running;
-            tied = lent.tied;
-            begun = lent.begun;
-            place_is = lent.place ∙ here.placed place laptop get;
-            few = omega (arith, within, many, here.eight);
+            ready = record {
+              tied = lent.tied;
+              begun = lent.begun;
+              place_is = lent.place ∙ here.placed place laptop get;
+              few = omega (arith, within, many, here.eight);
+            };
           },
         )
 
@@ -104,6 +88,4 @@ module _ {D : Type 0} (medium : Medium D) where
       → ((m : Machine) → StandsFor medium world m → LendsClient medium o place m) → IsWorldOfSome medium world
       → IfSome o (λ it. IsReady medium place it)
   lends_ready world place None lends some = tt
-  lends_ready world place (Some it) lends some =
-      let lent = (lends some.machine some.stands.stands).1 in
-      record { tied = lent.tied; begun = lent.begun; place_is = lent.place_is; few = lent.few }
+  lends_ready world place (Some it) lends some = (lends some.machine some.stands.stands).1.ready

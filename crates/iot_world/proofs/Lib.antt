@@ -1,18 +1,15 @@
+mod Common
 pub mod ListLaws
 pub mod ScriptsLaws
-pub mod NamesLaws
 pub mod WorldsLaws
 pub mod DisksLaws
 pub mod DeclaringLaws
-pub mod OpeningLaws
 pub mod LendingLaws
 pub mod ListedLaws
-pub mod LookingLaws
-pub mod ToldLaws
 pub mod HoldingLaws
 pub mod DecidingLaws
 pub mod EventsLaws
 pub mod AllowedLaws
-pub mod ShowingLaws
+pub mod LookingLaws
 pub mod SparesLaws
 pub mod BeginningLaws

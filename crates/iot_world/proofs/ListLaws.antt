@@ -1,8 +1,21 @@
 -- Lists that are looked up and changed at a place, and lists that go together by place.
-use Rattle.std.proofs.Common.{◌≡◌, ℕ, zero, suc, List, [], ◌∷◌, ◌++◌, length, map, refl, ap, subst}
-use Rattle.std.proofs.Common.{slice_get, slice_index_or, slice_set, Some}
-use Rattle.std.proofs.lemmas.Option.{same_Some}
-use Rattle.iot_world.specs.World.{Each}
+use Rattle.std.proofs.lemmas.Option.{same_Some, slice_get_read}
+use Rattle.iot_world.proofs.Common.{◌≡◌, ◌<◌, ℕ, zero, suc, List, [], ◌∷◌, ◌++◌, length, map, refl, sym, ap, subst, ◌∙◌, slice_get}
+use Rattle.iot_world.proofs.Common.{slice_index_or, slice_set, get_or, Some, Each}
+
+-- ---- one element
+
+-- what was looked up is there
+pub looked_up : {A : Type 0} (xs ys : List A) (place : ℕ) (x : A) → ys ≡ xs → place < length ys → x ≡ get_or ys place x
+    → slice_get xs place ≡ Some x
+looked_up xs ys place x same within value =
+    ap (λ l. slice_get l place) (sym same) ∙ slice_get_read ys (length ys) place x refl within value
+
+-- one element is at a place
+pub one_at : {A : Type 0} (xs : List A) (c : ℕ) (x y : A) → slice_get xs c ≡ Some x → slice_get xs c ≡ Some y → x ≡ y
+one_at xs c x y one other = same_Some x y (sym one ∙ other)
+
+-- ---- two lists
 
 module _ {W M : Type 0} (stands : W → M → Type 0) where
   pub each_set : (ws : List W) (ms : List M) (c : ℕ) (w : W) (m : M) → stands w m → Each stands ws ms

@@ -1,15 +1,7 @@
 -- How many of a world's disks are spare, and where they are.
-use Rattle.std.proofs.Common.{◌≡◌, ◌+◌, List, [], ◌∷◌, ◌++◌, length, map, Option, Some, None, refl, ap, ◌∙◌, arith}
-use Rattle.std.proofs.lemmas.List.{length-append, length-map}
-use Rattle.iot_disk.specs.Disk.{Medium}
-use Rattle.iot_machine.specs.Machine.{Machine, Client}
-use Rattle.iot_laptop.specs.Laptops.{disk_in}
-use Rattle.iot_laptop.specs.declared.laptop.Laptop.{Laptop}
-use Rattle.iot_server_node.specs.Servers.{disk_of}
-use Rattle.iot_world.specs.Disks.{counts_on}
-use Rattle.iot_world.specs.Holding.{counts_in}
-use Rattle.iot_world.specs.World.{StandsFor, with_first, with_clients, disks_of}
-use Rattle.iot_world.specs.declared.world.World.{World}
+use Rattle.iot_world.proofs.Common.{◌≡◌, ◌+◌, List, [], ◌∷◌, ◌++◌, length, map, Option, Some, None, refl, ap, ◌∙◌, arith, length-append}
+use Rattle.iot_world.proofs.Common.{length-map, counts_on, counts_in, StandsFor, with_first, with_clients, disks_of}
+use Rattle.iot_world.specs.Prelude.{Medium, Machine, Client, disk_in, Laptop, disk_of, World}
 use Rattle.iot_world.proofs.WorldsLaws.{same_length}
 
 -- ---- where they are
@@ -18,7 +10,7 @@ first_before : {D : Type 0} (first : Option D) (disks rest : List D) → with_fi
 first_before None disks rest = refl
 first_before (Some disk) disks rest = refl
 
-clients_before : {D : Type 0} (laptops : List (Laptop D)) (rest : List D) → with_clients laptops rest ≡ with_clients laptops [] ++ rest
+pub clients_before : {D : Type 0} (laptops : List (Laptop D)) (rest : List D) → with_clients laptops rest ≡ with_clients laptops [] ++ rest
 clients_before [] rest = refl
 clients_before (laptop ∷ laptops) rest =
     ap (with_first (disk_in laptop)) (clients_before laptops rest) ∙ first_before (disk_in laptop) (with_clients laptops []) rest

@@ -1,36 +1,66 @@
--- One node of a world, or a client with the server, among all others: these stay.
-use Rattle.std.proofs.Common.{◌≡◌, ◌<◌, ℕ, Bool, true, false, List, [], length, map, Some, slice_get, slice_set, refl, sym, ap, subst, ◌∙◌}
-use Rattle.std.proofs.Common.{arith, ◌++◌}
-use Rattle.std.proofs.lemmas.List.{length-set, append-nil}
-use Rattle.std.specs.Prelude.{Vec}
-use Rattle.std.specs.declared.alloc.Global.{Global}
+-- One node of a world, or a client with the server, among all others: these stay, and each client keeps its name.
 use Rattle.std.proofs.lemmas.Option.{same_Some, slice_get-map, slice_get-get_or, slice_get_within}
-use Rattle.iot_disk.specs.Disk.{Medium}
+use Rattle.iot_world.proofs.Common.{◌≡◌, ℕ, Bool, true, false, List, Option, Some, None, ap, ◌∙◌, ◌<◌, [], length, map, slice_get}
+use Rattle.iot_world.proofs.Common.{slice_index_or, slice_set, refl, sym, subst, arith, ◌++◌, length-set, append-nil, map-set_same, up_is}
+use Rattle.iot_world.proofs.Common.{Each, ArePlaced, StandsFor, StandsForSome, MakesStep, scripts_of}
+use Rattle.iot_world.specs.Prelude.{NodeEvent, Call, At, Gets, Then, Lens, ClientState, Running, Declared, link_part, node_part, comes_back}
+use Rattle.iot_world.specs.Prelude.{cuts_off, names_in, counts_anew, RestartsServer, IfUp, task_part, client_part, Client, node, Machine}
+use Rattle.iot_world.specs.Prelude.{Commit, Pair, no_client, client_in, client_at, pair_at, server, Node, OpensClient, Vec, Global, Medium}
+use Rattle.iot_world.specs.Prelude.{Refines, server_name, kept_text, Restarts, StepsTo, ServerStands, HavingAnswered, answered_since, is_up}
+use Rattle.iot_world.specs.Prelude.{ServerNode, ClientStands, StandsAnyhow, Laptop, DeclaredScript, World, option_map}
+use Rattle.iot_event.specs.declared.event.LinkEvent.{LinkEvent}
+use Rattle.iot_event.specs.declared.event.LinkEvent.TheVariants as links
+use Rattle.iot_event.specs.declared.event.NodeEvent.TheVariants as nodes
+use Rattle.iot_machine.proofs.KeepsLaws.{Stays, asks_then, keeps_at, keeps_does, keeps_then, stays_goes_on}
 use Rattle.iot_event.specs.declared.event.ClientEvent.TheVariants as client_events
 use Rattle.iot_event.specs.declared.event.Task.{Task}
-use Rattle.iot_machine.specs.Calls.{Call, At, Lens}
-use Rattle.iot_machine.specs.Clients.{Declared}
-use Rattle.iot_machine.specs.Events.{names_in, counts_anew, RestartsServer, IfUp, task_part, client_part}
-use Rattle.iot_machine.specs.Machine.{Machine, Client, Commit, Pair, no_client, client_in, client_at, pair_at, server}
-use Rattle.iot_machine.specs.Nodes.{Node}
-use Rattle.iot_machine.specs.Refining.{Refines}
-use Rattle.iot_machine.specs.Serving.{server_name, kept_text}
-use Rattle.iot_machine.specs.Stops.{Restarts}
-use Rattle.iot_node.specs.Steps.{StepsTo}
-use Rattle.iot_server_node.specs.Servers.{ServerStands, HavingAnswered, answered_since, is_up}
-use Rattle.iot_server_node.specs.declared.server.ServerNode.{ServerNode}
-use Rattle.iot_server_node.proofs.ServersLaws.{up_is}
-use Rattle.iot_laptop.specs.Laptops.{ClientStands, StandsAnyhow}
-use Rattle.iot_laptop.specs.declared.laptop.Laptop.{Laptop}
 use Rattle.iot_exchange.specs.Pairs.{two, AnyStands, IsStandingWith}
 use Rattle.iot_exchange.specs.Scripts as exchange
-use Rattle.iot_exchange.specs.declared.declared.DeclaredScript.{DeclaredScript}
-use Rattle.iot_world.specs.World.{Each, ArePlaced, StandsFor, IsInside, MakesStep, scripts_of}
-use Rattle.iot_world.specs.declared.world.World.{World}
-use Rattle.iot_world.proofs.ListLaws.{each_get, each_set, each_length, each_place_set}
-use Rattle.std.proofs.Math.Seq.{map-set_same}
-use Rattle.std.specs.Option.{option_map}
-use Rattle.iot_world.proofs.NamesLaws.{KeepsName}
+use Rattle.iot_world.proofs.ListLaws.{looked_up, each_get, each_set, each_length, each_place_set}
+
+-- ---- what befalls a client leaves its name
+
+-- the client has the same name after this call
+abbrev pub KeepsName : {A : Type 0} → Call Client A → Type 0
+KeepsName call = (name : List ℕ) → Stays (λ client. client.name ≡ name) call
+
+at_its_node : {A : Type 0} {call : Call (Node ClientState) A} → KeepsName (At node call)
+at_its_node name = keeps_at (λ m same. record { at = λ k n text a is step. same })
+
+keeps_cut : (o : Option Running) → KeepsName (cuts_off o)
+keeps_cut None name = keeps_does (λ m same. same)
+keeps_cut (Some it) name =
+    keeps_then (record { at = λ m n text a same step. ap (λ (one : Client). one.name) step.is ∙ same })
+    (stays_goes_on (keeps_does {Q = λ done client. client.name ≡ name} (λ m same. same)))
+
+keeps_back : (alive : Bool) → KeepsName (comes_back alive)
+keeps_back true name = keeps_does (λ m same. same)
+keeps_back false name =
+    asks_then (λ called. keeps_then (at_its_node name) (stays_goes_on (asks_then (λ o. keeps_cut o name))))
+
+pub node_keeps : (what : NodeEvent) → KeepsName (node_part what)
+node_keeps nodes.Show name = at_its_node name
+node_keeps nodes.Restart name = asks_then (λ alive. keeps_back alive name)
+node_keeps what name = asks_then (λ called. at_its_node name)
+
+pub link_keeps : (what : LinkEvent) → KeepsName (link_part what)
+link_keeps links.Connect name = keeps_does (λ m same. same)
+link_keeps what name = keeps_does (λ m same. same)
+
+pub opens_keeps : KeepsName OpensClient
+opens_keeps name = record { at = λ m n text a same step. ap (λ (one : Client). one.name) step.is ∙ same }
+
+-- ---- calls of which one says nothing
+
+pub gets_then : {M A B : Type 0} {ask : M → A} {change : M → M} {next : A → Call M B} {m n : M} {text : List ℕ} {b : B}
+    → next (ask m) (change m) text b n → Then (Gets ask change) next m text b n
+gets_then {ask} {change} {m} {text} rest =
+    record { mid = change m; front = []; rest = text; answer = ask m; first = (refl, refl, refl); second = rest; whole = refl }
+
+pub then_silent : {M A B : Type 0} {one : Call M A} {next : A → Call M B} {m n : M} {text : List ℕ} {b : B} (mid : M) (a : A)
+    → one m text a mid → next a mid [] b n → Then one next m text b n
+then_silent {text = text} mid a first second =
+    record { mid = mid; front = text; rest = []; answer = a; first = first; second = second; whole = sym (append-nil text) }
 
 module _ {D : Type 0} (medium : Medium D) where
   -- ---- what stands at a place
@@ -68,7 +98,7 @@ module _ {D : Type 0} (medium : Medium D) where
       }
 
   pub task_stands : (world : World D) (c : ℕ) (laptop : Laptop D) (ss : List DeclaredScript) → slice_get world.clients.items c ≡ Some laptop
-      → ss ≡ world.scripts.items → IsInside medium c world → IsStandingWith medium (exchange.scripts_of ss) (two laptop world.server)
+      → ss ≡ world.scripts.items → StandsForSome medium world → IsStandingWith medium (exchange.scripts_of ss) (two laptop world.server)
   task_stands world c laptop ss get same some =
       rw same (record {
         names = names_in some.machine;
@@ -109,9 +139,12 @@ module _ {D : Type 0} (medium : Medium D) where
     }
 
     -- one of the clients is another one
-    module _ (c : ℕ) (was laptop : Laptop D) (get : slice_get old.clients.items c ≡ Some was)
-        (put : clients.items ≡ slice_set old.clients.items c laptop) where
-      pub put_there : (m : Machine) (k : Client) (node : Node (List Commit)) (n : ℕ) → StandsFor medium old m
+    module _ (c : ℕ) (was laptop : Laptop D) (inside : c < length old.clients.items)
+        (value : was ≡ slice_index_or old.clients.items c was) (put : clients.items ≡ slice_set old.clients.items c laptop) where
+      get : slice_get old.clients.items c ≡ Some was
+      get = looked_up _ _ _ _ refl inside value
+
+      put_there : (m : Machine) (k : Client) (node : Node (List Commit)) (n : ℕ) → StandsFor medium old m
           → ClientStands medium m.scripts laptop k → laptop.place ≡ c → k.name ≡ (client_in m c).name
           → ServerStands medium (names_in m) server_ node n
           → StandsFor medium now (record m { server = node; requests = n; clients = slice_set m.clients c k })
@@ -140,14 +173,15 @@ module _ {D : Type 0} (medium : Medium D) where
 
   -- so is what the client does alone
   pub at_client : {A : Type 0} {call : Call Client A} (old : World D) (clients : Vec (Laptop D) Global) (c : ℕ) (was laptop : Laptop D)
-      (x y : List ℕ) (a : A) → KeepsName call → slice_get old.clients.items c ≡ Some was
+      (x y : List ℕ) (a : A) → KeepsName call → c < length old.clients.items → was ≡ slice_index_or old.clients.items c was
       → clients.items ≡ slice_set old.clients.items c laptop → laptop.place ≡ was.place
       → ((scripts : List Declared) → Refines (ClientStands medium scripts) call was laptop x y a)
       → MakesStep medium (At (client_at c) call) old (record old { clients = clients }) x y a
-  at_client old clients c was laptop x y a keeps get put same one = at_part (client_at c) old _ x y a (λ m here.
+  at_client old clients c was laptop x y a keeps inside value put same one = at_part (client_at c) old _ x y a (λ m here.
+      let get = looked_up _ _ _ _ refl inside value in
       let s = (one m.scripts).step (client_in m c) (client_here old m here c was get) in
       let named = (keeps (client_in m c).name).at (client_in m c) s.1 s.0 a refl s.3 in
-      let there = put_there old old.server clients c was laptop get put m s.1 m.server m.requests here s.4 in
+      let there = put_there old old.server clients c was laptop inside value put m s.1 m.server m.requests here s.4 in
       (s.0, s.1, s.2, s.3, there (same ∙ here.placed c was get) named here.server))
 
   -- ---- the server
@@ -173,36 +207,11 @@ module _ {D : Type 0} (medium : Medium D) where
         → MakesStep medium RestartsServer old (record old { server = server_ }) x y tt
     restarts x y one = record {
       step = λ m here.
-          let s = (one (names_in m) m.requests).step m.server here.server in
-          let mid : Machine = server.set s.1 m in (
+          let s = (one (names_in m) m.requests).step m.server here.server in (
             s.0,
-            counts_anew m.server.alive mid,
+            counts_anew m.server.alive (server.set s.1 m),
             s.2,
-            record {
-              mid = m;
-              front = [];
-              rest = s.0;
-              answer = m.server.alive;
-              first = (refl, refl, refl);
-              second = record {
-                mid = m;
-                front = [];
-                rest = s.0;
-                answer = names_in m;
-                first = (refl, refl, refl);
-                second = record {
-                  mid = mid;
-                  front = s.0;
-                  rest = [];
-                  answer = tt;
-                  first = record { inner = s.1; step = s.3; is = refl };
-                  second = (refl, refl);
-                  whole = sym (append-nil s.0);
-                };
-                whole = refl;
-              };
-              whole = refl;
-            },
+            gets_then (gets_then (then_silent (server.set s.1 m) tt (record { inner = s.1; step = s.3; is = refl }) (refl, refl))),
             anew m s.1 here m.server.alive
                 (subst (λ (b : Bool). ServerStands medium (names_in m) server_ s.1 (answered_since b m.requests))
                 (sym (up_is medium (names_in m) old.server m.server m.requests here.server)) s.4),

@@ -1,44 +1,32 @@
 -- Which event may come, if so many clients, and scripts of these names, are declared.
-use Rattle.std.specs.Prelude.{◌≡◌, ℕ, ◌<◌, Bool, true, false, List, length}
-use Rattle.iot_event.specs.Meanings.{is_declared}
+use Rattle.std.specs.Prelude.{◌≡◌, ◌<◌}
+use Rattle.iot_world.specs.Prelude.{ℕ, Bool, true, false, List, length, is_declared, ClientEvent, Event, NodeEvent, Stop, MayDo}
 use Rattle.iot_event.specs.declared.declared.TheConstants.{CLIENT_LIMIT}
-use Rattle.iot_event.specs.declared.event.ClientEvent.{ClientEvent}
-use Rattle.iot_event.specs.declared.event.ClientEvent.TheVariants.{Node, Link, Task}
-use Rattle.iot_event.specs.declared.event.Event.{Event}
+use Rattle.iot_event.specs.declared.event.ClientEvent.TheVariants.{Node, Task}
 use Rattle.iot_event.specs.declared.event.Event.TheVariants as events
-use Rattle.iot_event.specs.declared.event.NodeEvent.{NodeEvent}
-use Rattle.iot_event.specs.declared.event.NodeEvent.TheVariants.{Show, Stop, Crash, Restart}
-use Rattle.iot_exchange.specs.Scripts.{MayDo}
 
 -- what a client is asked to do is with scripts that are declared
 abbrev pub MayBefall : ClientEvent ℕ → (scripts : ℕ) → Type 0
-MayBefall (Node what) scripts = Unit {0}
-MayBefall (Link what) scripts = Unit {0}
 MayBefall (Task task) scripts = MayDo task scripts
+MayBefall other scripts = Unit {0}
 
 -- there are not too many clients, no script is declared again, and each event of a client is of one that is declared
 abbrev pub IsAllowed : Event → (clients : ℕ) (scripts : List (List ℕ)) → Type 0
 IsAllowed (events.Client name) clients scripts = clients < CLIENT_LIMIT
 IsAllowed (events.Script name code) clients scripts = is_declared name scripts ≡ false
 IsAllowed (events.At client what) clients scripts = (client < clients) × MayBefall what (length scripts)
-IsAllowed (events.Server what) clients scripts = Unit {0}
-IsAllowed events.Log clients scripts = Unit {0}
+IsAllowed other clients scripts = Unit {0}
 
 -- the events that arm a disk
 abbrev pub stops_node : NodeEvent → Bool
-stops_node Show = false
 stops_node (Stop calls pick) = true
-stops_node Crash = false
-stops_node Restart = false
+stops_node other = false
 
 abbrev pub stops_client : ClientEvent ℕ → Bool
 stops_client (Node what) = stops_node what
-stops_client (Link what) = false
-stops_client (Task task) = false
+stops_client other = false
 
 abbrev pub arms_a_disk : Event → Bool
-arms_a_disk (events.Client name) = false
-arms_a_disk (events.Script name code) = false
 arms_a_disk (events.At client what) = stops_client what
 arms_a_disk (events.Server what) = stops_node what
-arms_a_disk events.Log = false
+arms_a_disk other = false

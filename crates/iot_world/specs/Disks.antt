@@ -1,10 +1,7 @@
 -- The disks of a world: the server's is the first, then those of its clients, and then those that no node has yet.
-use Rattle.std.specs.Prelude.{◌≡◌, ◌⊎◌, List, ◌∷◌, length}
-use Rattle.std.specs.List.{AllByRecursion}
+use Rattle.std.specs.Prelude.{◌≡◌, ◌⊎◌, ◌∷◌}
+use Rattle.iot_world.specs.Prelude.{List, length, AllByRecursion, Medium, Commit, EachBegins, records_of}
 use Rattle.iot_count.specs.Counts.{Rose}
-use Rattle.iot_disk.specs.Disk.{Medium}
-use Rattle.iot_machine.specs.Machine.{Commit}
-use Rattle.iot_server_node.specs.Records.{EachBegins, records_of}
 pub use Rattle.iot_node.specs.Disks.{counts_on, IsEmpty, CountsOn}
 
 -- nine empty disks on which nothing is pending

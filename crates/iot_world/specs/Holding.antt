@@ -1,14 +1,8 @@
 -- What the disks hold that a world gives back, and what they count.
-use Rattle.std.specs.Prelude.{◌≡◌, ◌⊎◌, ℕ, List, ◌∷◌, ◌++◌, length, map, Option, Some, None}
-use Rattle.iot_kept.specs.States.{Transaction, State}
-use Rattle.iot_kept.specs.Standing.{StandFor}
-use Rattle.iot_disk.specs.Disk.{Medium}
-use Rattle.iot_machine.specs.Clients.{ClientState, Running, base, so_far}
-use Rattle.iot_machine.specs.Machine.{Machine, Client, Commit}
-use Rattle.iot_machine.specs.Nodes.{Counts}
+use Rattle.std.specs.Prelude.{◌≡◌, ◌⊎◌, ◌∷◌, ◌++◌}
+use Rattle.iot_world.specs.Prelude.{ℕ, List, length, map, Option, Some, None, Transaction, State, StandFor, Medium, ClientState, Running}
+use Rattle.iot_world.specs.Prelude.{base, so_far, Machine, Client, Commit, Counts, IsImage, IsLongerIfAny}
 use Rattle.iot_machine.specs.Recorded.{option_named, queue_kept}
-use Rattle.iot_server_node.specs.Records.{IsImage}
-use Rattle.iot_server_node.specs.Servers.{IsLongerIfAny}
 use Rattle.iot_world.specs.World.{Each}
 
 -- an image has this list, a record for each commit

@@ -1,3 +1,4 @@
+pub mod Prelude
 pub mod Allowed
 pub mod Deciding
 pub mod Disks

@@ -1,14 +1,7 @@
 -- What one sees who looks in at all nodes of a world.
-use Rattle.std.specs.Prelude.{◌≡◌, ℕ, List, [], ◌∷◌, ◌++◌, map}
-use Rattle.iot_inspect.specs.Shown.{shown, named}
-use Rattle.iot_inspect.specs.declared.snapshot.Json.{Json}
-use Rattle.iot_disk.specs.Disk.{Medium}
-use Rattle.iot_machine.specs.Clients.{Declared}
-use Rattle.iot_machine.specs.Json.{client_data}
-use Rattle.iot_machine.specs.Machine.{Client}
-use Rattle.iot_laptop.specs.Laptops.{ClientStands}
-use Rattle.iot_laptop.specs.declared.laptop.Laptop.{Laptop}
-use Rattle.iot_world.specs.declared.world.World.{World}
+use Rattle.std.specs.Prelude.{◌≡◌, ◌∷◌, ◌++◌}
+use Rattle.iot_world.specs.Prelude.{ℕ, List, [], map, shown, named, Json, Medium, Declared, client_data, Client, ClientStands, Laptop}
+use Rattle.iot_world.specs.Prelude.{World}
 
 -- the names of its clients, in order of declaration
 abbrev pub client_names : {D : Type 0} → World D → List (List ℕ)

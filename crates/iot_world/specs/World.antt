@@ -1,37 +1,20 @@
 -- Which plain machine a world stands for, node by node, and how a world changes.
-use Rattle.std.specs.Prelude.{◌≡◌, ◌⊎◌, ℕ, ◌+◌, ◌≤◌, ◌<◌, Bool, true, false, List, [], ◌∷◌, ◌++◌, length, map, Option}
-use Rattle.std.specs.Prelude.{Some, None, IsSome, Result, Ok, Err, slice_get}
-use Rattle.std.specs.List.{AllByRecursion}
-use Rattle.std.specs.Vec.{vec_len, vec_capacity}
-use Rattle.iot_disk.specs.Disk.{Medium}
-use Rattle.iot_lang.specs.Code.{Code}
+use Rattle.std.specs.Prelude.{◌≡◌, ◌⊎◌, ◌+◌, ◌≤◌, ◌<◌, ◌∷◌, ◌++◌}
+use Rattle.iot_world.specs.Prelude.{ℕ, Bool, true, false, List, [], length, map, Option, Some, None, IsSome, Result, Ok, slice_get}
+use Rattle.iot_world.specs.Prelude.{AllByRecursion, vec_len, vec_capacity, Medium, Code, AreDeclared, Event, Call, Refines, Declared}
+use Rattle.iot_world.specs.Prelude.{Machine, handed, client_in, event_part, names_in, IsSound, client_line, Opening, IsEmpty, KeepsDisk}
+use Rattle.iot_world.specs.Prelude.{counts_on, Server, disk_of, ServerStands, KeepsCommits, OpensClient, ClientStands, disk_in, Laptop}
+use Rattle.iot_world.specs.Prelude.{AreApart, World}
 use Rattle.iot_kept.specs.States as states
 use Rattle.iot_client.specs.Ties.{state_of, live_of, place_of, IsTied, IsBegunIfAny}
 use Rattle.iot_client.specs.declared.client.Client.{Client}
-use Rattle.iot_event.specs.Declarations.{AreDeclared}
-use Rattle.iot_event.specs.declared.event.Event.{Event}
 use Rattle.iot_event.specs.declared.event.Event.TheVariants as events
-use Rattle.iot_machine.specs.Calls.{Call}
-use Rattle.iot_machine.specs.Refining.{Refines}
 use Rattle.iot_machine.specs.Clients as clients
-use Rattle.iot_machine.specs.Clients.{Declared}
 use Rattle.iot_machine.specs.Machine as machines
-use Rattle.iot_machine.specs.Machine.{Machine, handed, client_in}
-use Rattle.iot_machine.specs.Events.{event_part, names_in}
-use Rattle.iot_machine.specs.Sound.{IsSound}
-use Rattle.iot_machine.specs.Texts.{client_line}
-use Rattle.iot_machine.specs.Transcript.{Opening}
-use Rattle.iot_node.specs.Disks.{IsEmpty, KeepsDisk, counts_on}
-use Rattle.iot_server.specs.declared.server.Server.{Server}
 use Rattle.iot_server_node.specs.Servers as servers
-use Rattle.iot_server_node.specs.Servers.{disk_of, ServerStands, KeepsCommits}
-use Rattle.iot_laptop.specs.Alone.{OpensClient}
-use Rattle.iot_laptop.specs.Laptops.{ClientStands, ItemsStand, RunningStandsIfAny, disk_in}
-use Rattle.iot_laptop.specs.declared.laptop.Laptop.{Laptop}
+use Rattle.iot_laptop.specs.Laptops.{ItemsStand, RunningStandsIfAny}
 use Rattle.iot_exchange.specs.Scripts as exchange
-use Rattle.iot_exchange.specs.Scripts.{AreApart}
 use Rattle.iot_world.specs.Disks.{IsUnarmed, FirstBegins}
-use Rattle.iot_world.specs.declared.world.World.{World}
 
 -- ---- what a world has
 
@@ -62,9 +45,8 @@ ClientIs {D = D} P place world = (laptop : Laptop D) → slice_get world.clients
 -- two lists of the same length, whose elements go together by place
 abbrev pub Each : {W M : Type 0} → (W → M → Type 0) → List W → List M → Type 0
 Each stands [] [] = Unit {0}
-Each stands [] (m ∷ ms) = ⊥
-Each stands (w ∷ ws) [] = ⊥
 Each stands (w ∷ ws) (m ∷ ms) = stands w m × Each stands ws ms
+Each stands ws ms = ⊥
 
 -- the client at each place knows its place
 abbrev pub ArePlaced : {D : Type 0} → List (Laptop D) → Type 0
@@ -95,12 +77,6 @@ pub record StandsForSome {D : Type 0} (medium : Medium D) (world : World D) : Ty
 pub record IsWorldOfSome {D : Type 0} (medium : Medium D) (world : World D) : Type 0 where
   pub machine : Machine
   pub stands : IsWorldOf medium world machine
-
--- and there is a client at this place
-pub record IsInside {D : Type 0} (medium : Medium D) (place : ℕ) (world : World D) : Type 0 where
-  pub machine : Machine
-  pub stands : StandsFor medium world machine
-  pub inside : place < length world.clients.items
 
 -- a change of the world that wrote and answered is a step of the machine by this call
 abbrev pub MakesStep : {D A : Type 0} → Medium D → Call Machine A → (old new : World D)
@@ -148,15 +124,13 @@ pub record KeepsDisks {D : Type 0} (old new : World D) : Type 0 where
 
 -- what is so unless an event was done that arms a disk
 abbrev pub UnlessArmed : {T E : Type 0} → (arms : Bool) → Result T E → Type 0 → Type 0
-UnlessArmed false result P = P
 UnlessArmed true (Ok done) P = Unit {0}
-UnlessArmed true (Err fault) P = P
+UnlessArmed arms result P = P
 
 -- the disk of a client's node, which was not armed unless that was done
 abbrev pub KeepsNode : {D T E : Type 0} → Medium D → (arms : Bool) → Result T E → (old new : Laptop D) → Type 0
-KeepsNode medium false result old new = KeepsDisk medium (disk_in old) (disk_in new)
 KeepsNode medium true (Ok done) old new = LaptopHasDisk old → LaptopHasDisk new
-KeepsNode medium true (Err fault) old new = KeepsDisk medium (disk_in old) (disk_in new)
+KeepsNode medium arms result old new = KeepsDisk medium (disk_in old) (disk_in new)
 
 -- none of these disks was armed, each at its place
 abbrev pub AreUnarmed : {D : Type 0} → Medium D → (old new : List D) → Type 0
@@ -236,6 +210,13 @@ pub record SameDeclared {D : Type 0} (old new : World D) : Type 0 where
 abbrev pub LendsServer : {D : Type 0} → Option (Server D) → Machine → Type 0
 LendsServer it m = servers.LendsServer it m.server m.requests
 
+-- it meets what those calls of a client ask for that look at it, or ask it for what it submits
+pub record IsReady {D : Type 0} (medium : Medium D) (place : ℕ) (it : Client D) : Type 0 where
+  pub tied : IsTied medium it
+  pub begun : IsBegunIfAny (state_of it).running (live_of it)
+  pub place_is : place_of it ≡ place
+  pub few : place ≤ 7
+
 -- a client with the machine's held tree, view, queue and running transaction; it can be looked at, and asked for what it submits
 pub record IsClientOf {D : Type 0} (medium : Medium D) (it : Client D) (place : ℕ) (m : machines.Client) : Type 0 where
   pub alive : m.node.alive ≡ true
@@ -243,17 +224,7 @@ pub record IsClientOf {D : Type 0} (medium : Medium D) (it : Client D) (place : 
   pub view : states.view (state_of it) ≡ clients.view m.node.durable
   pub queue : ItemsStand (state_of it).items (state_of it).held m.node.durable.items
   pub running : RunningStandsIfAny (state_of it).running (live_of it) m.first m.node.durable.running
-  pub tied : IsTied medium it
-  pub begun : IsBegunIfAny (state_of it).running (live_of it)
-  pub place_is : place_of it ≡ place
-  pub few : place ≤ 7
-
--- it meets what those calls of a client ask for that look at it, or ask it for what it submits
-pub record IsReady {D : Type 0} (medium : Medium D) (place : ℕ) (it : Client D) : Type 0 where
-  pub tied : IsTied medium it
-  pub begun : IsBegunIfAny (state_of it).running (live_of it)
-  pub place_is : place_of it ≡ place
-  pub few : place ≤ 7
+  pub ready : IsReady medium place it
 
 -- none is lent of a client that is not declared, or is down
 abbrev pub LendsClient : {D : Type 0} → Medium D → Option (Client D) → ℕ → Machine → Type 0

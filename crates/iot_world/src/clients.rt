@@ -1,7 +1,9 @@
 //! Declarations, and the events of one client among all.
-ghost use Rattle.std.specs.Prelude.{◌≡◌, ◌<◌, true, OnOk};
+ghost use Rattle.std.specs.Prelude.{◌≡◌, ◌<◌, ◌++◌, true, OnOk};
 ghost use Rattle.iot_event.specs.declared.event.ClientEvent.{ClientEvent as Befalls};
+ghost use Rattle.iot_event.specs.declared.event.Event.TheVariants.{At};
 ghost use Rattle.iot_machine.specs.Events.{Declares, client_part};
+ghost use Rattle.iot_machine.specs.Texts.{client_line};
 ghost use Rattle.iot_text.specs.Texts.{Extends};
 ghost use Rattle.iot_laptop.specs.Laptops.{IsUnopened, SamePlace, disk_in};
 ghost use Rattle.iot_node.specs.Disks.{KeepsDisk};
@@ -10,7 +12,6 @@ ghost use Rattle.iot_world.specs.World.{Starts};
 
 use crate::disks::take_first;
 use crate::nodes::{befall, relink};
-use crate::texts::say_client;
 use crate::world::World;
 use iot_disk::Disk;
 use iot_event::{ClientEvent, SharedScript};
@@ -20,9 +21,9 @@ use iot_text::{Name, NoMemory, Text};
 use std::alloc::Global;
 
 impl<D: Disk> World<D> {
-    ghost use Rattle.iot_world.specs.World.{StandsForSome, IsInside, MakesStep, SameDeclared, KeepsDisks, SameArms, DeclaresClient};
+    ghost use Rattle.iot_world.specs.World.{StandsForSome, MakesStep, SameDeclared, KeepsDisks, SameArms, DeclaresClient};
     ghost use Rattle.iot_world.specs.World.{AddsScript, UnlessArmed, scripts_of, script_count, client_count};
-    ghost use Rattle.iot_world.specs.Deciding.{DecidesAt};
+    ghost use Rattle.iot_world.specs.Deciding.{Decides};
 
     /// A client joins, and starts on the next disk.
     pub(crate) fn declare_client(
@@ -42,9 +43,10 @@ impl<D: Disk> World<D> {
         self.clients.reserve(1)?;
         let place = self.clients.len() as u64;
         let disk = take_first(&mut self.spare);
-        self.clients
-            .push_reserved(Laptop::unopened(*name, place, disk));
-        start(&mut self.clients[place as usize], alloc, name, out)
+        let mut laptop = Laptop::unopened(*name, place, disk);
+        let started = start(&mut laptop, alloc, name, out);
+        self.clients.push_reserved(laptop);
+        started
     }
 
     /// A script joins.
@@ -72,11 +74,12 @@ impl<D: Disk> World<D> {
         what: &ClientEvent<u64>,
         out: &mut Text,
     ) -> Result<(), NoMemory>
-        requires inside { IsInside D.medium client self.old }
+        requires stands { StandsForSome D.medium self.old }
+        requires inside { client < client_count self.old }
         requires may { MayBefall what.now (script_count self.old) }
         ensures step { OnOk result
             (MakesStep D.medium (client_part (scripts_of self.old) client what.now) self.old self.new out.old out.new tt) }
-        ensures decided { OnOk result (DecidesAt D.medium what.now client self.old out.old out.new) }
+        ensures decided { OnOk result (Decides D.medium (At client what.now) self.old self.new out.old out.new) }
         ensures counts { SameDeclared self.old self.new }
         ensures disks { KeepsDisks self.old self.new }
         ensures arms { UnlessArmed (stops_client what.now) result (SameArms D.medium 0 self.old self.new) }
@@ -114,4 +117,13 @@ fn start<D: Disk>(
         say_client(name, out)?;
     }
     Ok(())
+}
+
+/// `client N`
+fn say_client(name: &Name, out: &mut Text) -> Result<(), NoMemory>
+    ensures { OnOk result (out.new ≡ out.old ++ client_line name.now) }
+{
+    out.append(b"client ")?;
+    out.append(name.as_bytes())?;
+    out.push(b'\n')
 }

@@ -5,7 +5,6 @@ mod clients;
 mod disks;
 mod looking;
 mod nodes;
-mod texts;
 mod world;
 
 pub use world::World;

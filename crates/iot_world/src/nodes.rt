@@ -1,5 +1,6 @@
 //! What befalls a node or a link.
 ghost use Rattle.std.specs.Prelude.{◌≡◌, List, true, OnOk};
+ghost use Rattle.iot_event.specs.declared.event.Event.TheVariants.{Server};
 ghost use Rattle.iot_event.specs.declared.event.NodeEvent.TheVariants.{Show};
 ghost use Rattle.iot_laptop.specs.Laptops.{ClientStands, StandsAnyhow, SamePlace, disk_in};
 ghost use Rattle.iot_machine.specs.Clients.{Declared};
@@ -7,7 +8,7 @@ ghost use Rattle.iot_machine.specs.Events.{server_part, node_part, link_part};
 ghost use Rattle.iot_machine.specs.Refining.{Refines};
 ghost use Rattle.iot_text.specs.Texts.{Extends};
 ghost use Rattle.iot_world.specs.Allowed.{arms_a_disk, stops_node};
-ghost use Rattle.iot_world.specs.Deciding.{ServerDecides, ClientDecides};
+ghost use Rattle.iot_world.specs.Deciding.{Decides, ClientDecides};
 ghost use Rattle.iot_world.specs.World.{KeepsNode, UnlessArmed};
 
 use crate::world::World;
@@ -32,7 +33,7 @@ impl<D: Disk> World<D> {
         requires { StandsForSome D.medium self.old }
         ensures step { OnOk result
             (MakesStep D.medium (server_part what) self.old self.new out.old out.new tt) }
-        ensures decided { OnOk result (ServerDecides D.medium what self.old self.new out.old out.new) }
+        ensures decided { OnOk result (Decides D.medium (Server what) self.old self.new out.old out.new) }
         ensures counts { SameDeclared self.old self.new }
         ensures disks { KeepsDisks self.old self.new }
         ensures arms { UnlessArmed (stops_node what) result (SameArms D.medium 0 self.old self.new) }

@@ -1,5 +1,4 @@
-use Rattle.std.proofs.Common.{sym, false}
-use Rattle.std.proofs.lemmas.List.{append-nil}
+use Rattle.iot_world.proofs.Common.{sym, false, append-nil}
 use Rattle.iot_world.proofs.clients.start.Goals as goal
 
 pub returns-else-branch-clause-step : goal.returns-else-branch-clause-step

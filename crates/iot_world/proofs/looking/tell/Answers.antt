@@ -1,7 +1,6 @@
-use Rattle.std.proofs.Common.{sym, ap, ◌∙◌}
-use Rattle.iot_kept.specs.States.{State}
-use Rattle.iot_laptop.proofs.NodesLaws.{some_awake}
-use Rattle.iot_world.proofs.ToldLaws.{tells_live}
+use Rattle.iot_world.proofs.Common.{sym, ap, ◌∙◌, some_awake}
+use Rattle.iot_world.specs.Prelude.{State}
+use Rattle.iot_world.proofs.LookingLaws.{tells_live}
 use Rattle.iot_world.proofs.looking.tell.Goals as goal
 
 pub client-requires : goal.client-requires

@@ -1,7 +1,6 @@
-use Rattle.std.proofs.Common.{sym, ◌∙◌}
-use Rattle.iot_laptop.proofs.NodesLaws.{some_awake}
+use Rattle.iot_world.proofs.Common.{sym, ◌∙◌, some_awake}
 use Rattle.iot_world.proofs.EventsLaws.{then_ok}
-use Rattle.iot_world.proofs.ShowingLaws.{shows, shows_down}
+use Rattle.iot_world.proofs.LookingLaws.{shows, shows_down}
 use Rattle.iot_world.proofs.nodes.show_view.Goals as goal
 
 pub view-requires : goal.view-requires

@@ -1,4 +1,4 @@
-use Rattle.std.proofs.Common.{refl}
+use Rattle.iot_world.proofs.Common.{refl}
 use Rattle.iot_event.specs.declared.event.Event.TheVariants as events
 use Rattle.iot_world.proofs.DisksLaws.{arms_same, unless_armed}
 use Rattle.iot_world.proofs.DeclaringLaws.{declares_script}

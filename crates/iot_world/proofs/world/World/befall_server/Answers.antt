@@ -1,5 +1,4 @@
-use Rattle.std.proofs.Common.{refl}
-use Rattle.iot_server_node.proofs.BeginningLaws.{commits_same}
+use Rattle.iot_world.proofs.Common.{refl, commits_same}
 use Rattle.iot_world.proofs.DisksLaws.{unless_armed, arms_same, server_with, server_arms, kept_follows, last_here}
 use Rattle.iot_world.proofs.EventsLaws.{then_ok}
 use Rattle.iot_world.proofs.HoldingLaws.{server_after}

@@ -1,4 +1,4 @@
-use Rattle.std.proofs.Common.{◌++◌, ◌∷◌, [], length, refl, ap, ◌∙◌}
+use Rattle.iot_world.proofs.Common.{◌++◌, ◌∷◌, [], length, ap, ◌∙◌}
 use Rattle.iot_world.proofs.DisksLaws.{arms_same}
 use Rattle.iot_world.proofs.DeclaringLaws.{declares, joins, joined_keeps, joined_arms}
 use Rattle.iot_world.proofs.EventsLaws.{then_ok}
@@ -9,16 +9,15 @@ returns-in_err-reserve-clause-arms g c = arms_same _ _ _ _ c.reserve.ensures.ite
 
 pub returns : goal.returns
 returns g c =
-    let push = c.push_reserved.ensures.items ∙ ap (λ ls. ls ++ c.unopened.result ∷ []) c.reserve.ensures.items in
+    let push = c.push_reserved.ensures.items ∙ ap (λ ls. ls ++ c.start-started.new.laptop ∷ []) c.reserve.ensures.items in
     let at = c.len-place.ensures ∙ c.reserve.new.self.ok.0 ∙ ap length c.reserve.ensures.items in
-    let value = c.index_mut.ensures.value in
+    let was = c.unopened-laptop.result in
     let taken = c.take_first-disk.ensures in
-    let it = c.unopened.ensures in
-    let kept = c.start.ensures in
+    let it = c.unopened-laptop.ensures in
+    let kept = c.start-started.ensures in
     record {
-      step = then_ok _ kept.step (declares _ _ _ _ _ _ _ _ _ _ _ push at refl value taken.items it.place kept.place it.stands _ _);
-      declared = joins g.D.Disk.medium c.args.name.now _ _ _ _ _ _ _ _ _ push at refl value taken.items c.start.result;
-      disks =
-          joined_keeps _ c.args.name.now _ _ _ _ _ _ _ _ _ push at refl value taken.items it.disk kept.disk taken.len taken.capacity;
-      arms = joined_arms _ c.args.name.now _ _ _ _ _ _ _ _ _ push at refl value taken.items it.disk kept.disk;
+      step = then_ok _ kept.step (declares _ _ _ _ _ _ _ _ push taken.items (it.place ∙ at) kept.place it.stands _ _);
+      declared = joins g.D.Disk.medium c.args.name.now _ _ _ _ was _ push taken.items c.start-started.result;
+      disks = joined_keeps _ c.args.name.now _ _ _ _ was _ push taken.items it.disk kept.disk taken.len taken.capacity;
+      arms = joined_arms _ c.args.name.now _ _ _ _ was _ push taken.items it.disk kept.disk;
     }

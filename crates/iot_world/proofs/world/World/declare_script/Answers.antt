@@ -1,4 +1,4 @@
-use Rattle.std.proofs.Common.{refl}
+use Rattle.iot_world.proofs.Common.{refl}
 use Rattle.iot_world.proofs.DisksLaws.{arms_same}
 use Rattle.iot_world.proofs.world.World.declare_script.Goals as goal
 

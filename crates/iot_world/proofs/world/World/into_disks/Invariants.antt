@@ -1,5 +1,5 @@
-use Rattle.std.proofs.Common.{length}
-use Rattle.std.specs.Vec.{vec_len, vec_capacity}
+use Rattle.iot_world.proofs.Common.{length}
+use Rattle.iot_world.specs.Prelude.{vec_len, vec_capacity}
 use Rattle.iot_world.proofs.DisksLaws.{AreLeft}
 use Rattle.iot_world.proofs.world.World.into_disks.Given as goal
 

@@ -1,5 +1,4 @@
-use Rattle.std.proofs.Common.{ap, ◌∙◌}
-use Rattle.iot_store.specs.Store.{state_of}
+use Rattle.iot_world.proofs.Common.{ap, ◌∙◌, state_of}
 use Rattle.iot_world.proofs.LookingLaws.{lent_up, are_of}
 use Rattle.iot_world.proofs.world.World.json.Goals as goal
 

@@ -1,5 +1,4 @@
-use Rattle.std.proofs.Common.{ap, ◌∙◌}
-use Rattle.iot_store.specs.Store.{state_of}
+use Rattle.iot_world.proofs.Common.{ap, ◌∙◌, state_of}
 use Rattle.iot_world.proofs.LookingLaws.{lent_up, names_are, are_of, logs_up}
 use Rattle.iot_world.proofs.world.World.log.Goals as goal
 

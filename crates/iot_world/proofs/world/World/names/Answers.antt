@@ -1,4 +1,4 @@
-use Rattle.iot_world.proofs.LendingLaws.{looked_up}
+use Rattle.iot_world.proofs.ListLaws.{looked_up}
 use Rattle.iot_world.proofs.LookingLaws.{names_more}
 use Rattle.iot_world.proofs.world.World.names.Goals as goal
 

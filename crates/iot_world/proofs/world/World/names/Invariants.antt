@@ -1,4 +1,4 @@
-use Rattle.std.proofs.Common.{◌≡◌, take, map}
+use Rattle.iot_world.proofs.Common.{◌≡◌, take, map}
 use Rattle.iot_world.proofs.world.World.names.Given as goal
 
 -- the names so far

@@ -1,6 +1,6 @@
-use Rattle.std.proofs.Common.{[], refl}
+use Rattle.iot_world.proofs.Common.{[], refl}
 use Rattle.iot_world.proofs.DisksLaws.{now_has}
-use Rattle.iot_world.proofs.OpeningLaws.{opens, opens_unarmed, gives_back}
+use Rattle.iot_world.proofs.DeclaringLaws.{opens, opens_unarmed, gives_back}
 use Rattle.iot_world.proofs.world.World.new.Goals as goal
 
 pub returns-in-Ok-clause-opens : goal.returns-in-Ok-clause-opens

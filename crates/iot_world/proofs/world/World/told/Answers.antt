@@ -1,6 +1,6 @@
-use Rattle.std.proofs.Common.{length, ◌≤◌, subst}
-use Rattle.iot_world.proofs.ToldLaws.{tells_more, tells_all}
-use Rattle.iot_world.proofs.LendingLaws.{looked_up}
+use Rattle.iot_world.proofs.Common.{length, ◌≤◌, subst}
+use Rattle.iot_world.proofs.LookingLaws.{tells_more, tells_all}
+use Rattle.iot_world.proofs.ListLaws.{looked_up}
 use Rattle.iot_world.proofs.WorldsLaws.{stands_there}
 use Rattle.iot_world.proofs.world.World.told.Goals as goal
 

@@ -1,4 +1,4 @@
-use Rattle.iot_world.proofs.ToldLaws.{TellsFirst}
+use Rattle.iot_world.proofs.LookingLaws.{TellsFirst}
 use Rattle.iot_world.proofs.world.World.told.Given as goal
 
 -- the clients so far are told

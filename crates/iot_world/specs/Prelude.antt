@@ -1,0 +1,57 @@
+-- The words of other crates of which the definitions and laws of this crate speak.
+pub use Rattle.std.specs.List.{AllByRecursion}
+pub use Rattle.std.specs.Option.{option_copied, option_map}
+pub use Rattle.std.specs.Prelude.{Bool, Err, IfErr, IfSome, IsSome, List, None, Ok, OnOk, Option, Result, Some, Vec, [], false, is_some}
+pub use Rattle.std.specs.Prelude.{length, map, slice_get, true, ℕ}
+pub use Rattle.std.specs.Vec.{vec_capacity, vec_len}
+pub use Rattle.std.specs.declared.alloc.Global.{Global}
+pub use Rattle.iot_disk.specs.Disk.{Medium}
+pub use Rattle.iot_event.specs.Declarations.{AreDeclared, ClientEventIsDeclared}
+pub use Rattle.iot_event.specs.Meanings.{is_declared}
+pub use Rattle.iot_event.specs.declared.event.ClientEvent.{ClientEvent}
+pub use Rattle.iot_event.specs.declared.event.Event.{Event}
+pub use Rattle.iot_event.specs.declared.event.NodeEvent.{NodeEvent}
+pub use Rattle.iot_event.specs.declared.event.NodeEvent.TheVariants.{Restart, Show, Stop}
+pub use Rattle.iot_exchange.specs.Scripts.{AreApart, MayDo, script_of}
+pub use Rattle.iot_exchange.specs.declared.declared.DeclaredScript.{DeclaredScript}
+pub use Rattle.iot_inspect.specs.Shown.{named, shown}
+pub use Rattle.iot_inspect.specs.declared.snapshot.Json.{Json}
+pub use Rattle.iot_kept.specs.Standing.{StandFor}
+pub use Rattle.iot_kept.specs.States.{State, Transaction}
+pub use Rattle.iot_lang.specs.Code.{Code}
+pub use Rattle.iot_laptop.specs.Alone.{OpensClient}
+pub use Rattle.iot_laptop.specs.Calls.{Came}
+pub use Rattle.iot_laptop.specs.Laptops.{ClientStands, StandsAnyhow, disk_in}
+pub use Rattle.iot_laptop.specs.Scripts.{AreNamed, HasNamed, IsNamed, ItemIsNamed, RunIsNamedIfAny, script_named}
+pub use Rattle.iot_laptop.specs.Seats.{IsClientImage, seating}
+pub use Rattle.iot_laptop.specs.declared.laptop.Laptop.{Laptop}
+pub use Rattle.iot_laptop.specs.declared.seated.Seated.{Seated}
+pub use Rattle.iot_machine.specs.Calls.{At, Call, Gets, Lens, Says, Then, goes_on}
+pub use Rattle.iot_machine.specs.Clients.{ClientState, Declared, Running, base, so_far, view}
+pub use Rattle.iot_machine.specs.Events.{Declares, IfUp, Logs, RestartsServer, add_client, client_of, client_part, comes_back, counts_anew}
+pub use Rattle.iot_machine.specs.Events.{cuts_off, declare_script, event_part, link_part, names_in, no_text, node_part, task_part}
+pub use Rattle.iot_machine.specs.Json.{client_data}
+pub use Rattle.iot_machine.specs.Machine.{Client, Commit, Machine, Pair, client_at, client_in, first_of, handed, no_client, node, pair_at}
+pub use Rattle.iot_machine.specs.Machine.{server}
+pub use Rattle.iot_machine.specs.Nodes.{Counts, Node, unopened}
+pub use Rattle.iot_machine.specs.Refining.{Refines}
+pub use Rattle.iot_machine.specs.Serving.{kept_text, server_name}
+pub use Rattle.iot_machine.specs.Sound.{IsListed, IsSound}
+pub use Rattle.iot_machine.specs.Stops.{OpensNode, Restarts, Shows}
+pub use Rattle.iot_machine.specs.Texts.{client_line, kept_line, line, log_text, lost_line, stopped_line}
+pub use Rattle.iot_machine.specs.Transcript.{Opening}
+pub use Rattle.iot_node.specs.Disks.{CountsOn, IsEmpty, KeepsDisk, counts_on}
+pub use Rattle.iot_node.specs.Keeping.{Keeping}
+pub use Rattle.iot_node.specs.Posts.{CameIf, HoldsEither, Lasts, PostStands, back_said, is_fallen}
+pub use Rattle.iot_node.specs.Steps.{StepsTo}
+pub use Rattle.iot_node.specs.declared.post.Post.{Post}
+pub use Rattle.iot_node.specs.declared.post.Post.TheVariants.{Between, Down, Up}
+pub use Rattle.iot_queue.specs.declared.items.Item.{Item}
+pub use Rattle.iot_server.specs.declared.server.Server.{Server}
+pub use Rattle.iot_server_node.specs.Keepers.{lists}
+pub use Rattle.iot_server_node.specs.Records.{BeginsWith, DiskBegins, EachBegins, IsImage, records_of}
+pub use Rattle.iot_server_node.specs.Servers.{HasDisk, HavingAnswered, IsLongerIfAny, IsServerOf, KeepsCommits, ServerStands}
+pub use Rattle.iot_server_node.specs.Servers.{answered_since, disk_of, is_up, post_of}
+pub use Rattle.iot_server_node.specs.declared.server.ServerNode.{ServerNode}
+pub use Rattle.iot_tree.specs.Tree.{Nodes}
+pub use Rattle.iot_world.specs.declared.world.World.{World}
