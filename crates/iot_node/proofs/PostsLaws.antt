@@ -269,6 +269,20 @@ module _ {K S D : Type 0} (keeping : Keeping K S D) (medium : Medium D) (says : 
         | inr is ↦ inr (it.after, it.is, is)
       ]
 
+  -- so does each of any node, if those of a live one do
+  pub lasts_in : ((keeper : K) (n : ℕ) (s : S) → keeping.stands keeper n s
+      → EachIs (medium.may_leave (keeping.disk keeper)) (λ bytes. keeping.image bytes n s))
+      → (post : Post K D) (node : Node S) → Stands post node → Lasts keeping medium post node
+  lasts_in live (Up keeper) node here = record {
+    disk = keeping.disk keeper;
+    has = refl;
+    count = here.count;
+    each = record { each = λ bytes left. inl ((live keeper here.count node.durable here.stands).each bytes left) };
+  }
+  lasts_in live (Down fallen) node here =
+      record { disk = fallen.disk; has = refl; count = here.count; each = record { each = holds_each fallen node here } }
+  lasts_in live Between node here = absurd here
+
   -- a post that is known to be down, whose disk has this image to be read
   module _ {post : Post K D} {fallen : Fallen D} (disk : D) (node : Node S) (is : post ≡ Down fallen)
       (here : PostStands keeping medium says post node) (left : medium.may_leave fallen.disk (medium.reads disk)) where

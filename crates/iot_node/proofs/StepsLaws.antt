@@ -5,7 +5,7 @@ use Rattle.iot_node.specs.Steps.{StepsTo}
 use Rattle.iot_node.proofs.StepsToLaws as to
 
 module _ {W M : Type 0} {stands : W → M → Type 0} where
-  refines : {A : Type 0} {call : Call M A} {u v : W} {x y : List ℕ} {a : A} → StepsTo stands stands call u v x y a
+  pub refines : {A : Type 0} {call : Call M A} {u v : W} {x y : List ℕ} {a : A} → StepsTo stands stands call u v x y a
       → Refines stands call u v x y a
   refines steps = record { step = steps.step }
 

@@ -8,7 +8,7 @@ pub use Rattle.iot_disk.specs.declared.faults.StartFault.{StartFault}
 pub use Rattle.iot_machine.specs.Calls.{Answers, Asks, Call, Does, Nothing, Says, Then}
 pub use Rattle.iot_machine.specs.Nodes.{Counts, Node, armed, back, changed, doubting, opened}
 pub use Rattle.iot_machine.specs.Refining.{Refines}
-pub use Rattle.iot_machine.specs.Texts.{kept_line, line, lost_line, stop_line, stopped_line, transaction_name}
+pub use Rattle.iot_machine.specs.Texts.{kept_line, line, lost_line, stop_line, stopped_line, transaction_name, pick_text}
 pub use Rattle.iot_node.specs.declared.halt.Halt.{Halt}
 pub use Rattle.iot_node.specs.declared.halt.Halt.TheVariants.{NoMemory, Over}
 pub use Rattle.iot_node.specs.declared.post.Doubt.{Doubt}

@@ -1,18 +1,14 @@
 //! A node over any keeper: alive, or down with its disk. Here alone a disk that fails becomes a stop.
-ghost use Rattle.std.specs.Prelude.{◌≡◌, ◌++◌, ℕ, List, Bool, true, false, if◌then◌else◌, Option, Some, None, Ok, Err, IfOk, IfErr, OnOk};
+ghost use Rattle.std.specs.Prelude.{◌≡◌, ◌++◌, ℕ, List, true, false, if◌then◌else◌, Option, Some, None, Ok, Err, IfOk, IfErr, OnOk};
 ghost use Rattle.std.specs.Prelude.{IsErrOf, IsSome};
-ghost use Rattle.iot_disk.specs.Disk.{Only};
-ghost use Rattle.iot_machine.specs.Nodes.{Node};
-ghost use Rattle.iot_machine.specs.Refining.{Refines};
+ghost use Rattle.iot_node.specs.Prelude.{Node, Refines, line, stopped_line, stop_line, pick_text, Over};
 ghost use Rattle.iot_machine.specs.Stops.{OpensNode, Appends, ComesBack, Crashes, ArmsDisk};
-ghost use Rattle.iot_machine.specs.Texts.{line, stopped_line, stop_line, pick_text};
 ghost use Rattle.iot_disk.specs.declared.faults.JournalFault.TheVariants as append;
 ghost use Rattle.iot_disk.specs.declared.faults.StartFault.TheVariants.{Stopped};
 ghost use Rattle.iot_node.specs.Disks.{KeepsDisk};
-ghost use Rattle.iot_node.specs.Keeping.{Keeping, EachIs, Appended, Doubts, TakesBytes};
+ghost use Rattle.iot_node.specs.Keeping.{EachIs, Appended, Doubts, TakesBytes};
 ghost use Rattle.iot_node.specs.Posts.{PostStands, is_on, is_fallen, disk_of, live_of, Ready, Answered, UpStands, StepsFrom, back_said};
 ghost use Rattle.iot_node.specs.Posts.{Lasts, CameIf, IsStanding};
-ghost use Rattle.iot_node.specs.declared.halt.Halt.TheVariants.{Over};
 ghost use Rattle.iot_text.specs.Texts.{Extends};
 
 use crate::halt::Halt;
