@@ -1,6 +1,6 @@
 mod Common
-mod KeepersLaws
+pub mod KeepersLaws
 pub mod ServersLaws
 mod ServingLaws
-mod DecidingLaws
+pub mod DecidingLaws
 pub mod BeginningLaws

@@ -20,7 +20,7 @@ use Rattle.iot_server_node.specs.Servers.{HavingAnswered, IsUnopened, answered_s
 use Rattle.iot_server_node.proofs.KeepersLaws.{keeps_images, record_is, state_is}
 use Rattle.iot_machine.proofs.FollowsLaws.{all_as, all_push, at_push}
 use Rattle.iot_machine.proofs.KeepsLaws.{asks_then, keeps_either, keeps_does, stays_says}
-use Rattle.iot_node.proofs.PostsLaws.{holds_each, on_is}
+use Rattle.iot_node.proofs.PostsLaws.{lasts_in as posts_lasts_in, on_is}
 
 -- no bytes are a journal without a body
 nothing_decoded : decoded [] ≡ Encodes []
@@ -191,19 +191,7 @@ module _ {D : Type 0} (medium : Medium D) (names : List (List ℕ)) where
       (bind old old new x x y on tt (asks old x on (λ node here. sym (up_is old node n here ∙ is))) step)
 
   lasts_in : (post : Post (ServerKeeper D) D) (node : Node (List Commit)) → Posted post node → Lasts (lists medium) medium post node
-  lasts_in (Up keeper) node here = record {
-    disk = servers.disk_of keeper.server;
-    has = refl;
-    count = here.count;
-    each = record { each = λ bytes there. inl ((keeps_images here.stands).each bytes there) };
-  }
-  lasts_in (Down fallen) node here = record {
-    disk = fallen.disk;
-    has = refl;
-    count = here.count;
-    each = record { each = holds_each (lists medium) medium (kept_text names) fallen node here };
-  }
-  lasts_in Between node here = absurd here
+  lasts_in = posts_lasts_in (lists medium) medium (kept_text names) (λ keeper n commits here. keeps_images here)
 
   pub has_disk : (post : Post (ServerKeeper D) D) (node : Node (List Commit)) → Posted post node
       → IsSome (posts.disk_of (lists medium).disk post)

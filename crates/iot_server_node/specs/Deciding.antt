@@ -1,7 +1,7 @@
 -- If all images of a disk have the commit that is in doubt, or none has it, that decides whether it is kept.
 use Rattle.std.specs.Prelude.{◌≡◌, ◌⊎◌, ℕ, ◌+◌, List, ◌++◌, length, Option, Some, None}
-use Rattle.iot_server_node.specs.Prelude.{Medium, Encodes, decoded, server_name, stopped_line, kept_line, lost_line, Doubt, Post, Up, Down}
-use Rattle.iot_server_node.specs.Prelude.{Between, ServerKeeper, ServerNode}
+use Rattle.iot_server_node.specs.Prelude.{Medium, Encodes, decoded, server_name, stopped_line, kept_line, lost_line, Doubt, Post, Down}
+use Rattle.iot_server_node.specs.Prelude.{ServerNode}
 
 -- the bytes are a journal of so many records
 pub record HasCount (count : ℕ) (bytes : List ℕ) : Type 0 where
@@ -27,11 +27,10 @@ abbrev pub DecidesIfAny : (images : List ℕ → Type 0) → Option Doubt → (n
 DecidesIfAny images None name before after = Unit {0}
 DecidesIfAny images (Some doubt) name before after = DecidesBy images doubt.count name before after
 
--- the server, if it is down with a commit in doubt
-abbrev pub DecidesPost : {D : Type 0} → Medium D → Post (ServerKeeper D) D → (before after : List ℕ) → Type 0
-DecidesPost medium (Up keeper) before after = Unit {0}
-DecidesPost medium (Down fallen) before after = DecidesIfAny (medium.may_leave fallen.disk) fallen.doubt server_name before after
-DecidesPost medium Between before after = Unit {0}
+-- a node of this name, if it is down with a record in doubt
+abbrev pub DecidesPost : {K D : Type 0} → Medium D → Post K D → (name before after : List ℕ) → Type 0
+DecidesPost medium (Down fallen) name before after = DecidesIfAny (medium.may_leave fallen.disk) fallen.doubt name before after
+DecidesPost medium post name before after = Unit {0}
 
 abbrev pub DecidesServer : {D : Type 0} → Medium D → ServerNode D → (before after : List ℕ) → Type 0
-DecidesServer medium server before after = DecidesPost medium server.post before after
+DecidesServer medium server before after = DecidesPost medium server.post server_name before after

@@ -11,8 +11,8 @@ pub use Rattle.iot_machine.specs.Clients.{snapshot}
 pub use Rattle.iot_machine.specs.Machine.{Commit, add_commit, entries_of, tree_after}
 pub use Rattle.iot_machine.specs.Nodes.{Node, back, changed, doubting, fallen, unopened}
 pub use Rattle.iot_machine.specs.Refining.{Refines}
-pub use Rattle.iot_machine.specs.Serving.{kept_text, server_name}
-pub use Rattle.iot_machine.specs.Stops.{Appends, ArmsDisk, ComesBack, ComesBackWith, Crashes, OpensNode, Restarts}
+pub use Rattle.iot_machine.specs.Serving.{kept_text, server_name, Submission, Lends, Judges}
+pub use Rattle.iot_machine.specs.Stops.{Appends, ArmsDisk, ComesBack, ComesBackWith, Crashes, OpensNode, Restarts, Shows}
 pub use Rattle.iot_machine.specs.Texts.{acts_output, commit_line, kept_line, line, lost_line, rows_text, stopped_line, transaction_name}
 pub use Rattle.iot_node.specs.Disks.{IsEmpty, KeepsDisk, counts_on}
 pub use Rattle.iot_node.specs.Keeping.{Appended, CountsStart, Doubts, EachIs, Failed, Keeping}

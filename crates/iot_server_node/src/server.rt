@@ -2,22 +2,16 @@
 ghost use Rattle.std.specs.Prelude.{◌≡◌, ◌+◌, ◌<◌, ◌^◌, [], ℕ, List, true, false, Some, IfOk, IfErr, OnOk, IfSome, is_some};
 ghost use Rattle.std.specs.Option.{option_copied};
 ghost use Rattle.iot_disk.specs.declared.faults.JournalFault.TheVariants.{Stopped};
-ghost use Rattle.iot_machine.specs.Machine.{Commit, add_commit, tree_after};
-ghost use Rattle.iot_machine.specs.Nodes.{Node, unopened, doubting};
-ghost use Rattle.iot_machine.specs.Serving.{Submission, Lends, Judges, server_name, kept_text};
-ghost use Rattle.iot_machine.specs.Stops.{OpensNode, Crashes, Restarts, ArmsDisk, Shows};
 ghost use Rattle.iot_machine.specs.Texts.{tree_text};
-ghost use Rattle.iot_node.specs.Disks.{IsEmpty, KeepsDisk, counts_on};
-ghost use Rattle.iot_node.specs.Posts.{Lasts, CameIf};
-ghost use Rattle.iot_node.specs.Steps.{StepsTo};
+ghost use Rattle.iot_server_node.specs.Prelude.{Commit, add_commit, tree_after, Node, unopened, doubting, Submission, Lends, Judges};
+ghost use Rattle.iot_server_node.specs.Prelude.{server_name, kept_text, OpensNode, Crashes, Restarts, ArmsDisk, Shows, IsRefresh, IsEmpty};
+ghost use Rattle.iot_server_node.specs.Prelude.{KeepsDisk, counts_on, Lasts, CameIf, StepsTo, Nodes, Want};
 ghost use Rattle.iot_server.specs.Servers as servers;
 ghost use Rattle.iot_server_node.specs.Deciding.{DecidesServer};
 ghost use Rattle.iot_server_node.specs.Keepers.{lists};
 ghost use Rattle.iot_server_node.specs.Messages.{committed_since};
 ghost use Rattle.iot_server_node.specs.Records.{KeepsRecords};
 ghost use Rattle.iot_text.specs.Texts.{Extends};
-ghost use Rattle.iot_tree.specs.Tree.{Nodes};
-ghost use Rattle.iot_tree.specs.declared.want.Want.{Want};
 
 use crate::keeper::ServerKeeper;
 use crate::message::Message;
@@ -46,7 +40,6 @@ pub struct Served {
 }
 
 impl<D: Disk> ServerNode<D> {
-    ghost use Rattle.iot_wire.specs.Meanings.{IsRefresh};
     ghost use Rattle.iot_judging.specs.Verdicts.{SpellsVerdict};
     ghost use Rattle.iot_server_node.specs.Messages.{IsSomeRequest, SpellsCut, printed_under};
     ghost use Rattle.iot_server_node.specs.Servers.{is_up, disk_of, post_of, count_of, tree_of, lent_of, ServerStands, HavingAnswered};
