@@ -61,13 +61,11 @@ pub record Running (r : Option Transaction) (live : Option Live) (class : Bool) 
   pub lives : live ≡ Some besides
   pub stands : RunningStands own besides class it
 
-pub running_by : (r : Option Transaction) (live : Option Live) (first : Bool) (o : Option clients.Running) (it : clients.Running)
-    → o ≡ Some it → RunningStandsIfAny r live first o → Running r live first it
-running_by r live first None it is stands = absurd cc
-running_by (Some running) (Some own) first (Some other) it is stands =
-    let same = subst (RunningStands running own first) (same_Some _ _ is) stands in
-    record { own = running; besides = own; is = refl; lives = refl; stands = same }
-running_by r live first (Some other) it is stands = absurd stands
+running_by : (r : Option Transaction) (live : Option Live) (first : Bool) (it : clients.Running) → RunningStandsIfAny r live first (Some it)
+    → Running r live first it
+running_by (Some running) (Some own) first it stands =
+    record { own = running; besides = own; is = refl; lives = refl; stands = stands }
+running_by r live first it stands = absurd stands
 
 -- ---- its next step
 
@@ -118,7 +116,7 @@ module _ (s : State) (live : Option Live) (first : Bool) (m : ClientState) (here
 
   module _ (it : clients.Running) (runs : m.running ≡ Some it) where
     pub running_is : Running s.running live first it
-    running_is = running_by s.running live first m.running it runs here.running
+    running_is = running_by s.running live first it (rw runs at here.running)
 
     pub counted : count s ≡ it.acts
     counted = ap (λ (r : Option Transaction). length (acts_of r)) running_is.is ∙ running_is.stands.acts

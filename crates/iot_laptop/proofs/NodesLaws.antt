@@ -1,12 +1,11 @@
 -- What is known of a client by its node.
 use Rattle.std.proofs.Common.{◌≡◌, ℕ, Bool, true, false, List, Option, Some, None, refl, sym, ap, subst, ◌∙◌, rules}
 use Rattle.iot_laptop.specs.Below.{Transaction, Live, IsOwnRunIfAny, state_of, Client, Medium, Declared, ClientState, Call, At, Node}
-use Rattle.iot_laptop.specs.Below.{Refines, Possibly, Keeping, PostStands, UpStands, StepsFrom, is_on, StepsTo, Post, Up, Down, Between}
-use Rattle.iot_laptop.specs.Below.{no_text, Laptop, Seated}
+use Rattle.iot_laptop.specs.Below.{Possibly, PostStands, UpStands, StepsFrom, StepsTo, Post, Up, Down, Between, no_text, Laptop, Seated}
 use Rattle.iot_machine.proofs.PossiblyLaws.{possibly_sure}
 use Rattle.iot_client.specs.Ties.{IsBegunIfAny}
 use Rattle.iot_client.proofs.StepsLaws.{own}
-use Rattle.iot_node.proofs.PostsLaws.{on_has}
+use Rattle.iot_node.proofs.PostsLaws.{on_has, on_is}
 use Rattle.iot_client.specs.Ties as client
 use Rattle.iot_machine.specs.Clients as clients
 use Rattle.iot_machine.specs.Machine as machine
@@ -27,13 +26,6 @@ at_post laptop post is = ap (λ (p : Post _ _). record laptop { post = p }) (sym
 -- a laptop with this post is over this node
 abbrev pub Posted : {D : Type 0} → Medium D → Laptop D → Post (Seated D) D → Node ClientState → Type 0
 Posted medium laptop = PostStands (seating medium laptop.place) medium no_text
-
--- a node is alive exactly if the machine's is
-pub on_is : {K S D : Type 0} (keeping : Keeping K S D) (medium : Medium D) (says : S → S → List ℕ) (post : Post K D) (node : Node S)
-    → PostStands keeping medium says post node → node.alive ≡ is_on post
-on_is keeping medium says (Up keeper) node here = here.alive
-on_is keeping medium says (Down down) node here = here.alive
-on_is keeping medium says Between node here = absurd here
 
 -- what runs was begun since the start, if something runs
 begun_by : (r : Option Transaction) (live : Option Live) (first : Bool) (o : Option clients.Running)
@@ -141,10 +133,6 @@ module _ {D : Type 0} (medium : Medium D) where
   lent_at laptop it is stands = lent_stands stands.scripts laptop stands.machine it is stands.stands
 
 -- ---- a call of a laptop's node
-
-pub refines : {W M A : Type 0} {stands : W → M → Type 0} {call : Call M A} {u w : W} {x z : List ℕ} {a : A}
-    → StepsTo stands stands call u w x z a → Refines stands call u w x z a
-refines steps = record { step = steps.step }
 
 -- by its name it is one of the machine's
 pub at_node : {D A : Type 0} (medium : Medium D) (laptop : Laptop D) (post : Post (Seated D) D)

@@ -24,7 +24,8 @@ use Rattle.iot_machine.proofs.PossiblyLaws.{comes_within, possibly_same, opens_s
 use Rattle.iot_node.specs.Posts.{IsStanding, Ready}
 use Rattle.iot_machine.specs.Events.{CutsOff, RestartsClient, cuts_off, Disconnects, CrashesClient, ArmsClient}
 use Rattle.iot_link.specs.declared.passages.Passage.TheVariants.{Away, RequestLost, ReplyLost, Both}
-use Rattle.iot_node.proofs.StepsLaws.{does}
+use Rattle.iot_node.proofs.StepsLaws.{does, refines}
+use Rattle.iot_node.proofs.PostsLaws.{on_is}
 use Rattle.iot_disk.specs.declared.disk.Pick.{Pick}
 use Rattle.iot_tree.proofs.RowLaws.{root_rows, root_map}
 use Rattle.iot_judging.proofs.SpelledTreesLaws.{far_root_spelled}
@@ -42,8 +43,8 @@ use Rattle.iot_laptop.specs.Scripts.{AreNamed}
 use Rattle.iot_laptop.specs.Seats.{seating, besides, IsClientImage}
 use Rattle.iot_laptop.proofs.CallsLaws.{keeps_post, Behaves, Before, Fits, goes_at, halts_at, fits_with}
 use Rattle.iot_laptop.proofs.KeptStatesLaws.{live_with, cut_live, live_then, second_live, idle_is, idle_runs}
-use Rattle.iot_laptop.proofs.NodesLaws.{Posted, not_both, on_is, kept_up, node_stands, fallen_stands, awake_stands, awake_at, fallen_at}
-use Rattle.iot_laptop.proofs.NodesLaws.{refines, at_node, same_name, same_link, may_be_named}
+use Rattle.iot_laptop.proofs.NodesLaws.{Posted, not_both, kept_up, node_stands, fallen_stands, awake_stands, awake_at, fallen_at, at_node}
+use Rattle.iot_laptop.proofs.NodesLaws.{same_name, same_link, may_be_named}
 use Rattle.iot_laptop.specs.Alone.{OpensClient}
 
 pub not_through : (p : Passage) → (p ≡ Away) ⊎ ((p ≡ RequestLost) ⊎ (p ≡ ReplyLost)) → p ≡ Both → ⊥

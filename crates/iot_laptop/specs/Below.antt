@@ -2,8 +2,8 @@
 pub use Rattle.iot_acts.specs.Traces.{after_acts}
 pub use Rattle.iot_acts.specs.Turns.{reads_of}
 pub use Rattle.iot_changes.specs.declared.changes.Change.TheVariants.{Resolved}
-pub use Rattle.iot_client.specs.Calls.{Notes, IsHeadsRun, may_end, verdict_change, CanAct, next_acts, StepIs, second_class}
-pub use Rattle.iot_client.specs.Ties.{records_of, Live, state_of, place_of, disk_of, live_of, IsTied, bodies_on, IsOwnRunIfAny}
+pub use Rattle.iot_client.specs.Calls.{Notes, IsHeadsRun, may_end, verdict_change, CanAct, next_acts, StepIs, second_class, is_over_if_any}
+pub use Rattle.iot_client.specs.Ties.{records_of, Live, state_of, place_of, disk_of, live_of, IsTied, bodies_on, IsOwnRunIfAny, class_by}
 pub use Rattle.iot_client.specs.declared.client.Client.{Client}
 pub use Rattle.iot_client.specs.declared.fault.ClientFault.{ClientFault}
 pub use Rattle.iot_client.specs.declared.fault.ClientFault.TheVariants.{Stopped}
@@ -12,7 +12,7 @@ pub use Rattle.iot_disk.specs.Disk.{Medium}
 pub use Rattle.iot_exec.specs.Runs.{run}
 pub use Rattle.iot_exec.specs.declared.ran.Ran.{Ran}
 pub use Rattle.iot_judging.specs.Verdicts.{SpellsVerdict}
-pub use Rattle.iot_kept.specs.Changes.{CanFollow, after, HeadIs}
+pub use Rattle.iot_kept.specs.Changes.{CanFollow, after, HeadIs, IsSubmitted, IsByHand}
 pub use Rattle.iot_kept.specs.Standing.{StandFor}
 pub use Rattle.iot_kept.specs.States.{Transaction, State, opening, acts_of, after_each, view}
 pub use Rattle.iot_lang.specs.Code.{Code}
@@ -21,7 +21,7 @@ pub use Rattle.iot_limits.specs.Spelled.{IsSpelledTree}
 pub use Rattle.iot_link.specs.declared.passages.Passage.{Passage}
 pub use Rattle.iot_machine.specs.Calls.{Try, Call, At}
 pub use Rattle.iot_machine.specs.Clients.{Declared, ClientState, begin, base, so_far, act_once, repair, reach, Plan, resolution_of, Acts}
-pub use Rattle.iot_machine.specs.Clients.{next_step, local_run, new_client, leave, plain_run, cut, item_of}
+pub use Rattle.iot_machine.specs.Clients.{hold, fetch, end, next_step, local_run, new_client, leave, plain_run, cut, item_of}
 pub use Rattle.iot_machine.specs.Events.{no_text}
 pub use Rattle.iot_machine.specs.Nodes.{Node, unopened}
 pub use Rattle.iot_machine.specs.Options.{OnConflict}
@@ -33,7 +33,7 @@ pub use Rattle.iot_machine.specs.Transactions.{Writes}
 pub use Rattle.iot_node.specs.Disks.{IsEmpty, KeepsDisk, counts_on}
 pub use Rattle.iot_node.specs.Keeping.{Appended, Keeping}
 pub use Rattle.iot_node.specs.Lines.{name_of}
-pub use Rattle.iot_node.specs.Posts.{CameIf, Answered, StepsFrom, PostStands, UpStands, is_on}
+pub use Rattle.iot_node.specs.Posts.{CameIf, Answered, StepsFrom, PostStands, UpStands, is_on, is_fallen}
 pub use Rattle.iot_node.specs.Steps.{StepsTo}
 pub use Rattle.iot_node.specs.declared.halt.Halt.{Halt}
 pub use Rattle.iot_node.specs.declared.halt.Halt.TheVariants.{NoMemory, Over}
@@ -43,7 +43,7 @@ pub use Rattle.iot_queue.specs.Queues.{head_of}
 pub use Rattle.iot_queue.specs.declared.items.Item.{Item}
 pub use Rattle.iot_queue.specs.declared.items.Resolution.{Resolution}
 pub use Rattle.iot_queue.specs.declared.items.Stage.{Stage}
-pub use Rattle.iot_tree.specs.Tree.{Nodes, IsTree, Path}
+pub use Rattle.iot_tree.specs.Tree.{Nodes, IsTree, Path, IsWhole}
 pub use Rattle.iot_tree.specs.declared.acts.Act.{Act}
 pub use Rattle.iot_tree.specs.declared.acts.Read.{Read}
 pub use Rattle.iot_tree.specs.declared.limits.TheConstants.{ACT_LIMIT}

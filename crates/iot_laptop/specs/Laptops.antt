@@ -150,6 +150,11 @@ abbrev pub waits_of : List Item → Bool
 waits_of [] = false
 waits_of (item ∷ items) = true
 
+-- no transaction runs or waits
+pub record IsFree (state : State) : Type 0 where
+  pub idle : state.running ≡ None
+  pub none : state.items ≡ []
+
 -- a transaction runs, and it is first class
 abbrev pub IsFirstOf : Option Live → Type 0
 IsFirstOf None = ⊥

@@ -1,15 +1,9 @@
 //! The calls of a client that append a record. It is alive before each; if its disk fails in one, it has stopped.
-ghost use Rattle.std.specs.Prelude.{◌≡◌, ◌≤◌, List, true, [], None, Some, IfOk, IfErr, is_some};
-ghost use Rattle.iot_client.specs.Calls.{may_end};
+ghost use Rattle.std.specs.Prelude.{◌≡◌, ◌≤◌, List, true, [], None, Some, IfOk, IfErr, OnOk, is_some};
+ghost use Rattle.iot_laptop.specs.Below.{may_end, HeadIs, IsSubmitted, IsByHand, acts_of, IsScript, Declared, Plan, hold, fetch, end};
+ghost use Rattle.iot_laptop.specs.Below.{leave, acts_output, KeepsDisk, Nodes, IsWhole};
 ghost use Rattle.iot_client.specs.Faults.{MayFail};
-ghost use Rattle.iot_kept.specs.Changes.{HeadIs, IsSubmitted, IsByHand};
-ghost use Rattle.iot_kept.specs.States.{acts_of};
-ghost use Rattle.iot_lang.specs.Scripts.{IsScript};
-ghost use Rattle.iot_machine.specs.Clients.{Declared, Plan, hold, fetch, end, leave};
-ghost use Rattle.iot_machine.specs.Texts.{acts_output};
-ghost use Rattle.iot_node.specs.Disks.{KeepsDisk};
 ghost use Rattle.iot_queue.specs.declared.items.Stage.TheVariants.{Conflict as in_conflict};
-ghost use Rattle.iot_tree.specs.Tree.{Nodes, IsWhole};
 ghost use Rattle.iot_laptop.specs.Calls.{appended, done};
 ghost use Rattle.iot_laptop.specs.Messages.{BringsTree, SpellsTree, IsVerdict};
 
@@ -27,7 +21,7 @@ use std::alloc::Global;
 use std::rc::Rc;
 
 impl<D: Disk> Laptop<D> {
-    ghost use Rattle.iot_laptop.specs.Laptops.{Stands, SamePlace, IsFirst, is_alive, state_in, live_in, disk_in};
+    ghost use Rattle.iot_laptop.specs.Laptops.{Stands, SamePlace, IsFirst, IsFree, is_alive, state_in, live_in, disk_in};
     ghost use Rattle.iot_laptop.specs.Calls.{Changes, Begins, Repairs, Plans, Resolves, NextIs, TakesStep, IsDoneIn, IsGone, waits_after};
     ghost use Rattle.iot_laptop.specs.Calls.{IsTold, TakesVerdict, GoesOn, head_reads};
 
@@ -38,6 +32,7 @@ impl<D: Disk> Laptop<D> {
         requires none { (state_in self.old).items ≡ [] }
         requires brings { BringsTree reply.now }
         ensures does { (t : Nodes) → SpellsTree reply.now t → Changes D.medium (hold t) self.old self.new out.old out.new result }
+        ensures free { OnOk result (IsFree (state_in self.new)) }
         ensures place { SamePlace self.old self.new }
         ensures disk { KeepsDisk D.medium (disk_in self.old) (disk_in self.new) }
     {

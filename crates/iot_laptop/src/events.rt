@@ -1,11 +1,7 @@
 //! The events of a client alone: its link, and what may befall its node.
 ghost use Rattle.std.specs.Prelude.{◌≡◌, List, true, Some, IsSome, IfOk, IfErr, OnOk};
-ghost use Rattle.iot_machine.specs.Clients.{Declared};
+ghost use Rattle.iot_laptop.specs.Below.{Declared, Refines, KeepsDisk, is_fallen, StepsTo};
 ghost use Rattle.iot_machine.specs.Machine as machine;
-ghost use Rattle.iot_machine.specs.Refining.{Refines};
-ghost use Rattle.iot_node.specs.Disks.{KeepsDisk};
-ghost use Rattle.iot_node.specs.Posts.{is_fallen};
-ghost use Rattle.iot_node.specs.Steps.{StepsTo};
 ghost use Rattle.iot_text.specs.Texts.{Extends};
 
 use crate::laptop::Laptop;
@@ -19,8 +15,7 @@ use std::alloc::Global;
 impl<D: Disk> Laptop<D> {
     ghost use Rattle.iot_machine.specs.Events.{Connects, Disconnects, Loses, CrashesClient, RestartsClient, ArmsClient, CutsOff};
     ghost use Rattle.iot_laptop.specs.Alone.{OpensClient};
-    ghost use Rattle.iot_laptop.specs.Laptops.{ClientStands, LaptopStands, StandsAnyhow, IsUnopened, SamePlace, is_alive, state_in};
-    ghost use Rattle.iot_laptop.specs.Laptops.{disk_in};
+    ghost use Rattle.iot_laptop.specs.Laptops.{ClientStands, StandsAnyhow, IsUnopened, SamePlace, is_alive, state_in, disk_in};
     ghost use Rattle.iot_laptop.specs.Calls.{ReturnedStands, Returned, running_name, Came};
 
     // ---- its link

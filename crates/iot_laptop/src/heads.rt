@@ -1,8 +1,7 @@
 //! The first transaction that waits: what it needs of the server, and what is planned for it.
 ghost use Rattle.std.specs.Prelude.{◌≡◌, ◌≤◌, ℕ, true, IfOk};
 ghost use Rattle.iot_client.specs.Messages.{way_of};
-ghost use Rattle.iot_kept.specs.Changes.{HeadIs, IsSubmitted};
-ghost use Rattle.iot_machine.specs.Texts.{acts_output};
+ghost use Rattle.iot_laptop.specs.Below.{HeadIs, IsSubmitted, acts_output};
 ghost use Rattle.iot_queue.specs.declared.items.Stage.TheVariants.{Conflict as in_conflict};
 ghost use Rattle.iot_laptop.specs.Calls.{acts_in, label_in};
 ghost use Rattle.iot_laptop.specs.Messages.{IsVerdict};

@@ -1,12 +1,9 @@
 //! A client that was declared, by its name and its place, and its link with the server.
 ghost use Rattle.std.specs.Prelude.{◌≡◌, ◌≤◌, ◌*◌, ◌&&◌, not, true, [], List, None, Some, IfOk, IfSome, is_some, length};
 ghost use Rattle.std.specs.Option.{option_copied};
-ghost use Rattle.iot_wire.specs.Meanings.{IsRefresh};
-ghost use Rattle.iot_client.specs.Calls.{may_end, is_over_if_any};
-ghost use Rattle.iot_client.specs.Ties.{class_by};
-ghost use Rattle.iot_kept.specs.Memory.{transaction_of, class_of};
+ghost use Rattle.iot_laptop.specs.Below.{IsRefresh, may_end, is_over_if_any, class_by, Declared, IsEmpty, counts_on};
 ghost use Rattle.iot_client.specs.declared.fault.ClientFault.TheVariants.{NoMemory as no_memory};
-ghost use Rattle.iot_machine.specs.Clients.{Declared};
+ghost use Rattle.iot_kept.specs.Memory.{transaction_of, class_of};
 
 use crate::seated::Seated;
 use iot_client::{Client, ClientFault, Running};
@@ -27,9 +24,8 @@ pub struct Laptop<D: Disk> {
 }
 
 impl<D: Disk> Laptop<D> {
-    ghost use Rattle.iot_node.specs.Disks.{IsEmpty, counts_on};
-    ghost use Rattle.iot_laptop.specs.Laptops.{is_alive, state_in, live_in, disk_in, lent_by, records_in, waits_of, IsView};
-    ghost use Rattle.iot_laptop.specs.Laptops.{Stands, StandsAnyhow, FallenStands, IsLent, IsUnopened, unopened_laptop};
+    ghost use Rattle.iot_laptop.specs.Laptops.{is_alive, state_in, live_in, disk_in, lent_by, records_in, waits_of, IsView, Stands};
+    ghost use Rattle.iot_laptop.specs.Laptops.{StandsAnyhow, FallenStands, IsLent, IsUnopened, unopened_laptop};
 
     /// The client of this name at this place, on an empty disk. It was never started.
     pub fn unopened(name: Name, place: u64, disk: D) -> Laptop<D>

@@ -12,8 +12,7 @@ pub struct Seated<D: Disk> {
 
 impl<D: Disk> Keeper<D> for Seated<D> {
     ghost use Rattle.std.specs.Prelude.{Option, None};
-    ghost use Rattle.iot_client.specs.Ties.{Live};
-    ghost use Rattle.iot_machine.specs.Clients.{ClientState};
+    ghost use Rattle.iot_laptop.specs.Below.{Live, ClientState};
     ghost use Rattle.iot_laptop.specs.Seats.{seating, besides};
 
     ghost Kept = { ClientState };

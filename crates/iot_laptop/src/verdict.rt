@@ -1,9 +1,7 @@
 //! What a client is told of a transaction that it submitted.
 ghost use Rattle.std.specs.Prelude.{◌≡◌, ◌-◌, ◌<◌, ◌≤◌, Some, IfOk, length, slice_get};
-ghost use Rattle.iot_acts.specs.Turns.{reads_of};
+ghost use Rattle.iot_laptop.specs.Below.{reads_of, Read, SpellsVerdict};
 ghost use Rattle.iot_machine.specs.Serving as serving;
-ghost use Rattle.iot_tree.specs.declared.acts.Read.{Read};
-ghost use Rattle.iot_judging.specs.Verdicts.{SpellsVerdict};
 ghost use Rattle.iot_laptop.specs.Messages.{IsVerdict, verdict_of};
 
 use iot_codec::CodecFault;

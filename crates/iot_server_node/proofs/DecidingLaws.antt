@@ -19,7 +19,8 @@ many_there bytes n commits count is has =
     is.counted ∙ sym (many_from commits (root_alone Dir)) ∙ ap length (same_bodies _ _ (sym is.has_records ∙ has.read)) ∙ has.counted
 
 -- a text that was said, also within a longer one
-pub begins_in : (text more rest : List ℕ) {x mid y said : List ℕ} → y ≡ mid ++ rest → mid ≡ x ++ said → said ≡ text ++ more → Begins text x y
+pub begins_in : (text more rest : List ℕ) {x mid y said : List ℕ} → y ≡ mid ++ rest → mid ≡ x ++ said → said ≡ text ++ more
+    → Begins text x y
 begins_in text more rest whole wrote is = record { rest = more ++ rest; is = rw (whole, wrote, is) (simp append_assoc) }
 
 -- any node, of which an image has as many records as are counted in it, and which says how it came back in front of this
