@@ -1,18 +1,18 @@
 -- An exchange of a client with the server; what a client asks for, and holds if it comes; and what it knows of its transactions.
 use Rattle.std.proofs.Common.{◌≡◌, ℕ, ◌+◌, List, ◌++◌, Option, Some, None, Result, Ok, Err, Bool, false, Vec, refl, sym, ap, subst, ◌∙◌, []}
-use Rattle.std.proofs.Common.{◌∷◌, is_some, inl, inr}
+use Rattle.std.proofs.Common.{◌∷◌, is_some}
 use Rattle.std.specs.Prelude.{IfErr}
 use Rattle.std.specs.declared.alloc.Global.{Global}
 use Rattle.iot_server_node.proofs.ServersLaws.{up_is}
 use Rattle.iot_laptop.proofs.LaptopsLaws.{runs_is, waits_is}
-use Rattle.iot_exchange.specs.Words.{passage, Passage, Away, RequestLost, ReplyLost, Both as Reaches, At, its_server, break, Handles}
-use Rattle.iot_exchange.specs.Words.{exchange_by, Brings, holds, is_queued, Appends, HavingAnswered, ServesBy, Served, Relinked}
-use Rattle.iot_exchange.specs.Words.{after_passage, Changes, Nodes, Want, Item, State, Medium, Call, Declared, ClientState, hold, Client}
-use Rattle.iot_exchange.specs.Words.{Commit, Pair, Node, Submission, Lends, Judges, Exchange, unless_stopped, Holds, runs, pends, StepsTo}
-use Rattle.iot_exchange.specs.Words.{Halt, IsRefresh, SpellsVerdict, SpellsCut, said_of, ServerStands, IsHanded, IsNamedIn, is_up, Message}
-use Rattle.iot_exchange.specs.Words.{ServerNode, LaptopStands, Stands, state_in, waits_of, Laptop, NotesAlone, SpellsTree, BringsTree}
+use Rattle.iot_exchange.specs.Words.{IsFree, passage, Passage, Away, RequestLost, ReplyLost, Both as Reaches, At, its_server, break}
+use Rattle.iot_exchange.specs.Words.{Handles, exchange_by, Brings, holds, HavingAnswered, ServesBy, Served, Relinked, after_passage, Nodes}
+use Rattle.iot_exchange.specs.Words.{Want, Item, State, Medium, Call, Declared, ClientState, Client, Commit, Pair, Node, Submission, Lends}
+use Rattle.iot_exchange.specs.Words.{Judges, Exchange, Holds, runs, pends, StepsTo, Halt, IsRefresh, SpellsVerdict, SpellsCut, said_of}
+use Rattle.iot_exchange.specs.Words.{ServerStands, IsHanded, IsNamedIn, is_up, Message, ServerNode, LaptopStands, state_in, waits_of}
+use Rattle.iot_exchange.specs.Words.{Laptop, SpellsTree, BringsTree}
 use Rattle.iot_exchange.specs.Pairs.{Both, two, IsAt, UpStands, Query, Objects, Judgment, AsksFor, Spells, request_of, Serves, Exchanges}
-use Rattle.iot_exchange.specs.Pairs.{Asked, IsReady, IsFree, KeepsDisks, Does}
+use Rattle.iot_exchange.specs.Pairs.{Asked, IsReady, KeepsDisks, Does}
 use Rattle.iot_exchange.proofs.DoesLaws.{StepsOn, at_as, OfEach, then_does, answers}
 use Rattle.iot_exchange.proofs.StepsLaws.{bind, gets, asks, then_ends}
 
@@ -220,28 +220,3 @@ pub brings_tree : {D : Type 0} {medium : Medium D} (client : ℕ) (held : Nodes)
 brings_tree client held want ready asked is =
     let e = ((asked ready.scripts).is ready.names ready.c (Objects client held want) is).is in
     record { tree = e.0; is = e.1.spelled }
-
--- ---- if nothing ran or waited, nothing does
-
--- what the machine's client keeps then
-noted : (change : ClientState → ClientState) (m n : Client) (text : List ℕ) (done : Unit {0})
-    → NotesAlone change m text (Some done) n → n.node.durable ≡ change m.node.durable
-noted change m n text done it = by it.first.step
-  where
-    by : Appends m.name change m.node it.front it.answer it.first.inner → n.node.durable ≡ change m.node.durable
-    by (inl went) =
-        ap (λ (k : Client). k.node.durable) (it.second.2 ∙ it.first.is) ∙ ap (λ node. node.durable) went.2
-    by (inr stopped) = let e : Some done ≡ None = it.second.1 ∙ ap unless_stopped stopped.1 in absurd cc
-
-pub free_still : {D : Type 0} {medium : Medium D} (t : Nodes) {old new : Laptop D} {x y : List ℕ} {inner : Result (Unit {0}) Halt}
-    {done : Unit {0}} → inner ≡ Ok done → Stands medium old → Changes medium (hold t) old new x y inner → IsFree (state_in old)
-    → IsFree (state_in new)
-free_still t {done = done} was here changes free =
-    let went = rw was at (changes here.scripts) in
-    let s = went.is.step here.machine here.stands in
-    let kept = noted (hold t) here.machine s.1 s.0 done s.3 in
-    is_free
-    (runs_is _ _ _ _ s.4.state ∙ ap (λ (kept : ClientState). is_some kept.running) kept ∙ sym (runs_is _ _ _ _ here.stands.state)
-    ∙ ap is_some free.idle)
-    (waits_is _ _ _ _ s.4.state ∙ ap (λ (kept : ClientState). is_queued kept.items) kept ∙ sym (waits_is _ _ _ _ here.stands.state)
-    ∙ ap waits_of free.none)

@@ -3,5 +3,4 @@ pub mod DoesLaws
 pub mod ExchangeLaws
 pub mod FirstLaws
 pub mod NamesLaws
-pub mod TasksLaws
 pub mod TransactionsLaws

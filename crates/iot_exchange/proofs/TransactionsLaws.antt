@@ -59,25 +59,18 @@ queue_are items t m held it = items_are items t m.items it ∙ ap (λ (u : Nodes
 -- ---- the transaction that runs
 
 -- it is one of the machine's
-pub record RunsAs (r : Transaction) (live : Option Live) (first : Bool) (o : Option clients.Running) : Type 0 where
+record RunsAs (r : Transaction) (live : Option Live) (first : Bool) (o : Option clients.Running) : Type 0 where
   pub it : clients.Running
   pub own : Live
   pub is : o ≡ Some it
   pub lives : live ≡ Some own
   pub stands : RunningStands r own first it
 
-pub runs_as : (s : Option Transaction) (live : Option Live) (first : Bool) (o : Option clients.Running) {r : Transaction} → s ≡ Some r
-    → RunningStandsIfAny s live first o → RunsAs r live first o
-runs_as None live first o is stands = absurd cc
-runs_as (Some s) (Some own) first (Some it) is stands = record {
-  it = it;
-  own = own;
-  is = refl;
-  lives = refl;
-  stands = subst (λ (t : Transaction). RunningStands t own first it) (same_Some s _ is) stands;
-}
-runs_as (Some s) live first None is stands = absurd stands
-runs_as (Some s) None first (Some it) is stands = absurd stands
+runs_as : {r : Transaction} (live : Option Live) (first : Bool) (o : Option clients.Running) → RunningStandsIfAny (Some r) live first o
+    → RunsAs r live first o
+runs_as (Some own) first (Some it) stands = record { it = it; own = own; is = refl; lives = refl; stands = stands }
+runs_as None first (Some it) stands = absurd stands
+runs_as live first None stands = absurd stands
 
 -- or none of the machine's runs
 none_runs_there : {D : Type 0} {medium : Medium D} {scripts : List Declared} {laptop : Laptop D} {m : Client}
@@ -119,7 +112,7 @@ module _ {D : Type 0} (medium : Medium D) (laptop : Laptop D) (x : List ℕ) {y 
       → SaysQueue medium laptop x y
   says_running t class is its =
       says_lines (record { tid = t.number; script = t.script; first = class; acts = length t.acts } ∷ []) (λ scripts m here.
-      let k = runs_as _ _ _ _ is here.state.running in
+      let k = runs_as _ _ _ (rw is at here.state.running) in
       let its_class : class ≡ m.first = same_Some class _ (sym its ∙ (λ i. class_by (is i) (k.lives i))) ∙ k.stands.class in
       rw k.is
       (λ i. record { tid = k.stands.number i; script = k.stands.name i; first = its_class i; acts = k.stands.acts i } ∷ []))
@@ -289,7 +282,7 @@ module _ {D : Type 0} {medium : Medium D} {scripts : List Declared} {laptop : La
         → y ≡ x ++ begin_line (transaction_name laptop.name r.number) r.script first
         → y ≡ x ++ said_of (λ it. begin_line (transaction_name m.name it.number) it.script.name m.first) m.node.durable.running
     begun_said first class wrote =
-        let k = runs_as _ _ _ _ is here.state.running in
+        let k = runs_as _ _ _ (rw is at here.state.running) in
         let its_class : first ≡ m.first =
         same_Some first _ (sym class ∙ (λ i. class_by (is i) (k.lives i))) ∙ k.stands.class in
         rw k.is
@@ -300,7 +293,7 @@ module _ {D : Type 0} {medium : Medium D} {scripts : List Declared} {laptop : La
         → y ≡ x ++ said_of (λ it. step_line (transaction_name m.name it.number) it.acts
         (place_text (next_step m.first (base m.node.durable) it))) m.node.durable.running
     stepped_said wrote =
-        let k = runs_as _ _ _ _ is here.state.running in
+        let k = runs_as _ _ _ (rw is at here.state.running) in
         let over : Bool = is_over_if_any (state_in laptop) (live_in laptop) in
         let ended : over ≡ (so_far (base m.node.durable) k.it).ended =
         ap (is_over_if_any (state_in laptop)) (laptops.running_is _ _ _ _ here.state k.it k.is).lives

@@ -3,10 +3,10 @@ use Rattle.std.specs.declared.alloc.Global.{Global}
 use Rattle.iot_tree.specs.declared.labels.OnConflict.{OnConflict}
 use Rattle.iot_node.specs.Steps.{Ends}
 use Rattle.std.specs.Prelude.{◌+◌, ◌≡◌, ◌≤◌}
-use Rattle.iot_exchange.specs.Words.{Option, Vec, ℕ, List, [], None, Some, Result, slice_get, Medium, Nodes, Want, IsRefresh}
-use Rattle.iot_exchange.specs.Words.{Call, Try, Declared, Client, Commit, Pair, Node, Submission, Verdict, Lends, Judges, Exchange}
-use Rattle.iot_exchange.specs.Words.{KeepsDisk, StepsTo, Halt, SpellsVerdict, SpellsCut, KeepsRecords, ServerStands, IsHanded, IsNamedIn}
-use Rattle.iot_exchange.specs.Words.{disk_of, Message, ServerNode, Stands, LaptopStands, ClientStands, state_in, disk_in, Laptop, State}
+use Rattle.iot_exchange.specs.Words.{Option, Vec, ℕ, List, None, Some, Result, slice_get, Medium, Nodes, Want, IsRefresh, Call, Try}
+use Rattle.iot_exchange.specs.Words.{Declared, Client, Commit, Pair, Node, Submission, Verdict, Lends, Judges, Exchange, KeepsDisk, StepsTo}
+use Rattle.iot_exchange.specs.Words.{Halt, SpellsVerdict, SpellsCut, KeepsRecords, ServerStands, IsHanded, IsNamedIn, disk_of, Message}
+use Rattle.iot_exchange.specs.Words.{ServerNode, Stands, LaptopStands, ClientStands, state_in, disk_in, Laptop}
 use Rattle.iot_exchange.specs.Scripts.{IsMeant}
 
 -- ---- a client and the server
@@ -156,10 +156,3 @@ pub record MissesAll {D : Type 0} (medium : Medium D) (scripts : List Declared) 
     0 where
   pub none : (query : Query) (x : List ℕ) → StepsTo (UpStands medium scripts names c) (UpStands medium scripts names c)
       (Exchange (request_of query)) old new x x None
-
--- ---- a client with nothing to do
-
--- no transaction of it runs or waits
-pub record IsFree (state : State) : Type 0 where
-  pub idle : state.running ≡ None
-  pub none : state.items ≡ []

@@ -1,7 +1,7 @@
 -- How the transactions that wait are synced.
 use Rattle.std.specs.Prelude.{◌≡◌, ◌∷◌}
-use Rattle.iot_exchange.specs.Words.{ℕ, Bool, List, Some, Code, Try, Asks, Answers, Then, Goes, either, Declared, is_drained}
-use Rattle.iot_exchange.specs.Words.{Refreshes, Pair, pends, sync_if, SyncsAll, script_named, Item, Laptop, Transaction, state_in}
+use Rattle.iot_exchange.specs.Words.{ℕ, Bool, List, Some, Code, Try, Asks, Answers, Then, Goes, either, Declared, is_drained, Refreshes}
+use Rattle.iot_exchange.specs.Words.{Pair, pends, sync_if, SyncsAll, script_named, Item, Laptop, Transaction, state_in}
 
 -- the first that waits has this name, and this is so of it
 pub record First {D : Type 0} (Is : Item → Type 0) (laptop : Laptop D) (t : Transaction) : Type 0 where

@@ -4,8 +4,7 @@ use Rattle.iot_resolve.specs.declared.plan.Plan.{Plan}
 use Rattle.iot_machine.specs.Transactions as machine
 use Rattle.std.specs.Prelude.{◌++◌, if◌then◌else◌}
 use Rattle.iot_exchange.specs.Words.{codes, Ok, Err, Reexec, Resolver, Abort, Manual, abort_line, ℕ, Bool, true, false, List, [], leb}
-use Rattle.iot_exchange.specs.Words.{Result, ACT_LIMIT, Verdict, Settled, Conflict, settled_line, conflict_line, manual_line}
-use Rattle.iot_exchange.specs.Words.{Halt}
+use Rattle.iot_exchange.specs.Words.{Result, ACT_LIMIT, Verdict, Settled, Conflict, settled_line, conflict_line, manual_line, Halt}
 use Rattle.iot_exchange.specs.declared.synced.Synced.{Synced}
 use Rattle.iot_exchange.specs.declared.synced.Synced.TheVariants.{Moved, Stays, Unanswered}
 

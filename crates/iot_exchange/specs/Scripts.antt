@@ -2,8 +2,8 @@
 use Rattle.iot_event.specs.declared.event.Task.TheVariants as tasks
 use Rattle.iot_tree.specs.declared.labels.OnConflict as named
 use Rattle.std.specs.Prelude.{◌<◌, ◌≡◌, ◌≤◌}
-use Rattle.iot_exchange.specs.Words.{map, Task, ℕ, List, Some, slice_get, ResolverIsDeclared, Declared, OnConflict, IsNamed}
-use Rattle.iot_exchange.specs.Words.{HasNamed, option_named}
+use Rattle.iot_exchange.specs.Words.{map, Task, ℕ, List, Some, slice_get, ResolverIsDeclared, Declared, OnConflict, IsNamed, HasNamed}
+use Rattle.iot_exchange.specs.Words.{option_named}
 use Rattle.iot_exchange.specs.declared.declared.DeclaredScript.{DeclaredScript}
 
 -- a script as it was declared

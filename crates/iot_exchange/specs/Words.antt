@@ -1,6 +1,6 @@
 -- The words of the contracts and of their proofs, from one place.
-pub use Rattle.std.specs.Prelude.{Bool, Err, IfErr, IfOk, IfSome, List, None, Ok, OnOk, Option, Result, Some, Vec, [], codes, false}
-pub use Rattle.std.specs.Prelude.{if◌then◌else◌, leb, length, map, slice_get, true, ℕ, ◌++◌, ◌+◌, ◌-◌, ◌<◌, ◌∷◌, ◌≡◌, ◌≤◌}
+pub use Rattle.std.specs.Prelude.{Bool, Err, IfErr, IfOk, IfSome, List, None, Ok, OnOk, Option, Result, Some, Vec, [], codes, false, leb}
+pub use Rattle.std.specs.Prelude.{length, map, slice_get, true, ℕ}
 pub use Rattle.iot_text.specs.Paths.{path_cmp}
 pub use Rattle.iot_tree.specs.Snapshots.{is_known, known, paths_where}
 pub use Rattle.iot_tree.specs.Tree.{IsWhole, Nodes, Path, Row, root_alone}
@@ -51,15 +51,14 @@ pub use Rattle.iot_machine.specs.Options.{OnConflict}
 pub use Rattle.iot_machine.specs.Recorded.{items_kept, queue_kept, stage_kept}
 pub use Rattle.iot_machine.specs.Serving.{Conflict, Judges, Lends, Settled, Submission, Verdict}
 pub use Rattle.iot_machine.specs.Sound.{CanResolve, IsPlanned}
-pub use Rattle.iot_machine.specs.Stops.{Appends}
 pub use Rattle.iot_machine.specs.Texts.{abort_line, begin_line, conflict_line, discard_line, end_line, fetch_line, hoard_line, line}
 pub use Rattle.iot_machine.specs.Texts.{manual_line, pending_line, question_text, queue_text, refresh_line, repair_line, resolve_line}
 pub use Rattle.iot_machine.specs.Texts.{settled_line, step_line, transaction_name}
 pub use Rattle.iot_machine.specs.Transactions.{Begins, Brings, Ended, Ends, Exchange, Handles, Holds, IfManual, Moved, Notes, NotesAloud}
 pub use Rattle.iot_machine.specs.Transactions.{Refuses, Starts, Stays, Steps, Submits, Synced, Syncs, SyncsAll, Takes, Unanswered, end_by}
-pub use Rattle.iot_machine.specs.Transactions.{ended_of, exchange_by, fetched, holds, if_manual, if_runs, is_manual, is_queued, item_name}
-pub use Rattle.iot_machine.specs.Transactions.{joins, moves, next_of, pends, resolves, runs, step_by, step_of, submission_of, submits}
-pub use Rattle.iot_machine.specs.Transactions.{sync_at, sync_head, sync_if, syncs_or_waits, told, took, unless_stopped, waits_unless}
+pub use Rattle.iot_machine.specs.Transactions.{ended_of, exchange_by, fetched, holds, if_manual, if_runs, is_manual, item_name, joins}
+pub use Rattle.iot_machine.specs.Transactions.{moves, next_of, pends, resolves, runs, step_by, step_of, submission_of, submits, sync_at}
+pub use Rattle.iot_machine.specs.Transactions.{sync_head, sync_if, syncs_or_waits, told, took, unless_stopped, waits_unless}
 pub use Rattle.iot_node.specs.Disks.{KeepsDisk}
 pub use Rattle.iot_node.specs.Lines.{name_of}
 pub use Rattle.iot_node.specs.Steps.{StepsTo}
@@ -74,12 +73,13 @@ pub use Rattle.iot_server_node.specs.declared.message.Message.{Message}
 pub use Rattle.iot_server_node.specs.declared.server.Served.{Served}
 pub use Rattle.iot_server_node.specs.declared.server.ServerNode.{ServerNode}
 pub use Rattle.iot_laptop.specs.Alone.{NotesAlone, StartsAlone, set_class}
-pub use Rattle.iot_laptop.specs.Calls.{AsksAll, Changes, EndsAlone, HandsIn, IsDoneIn, IsGone, IsHeadPlan, IsNext, IsOver, IsUnended}
-pub use Rattle.iot_laptop.specs.Calls.{NextIs, Plans, TakesStep, acts_in, decision, decision_on, done, head_name, head_option, head_plan}
-pub use Rattle.iot_laptop.specs.Calls.{head_reads, label_in, undecided_word}
+pub use Rattle.iot_laptop.specs.Calls.{AsksAll, EndsAlone, HandsIn, IsDoneIn, IsGone, IsHeadPlan, IsNext, IsOver, IsUnended, NextIs, Plans}
+pub use Rattle.iot_laptop.specs.Calls.{TakesStep, acts_in, decision, decision_on, done, head_name, head_option, head_plan, head_reads}
+pub use Rattle.iot_laptop.specs.Calls.{label_in, undecided_word}
 pub use Rattle.iot_laptop.specs.Kept.{ItemStands, ItemsStand, ResolutionStands, StageStands}
-pub use Rattle.iot_laptop.specs.Laptops.{ClientStands, IsFirst, LaptopStands, Relinked, RunningStands, RunningStandsIfAny, SamePlace}
-pub use Rattle.iot_laptop.specs.Laptops.{Stands, StandsAnyhow, after_passage, awake, disk_in, fallen, is_alive, live_in, state_in, waits_of}
+pub use Rattle.iot_laptop.specs.Laptops.{ClientStands, IsFirst, IsFree, LaptopStands, Relinked, RunningStands, RunningStandsIfAny}
+pub use Rattle.iot_laptop.specs.Laptops.{SamePlace, Stands, StandsAnyhow, after_passage, awake, disk_in, fallen, is_alive, live_in}
+pub use Rattle.iot_laptop.specs.Laptops.{state_in, waits_of}
 pub use Rattle.iot_laptop.specs.Messages.{BringsTree, IsVerdict, SpellsTree, told_change, verdict_of}
 pub use Rattle.iot_laptop.specs.Scripts.{HasNamed, IsNamed, ItemIsNamed, option_named, script_named}
 pub use Rattle.iot_laptop.specs.declared.laptop.Laptop.{Laptop}

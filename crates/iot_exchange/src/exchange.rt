@@ -1,7 +1,7 @@
 //! A message to the server over a client's link, and its reply.
 ghost use Rattle.std.specs.Prelude.{◌≡◌, ◌++◌};
-ghost use Rattle.iot_exchange.specs.Words.{IfSome, IsSomeRequest, ServerIsSound, ℕ, List, true, false, IfOk, IfErr, OnOk};
-ghost use Rattle.iot_exchange.specs.Words.{Declared, state_in, KeepsDisk, said_of, KeepsRecords, ServerStands, is_up, disk_of};
+ghost use Rattle.iot_exchange.specs.Words.{IfSome, IsSomeRequest, ServerIsSound, ℕ, List, true, false, IfOk, IfErr, OnOk, Declared};
+ghost use Rattle.iot_exchange.specs.Words.{state_in, KeepsDisk, said_of, KeepsRecords, ServerStands, is_up, disk_of};
 ghost use Rattle.iot_exchange.specs.Pairs.{two, IsReady, KeepsDisks, Query, AsksFor, Spells, request_of, Serves, Asked, MissesAll};
 
 use iot_disk::Disk;

@@ -1,7 +1,7 @@
 //! Looking in at a client's transactions.
 ghost use Rattle.std.specs.Prelude.{◌-◌, ◌≡◌, ◌≤◌, ◌++◌};
-ghost use Rattle.iot_exchange.specs.Words.{List, OnOk, Stands, LaptopStands, Declared, ReadsOf, running_of, Client};
-ghost use Rattle.iot_exchange.specs.Words.{queue_kept, queue_text, ServerNode};
+ghost use Rattle.iot_exchange.specs.Words.{List, OnOk, Stands, LaptopStands, Declared, ReadsOf, running_of, Client, queue_kept, queue_text};
+ghost use Rattle.iot_exchange.specs.Words.{ServerNode};
 ghost use Rattle.iot_exchange.specs.Pairs.{two, IsReady, Does};
 
 use iot_client::Running;

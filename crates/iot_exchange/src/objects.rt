@@ -1,7 +1,7 @@
 //! What a client asks of the server: objects, over its link.
-ghost use Rattle.iot_exchange.specs.Words.{IsFirst, Hoards, Takes, List, IfOk, IsRefresh, state_in, Declared, hold, fetch, Refreshes};
-ghost use Rattle.iot_exchange.specs.Words.{Holds, Want as Wanted};
-ghost use Rattle.iot_exchange.specs.Pairs.{two, IsReady, IsFree, IsAsked, Does};
+ghost use Rattle.iot_exchange.specs.Words.{IsFirst, IsFree, Hoards, Takes, List, IfOk, IsRefresh, state_in, Declared, hold, fetch};
+ghost use Rattle.iot_exchange.specs.Words.{Refreshes, Holds, Want as Wanted};
+ghost use Rattle.iot_exchange.specs.Pairs.{two, IsReady, IsAsked, Does};
 
 use crate::exchange::{exchange, miss};
 use crate::texts::{say_hoard, say_refresh};

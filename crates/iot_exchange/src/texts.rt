@@ -1,7 +1,7 @@
 //! The lines of a client's transactions.
 ghost use Rattle.std.specs.Prelude.{◌≡◌, ◌++◌};
-ghost use Rattle.iot_exchange.specs.Words.{question_text, pending_line, OnOk, name_of, verdict_of, hoard_line, refresh_line};
-ghost use Rattle.iot_exchange.specs.Words.{begin_line, fetch_line, step_line, line, resolve_line, repair_line};
+ghost use Rattle.iot_exchange.specs.Words.{question_text, pending_line, OnOk, name_of, verdict_of, hoard_line, refresh_line, begin_line};
+ghost use Rattle.iot_exchange.specs.Words.{fetch_line, step_line, line, resolve_line, repair_line};
 ghost use Rattle.iot_exchange.specs.Saying.{place_said, resolver_said, told_text};
 
 use iot_laptop::{Told, Verdict};

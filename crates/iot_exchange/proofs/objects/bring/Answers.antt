@@ -2,7 +2,7 @@ use Rattle.std.proofs.Common.{refl}
 use Rattle.iot_exchange.specs.Words.{state_in, hold}
 use Rattle.iot_exchange.specs.Pairs.{Objects}
 use Rattle.iot_exchange.proofs.DoesLaws.{hands_on, then_answers, by_client, notes, keeps_more}
-use Rattle.iot_exchange.proofs.ExchangeLaws.{missed, came, brings_tree, free_still}
+use Rattle.iot_exchange.proofs.ExchangeLaws.{missed, came, brings_tree}
 use Rattle.iot_exchange.proofs.objects.bring.Goals as goal
 
 pub returns-then-not-is_connected : goal.returns-then-not-is_connected
@@ -38,12 +38,7 @@ returns-in-Some g c = record {
       (λ t spells. then_answers c.in_ok-take-in-Some.was refl
       (by_client (notes (hold t)) asked.disks c.take.ensures.place ((rw c.deref.ensures.value at c.take.ensures.does) t spells scripts)
       c.take.ensures.disk));
-  free =
-      let brings = brings_tree c.args.laptop.now.place (state_in c.args.laptop.now).held c.args.want.now c.requires.ready
-      (rw c.in-Some.is at c.in_ok-reply.ensures.asked) c.in_ok-request.ensures in
-      free_still brings.tree c.in_ok-take-in-Some.was (rw (rw c.in-Some.is at c.in_ok-reply.ensures.same) c.requires.ready.alive)
-      ((rw c.deref.ensures.value at c.take.ensures.does) brings.tree brings.is)
-      (rw c.in_ok-reply.ensures.state c.requires.free);
+  free = c.in_ok-take-in-Some.ensures.free;
 }
 
 pub returns : goal.returns

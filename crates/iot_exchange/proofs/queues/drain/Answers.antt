@@ -1,6 +1,5 @@
 use Rattle.std.proofs.Common.{sym, ◌∙◌}
-use Rattle.iot_exchange.proofs.DoesLaws.{or_says}
-use Rattle.iot_exchange.proofs.TasksLaws.{if_silent, if_spoken}
+use Rattle.iot_exchange.proofs.DoesLaws.{or_says, if_silent, if_spoken}
 use Rattle.iot_exchange.proofs.queues.drain.Goals as goal
 
 pub returns-then-len-before : goal.returns-then-len-before

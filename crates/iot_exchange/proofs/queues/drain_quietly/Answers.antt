@@ -1,7 +1,6 @@
 use Rattle.std.proofs.Common.{Some, sym, ◌∙◌}
 use Rattle.iot_exchange.specs.Words.{Then, Asks, Answers, either, is_drained, Refreshes}
-use Rattle.iot_exchange.proofs.DoesLaws.{hands_on, goes_then, asks_then, answers, ready_after, anyhow, still}
-use Rattle.iot_exchange.proofs.TasksLaws.{drained_is}
+use Rattle.iot_exchange.proofs.DoesLaws.{hands_on, goes_then, asks_then, answers, ready_after, anyhow, still, drained_is}
 use Rattle.iot_exchange.proofs.queues.drain_quietly.Goals as goal
 
 pub returns-in_err-sync_all : goal.returns-in_err-sync_all

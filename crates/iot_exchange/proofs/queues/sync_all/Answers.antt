@@ -2,9 +2,8 @@ use Rattle.std.proofs.Common.{Err, refl, sym, ap, ◌∙◌}
 use Rattle.iot_exchange.specs.Words.{moves, sync_if}
 use Rattle.iot_exchange.specs.Saying.{synced_by}
 use Rattle.iot_exchange.proofs.DoesLaws.{none_yet, one_more, last_round, halted_round, all_rounds, ready_after, asks_then, answers}
-use Rattle.iot_exchange.proofs.DoesLaws.{hands_on, then_answers}
+use Rattle.iot_exchange.proofs.DoesLaws.{hands_on, then_answers, all_by}
 use Rattle.iot_exchange.proofs.ExchangeLaws.{pends_here}
-use Rattle.iot_exchange.proofs.TasksLaws.{all_by}
 use Rattle.iot_exchange.proofs.queues.sync_all.Goals as goal
 
 pub syncs-init : goal.syncs-init

@@ -1,9 +1,8 @@
 use Rattle.std.proofs.Common.{refl, sym, ◌∙◌}
 use Rattle.iot_exchange.specs.Words.{runs_script}
 use Rattle.iot_exchange.specs.Scripts.{script_of}
-use Rattle.iot_exchange.proofs.DoesLaws.{asks_then, refuses, answers, goes_then, hands_on, ready_after}
+use Rattle.iot_exchange.proofs.DoesLaws.{asks_then, refuses, answers, goes_then, hands_on, ready_after, up_is}
 use Rattle.iot_exchange.proofs.ExchangeLaws.{runs_here}
-use Rattle.iot_exchange.proofs.TasksLaws.{up_is}
 use Rattle.iot_exchange.proofs.runs.run.Goals as goal
 
 pub returns-then-runs : goal.returns-then-runs
