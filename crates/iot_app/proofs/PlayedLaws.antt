@@ -20,11 +20,9 @@ use Rattle.iot_world.specs.World.{StandsFor, IsWorldOf, IsWorldOfSome, EventStep
 use Rattle.iot_world.specs.World.{Each, Opens, KeepsDisks, AreUnarmed, SameArms, GivesBack, joined_by}
 use Rattle.iot_world.specs.declared.world.World.{World}
 use Rattle.iot_world.proofs.AllowedLaws as worlds
-use Rattle.iot_world.proofs.BeginningLaws.{world_begins, still_begins}
 use Rattle.iot_world.proofs.DisksLaws.{last_here, last_then}
-use Rattle.iot_world.proofs.HoldingLaws.{disks_hold, disks_count}
+use Rattle.iot_world.proofs.HoldingLaws.{used_by, used_first, eight_spare, nine_counts, disks_hold, disks_count, world_begins, still_begins}
 use Rattle.iot_world.proofs.ListLaws.{each_length}
-use Rattle.iot_world.proofs.SparesLaws.{used_by, used_first, eight_spare, nine_counts}
 use Rattle.iot_app.specs.Keeping.{DisksKeep, CountsSince, DisksStay}
 use Rattle.iot_app.specs.Played.{Reported, WroteFront, DidFirst, WroteFirst, WroteCut, CutsOpening, Played}
 use Rattle.iot_app.specs.Running.{IsOpened, StaysIn}

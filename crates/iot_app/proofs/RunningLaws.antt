@@ -17,7 +17,7 @@ use Rattle.iot_world.specs.Disks.{counts_on}
 use Rattle.iot_world.specs.Holding.{DisksHold, HoldsList, KeepsClient, counts_in}
 use Rattle.iot_world.specs.World.{StandsFor, IsWorldOfSome}
 use Rattle.iot_world.specs.declared.world.World.{World}
-use Rattle.iot_world.proofs.BeginningLaws.{held_begins}
+use Rattle.iot_world.proofs.HoldingLaws.{held_begins}
 use Rattle.iot_world.proofs.ListLaws.{each_length}
 use Rattle.iot_app.specs.Counting.{HasCounted}
 use Rattle.iot_app.specs.Doing.{Did}

@@ -1,7 +1,7 @@
 -- The words of which the laws of this crate speak.
 pub use Rattle.std.proofs.Common.{Bool, Bor, Err, IfSome, List, None, Ok, OnOk, Option, Result, Some, [], ap, append_assoc, arith, bytes_eq}
-pub use Rattle.std.proofs.Common.{codes, cond, drop, false, get_or, inl, inr, length, map, refl, slice_get, slice_index_or, slice_set}
-pub use Rattle.std.proofs.Common.{subst, suc, sym, take, true, zero, ℕ, ◌++◌, ◌+◌, ◌<◌, ◌||◌, ◌∙◌, ◌∷◌, ◌≡◌, ◌≤◌, ◌⊎◌}
+pub use Rattle.std.proofs.Common.{codes, cond, drop, false, get_or, inl, inr, length, map, refl, rules, slice_get, slice_index_or}
+pub use Rattle.std.proofs.Common.{slice_set, subst, suc, sym, take, true, zero, ℕ, ◌++◌, ◌+◌, ◌<◌, ◌||◌, ◌∙◌, ◌∷◌, ◌≡◌, ◌≤◌, ◌⊎◌}
 pub use Rattle.std.proofs.Math.Seq.{get_or-append_seam, map-set_same, set-append_seam}
 pub use Rattle.std.proofs.lemmas.List.{append-nil, drop_more, length-append, length-map, length-set, map-append, map_more, take_all}
 pub use Rattle.iot_laptop.proofs.NodesLaws.{awake_stands, fallen_stands, lent_at, node_stands, own_in, same_name, some_awake}
@@ -11,7 +11,7 @@ pub use Rattle.iot_node.proofs.StepsLaws.{asks, bind, says, says_this}
 pub use Rattle.iot_server_node.proofs.BeginningLaws.{commits_kept, commits_same, image_begins, own_begins, stands_begin}
 pub use Rattle.iot_server_node.proofs.ServersLaws.{has_disk, lasts, more_names, up_is}
 pub use Rattle.iot_store.specs.Store.{state_of}
-pub use Rattle.iot_world.specs.Disks.{AreFresh, FirstBegins, IsUnarmed, counts_on}
+pub use Rattle.iot_world.specs.Disks.{AreFresh, FirstBegins, IsUnarmed}
 pub use Rattle.iot_world.specs.Holding.{DisksHold, Holds, HoldsList, IsKept, IsListed, KeepsClient, counts_in, running_kept, state_kept}
 pub use Rattle.iot_world.specs.World.{AddsScript, AreLast, ArePlaced, AreUnarmed, ClientIs, DeclaredOn, DeclaresClient, Each, EventSteps}
 pub use Rattle.iot_world.specs.World.{GivesBack, IsReady, IsWorldOfSome, KeepsDisks, KeepsNode, LaptopHasDisk, LendsClient, LendsServer}

@@ -1,24 +1,83 @@
--- A node has its disk, and what the disks hold that a world gives back.
+-- A node has its disk, what the disks hold that a world gives back, how many of them are spare, and what the first begins with.
 use Rattle.std.proofs.lemmas.Option.{same_Some}
 use Rattle.iot_world.proofs.Common.{◌≡◌, ◌+◌, ℕ, List, [], ◌∷◌, ◌++◌, length, map, Option, Some, None, inl, inr, refl, sym, ap, subst, ◌∙◌}
 use Rattle.iot_world.proofs.Common.{arith, length-append, map-append, lasts, has_disk, node_stands, IsListed, Holds, IsKept, KeepsClient}
 use Rattle.iot_world.proofs.Common.{DisksHold, counts_in, StandsForSome, KeepsNode, Each, StandsFor, Opens, KeepsDisks, with_clients}
-use Rattle.iot_world.proofs.Common.{disks_of}
+use Rattle.iot_world.proofs.Common.{disks_of, length-map, with_first, running_kept, state_kept, stands_begin, own_begins, image_begins}
+use Rattle.iot_world.proofs.Common.{FirstBegins, HoldsList, SameArms}
 use Rattle.iot_world.specs.Prelude.{is_some, true, Result, Ok, Err, IfErr, OnOk, StandFor, State, Medium, Call, Declared, ClientState}
 use Rattle.iot_world.specs.Prelude.{names_in, no_text, Machine, Commit, Node, Counts, Refines, kept_text, CountsOn, KeepsDisk, counts_on}
 use Rattle.iot_world.specs.Prelude.{Keeping, PostStands, Lasts, HoldsEither, StepsTo, Post, Up, Down, Between, lists, IsImage, HasDisk}
-use Rattle.iot_world.specs.Prelude.{HavingAnswered, ServerNode, ClientStands, StandsAnyhow, disk_in, IsClientImage, seating, Laptop, Seated}
-use Rattle.iot_world.specs.Prelude.{World}
+use Rattle.iot_world.specs.Prelude.{HavingAnswered, ServerNode, ClientStands, StandsAnyhow, disk_in, IsClientImage, seating, Laptop, World}
+use Rattle.iot_world.specs.Prelude.{Client, Transaction, base, BeginsWith, DiskBegins, records_of, IsLongerIfAny}
 use Rattle.iot_machine.specs.Machine as machine
 use Rattle.iot_node.specs.Posts.{disk_of}
-use Rattle.iot_node.proofs.PostsLaws.{holds_each}
+use Rattle.iot_node.proofs.PostsLaws.{lasts_in}
 use Rattle.iot_server_node.specs.Servers as servers
 use Rattle.iot_laptop.proofs.RestartLaws.{keeps_any}
 use Rattle.iot_laptop.proofs.SeatsLaws.{seat_images}
 use Rattle.iot_world.proofs.ListLaws.{each_length, each_map, each_same_as}
-use Rattle.iot_world.proofs.ListedLaws.{state_is}
-use Rattle.iot_world.proofs.SparesLaws.{clients_before}
 use Rattle.iot_world.proofs.WorldsLaws.{same_length}
+use Rattle.iot_machine.specs.Clients as clients
+use Rattle.iot_laptop.specs.Kept.{RunningKeptIfAny, StateKept}
+use Rattle.iot_exchange.proofs.TransactionsLaws.{queue_are}
+
+-- ---- where the spare disks are, and how many
+
+first_before : {D : Type 0} (first : Option D) (disks rest : List D) → with_first first (disks ++ rest) ≡ with_first first disks ++ rest
+first_before None disks rest = refl
+first_before (Some disk) disks rest = refl
+
+pub clients_before : {D : Type 0} (laptops : List (Laptop D)) (rest : List D) → with_clients laptops rest ≡ with_clients laptops [] ++ rest
+clients_before [] rest = refl
+clients_before (laptop ∷ laptops) rest =
+    ap (with_first (disk_in laptop)) (clients_before laptops rest) ∙ first_before (disk_in laptop) (with_clients laptops []) rest
+
+-- those of its nodes
+abbrev pub used_by : {D : Type 0} → World D → List D
+used_by world = with_first (servers.disk_of world.server) (with_clients world.clients.items [])
+
+-- they come before the spare ones
+pub used_first : {D : Type 0} (world : World D) → disks_of world ≡ used_by world ++ world.spare.items
+used_first world =
+    ap (with_first (servers.disk_of world.server)) (clients_before world.clients.items world.spare.items)
+    ∙ first_before (servers.disk_of world.server) (with_clients world.clients.items []) world.spare.items
+
+module _ {D : Type 0} (medium : Medium D) (world : World D) (m : Machine) (stands : StandsFor medium world m) where
+  -- those that no client has
+  pub eight_spare : length world.spare.items + length m.clients ≡ 8
+  eight_spare = omega (arith, same_length medium world m stands, stands.eight)
+
+  pub nine_counts : length (counts_in m) ≡ 9
+  nine_counts =
+      omega (
+        arith,
+        eight_spare,
+        ap length stands.counts,
+        length-map world.spare.items (counts_on medium),
+        length-map m.clients (λ (client : Client). client.node.counts),
+        length-append (map (λ (client : Client). client.node.counts) m.clients) m.spare,
+      )
+
+-- ---- what a client keeps
+
+running_is : (m : ClientState) (r : Option Transaction) (o : Option clients.Running) → RunningKeptIfAny (base m) r o
+    → r ≡ running_kept m o
+running_is m None None it = refl
+running_is m (Some running) (Some run) it =
+    λ i. Some (record { number = it.number i; script = it.name i; option = it.option i; acts = it.acts i })
+running_is m r o it = absurd it
+
+-- what is kept, said plainly
+pub state_is : (s : State) (m : ClientState) → StateKept s m → s ≡ state_kept m
+state_is s m it = λ i. record {
+  held = it.held i;
+  items = queue_are s.items s.held m it.held it.items i;
+  running = running_is m s.running m.running it.running i;
+  last = it.last i;
+}
+
+-- ---- a disk
 
 -- a node's disk, with what it holds and has counted
 record HasHeld {S D : Type 0} (medium : Medium D) (Is : S → List ℕ → Type 0) (node : Node S) (o : Option D) : Type 0 where
@@ -72,28 +131,13 @@ is_kept m image count is = subst (λ (s : State). StandFor image s) (state_is is
 module _ {D : Type 0} (medium : Medium D) where
   -- ---- a client
 
-  client_lasts : (place : ℕ) (post : Post (Seated D) D) (node : Node ClientState)
-      → PostStands (seating medium place) medium no_text post node → Lasts (seating medium place) medium post node
-  client_lasts place (Up seated) node here = record {
-    disk = (seating medium place).disk seated;
-    has = refl;
-    count = here.count;
-    each = record { each = λ image left. inl ((seat_images medium place here.count seated node.durable here.stands).each image left) };
-  }
-  client_lasts place (Down fallen) node here = record {
-    disk = fallen.disk;
-    has = refl;
-    count = here.count;
-    each = record { each = holds_each (seating medium place) medium no_text fallen node here };
-  }
-  client_lasts place Between node here = absurd here
-
   client_holds : (scripts : List Declared) (laptop : Laptop D) (m : machine.Client) → ClientStands medium scripts laptop m
       → HasHeld medium IsKept m.node (disk_in laptop)
   client_holds scripts laptop m here =
       let stands = node_stands medium scripts laptop m here in
-      has_held (seating medium laptop.place) medium IsKept is_kept no_text laptop.post m.node stands
-      (client_lasts laptop.place laptop.post m.node stands)
+      let seats = seating medium laptop.place in
+      has_held seats medium IsKept is_kept no_text laptop.post m.node stands
+      (lasts_in seats medium no_text (λ seated n m here. seat_images medium laptop.place n seated m here) laptop.post m.node stands)
 
   -- ---- after a step
 
@@ -179,4 +223,43 @@ module _ {D : Type 0} (medium : Medium D) where
           ap length same.spare.split,
           length-append same.spare.front world.spare.items,
         );
+  }
+
+-- ---- what each image of the first disk begins with
+
+module _ {D : Type 0} (medium : Medium D) where
+  first_begins : (commits : List Commit) (disk : Option D) (rest : List D) → DiskBegins medium (records_of commits) disk
+      → FirstBegins medium commits (with_first disk rest)
+  first_begins commits None rest begins = absurd begins
+  first_begins commits (Some disk) rest begins = record { first = disk; rest = rest; is = refl; begins = begins }
+
+  -- with the machine's list
+  pub world_begins : (world : World D) (m : Machine) → StandsFor medium world m → FirstBegins medium m.server.durable (disks_of world)
+  world_begins world m here =
+      first_begins m.server.durable (servers.disk_of world.server) (with_clients world.clients.items world.spare.items)
+      (stands_begin medium (names_in m) world.server m.server m.requests here.server)
+
+  -- still, if memory ran out in an event
+  pub still_begins : (old new : World D) (m : Machine) (joins : ℕ) → StandsFor medium old m → SameArms medium joins old new
+      → FirstBegins medium m.server.durable (disks_of new)
+  still_begins old new m joins here arms =
+      first_begins m.server.durable (servers.disk_of new.server) (with_clients new.clients.items new.spare.items)
+      (arms.commits.keeps (names_in m) m.server m.requests here.server)
+
+  -- so it is of a list that the images hold
+  list_begins : (images : List ℕ → Type 0) (commits : List Commit) (doubt : Option (List Commit)) → IsLongerIfAny commits doubt
+      → HoldsList images commits doubt → (image : List ℕ) → images image → BeginsWith (records_of commits) image
+  list_begins images commits None longer holds image there = own_begins image (length commits) commits (holds image there)
+  list_begins images commits (Some after) longer holds image there =
+      elim (holds image there) [
+        | inl is ↦ own_begins image (length commits) commits is
+        | inr is ↦ image_begins image (length after) commits after longer is
+      ]
+
+  pub held_begins : (handed back : List D) (m : Machine) → DisksHold medium handed back m → FirstBegins medium m.server.durable back
+  held_begins handed back m held = record {
+    first = held.server;
+    rest = held.clients ++ held.spare;
+    is = held.is;
+    begins = record { each = list_begins (medium.may_leave held.server) m.server.durable m.server.doubt held.longer held.list };
   }

@@ -10,7 +10,6 @@ use Rattle.iot_client.specs.Ties.{Live, disk_of as client_disk}
 use Rattle.iot_client.specs.declared.client.Client.{Client}
 use Rattle.iot_laptop.specs.Laptops.{IsLent, LaptopStands, ItemsStand, RunningStandsIfAny, lent_by, disk_by, state_in, live_in, is_alive}
 use Rattle.iot_laptop.proofs.LaptopsLaws.{view_is}
-use Rattle.iot_world.proofs.ListLaws.{one_at}
 use Rattle.iot_world.proofs.WorldsLaws.{same_length, inside_here, client_here}
 
 -- the client that is lent is the laptop's
@@ -76,7 +75,7 @@ module _ {D : Type 0} (medium : Medium D) where
     lends_disk None is = tt
     lends_disk (Some it) is =
         λ other there.
-        ap (λ (l : Laptop D). disk_in l) (sym (one_at world.clients.items place laptop other get there))
+        ap (λ (l : Laptop D). disk_in l) (sym (same_Some laptop other (sym get ∙ there)))
         ∙ ap disk_by (lent_up laptop.post it is)
 
   pub lends_none : (world : World D) (place : ℕ) → length world.clients.items ≤ place → (m : Machine)

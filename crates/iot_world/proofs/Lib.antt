@@ -5,11 +5,8 @@ pub mod WorldsLaws
 pub mod DisksLaws
 pub mod DeclaringLaws
 pub mod LendingLaws
-pub mod ListedLaws
 pub mod HoldingLaws
 pub mod DecidingLaws
 pub mod EventsLaws
 pub mod AllowedLaws
 pub mod LookingLaws
-pub mod SparesLaws
-pub mod BeginningLaws

@@ -11,10 +11,6 @@ pub looked_up : {A : Type 0} (xs ys : List A) (place : ℕ) (x : A) → ys ≡ x
 looked_up xs ys place x same within value =
     ap (λ l. slice_get l place) (sym same) ∙ slice_get_read ys (length ys) place x refl within value
 
--- one element is at a place
-pub one_at : {A : Type 0} (xs : List A) (c : ℕ) (x y : A) → slice_get xs c ≡ Some x → slice_get xs c ≡ Some y → x ≡ y
-one_at xs c x y one other = same_Some x y (sym one ∙ other)
-
 -- ---- two lists
 
 module _ {W M : Type 0} (stands : W → M → Type 0) where

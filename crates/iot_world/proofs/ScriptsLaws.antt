@@ -2,7 +2,7 @@
 use Rattle.std.proofs.lemmas.Slice.Eq.{bytes_eq-Decides}
 use Rattle.std.proofs.lemmas.List.Folds.{find-append}
 use Rattle.iot_world.proofs.Common.{◌≡◌, ℕ, Bool, true, false, List, [], ◌∷◌, ◌++◌, map, Option, Some, None, IfSome, cond, refl, ◌||◌}
-use Rattle.iot_world.proofs.Common.{bytes_eq, all_as, Each}
+use Rattle.iot_world.proofs.Common.{bytes_eq, all_as, Each, rules}
 use Rattle.iot_world.specs.Prelude.{is_declared, Medium, Declared, Running, ClientState, ClientStands, script_named, IsNamed, HasNamed}
 use Rattle.iot_world.specs.Prelude.{ItemIsNamed, RunIsNamedIfAny, AreNamed, Laptop, AreApart, script_of, DeclaredScript}
 use Rattle.iot_machine.specs.Machine as machine
@@ -41,21 +41,11 @@ module _ (scripts : List Declared) (one : Declared) where
   module _ {D : Type 0} (medium : Medium D) where
     client_more : (laptop : Laptop D) (m : machine.Client) → ClientStands medium scripts laptop m
         → ClientStands medium (scripts ++ one ∷ []) laptop m
-    client_more laptop m (awake here) = awake (record {
-      name = here.name;
-      link = here.link;
-      alive = here.alive;
-      node = here.node;
-      state = here.state;
-      named = state_more m.node.durable here.named;
-    })
-    client_more laptop m (fallen here) = fallen (record {
-      name = here.name;
-      link = here.link;
-      alive = here.alive;
-      node = here.node;
-      named = record { is = state_more m.node.durable here.named.is; may_be = if_more m.node.doubt here.named.may_be };
-    })
+    client_more laptop m (awake here) = let named = state_more m.node.durable here.named in awake (search rules)
+    client_more laptop m (fallen here) =
+        let is = state_more m.node.durable here.named.is in
+        let may_be = if_more m.node.doubt here.named.may_be in
+        fallen (search rules)
 
     -- each client's transactions still have their scripts
     pub clients_more : (laptops : List (Laptop D)) (ms : List machine.Client) → Each (ClientStands medium scripts) laptops ms

@@ -2,19 +2,14 @@
 -- or none has it, that decides.
 use Rattle.std.specs.Prelude.{◌≡◌}
 use Rattle.iot_world.specs.Prelude.{ℕ, true, List, Medium, Event, NodeEvent, Restart, Declared, Client, Commit, server_name, is_fallen}
-use Rattle.iot_world.specs.Prelude.{CameIf, Post, Down, lists, ServerStands, post_of, is_up, Came, ClientStands, Laptop, Seated, World}
+use Rattle.iot_world.specs.Prelude.{CameIf, lists, ServerStands, post_of, is_up, Came, ClientStands, Laptop, World}
 use Rattle.iot_event.specs.declared.event.ClientEvent.TheVariants.{Node}
 use Rattle.iot_event.specs.declared.event.Event.TheVariants as events
 use Rattle.iot_machine.specs.Nodes as nodes
-use Rattle.iot_server_node.specs.Deciding.{DecidesIfAny, DecidesServer}
+use Rattle.iot_server_node.specs.Deciding.{DecidesPost, DecidesServer}
 use Rattle.iot_world.specs.World.{ClientIs}
 
--- a client that comes back, by all images
-abbrev pub DecidesPost : {D : Type 0} → Medium D → Post (Seated D) D → (name before after : List ℕ) → Type 0
-DecidesPost medium (Down fallen) name before after = DecidesIfAny (medium.may_leave fallen.disk) fallen.doubt name before after
-DecidesPost medium post name before after = Unit {0}
-
--- and by the image from which it does
+-- a client that comes back, by all images, and by the one from which it does
 pub record DecidesClient {D : Type 0} (medium : Medium D) (before after : List ℕ) (laptop : Laptop D) : Type 0 where
   pub by_all : DecidesPost medium laptop.post laptop.name before after
   pub by_image : is_fallen laptop.post ≡ true → (scripts : List Declared) (m : Client) → ClientStands medium scripts laptop m

@@ -21,7 +21,7 @@ pub use Rattle.iot_kept.specs.States.{State, Transaction}
 pub use Rattle.iot_lang.specs.Code.{Code}
 pub use Rattle.iot_laptop.specs.Alone.{OpensClient}
 pub use Rattle.iot_laptop.specs.Calls.{Came}
-pub use Rattle.iot_laptop.specs.Laptops.{ClientStands, StandsAnyhow, disk_in}
+pub use Rattle.iot_laptop.specs.Laptops.{ClientStands, StandsAnyhow, disk_in, IsUnopened, SamePlace}
 pub use Rattle.iot_laptop.specs.Scripts.{AreNamed, HasNamed, IsNamed, ItemIsNamed, RunIsNamedIfAny, script_named}
 pub use Rattle.iot_laptop.specs.Seats.{IsClientImage, seating}
 pub use Rattle.iot_laptop.specs.declared.laptop.Laptop.{Laptop}
@@ -30,7 +30,7 @@ pub use Rattle.iot_machine.specs.Calls.{At, Call, Gets, Lens, Says, Then, goes_o
 pub use Rattle.iot_machine.specs.Clients.{ClientState, Declared, Running, base, so_far, view}
 pub use Rattle.iot_machine.specs.Events.{Declares, IfUp, Logs, RestartsServer, add_client, client_of, client_part, comes_back, counts_anew}
 pub use Rattle.iot_machine.specs.Events.{cuts_off, declare_script, event_part, link_part, names_in, no_text, node_part, task_part}
-pub use Rattle.iot_machine.specs.Json.{client_data}
+pub use Rattle.iot_machine.specs.Json.{client_data, row_count, json_text}
 pub use Rattle.iot_machine.specs.Machine.{Client, Commit, Machine, Pair, client_at, client_in, first_of, handed, no_client, node, pair_at}
 pub use Rattle.iot_machine.specs.Machine.{server}
 pub use Rattle.iot_machine.specs.Nodes.{Counts, Node, unopened}
@@ -38,11 +38,11 @@ pub use Rattle.iot_machine.specs.Refining.{Refines}
 pub use Rattle.iot_machine.specs.Serving.{kept_text, server_name}
 pub use Rattle.iot_machine.specs.Sound.{IsListed, IsSound}
 pub use Rattle.iot_machine.specs.Stops.{OpensNode, Restarts, Shows}
-pub use Rattle.iot_machine.specs.Texts.{client_line, kept_line, line, log_text, lost_line, stopped_line}
+pub use Rattle.iot_machine.specs.Texts.{client_line, line, log_text}
 pub use Rattle.iot_machine.specs.Transcript.{Opening}
 pub use Rattle.iot_node.specs.Disks.{CountsOn, IsEmpty, KeepsDisk, counts_on}
 pub use Rattle.iot_node.specs.Keeping.{Keeping}
-pub use Rattle.iot_node.specs.Posts.{CameIf, HoldsEither, Lasts, PostStands, back_said, is_fallen}
+pub use Rattle.iot_node.specs.Posts.{CameIf, HoldsEither, Lasts, PostStands, is_fallen}
 pub use Rattle.iot_node.specs.Steps.{StepsTo}
 pub use Rattle.iot_node.specs.declared.post.Post.{Post}
 pub use Rattle.iot_node.specs.declared.post.Post.TheVariants.{Between, Down, Up}

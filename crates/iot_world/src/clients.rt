@@ -1,14 +1,12 @@
 //! Declarations, and the events of one client among all.
 ghost use Rattle.std.specs.Prelude.{◌≡◌, ◌<◌, ◌++◌, true, OnOk};
-ghost use Rattle.iot_event.specs.declared.event.ClientEvent.{ClientEvent as Befalls};
+ghost use Rattle.iot_world.specs.Prelude.{Declares, client_part, client_line, IsUnopened, SamePlace, disk_in, KeepsDisk};
 ghost use Rattle.iot_event.specs.declared.event.Event.TheVariants.{At};
-ghost use Rattle.iot_machine.specs.Events.{Declares, client_part};
-ghost use Rattle.iot_machine.specs.Texts.{client_line};
 ghost use Rattle.iot_text.specs.Texts.{Extends};
-ghost use Rattle.iot_laptop.specs.Laptops.{IsUnopened, SamePlace, disk_in};
-ghost use Rattle.iot_node.specs.Disks.{KeepsDisk};
 ghost use Rattle.iot_world.specs.Allowed.{MayBefall, stops_client};
-ghost use Rattle.iot_world.specs.World.{Starts};
+ghost use Rattle.iot_world.specs.Deciding.{Decides};
+ghost use Rattle.iot_world.specs.World.{StandsForSome, MakesStep, SameDeclared, KeepsDisks, SameArms, DeclaresClient, AddsScript};
+ghost use Rattle.iot_world.specs.World.{UnlessArmed, scripts_of, script_count, client_count, Starts};
 
 use crate::disks::take_first;
 use crate::nodes::{befall, relink};
@@ -21,10 +19,6 @@ use iot_text::{Name, NoMemory, Text};
 use std::alloc::Global;
 
 impl<D: Disk> World<D> {
-    ghost use Rattle.iot_world.specs.World.{StandsForSome, MakesStep, SameDeclared, KeepsDisks, SameArms, DeclaresClient};
-    ghost use Rattle.iot_world.specs.World.{AddsScript, UnlessArmed, scripts_of, script_count, client_count};
-    ghost use Rattle.iot_world.specs.Deciding.{Decides};
-
     /// A client joins, and starts on the next disk.
     pub(crate) fn declare_client(
         &mut self,

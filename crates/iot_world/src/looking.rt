@@ -1,10 +1,8 @@
 //! Looking in at the server's list, and at what all nodes hold.
 ghost use Rattle.std.specs.Prelude.{◌≡◌, IfOk, OnOk};
-ghost use Rattle.iot_laptop.specs.Laptops.{StandsAnyhow};
-ghost use Rattle.iot_machine.specs.Events.{Logs};
-ghost use Rattle.iot_machine.specs.Json.{row_count, json_text};
-ghost use Rattle.iot_machine.specs.Machine.{Machine};
-ghost use Rattle.iot_world.specs.Looks.{Tells};
+ghost use Rattle.iot_world.specs.Prelude.{StandsAnyhow, Logs, row_count, json_text, Machine};
+ghost use Rattle.iot_world.specs.Looks.{Tells, client_names, HasTold};
+ghost use Rattle.iot_world.specs.World.{StandsFor, StandsForSome, IsWorldOfSome, MakesStep};
 
 use crate::world::World;
 use iot_disk::Disk;
@@ -16,9 +14,6 @@ use iot_tree::Labels;
 use std::alloc::Global;
 
 impl<D: Disk> World<D> {
-    ghost use Rattle.iot_world.specs.Looks.{client_names, HasTold};
-    ghost use Rattle.iot_world.specs.World.{StandsFor, StandsForSome, IsWorldOfSome, MakesStep};
-
     /// Says what was committed, unless the server is down.
     pub(crate) fn log(&self, alloc: Global, out: &mut Text) -> Result<(), NoMemory>
         requires sound { IsWorldOfSome D.medium self.now }

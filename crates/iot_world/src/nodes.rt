@@ -1,15 +1,12 @@
 //! What befalls a node or a link.
 ghost use Rattle.std.specs.Prelude.{◌≡◌, List, true, OnOk};
 ghost use Rattle.iot_event.specs.declared.event.Event.TheVariants.{Server};
-ghost use Rattle.iot_event.specs.declared.event.NodeEvent.TheVariants.{Show};
-ghost use Rattle.iot_laptop.specs.Laptops.{ClientStands, StandsAnyhow, SamePlace, disk_in};
-ghost use Rattle.iot_machine.specs.Clients.{Declared};
-ghost use Rattle.iot_machine.specs.Events.{server_part, node_part, link_part};
-ghost use Rattle.iot_machine.specs.Refining.{Refines};
+ghost use Rattle.iot_machine.specs.Events.{server_part};
+ghost use Rattle.iot_world.specs.Prelude.{Show, ClientStands, StandsAnyhow, SamePlace, disk_in, Declared, node_part, link_part, Refines};
 ghost use Rattle.iot_text.specs.Texts.{Extends};
 ghost use Rattle.iot_world.specs.Allowed.{arms_a_disk, stops_node};
 ghost use Rattle.iot_world.specs.Deciding.{Decides, ClientDecides};
-ghost use Rattle.iot_world.specs.World.{KeepsNode, UnlessArmed};
+ghost use Rattle.iot_world.specs.World.{StandsForSome, MakesStep, SameDeclared, KeepsDisks, SameArms, KeepsNode, UnlessArmed};
 
 use crate::world::World;
 use iot_disk::Disk;
@@ -21,8 +18,6 @@ use iot_text::{NoMemory, Text};
 use std::alloc::Global;
 
 impl<D: Disk> World<D> {
-    ghost use Rattle.iot_world.specs.World.{StandsForSome, MakesStep, SameDeclared, KeepsDisks, SameArms};
-
     /// An event of the server.
     pub(crate) fn befall_server(
         &mut self,

@@ -2,12 +2,8 @@
 ghost use Rattle.std.specs.Prelude.{◌≡◌, List, [], ◌∷◌, true, OnOk, IfOk, IfErr, IfSome};
 ghost use Rattle.std.specs.Option.{option_copied};
 ghost use Rattle.iot_client.specs.Ties.{disk_of as client_disk};
-ghost use Rattle.iot_event.specs.Declarations.{AreDeclared};
-ghost use Rattle.iot_event.specs.declared.event.Event.{Event as Happens};
-ghost use Rattle.iot_laptop.specs.Laptops.{disk_in};
-ghost use Rattle.iot_machine.specs.Machine.{Machine};
+ghost use Rattle.iot_world.specs.Prelude.{AreDeclared, Event as Happens, disk_in, Machine, disk_of};
 ghost use Rattle.iot_server.specs.Servers as servers;
-ghost use Rattle.iot_server_node.specs.Servers.{disk_of};
 ghost use Rattle.iot_text.specs.Texts.{Extends};
 ghost use Rattle.iot_world.specs.Allowed.{IsAllowed, arms_a_disk};
 ghost use Rattle.iot_world.specs.Disks.{AreFresh};
@@ -38,9 +34,9 @@ pub struct World<D: Disk> {
 }
 
 impl<D: Disk> World<D> {
-    ghost use Rattle.iot_world.specs.World.{StandsFor, StandsForSome, IsWorldOfSome, EventSteps, DeclaredOn, Opens};
-    ghost use Rattle.iot_world.specs.World.{HasDisks, KeepsDisks, SameArms, AreUnarmed, UnlessArmed, GivesBack, joined_by, disks_of};
-    ghost use Rattle.iot_world.specs.World.{ClientIs, client_count, script_names, LendsServer, LendsClient, IsReady};
+    ghost use Rattle.iot_world.specs.World.{StandsFor, IsWorldOfSome, EventSteps, DeclaredOn, Opens, HasDisks, KeepsDisks, SameArms};
+    ghost use Rattle.iot_world.specs.World.{AreUnarmed, UnlessArmed, GivesBack, joined_by, disks_of, ClientIs, client_count, script_names};
+    ghost use Rattle.iot_world.specs.World.{LendsServer, LendsClient, IsReady};
     ghost use Rattle.iot_world.specs.Deciding.{Decides};
 
     /// The world before any event, with a server on the first of the disks. Each client that is declared takes the next one. If the
