@@ -1,4 +1,4 @@
--- A node has its disk, what the disks hold that a world gives back, how many of them are spare, and what the first begins with.
+-- What the disks that a world gives back hold and count: the first has the list, the next what clients keep, and the others are spare.
 use Rattle.std.proofs.lemmas.Option.{same_Some}
 use Rattle.iot_world.proofs.Common.{◌≡◌, ◌+◌, ℕ, List, [], ◌∷◌, ◌++◌, length, map, Option, Some, None, inl, inr, refl, sym, ap, subst, ◌∙◌}
 use Rattle.iot_world.proofs.Common.{arith, length-append, map-append, lasts, has_disk, node_stands, IsListed, Holds, IsKept, KeepsClient}
