@@ -1,5 +1,5 @@
--- Laws of the forms of event lines: a form has one to five words, its numbers are within their limits, and its path is a path.
-use Rattle.std.proofs.Common.{◌≡◌, ℕ, ◌<◌, ◌≤◌, ◌&&◌, nat_le, Bool, true, false, List, [], ◌∷◌, length, map, Option, Some, None}
+-- Laws of the forms of event lines: a form's numbers are within their limits, and its path is a path.
+use Rattle.std.proofs.Common.{◌≡◌, ℕ, ◌≤◌, ◌&&◌, nat_le, Bool, true, false, List, [], ◌∷◌, Option, Some, None}
 use Rattle.std.proofs.Common.{codes, bytes_eq, refl, arith}
 use Rattle.std.specs.Option.{option_map, option_or, option_and_then, IfSome}
 use Rattle.std.specs.Prelude.{if◌then◌else◌}
@@ -24,21 +24,6 @@ use Rattle.iot_event.specs.Declarations.{IsWithin}
 use Rattle.iot_event.specs.Forms.{node_event, link_event, lone_task, lone_event, two_words}
 use Rattle.iot_event.specs.Forms.{loss_of, event_with, event_of_words, three_words, plain_choice, resolver_choice, script_task}
 use Rattle.iot_event.specs.Forms.{choosing_form, pick_of, node_form, stop_words, form_of}
-
--- ---- how many words a form has
-
-pub too_few : {X : Type 0} (word : X → List ℕ) (found : List X) → length found < 1 → None ≡ form_of (map word found)
-too_few word [] few = refl
-too_few word (a ∷ more) few = absurd (omega arith)
-
-pub too_many : {X : Type 0} (word : X → List ℕ) (found : List X) → 6 ≤ length found → None ≡ form_of (map word found)
-too_many word [] many = absurd (omega arith)
-too_many word (a ∷ []) many = absurd (omega arith)
-too_many word (a ∷ b ∷ []) many = absurd (omega arith)
-too_many word (a ∷ b ∷ c ∷ []) many = absurd (omega arith)
-too_many word (a ∷ b ∷ c ∷ d ∷ []) many = absurd (omega arith)
-too_many word (a ∷ b ∷ c ∷ d ∷ e ∷ []) many = absurd (omega arith)
-too_many word (a ∷ b ∷ c ∷ d ∷ e ∷ f ∷ more) many = refl
 
 -- ---- what fits, whatever is declared
 

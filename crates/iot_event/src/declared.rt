@@ -15,7 +15,7 @@ use crate::form::{Form, form_of_line};
 use crate::script::parse_script;
 use indexmap::IndexSet;
 use iot_lines::is_skipped;
-use iot_text::Name;
+use iot_text::{Name, NoMemory};
 use std::alloc::Global;
 
 /// How many clients an input declares at most.
@@ -276,9 +276,11 @@ impl Declared {
                 number: number + 1,
             });
         }
-        match form_of_line(alloc, line)? {
-            None => Err(EventFault::BadLine { line: number }),
-            Some(form) => self.by_form(alloc, form, later, number),
+        // A `?` would move the form, which is large, once more.
+        match form_of_line(alloc, line) {
+            Ok(Some(form)) => self.by_form(alloc, form, later, number),
+            Ok(None) => Err(EventFault::BadLine { line: number }),
+            Err(NoMemory) => Err(EventFault::NoMemory),
         }
     }
 }

@@ -1,5 +1,5 @@
 //! The forms of event lines.
-ghost use Rattle.std.specs.Prelude.{◌≡◌, map, if◌then◌else◌, Some, None, IfOk};
+ghost use Rattle.std.specs.Prelude.{◌≡◌, if◌then◌else◌, Some, None, IfOk};
 ghost use Rattle.iot_lines.specs.Words.{words};
 ghost use Rattle.iot_text.specs.Names.{is_name};
 ghost use Rattle.iot_text.specs.Paths.{path_of};
@@ -23,9 +23,6 @@ pub const READS_LIMIT: u64 = 1_000_000;
 
 /// The greatest number of a device call that is to fail in a line.
 pub const STOP_LIMIT: u64 = 1_000_000;
-
-/// How many words the longest form has.
-const WORD_LIMIT: usize = 5;
 
 /// What a line says by its words alone, before it is known which names are declared.
 #[derive(Drop)]
@@ -373,23 +370,6 @@ fn five_words(
     )
 }
 
-/// The form of a line with these words, if it has one.
-#[tactic(auto, using(crate::proofs::FormsLaws::too_few, crate::proofs::FormsLaws::too_many))]
-fn form_of(alloc: Global, found: &[&[u8]]) -> Result<Option<Form>, NoMemory>
-    ensures { IfOk result (λ form. form ≡ form_of (map (λ word. word.now) found.now)) }
-{
-    match found {
-        [word] => Ok(one_word(word)),
-        [first, second] => Ok(two_words(first, second)),
-        [first, second, third] => three_words(alloc, first, second, third),
-        [first, second, third, fourth] => Ok(four_words(first, second, third, fourth)),
-        [first, second, third, fourth, fifth] => {
-            Ok(five_words(first, second, third, fourth, fifth))
-        }
-        _ => Ok(None),
-    }
-}
-
 /// The form of a line, if it has one.
 ///
 /// # Errors
@@ -398,14 +378,24 @@ fn form_of(alloc: Global, found: &[&[u8]]) -> Result<Option<Form>, NoMemory>
 pub(crate) fn form_of_line(alloc: Global, line: &[u8]) -> Result<Option<Form>, NoMemory>
     ensures { IfOk result (λ form. form ≡ form_of (words line.now)) }
 {
-    let mut found: [&[u8]; WORD_LIMIT] = [b""; WORD_LIMIT];
-    let mut count = 0;
-    for word in split_words(line) {
-        if count == WORD_LIMIT {
-            return Ok(None);
-        }
-        found[count] = word;
-        count += 1;
+    let mut words = split_words(line);
+    let Some(first) = words.next() else {
+        return Ok(None);
+    };
+    let Some(second) = words.next() else {
+        return Ok(one_word(first));
+    };
+    let Some(third) = words.next() else {
+        return Ok(two_words(first, second));
+    };
+    let Some(fourth) = words.next() else {
+        return three_words(alloc, first, second, third);
+    };
+    let Some(fifth) = words.next() else {
+        return Ok(four_words(first, second, third, fourth));
+    };
+    match words.next() {
+        None => Ok(five_words(first, second, third, fourth, fifth)),
+        Some(_) => Ok(None),
     }
-    form_of(alloc, &found[..count])
 }
