@@ -2,18 +2,17 @@
 use Rattle.std.proofs.Common.{◌≡◌, ℕ, ◌+◌, ◌<◌, ◌≤◌, ◌^◌, List, [], ◌∷◌, ◌++◌, length, Ok, refl, ◌∙◌, arith}
 use Rattle.iot_codec.specs.Places.{LiesAt, IsSpelling}
 use Rattle.iot_codec.specs.Decoders.{Decoder, ◌>>=◌, go_on, done, number_at, at_most}
-use Rattle.iot_codec.specs.Decoding.{paths_at, want_at, label_at, acts_at, tree_at, answer_at}
-use Rattle.iot_codec.specs.Rules.{IsNumber, ArePaths, IsWant, IsLabel, AreActs, IsTreeOfRows, IsAnswer}
-use Rattle.iot_codec.specs.Spelling.{number_spelling, paths_spelling, want_spelling, label_spelling, acts_spelling, tree_spelling}
+use Rattle.iot_codec.specs.Decoding.{known_at, want_at, label_at, acts_at, changes_at, answer_at}
+use Rattle.iot_codec.specs.Rules.{IsNumber, AreKnown, IsWant, IsLabel, AreActs, AreChanges, IsAnswer}
+use Rattle.iot_codec.specs.Spelling.{number_spelling, known_spelling, want_spelling, label_spelling, acts_spelling, changes_spelling}
 use Rattle.iot_codec.specs.Spelling.{answer_spelling}
+use Rattle.iot_codec.specs.Laws.Changes.{known_laws, changes_laws}
 use Rattle.iot_codec.specs.Laws.Labels.{label_laws}
 use Rattle.iot_codec.specs.Laws.Parts.{number_laws, at_most_laws}
 use Rattle.iot_codec.specs.Laws.Places.{lies_then, lies_first, lies_second, lies_after_tag}
 use Rattle.iot_codec.specs.Laws.Questions.{answer_laws}
-use Rattle.iot_codec.specs.Laws.Rising.{paths_laws}
 use Rattle.iot_codec.specs.Laws.Steps.{step, carried}
 use Rattle.iot_codec.specs.Laws.Tags.{IsAfter, IsArm, single_arm, double_arm, tagged_found, tagged_again, single_again, double_again}
-use Rattle.iot_codec.specs.Laws.Trees.{tree_laws}
 use Rattle.iot_codec.specs.Laws.Updates.{acts_laws}
 use Rattle.iot_codec.specs.Laws.Wants.{want_laws}
 use Rattle.iot_wire.specs.Decoding.{refresh_at, commit_at, request_at, objects_at, committed_at, already_at, conflict_at, reply_at}
@@ -86,7 +85,7 @@ request_table = (1, refresh_at) ∷ (2, commit_at) ∷ []
 refresh_arm : IsArm IsRequest request_spelling 1 refresh_at
 unfolding refresh_at request_spelling
 refresh_arm =
-    triple_arm (λ n. n ≤ 7) number_spelling (at_most 7) client_laws ArePaths paths_spelling paths_at paths_laws IsWant want_spelling want_at
+    triple_arm (λ n. n ≤ 7) number_spelling (at_most 7) client_laws AreKnown known_spelling known_at known_laws IsWant want_spelling want_at
     want_laws IsRequest request_spelling 1 Refresh (λ client known want c k w. (c, (k, w))) (λ client known want. refl)
 
 commit_arm : IsArm IsRequest request_spelling 2 commit_at
@@ -99,8 +98,8 @@ request_again : (r : Request) (bytes : List ℕ) (at end : ℕ) → length bytes
     → request_at bytes at ≡ Ok (r, end)
 unfolding request_at request_table refresh_at commit_at request_spelling
 request_again (Refresh client known want) bytes at end short has p =
-    tagged_again request_table bytes at end 1 (number_spelling client ++ (paths_spelling known ++ want_spelling want)) p
-    ∙ triple_again (λ n. n ≤ 7) number_spelling (at_most 7) client_laws ArePaths paths_spelling paths_at paths_laws IsWant want_spelling
+    tagged_again request_table bytes at end 1 (number_spelling client ++ (known_spelling known ++ want_spelling want)) p
+    ∙ triple_again (λ n. n ≤ 7) number_spelling (at_most 7) client_laws AreKnown known_spelling known_at known_laws IsWant want_spelling
     want_at want_laws Refresh client known want bytes at end 1 short has.0 has.1.0 has.1.1 p
 request_again (Commit label acts) bytes at end short has p =
     tagged_again request_table bytes at end 2 (label_spelling label ++ acts_spelling acts) p
@@ -129,7 +128,7 @@ reply_table = (1, objects_at) ∷ (2, committed_at) ∷ (3, already_at) ∷ (4, 
 objects_arm : IsArm IsReply reply_spelling 1 objects_at
 unfolding objects_at reply_spelling
 objects_arm =
-    single_arm IsReply reply_spelling 1 IsTreeOfRows tree_spelling tree_at tree_laws Objects (λ tree has. has) (λ tree. refl)
+    single_arm IsReply reply_spelling 1 AreChanges changes_spelling changes_at changes_laws Objects (λ changes has. has) (λ changes. refl)
 
 committed_arm : IsArm IsReply reply_spelling 2 committed_at
 unfolding committed_at reply_spelling
@@ -149,9 +148,9 @@ conflict_arm =
 reply_again : (r : Reply) (bytes : List ℕ) (at end : ℕ) → length bytes < 2 ^ 64 → IsReply r → LiesAt bytes at (reply_spelling r) end
     → reply_at bytes at ≡ Ok (r, end)
 unfolding reply_at reply_table objects_at committed_at already_at conflict_at reply_spelling
-reply_again (Objects tree) bytes at end short has p =
-    tagged_again reply_table bytes at end 1 (tree_spelling tree) p
-    ∙ single_again IsTreeOfRows tree_spelling tree_at tree_laws Objects tree bytes at end 1 short has p
+reply_again (Objects changes) bytes at end short has p =
+    tagged_again reply_table bytes at end 1 (changes_spelling changes) p
+    ∙ single_again AreChanges changes_spelling changes_at changes_laws Objects changes bytes at end 1 short has p
 reply_again (Committed number) bytes at end short has p =
     tagged_again reply_table bytes at end 2 (number_spelling number) p
     ∙ single_again IsNumber number_spelling number_at number_laws Committed number bytes at end 2 short has p
@@ -165,7 +164,7 @@ reply_again (Conflict read answer) bytes at end short has p =
 
 reply_some : (r : Reply) → 0 < length (reply_spelling r)
 unfolding reply_spelling
-reply_some (Objects tree) = omega arith
+reply_some (Objects changes) = omega arith
 reply_some (Committed number) = omega arith
 reply_some (Already number) = omega arith
 reply_some (Conflict read answer) = omega arith

@@ -1,7 +1,7 @@
 -- Decoding messages, with the first fault from the left.
 use Rattle.std.specs.Prelude.{[], ◌∷◌}
 use Rattle.iot_codec.specs.Decoders.{Decoder, ◌>>=◌, done, number_at, at_most, tagged}
-use Rattle.iot_codec.specs.Decoding.{paths_at, want_at, label_at, acts_at, tree_at, answer_at}
+use Rattle.iot_codec.specs.Decoding.{known_at, want_at, label_at, acts_at, changes_at, answer_at}
 use Rattle.iot_wire.specs.declared.requests.Request.{Request}
 use Rattle.iot_wire.specs.declared.requests.Request.TheVariants.{Refresh, Commit}
 use Rattle.iot_wire.specs.declared.replies.Reply.{Reply}
@@ -10,7 +10,7 @@ use Rattle.iot_wire.specs.declared.replies.Reply.TheVariants.{Objects, Committed
 unfoldable pub refresh_at : Decoder Request
 refresh_at = do
   client ← at_most 7
-  known ← paths_at
+  known ← known_at
   want ← want_at
   done (Refresh client known want)
 
@@ -26,8 +26,8 @@ request_at = tagged ((1, refresh_at) ∷ (2, commit_at) ∷ [])
 
 unfoldable pub objects_at : Decoder Reply
 objects_at = do
-  tree ← tree_at
-  done (Objects tree)
+  changes ← changes_at
+  done (Objects changes)
 
 unfoldable pub committed_at : Decoder Reply
 committed_at = do

@@ -1,7 +1,7 @@
--- What messages say of trees and reads.
+-- What messages say of stamped trees and reads.
 use Rattle.std.specs.Prelude.{◌≡◌, ℕ, ◌-◌, ◌≤◌, List, slice_get, Some}
-use Rattle.iot_tree.specs.Snapshots.{known}
-use Rattle.iot_tree.specs.Tree.{Nodes}
+use Rattle.iot_stamp.specs.Refresh.{known_with_stamps}
+use Rattle.iot_stamp.specs.Stamps.{Stamps}
 use Rattle.iot_tree.specs.declared.acts.Read.{Read}
 use Rattle.iot_tree.specs.declared.questions.Answer.{Answer}
 use Rattle.iot_tree.specs.declared.want.Want.{Want}
@@ -12,9 +12,9 @@ use Rattle.iot_wire.specs.declared.requests.Request.TheVariants.{Refresh}
 use Rattle.iot_wire.specs.declared.replies.Reply.{Reply}
 use Rattle.iot_wire.specs.declared.replies.Reply.TheVariants.{Conflict}
 
--- the bytes are the spelling of the request for what is known of the held tree, and for what is wanted
-abbrev pub IsRefresh : ℕ → Nodes → Want → List ℕ → Type 0
-IsRefresh client held want bytes = IsMessage IsRequest request_spelling bytes (Refresh client (known held) want)
+-- the bytes are the spelling of the request for what changed of what the held tree knows, and for what is wanted
+abbrev pub IsRefresh : ℕ → Stamps → Want → List ℕ → Type 0
+IsRefresh client held want bytes = IsMessage IsRequest request_spelling bytes (Refresh client (known_with_stamps held) want)
 
 -- the bytes are the spelling of the reply
 abbrev pub Spells : List ℕ → Reply → Type 0

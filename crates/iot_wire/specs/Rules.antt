@@ -1,6 +1,6 @@
 -- Which messages have a spelling.
 use Rattle.std.specs.Prelude.{◌≤◌}
-use Rattle.iot_codec.specs.Rules.{IsNumber, ArePaths, IsWant, IsLabel, AreActs, IsTreeOfRows, IsAnswer}
+use Rattle.iot_codec.specs.Rules.{IsNumber, AreKnown, IsWant, IsLabel, AreActs, AreChanges, IsAnswer}
 use Rattle.iot_wire.specs.declared.requests.Request.{Request}
 use Rattle.iot_wire.specs.declared.requests.Request.TheVariants.{Refresh, Commit}
 use Rattle.iot_wire.specs.declared.replies.Reply.{Reply}
@@ -8,11 +8,11 @@ use Rattle.iot_wire.specs.declared.replies.Reply.TheVariants.{Objects, Committed
 
 -- one of 8 clients asks; the paths that it knows rise
 abbrev pub IsRequest : Request → Type 0
-IsRequest (Refresh client known want) = (client ≤ 7) × (ArePaths known × IsWant want)
+IsRequest (Refresh client known want) = (client ≤ 7) × (AreKnown known × IsWant want)
 IsRequest (Commit label acts) = IsLabel label × AreActs acts
 
 abbrev pub IsReply : Reply → Type 0
-IsReply (Objects tree) = IsTreeOfRows tree
+IsReply (Objects changes) = AreChanges changes
 IsReply (Committed number) = IsNumber number
 IsReply (Already number) = IsNumber number
 IsReply (Conflict read answer) = IsNumber read × IsAnswer answer

@@ -1,6 +1,6 @@
 -- The one spelling of each message.
 use Rattle.std.specs.Prelude.{ℕ, List, ◌∷◌, ◌++◌}
-use Rattle.iot_codec.specs.Spelling.{number_spelling, paths_spelling, want_spelling, label_spelling, acts_spelling, tree_spelling}
+use Rattle.iot_codec.specs.Spelling.{number_spelling, known_spelling, want_spelling, label_spelling, acts_spelling, changes_spelling}
 use Rattle.iot_codec.specs.Spelling.{answer_spelling}
 use Rattle.iot_wire.specs.declared.requests.Request.{Request}
 use Rattle.iot_wire.specs.declared.requests.Request.TheVariants.{Refresh, Commit}
@@ -9,12 +9,12 @@ use Rattle.iot_wire.specs.declared.replies.Reply.TheVariants.{Objects, Committed
 
 -- a request: its tag, and then its parts
 unfoldable pub request_spelling : Request → List ℕ
-request_spelling (Refresh client known want) = 1 ∷ (number_spelling client ++ (paths_spelling known ++ want_spelling want))
+request_spelling (Refresh client known want) = 1 ∷ (number_spelling client ++ (known_spelling known ++ want_spelling want))
 request_spelling (Commit label acts) = 2 ∷ (label_spelling label ++ acts_spelling acts)
 
 -- a reply: its tag, and then its parts
 unfoldable pub reply_spelling : Reply → List ℕ
-reply_spelling (Objects tree) = 1 ∷ tree_spelling tree
+reply_spelling (Objects changes) = 1 ∷ changes_spelling changes
 reply_spelling (Committed number) = 2 ∷ number_spelling number
 reply_spelling (Already number) = 3 ∷ number_spelling number
 reply_spelling (Conflict read answer) = 4 ∷ (number_spelling read ++ answer_spelling answer)

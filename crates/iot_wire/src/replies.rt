@@ -8,17 +8,17 @@ ghost use Rattle.iot_wire.specs.Spelling.{reply_spelling};
 
 use crate::messages::{ROOM, finished, malformed, tag_of};
 use iot_codec::{
-    CodecFault, put_answer, put_number, put_tree, read_answer, read_number, read_tree,
+    CodecFault, put_answer, put_changes, put_number, read_answer, read_changes, read_number,
 };
 use iot_text::{NoMemory, Text};
-use iot_tree::{Answer, Tree};
+use iot_tree::{Answer, Changes};
 use std::alloc::Global;
 
 /// What the server answers.
 #[derive(Drop)]
 pub enum Reply {
-    /// The tree, cut down to what the client knows or wants to know.
-    Objects(Tree),
+    /// What changed for the client: the rows that are new to it, with their stamps, and the sent paths that are gone.
+    Objects(Changes),
     /// The transaction was committed, under this number.
     Committed { number: u64 },
     /// The transaction had been committed, under this number.
@@ -34,9 +34,9 @@ fn put_reply(reply: &Reply, out: &mut Text) -> Result<(), NoMemory>
     ensures { OnOk result (out.new ≡ out.old ++ reply_spelling reply.now) }
 {
     match reply {
-        Reply::Objects(tree) => {
+        Reply::Objects(changes) => {
             out.push(1)?;
-            put_tree(tree, out)
+            put_changes(changes, out)
         }
         Reply::Committed { number } => {
             out.push(2)?;
@@ -70,8 +70,8 @@ pub fn write_reply(alloc: Global, reply: &Reply) -> Result<Vec<u8>, NoMemory>
 fn read_objects(alloc: Global, bytes: &[u8], at: usize) -> Result<(Reply, usize), CodecFault>
     ensures { IsOutcome result (objects_at bytes.now at) }
 {
-    let (tree, end) = read_tree(alloc, bytes, at)?;
-    Ok((Reply::Objects(tree), end))
+    let (changes, end) = read_changes(alloc, bytes, at)?;
+    Ok((Reply::Objects(changes), end))
 }
 
 /// Reads what follows the tag of a new commit.

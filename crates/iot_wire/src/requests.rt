@@ -8,11 +8,11 @@ ghost use Rattle.iot_wire.specs.Spelling.{request_spelling};
 
 use crate::messages::{ROOM, finished, malformed, read_at_most, tag_of};
 use iot_codec::{
-    CodecFault, put_acts, put_label, put_number, put_paths, put_want, read_acts, read_label,
-    read_paths, read_want,
+    CodecFault, put_acts, put_known, put_label, put_number, put_want, read_acts, read_known,
+    read_label, read_want,
 };
 use iot_text::{NoMemory, Text};
-use iot_tree::{Acts, Label, Paths, Want};
+use iot_tree::{Acts, Known, Label, Want};
 use std::alloc::Global;
 
 /// The greatest number of a client.
@@ -21,10 +21,11 @@ const LAST_CLIENT: u64 = 7;
 /// What a client asks of the server.
 #[derive(Drop)]
 pub enum Request {
-    /// What it wants to know besides what it knows: the paths whose insides it knows, in their order.
+    /// What changed of what it knows, and what it wants to know besides: the paths whose insides it knows, in their order, with
+    /// their stamps.
     Refresh {
         client: u64,
-        known: Paths,
+        known: Known,
         want: Want,
     },
     /// That a transaction be committed.
@@ -48,7 +49,7 @@ fn put_request(request: &Request, out: &mut Text) -> Result<(), NoMemory>
         } => {
             out.push(1)?;
             put_number(client, out)?;
-            put_paths(known, out)?;
+            put_known(known, out)?;
             put_want(want, out)
         }
         Request::Commit { label, acts } => {
@@ -76,7 +77,7 @@ fn read_refresh(alloc: Global, bytes: &[u8], at: usize) -> Result<(Request, usiz
     ensures { IsOutcome result (refresh_at bytes.now at) }
 {
     let (client, at) = read_at_most(alloc, LAST_CLIENT, bytes, at)?;
-    let (known, at) = read_paths(alloc, bytes, at)?;
+    let (known, at) = read_known(alloc, bytes, at)?;
     let (want, end) = read_want(alloc, bytes, at)?;
     let request = Request::Refresh {
         client,
