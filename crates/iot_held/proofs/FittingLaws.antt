@@ -4,7 +4,7 @@ use Rattle.std.proofs.lemmas.List.{drop_more, take_more}
 use Rattle.iot_acts.specs.Traces.{after_update, after_acts}
 use Rattle.iot_tree.specs.Tree.{Nodes}
 use Rattle.iot_tree.specs.declared.acts.Act.{Act}
-use Rattle.iot_held.specs.Fitting.{UpdatesFit}
+use Rattle.iot_stamp.specs.Acting.{UpdatesFit}
 
 -- an act more
 after_push : (t : Nodes) (acts : List Act) (act : Act) → after_acts t (acts ++ act ∷ []) ≡ after_update (after_acts t acts) act.update

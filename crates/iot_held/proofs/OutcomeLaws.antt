@@ -1,15 +1,18 @@
 -- The outcome of a merge.
 use Rattle.iot_stamp.proofs.StampsLaws.{nodes_with}
 use Rattle.iot_tree.proofs.PruneLaws.{pruned_tree}
-use Rattle.std.proofs.Common.{is_some, ◌||◌, ◌≡◌, ℕ, cond, IsTrue, List, [], ◌∷◌, map, Option}
+use Rattle.std.proofs.Common.{is_some, not, ◌||◌, ◌≡◌, ℕ, Bool, true, false, cond, IsTrue, List, [], ◌∷◌, map, Option, Some, None}
+use Rattle.std.proofs.Common.{option_map}
 use Rattle.std.proofs.Common.{refl, sym, ap, subst, ◌∙◌}
-use Rattle.std.specs.FinMap.{entries, entries_sorted, from_sorted, is_sorted, get-entries, entries-from_sorted, same_entries_map}
+use Rattle.std.specs.FinMap.{get, same_map, entries, entries_sorted, from_sorted, is_sorted, get-entries, entries-from_sorted}
+use Rattle.std.specs.FinMap.{same_entries_map}
 use Rattle.std.proofs.lemmas.List.{length-map}
-use Rattle.iot_text.specs.Paths.{path_cmp}
+use Rattle.iot_text.specs.Paths.{path_cmp, parent_of}
+use Rattle.iot_text.proofs.PathsLaws.{path_total, path_same}
 use Rattle.iot_tree.specs.Tree.{IsTree, Row, Path}
 use Rattle.iot_tree.specs.Rows.{IsFirstBadRow}
 use Rattle.iot_tree.specs.declared.nodes.Node.{Node}
-use Rattle.iot_stamp.proofs.MappedLaws.{entries_of_mapped, sorted_mapped}
+use Rattle.iot_stamp.proofs.MappedLaws.{entries_of_mapped, get_mapped, sorted_mapped}
 use Rattle.iot_stamp.specs.Mapped.{mapped, mapped_entries}
 use Rattle.iot_stamp.specs.Stamps.{Entry, Stamps, nodes_of, FarZero, pruned, stamp_at}
 use Rattle.iot_tree.proofs.RowLaws.{tested, is_tested}
@@ -18,7 +21,7 @@ use Rattle.iot_stamp.specs.Agreement.{IsRefresh, Knows}
 use Rattle.iot_stamp.proofs.FoundLaws.{sent_some}
 use Rattle.iot_tree.specs.declared.want.Want.{Want}
 use Rattle.iot_stamp.proofs.RefreshLaws.{merge_is_pruned}
-use Rattle.iot_stamp.specs.Refresh.{known_with_stamps, asked, zeroed, joined, merged, stays}
+use Rattle.iot_stamp.specs.Refresh.{known_with_stamps, asked, zeroed, joined, merged, has_row, stays}
 use Rattle.iot_stamp.specs.Pairing.{paired, FarRowsZero, AreStamps}
 use Rattle.iot_held.specs.Weave.{woven}
 use Rattle.iot_held.proofs.FrontLaws.{take_tree}
@@ -86,6 +89,37 @@ module _ (m : Stamps) (held : List Row) (stamps : List ℕ) (held_by : held ≡ 
 
     pub out_map : mapped zeroed (from_sorted out) ≡ merged m rows gone
     out_map = ap (mapped zeroed) (ap from_sorted out_is ∙ map_back (joined m rows gone))
+
+-- ---- nothing new
+
+stays_all : (row : Entry) → stays [] [] row ≡ true
+stays_all row = by (is_known row.1.0) (parent_of row.0)
+  where
+    by : (known : Bool) (parent : Option Path) → (known || not (has_row [] parent)) ≡ true
+    by true parent = refl
+    by false None = refl
+    by false (Some parent) = refl
+
+woven_alone : (es : List Entry) → woven (stays [] []) es [] ≡ es
+woven_alone [] = refl
+woven_alone (e ∷ es) = rw (stays_all e) (ap (λ (rest : List Entry). e ∷ rest) (woven_alone es))
+
+zeroed_stays : (t : Stamps) → FarZero t → mapped zeroed t ≡ t
+zeroed_stays t far = same_map path_total path_same _ _ (λ p. get_mapped zeroed t p ∙ by p (get t p) refl)
+  where
+    at : (a : Node) (n : ℕ) (b : Bool) → is_known a ≡ b → (b ≡ false → n ≡ 0) → ◌≡◌ {A = ℕ} (cond b n 0) n
+    at a n true is zero = refl
+    at a n false is zero = sym (zero refl)
+
+    by : (p : Path) (row : Option (Node × ℕ)) → get t p ≡ row → option_map (zeroed p) row ≡ row
+    by p None is = refl
+    by p (Some (a, n)) is =
+        ap (λ (stamp : ℕ). Some (a, stamp)) (at a n (is_known a) refl (far p a n is))
+
+-- a merge of nothing changes nothing
+pub merged_nothing : (t : Stamps) → FarZero t → merged t [] [] ≡ t
+merged_nothing t far =
+    ap (mapped zeroed) (same_entries_map _ _ (sym (joined_woven t [] [] cc) ∙ woven_alone (entries t))) ∙ zeroed_stays t far
 
 -- the paths that the held tree knows are among those that are asked for
 knows_sent : (held s : Stamps) (want : Want) → Knows held (asked s (known_with_stamps held) want)

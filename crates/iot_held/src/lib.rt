@@ -4,6 +4,8 @@
 mod held;
 mod joining;
 mod merging;
+mod passing;
 
 pub use held::Held;
-pub use merging::{MergeFault, merge_changes};
+pub use merging::MergeFault;
+pub use passing::pass;

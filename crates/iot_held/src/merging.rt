@@ -1,61 +1,66 @@
 //! The merge of what changed in a server's tree into a held tree.
-ghost use Rattle.std.specs.Prelude.{◌≡◌, ◌≢◌, IsTrue, IfOk, map, cond, OnOk, OnErr, IfErr};
+ghost use Rattle.std.specs.Prelude.{◌≡◌, ◌≢◌, [], true, IsTrue, IfOk, map, cond, OnOk, OnErr, IfErr};
 ghost use Rattle.std.specs.FinMap.{is_sorted, from_sorted, entries};
 ghost use Rattle.iot_text.specs.Paths.{path_cmp};
 ghost use Rattle.iot_tree.specs.Tree.{IsTree};
 ghost use Rattle.iot_tree.specs.Snapshots.{ArePathsRising, is_known};
-ghost use Rattle.iot_tree.specs.declared.want.Want.{Want};
 ghost use Rattle.iot_stamp.specs.Mapped.{mapped};
-ghost use Rattle.iot_stamp.specs.Stamps.{Stamps, nodes_of, pruned};
-ghost use Rattle.iot_stamp.specs.Refresh.{asked, known_with_stamps, merged, zeroed};
-ghost use Rattle.iot_stamp.specs.Agreement.{Agrees, IsPositive, IsRefresh};
+ghost use Rattle.iot_stamp.specs.Stamps.{nodes_of};
+ghost use Rattle.iot_stamp.specs.Refresh.{merged, zeroed};
 ghost use Rattle.iot_stamp.specs.Pairing.{paired, AreStamps};
+ghost use Rattle.iot_held.specs.declared.merging.MergeFault.TheVariants.{NoMemory as NoRoom};
 
 use crate::joining::joined_rows;
 use iot_stamp::{Stamped, stamp_of};
 use iot_text::NoMemory;
 use iot_tree::{Changes, RowFault, Rows, StampedRows};
 use std::alloc::Global;
+use thiserror::Error;
 
 /// Why changes are not merged.
-#[derive(Drop)]
+#[derive(Clone, Copy, Debug, PartialEq, Eq, Error)]
 pub enum MergeFault {
     /// There is no memory for the outcome.
-    NoMemory,
+    #[error("out of memory")]
+    NoMemory = 1,
     /// The outcome is no tree.
-    NoTree,
+    #[error("what the changes make is no tree")]
+    NoTree = 2,
+}
+
+impl From<NoMemory> for MergeFault {
+    ghost from_gives = { λ _ fault. fault ≡ NoRoom };
+
+    fn from(_failed: NoMemory) -> Self {
+        MergeFault::NoMemory
+    }
 }
 
 /// Drops the rows at or below the paths that are gone and the far children of each path among the new rows, and sets
-/// the new rows; a far row gets stamp 0. After the changes of a whole tree with which this one agrees it is exactly
-/// that tree, cut down to what is known and wanted, and agrees with it. After an error the tree is as it was.
-///
-/// # Errors
-///
-/// `NoTree`, exactly if the outcome is no tree.
-pub fn merge_changes(alloc: Global, held: &mut Stamped, changes: &Changes) -> Result<(), MergeFault>
-    requires rows { IsTrue (is_sorted path_cmp changes.now.rows) }
-    requires gone { ArePathsRising changes.now.gone }
-    ensures ok { OnOk result (held.new ≡ merged held.old changes.now.rows changes.now.gone) }
-    ensures refreshed { (s : Stamps) (want : Want) → IsRefresh held.old s want changes.now.rows changes.now.gone
-        → OnOk result (held.new ≡ pruned s (asked s (known_with_stamps held.old) want)) }
-    ensures only_memory { (s : Stamps) (want : Want) → IsRefresh held.old s want changes.now.rows changes.now.gone
-        → IfErr result (λ fault. fault ≡ MergeFault.NoMemory) }
-    ensures agrees { (s : Stamps) (want : Want) → IsRefresh held.old s want changes.now.rows changes.now.gone
-        → IsPositive s → OnOk result (Agrees held.new s) }
+/// the new rows; a far row gets stamp 0. After an error the tree is as it was.
+pub(crate) fn merge_changes(
+    alloc: Global,
+    held: &mut Stamped,
+    changes: Changes,
+) -> Result<(), MergeFault>
+    requires rows { IsTrue (is_sorted path_cmp changes.rows) }
+    requires gone { ArePathsRising changes.gone }
+    ensures ok { OnOk result (held.new ≡ merged held.old changes.rows changes.gone) }
     ensures err { OnErr result (held.new ≡ held.old) }
     ensures no_tree { IfErr result
-        (λ fault. fault ≢ MergeFault.NoMemory → IsTree (nodes_of (merged held.old changes.now.rows changes.now.gone)) → ⊥) }
+        (λ fault. fault ≢ MergeFault.NoMemory → IsTree (nodes_of (merged held.old changes.rows changes.gone)) → ⊥) }
 {
-    let Ok(entries) = joined_rows(
+    let tree = held.tree();
+    if is_nothing(&changes) {
+        return Ok(());
+    }
+    let entries = joined_rows(
         alloc,
-        held.tree().rows().as_slice(),
+        tree.rows().as_slice(),
         held.stamps(),
         changes.rows.as_slice(),
         changes.gone.as_slice(),
-    ) else {
-        return Err(MergeFault::NoMemory);
-    };
+    )?;
     match stamped(alloc, entries) {
         Ok(new) => {
             *held = new;
@@ -65,16 +70,22 @@ pub fn merge_changes(alloc: Global, held: &mut Stamped, changes: &Changes) -> Re
     }
 }
 
+/// Whether there are neither rows nor paths that are gone.
+fn is_nothing(changes: &Changes) -> bool
+    ensures rows { result ≡ true → changes.now.rows ≡ [] }
+    ensures gone { result ≡ true → changes.now.gone ≡ [] }
+{
+    changes.rows.is_empty() && changes.gone.is_empty()
+}
+
 /// The stamped tree of these entries.
 fn stamped(alloc: Global, entries: StampedRows) -> Result<Stamped, MergeFault>
     requires { IsTrue (is_sorted path_cmp entries) }
     ensures ok { IfOk result (λ t. t ≡ mapped zeroed (from_sorted entries)) }
     ensures no_tree { IfErr result (λ fault. fault ≢ MergeFault.NoMemory → IsTree (nodes_of (mapped zeroed (from_sorted entries))) → ⊥) }
 {
-    match split(alloc, entries) {
-        Ok((rows, stamps)) => from_parts(rows, stamps),
-        Err(_) => Err(MergeFault::NoMemory),
-    }
+    let (rows, stamps) = split(alloc, entries)?;
+    from_parts(rows, stamps)
 }
 
 /// The stamped tree of rows and stamps.

@@ -30,17 +30,18 @@ err_for es rows r rising (Err fault) is = λ other tree. is other (subst IsTree 
 
 pub from_parts-requires-clause-stamps : goal.from_parts-requires-clause-stamps
 from_parts-requires-clause-stamps c =
-    stamps_for c.args.entries c.in-Ok.rows c.in-Ok.stamps.items c.in-Ok.ensures.0 c.in-Ok.ensures.1
+    stamps_for c.args.entries c.in_ok-rows.rows c.in_ok-rows.stamps.items c.in_ok-rows.ensures.0 c.in_ok-rows.ensures.1
 
 pub from_parts-requires-clause-rising : goal.from_parts-requires-clause-rising
 from_parts-requires-clause-rising c =
-    subst (λ (rows : List Row). IsTrue (is_sorted path_cmp rows)) (sym c.in-Ok.ensures.0) (rows_rise_in c.args.entries c.requires)
+    subst (λ (rows : List Row). IsTrue (is_sorted path_cmp rows)) (sym c.in_ok-rows.ensures.0) (rows_rise_in c.args.entries c.requires)
 
-pub returns-in-Ok-clause-ok : goal.returns-in-Ok-clause-ok
-returns-in-Ok-clause-ok c =
-    ok_for c.args.entries c.in-Ok.rows c.in-Ok.stamps.items c.in-Ok.ensures.0 c.in-Ok.ensures.1 c.requires c.from_parts.result
+pub returns-clause-ok : goal.returns-clause-ok
+returns-clause-ok c =
+    ok_for c.args.entries c.in_ok-rows.rows c.in_ok-rows.stamps.items c.in_ok-rows.ensures.0 c.in_ok-rows.ensures.1 c.requires
+    c.from_parts.result
     c.from_parts.ensures.ok
 
-pub returns-in-Ok-clause-no_tree : goal.returns-in-Ok-clause-no_tree
-returns-in-Ok-clause-no_tree c =
-    err_for c.args.entries c.in-Ok.rows c.in-Ok.ensures.0 c.requires c.from_parts.result c.from_parts.ensures.no_tree
+pub returns-clause-no_tree : goal.returns-clause-no_tree
+returns-clause-no_tree c =
+    err_for c.args.entries c.in_ok-rows.rows c.in_ok-rows.ensures.0 c.requires c.from_parts.result c.from_parts.ensures.no_tree

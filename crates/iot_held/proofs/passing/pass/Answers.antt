@@ -1,5 +1,5 @@
 use Rattle.iot_held.proofs.FittingLaws.{next_passing}
-use Rattle.iot_held.proofs.held.make_all.Goals as goal
+use Rattle.iot_held.proofs.passing.pass.Goals as goal
 
 pub acts-preserved : goal.acts-preserved
 acts-preserved c =
