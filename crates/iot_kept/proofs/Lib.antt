@@ -1,4 +1,5 @@
 pub mod StatesLaws
+pub mod StampsLaws
 mod GuardingLaws
 mod FollowingLaws
 pub mod StandingLaws
@@ -6,3 +7,4 @@ pub mod SpelledLaws
 pub mod OneStateLaws
 pub mod SyncedLaws
 pub mod ContinuingLaws
+pub mod BringingLaws

@@ -20,6 +20,11 @@ use Rattle.iot_kept.specs.Replaying.{ReplaysIf}
 use Rattle.iot_kept.specs.declared.memory.Memory.{Memory}
 use Rattle.iot_kept.specs.Causes.{IsReason, TakesBytes}
 use Rattle.iot_kept.specs.Standing.{Leads, StandFor, EachStands, EachStandsEither, CannotFollow, IsDamagedAt, IsRecord}
+use Rattle.iot_kept.specs.Stamps.{restamped}
+use Rattle.iot_stamp.specs.Stamps.{Stamps, unstamped}
+use Rattle.iot_tree.specs.Tree.{root_alone}
+use Rattle.iot_tree.specs.declared.nodes.Node.TheVariants.{FarDir}
+use Rattle.iot_kept.proofs.StampsLaws.{zero_change}
 use Rattle.iot_kept.proofs.StatesLaws.{keeps, keeps_guarded, opening_holds, opening_guarded}
 
 -- the spelling of a change is its record
@@ -137,16 +142,19 @@ pub record BodiesOnWay (bodies left : List (List ℕ)) (memory : Memory) (gate :
   pub leads : Leads front opening (memory_state memory)
   pub class : IsSecond (class_of memory.durable.running)
   pub sees : Sees memory
+  pub unknown : memory.durable.held ≡ unstamped (memory_state memory).held
   pub place : gate ≡ 9 + length (records front)
 
 pub none_on_way : (bodies left : List (List ℕ)) (memory : Memory) → left ≡ bodies → memory_state memory ≡ opening
-    → class_of memory.durable.running ≡ None → Sees memory → BodiesOnWay bodies left memory 9
-none_on_way bodies left memory all is none sees = record {
+    → class_of memory.durable.running ≡ None → Sees memory → memory.durable.held ≡ unstamped (root_alone FarDir)
+    → BodiesOnWay bodies left memory 9
+none_on_way bodies left memory all is none sees unknown = record {
   front = [];
   split = sym all;
   leads = is;
   class = subst IsSecond (sym none) tt;
   sees = sees;
+  unknown = unknown ∙ ap (λ (s : State). unstamped s.held) (sym is);
   place = refl;
 }
 
@@ -187,6 +195,9 @@ module _ (bodies left : List (List ℕ)) (memory : Memory) (gate : ℕ) (way : B
           leads = subst (λ s. Leads (way.front ++ body ∷ []) opening s) (sym takes.1) more;
           class = second_after replays.0 (class_of memory.durable.running) (class_of next.durable.running) takes.2 way.class;
           sees = takes.3;
+          unknown =
+              takes.4 ∙ ap (λ (held : Stamps). restamped (memory_state memory).items held replays.0) way.unknown
+              ∙ zero_change (memory_state memory) replays.0 ∙ ap (λ (s : State). unstamped s.held) (sym takes.1);
           place = omega (arith, moved, way.place, length-records-push way.front body);
         }
 

@@ -6,7 +6,9 @@ use Rattle.iot_tree.specs.Tree.{Nodes}
 use Rattle.iot_tree.specs.declared.acts.Act.{Act}
 use Rattle.iot_acts.specs.Traces.{ActsHold, after_update, after_acts}
 use Rattle.iot_acts.specs.Guards.{IsGuarded, AllGuarded}
-use Rattle.iot_held.specs.Fitting.{UpdatesFit}
+use Rattle.iot_stamp.specs.Acting.{UpdatesFit, stamped_acts}
+use Rattle.iot_stamp.specs.Stamps.{Stamps, nodes_of}
+use Rattle.iot_stamp.proofs.ActingLaws.{nodes_after_acts, holds_fit}
 use Rattle.iot_queue.specs.declared.items.Item.{Item}
 use Rattle.iot_kept.specs.States.{Transaction, State, opening, acts_of, after_each, after_items, view}
 use Rattle.iot_kept.specs.States.{EachHold, AllHold, EachGuarded, AreGuarded}
@@ -17,6 +19,7 @@ use Rattle.iot_changes.specs.declared.changes.Change.{Change}
 use Rattle.iot_changes.specs.declared.changes.Change.TheVariants.{Held, Begun, Fetched, Acted, Ended, Cut, Conflicted, Resolved}
 use Rattle.iot_changes.specs.declared.changes.Change.TheVariants.{Repaired, Left}
 use Rattle.iot_kept.specs.Changes.{CanFollow, HeadIs, IsSubmitted, IsSubmittedIn, MayLeave, MayLeaveIn}
+use Rattle.iot_kept.specs.Stamps.{stamps_left}
 use Rattle.iot_kept.specs.Changes.{with_acts, ended, cut, left, stage_by, stays_in, conflicted, repaired, after, seen, FitsView}
 
 -- ---- acts and items in turn
@@ -30,29 +33,23 @@ hold_more : (acts : List Act) (act : Act) (t : Nodes) → ActsHold t acts → Ac
 hold_more [] act t hold more = more
 hold_more (first ∷ later) act t hold more = (hold.0, hold.1, hold_more later act (after_update t first.update) hold.2 more)
 
--- the updates of acts that hold fit
-pub hold_fit : (acts : List Act) (t : Nodes) → ActsHold t acts → UpdatesFit t acts
-hold_fit [] t hold = tt
-hold_fit (act ∷ acts) t hold = (hold.1, hold_fit acts (after_update t act.update) hold.2)
-
--- those of the head
+-- the updates of the head fit
 pub head_fits : (item : Item) (items queue : List Item) (t : Nodes) → queue ≡ item ∷ items → EachHold t queue → UpdatesFit t item.acts
-head_fits item items queue t is hold = hold_fit item.acts t (subst (EachHold t) is hold).0
+head_fits item items queue t is hold = holds_fit t item.acts (subst (EachHold t) is hold).0
 
--- what the head leaves behind if nothing else waits or runs: the held tree is the view then
-pub left_alone : (held tree : Nodes) (items rest : List Item) (running : Option Transaction) (last : ℕ) (head : Item) → items ≡ head ∷ rest
-    → rest ≡ [] → running ≡ None → tree ≡ view (record { held = held; items = items; running = running; last = last })
-    → record { held = tree; items = rest; running = running; last = last }
-    ≡ left (record { held = held; items = items; running = running; last = last }) items
-left_alone held tree items rest running last head is none idle sees =
-    let state : List Item → Option Transaction → State =
-    λ items running. record { held = held; items = items; running = running; last = last } in
-    let made : tree ≡ after_acts held head.acts =
-    sees
-    ∙ ap (λ items. view (state items running)) (is ∙ ap (λ rest. head ∷ rest) none)
-    ∙ ap (λ running. view (state (head ∷ []) running)) idle in
-    ap (λ (t : Nodes). record { held = t; items = rest; running = running; last = last }) made
-    ∙ sym (ap (λ queue. left (state items running) queue) is)
+-- what the head leaves behind
+pub left_made : (held new : Stamps) (items rest : List Item) (running : Option Transaction) (last : ℕ) (head : Item) → items ≡ head ∷ rest
+    → new ≡ stamped_acts held head.acts 0
+    → record { held = nodes_of new; items = rest; running = running; last = last }
+    ≡ left (record { held = nodes_of held; items = items; running = running; last = last }) items
+left_made held new items rest running last head is made =
+    ap (λ (t : Nodes). record { held = t; items = rest; running = running; last = last })
+    (ap nodes_of made ∙ nodes_after_acts 0 held head.acts)
+    ∙ sym (ap (λ queue. left (record { held = nodes_of held; items = items; running = running; last = last }) queue) is)
+
+pub stamps_made : (held new : Stamps) (items rest : List Item) (head : Item) → items ≡ head ∷ rest → new ≡ stamped_acts held head.acts 0
+    → new ≡ stamps_left held items
+stamps_made held new items rest head is made = made ∙ sym (ap (stamps_left held) is)
 
 each_more : (items more : List Item) (t : Nodes) → EachHold t items → EachHold (after_each t items) more → EachHold t (items ++ more)
 each_more [] more t hold own = own

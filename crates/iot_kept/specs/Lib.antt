@@ -1,5 +1,6 @@
 pub mod States
 pub mod Changes
+pub mod Stamps
 pub mod Memory
 pub mod Guarding
 pub mod Standing
@@ -8,3 +9,4 @@ pub mod Continuing
 pub mod Replaying
 pub mod Causes
 pub mod Kept
+pub mod Bringing

@@ -2,10 +2,12 @@
 use Rattle.std.specs.Prelude.{◌≡◌, ℕ, Bool, true, false, Option, Some, None}
 use Rattle.iot_changes.specs.declared.changes.Change.{Change}
 use Rattle.iot_changes.specs.declared.changes.Change.TheVariants.{Begun, Ended, Cut}
+use Rattle.iot_stamp.specs.Stamps.{nodes_of}
 use Rattle.iot_queue.specs.declared.items.Item.{Item}
 use Rattle.iot_queue.specs.declared.items.Stage.TheVariants.{Waiting}
 use Rattle.iot_kept.specs.States.{Transaction, State, view}
 use Rattle.iot_kept.specs.Changes.{CanFollow, after}
+use Rattle.iot_kept.specs.Stamps.{restamped}
 use Rattle.iot_kept.specs.declared.durable.Durable.{Durable}
 use Rattle.iot_kept.specs.declared.memory.Memory.{Memory}
 use Rattle.iot_kept.specs.declared.running.Running.{Running}
@@ -31,7 +33,7 @@ item_of running budget =
 -- the state
 abbrev pub durable_state : Durable → State
 durable_state durable =
-    record { held = durable.held; items = durable.queue; running = transaction_of durable.running; last = durable.last }
+    record { held = nodes_of durable.held; items = durable.queue; running = transaction_of durable.running; last = durable.last }
 
 abbrev pub memory_state : Memory → State
 memory_state memory = durable_state memory.durable
@@ -73,4 +75,5 @@ TakesIf true change before after_it =
     × (memory_state after_it ≡ after (memory_state before) change)
     × (class_of after_it.durable.running ≡ class_after change (class_of before.durable.running))
     × Sees after_it
+    × (after_it.durable.held ≡ restamped before.durable.queue before.durable.held change)
 TakesIf false change before after_it = CanFollow (memory_state before) change → ⊥

@@ -1,15 +1,17 @@
 //! What is durable of a client, in memory, and the one place where it changes.
 ghost use Rattle.std.specs.Prelude.{◌≡◌, ◌<◌, [], OnOk, true, false, None, Some};
-ghost use Rattle.iot_kept.specs.States.{AllHold, view};
-ghost use Rattle.iot_kept.specs.Changes.{CanFollow, HeadIs, MayLeave, stage_by, after, seen};
-ghost use Rattle.iot_kept.specs.Memory.{durable_state, class_of, class_after, classed, item_of};
+ghost use Rattle.iot_kept.specs.States.{AllHold};
+ghost use Rattle.iot_kept.specs.Changes.{CanFollow, HeadIs, MayLeave, stage_by, after, with_acts};
+ghost use Rattle.iot_kept.specs.Memory.{durable_state, transaction_of, class_of, class_after, classed, item_of};
+ghost use Rattle.iot_kept.specs.Stamps.{restamped, stamps_left, stamps_conflicted};
+ghost use Rattle.iot_stamp.specs.Stamps.{nodes_of};
 
 use crate::running::Running;
 use iot_changes::Change;
 use iot_held::Held;
 use iot_queue::{Item, Queue, Resolution, Stage};
 use iot_text::{Name, NoMemory};
-use iot_tree::{ACT_LIMIT, Act, Acts, OnConflict, Tree};
+use iot_tree::{ACT_LIMIT, Act, Acts, OnConflict};
 use std::alloc::Global;
 
 /// What is durable of a client, and beside it the class of the running transaction.
@@ -24,23 +26,18 @@ pub(crate) struct Durable {
 }
 
 impl Durable {
-    /// Makes the change, after which scripts read the tree `visible`. A transaction that begins is second class. After an error nothing
-    /// is said of it.
-    pub(crate) fn note(
-        &mut self,
-        alloc: Global,
-        change: Change,
-        visible: &Tree,
-    ) -> Result<(), NoMemory>
+    /// Makes the change. A tree that it brings has no stamps of the server, and a transaction that begins is second class. After an error
+    /// nothing is said of it.
+    pub(crate) fn note(&mut self, alloc: Global, change: Change) -> Result<(), NoMemory>
         requires follows { CanFollow (durable_state self.old) change }
         requires hold { AllHold (durable_state self.old) }
-        requires sees { visible.now ≡ seen (view (durable_state self.old)) change }
         ensures state { OnOk result (durable_state self.new ≡ after (durable_state self.old) change) }
         ensures class { OnOk result (class_of self.new.running ≡ class_after change (class_of self.old.running)) }
+        ensures stamps { OnOk result (self.new.held ≡ restamped self.old.queue self.old.held change) }
     {
         match change {
             Change::Held(tree) => {
-                self.held.merge(tree);
+                self.held = Held::unstamped(alloc, tree)?;
                 Ok(())
             }
             Change::Begun {
@@ -52,13 +49,14 @@ impl Durable {
                 Ok(())
             }
             Change::Fetched(tree) => {
-                self.fetch(alloc, tree);
+                self.held = Held::unstamped(alloc, tree)?;
+                self.drop_acts(alloc);
                 Ok(())
             }
             Change::Acted(act) => self.add(act),
             Change::Ended => self.end(),
             Change::Cut => self.cut(),
-            Change::Conflicted => self.conflict(alloc, visible),
+            Change::Conflicted => self.conflict(alloc),
             Change::Resolved(done) => {
                 self.resolve(done);
                 Ok(())
@@ -67,7 +65,7 @@ impl Durable {
                 self.repair(script);
                 Ok(())
             }
-            Change::Left => self.leave(alloc, visible),
+            Change::Left => self.leave(alloc),
         }
     }
 
@@ -75,6 +73,7 @@ impl Durable {
     pub(crate) fn set_class(&mut self, first: bool)
         ensures state { durable_state self.new ≡ durable_state self.old }
         ensures class { class_of self.new.running ≡ classed first (class_of self.old.running) }
+        ensures held { self.new.held ≡ self.old.held }
     {
         if let Some(running) = &mut self.running {
             running.first = first;
@@ -82,6 +81,7 @@ impl Durable {
     }
 
     fn begin(&mut self, alloc: Global, number: u64, script: Name, option: OnConflict)
+        ensures held { self.new.held ≡ self.old.held }
         ensures state { durable_state self.new ≡ after (durable_state self.old) (Change.Begun number script option) }
         ensures class { class_of self.new.running ≡ Some false }
     {
@@ -95,17 +95,21 @@ impl Durable {
         self.last = number;
     }
 
-    fn fetch(&mut self, alloc: Global, tree: Tree)
-        ensures state { durable_state self.new ≡ after (durable_state self.old) (Change.Fetched tree) }
+    /// The running transaction, if there is one, has no acts any more.
+    pub(crate) fn drop_acts(&mut self, alloc: Global)
+        ensures running { transaction_of self.new.running ≡ with_acts (λ acts. []) (transaction_of self.old.running) }
         ensures class { class_of self.new.running ≡ class_of self.old.running }
+        ensures held { self.new.held ≡ self.old.held }
+        ensures queue { self.new.queue ≡ self.old.queue }
+        ensures last { self.new.last ≡ self.old.last }
     {
-        self.held.merge(tree);
         if let Some(running) = &mut self.running {
             running.acts = Acts::new(alloc);
         }
     }
 
     fn add(&mut self, act: Act) -> Result<(), NoMemory>
+        ensures held { OnOk result (self.new.held ≡ self.old.held) }
         ensures state { OnOk result (durable_state self.new ≡ after (durable_state self.old) (Change.Acted act)) }
         ensures class { OnOk result (class_of self.new.running ≡ class_of self.old.running) }
     {
@@ -119,6 +123,7 @@ impl Durable {
 // How the running transaction becomes one that waits.
 impl Durable {
     fn end(&mut self) -> Result<(), NoMemory>
+        ensures held { OnOk result (self.new.held ≡ self.old.held) }
         ensures state { OnOk result (durable_state self.new ≡ after (durable_state self.old) Change.Ended) }
         ensures class { OnOk result (class_of self.new.running ≡ None) }
     {
@@ -132,6 +137,7 @@ impl Durable {
     }
 
     fn cut(&mut self) -> Result<(), NoMemory>
+        ensures held { OnOk result (self.new.held ≡ self.old.held) }
         ensures state { OnOk result (durable_state self.new ≡ after (durable_state self.old) Change.Cut) }
         ensures class { OnOk result (class_of self.new.running ≡ None) }
     {
@@ -148,12 +154,12 @@ impl Durable {
 
 // What becomes of the first transaction that waits.
 impl Durable {
-    fn conflict(&mut self, alloc: Global, visible: &Tree) -> Result<(), NoMemory>
+    fn conflict(&mut self, alloc: Global) -> Result<(), NoMemory>
         requires waits { CanFollow (durable_state self.old) Change.Conflicted }
         requires hold { AllHold (durable_state self.old) }
-        requires sees { visible.now ≡ view (durable_state self.old) }
         ensures state { OnOk result (durable_state self.new ≡ after (durable_state self.old) Change.Conflicted) }
         ensures class { OnOk result (class_of self.new.running ≡ class_of self.old.running) }
+        ensures stamps { OnOk result (self.new.held ≡ stamps_conflicted self.old.held self.old.queue) }
     {
         let Some(head) = self.queue.head() else {
             unreachable!();
@@ -163,12 +169,13 @@ impl Durable {
                 self.queue.set_stage(stage);
                 Ok(())
             }
-            None => self.leave(alloc, visible),
+            None => self.leave(alloc),
         }
     }
 
     fn resolve(&mut self, done: Resolution)
         requires waits { CanFollow (durable_state self.old) (Change.Resolved done) }
+        ensures held { self.new.held ≡ self.old.held }
         ensures state { durable_state self.new ≡ after (durable_state self.old) (Change.Resolved done) }
         ensures class { class_of self.new.running ≡ class_of self.old.running }
     {
@@ -177,6 +184,7 @@ impl Durable {
 
     fn repair(&mut self, script: Name)
         requires waits { CanFollow (durable_state self.old) (Change.Repaired script) }
+        ensures held { self.new.held ≡ self.old.held }
         ensures state { durable_state self.new ≡ after (durable_state self.old) (Change.Repaired script) }
         ensures class { class_of self.new.running ≡ class_of self.old.running }
     {
@@ -184,34 +192,19 @@ impl Durable {
         self.queue.set_stage(Stage::Conflict);
     }
 
-    /// Lets the first one leave. If nothing else waits or runs, the tree after its updates is there already: it is the one that
-    /// scripts read.
-    fn leave(&mut self, alloc: Global, visible: &Tree) -> Result<(), NoMemory>
+    /// Lets the first one leave. Its updates stay in the held tree, as the client's own.
+    fn leave(&mut self, alloc: Global) -> Result<(), NoMemory>
         requires waits { HeadIs MayLeave self.old.queue }
         requires hold { AllHold (durable_state self.old) }
-        requires sees { visible.now ≡ view (durable_state self.old) }
         ensures state { OnOk result (durable_state self.new ≡ after (durable_state self.old) Change.Left) }
         ensures class { OnOk result (class_of self.new.running ≡ class_of self.old.running) }
+        ensures stamps { OnOk result (self.new.held ≡ stamps_left self.old.held self.old.queue) }
     {
         let Some(head) = self.queue.leave_head() else {
             unreachable!();
         };
-        if self.is_quiet() {
-            self.held.merge(visible.copy(alloc)?);
-            return Ok(());
-        }
-        self.held.pass_in_place(alloc, &head.acts)
-    }
-
-    /// Whether nothing waits and nothing runs.
-    fn is_quiet(&self) -> bool
-        ensures waits { result ≡ true → self.now.queue ≡ [] }
-        ensures runs { result ≡ true → self.now.running ≡ None }
-    {
-        match (self.queue.head(), &self.running) {
-            (None, None) => true,
-            _ => false,
-        }
+        self.held.pass_in_place(alloc, &head.acts)?;
+        Ok(())
     }
 }
 

@@ -1,15 +1,23 @@
 //! What is kept of a client.
-ghost use Rattle.std.specs.Prelude.{◌≡◌, ◌+◌, ◌++◌, [], ◌∷◌, IfOk, IfErr, OnOk, IsErrOf, MatchResult, true};
+ghost use Rattle.std.specs.Prelude.{◌≡◌, ◌+◌, ◌++◌, List, [], ◌∷◌, IfOk, IfErr, OnOk, IsErrOf, MatchResult, true, false, IsTrue};
+ghost use Rattle.std.specs.FinMap.{is_sorted};
+ghost use Rattle.std.specs.List.{AllByRecursion};
 ghost use Rattle.std.specs.Option.{option_copied};
 ghost use Rattle.iot_disk.specs.Disk.{armed_with, Only, SameImages};
 ghost use Rattle.iot_disk.specs.Faults.{CountsJournalFault};
 ghost use Rattle.iot_journal.specs.Decoding.{Encodes, decoded, is_started};
 ghost use Rattle.iot_journal.specs.Images.{EachDecodes, EachDecodesEither};
 ghost use Rattle.iot_journal.specs.Start.{ChangesNothing};
+ghost use Rattle.iot_text.specs.Paths.{path_cmp};
+ghost use Rattle.iot_stamp.specs.Refresh.{known_with_stamps, IsStampedPath};
+ghost use Rattle.iot_stamp.specs.Stamps.{Stamps, nodes_of, unstamped};
+ghost use Rattle.iot_queue.specs.declared.items.Item.{Item};
 ghost use Rattle.iot_changes.specs.Rules.{IsChange};
 ghost use Rattle.iot_changes.specs.Spelling.{change_spelling};
 ghost use Rattle.iot_kept.specs.States.{State, view, AllHold, AreGuarded};
 ghost use Rattle.iot_kept.specs.Changes.{CanFollow, after};
+ghost use Rattle.iot_kept.specs.Kept.{IsHeldRecord};
+ghost use Rattle.iot_kept.specs.Stamps.{restamped};
 ghost use Rattle.iot_kept.specs.Memory.{transaction_of, class_of, class_after, classed, IsSecond};
 ghost use Rattle.iot_kept.specs.Standing.{StandFor, EachStands, EachStandsEither};
 ghost use Rattle.iot_kept.specs.Causes.{HasCause, TakesBytes};
@@ -23,7 +31,7 @@ use iot_disk::{Disk, JournalFault, Pick, StartFault};
 use iot_journal::Journal;
 use iot_queue::Queue;
 use iot_text::{NoMemory, Text};
-use iot_tree::Tree;
+use iot_tree::{Known, Tree};
 use std::alloc::Global;
 
 /// What is durable of a client, on a disk to which each change is appended as one record; and in memory besides, with the class of
@@ -37,10 +45,13 @@ pub struct Kept<D: Disk> {
 
     /// The last record that was spelled, whose memory serves the next one.
     pub(crate) buffer: Text,
+
+    /// The record that holds the held tree, if it was spelled since that last changed.
+    pub(crate) held_record: Option<Text>,
 }
 
 impl<D: Disk> Kept<D> {
-    ghost use Rattle.iot_kept.specs.Kept.{state_of, class_in, disk_of, bodies_on, records_of, IsSynced};
+    ghost use Rattle.iot_kept.specs.Kept.{state_of, stamps_of, class_in, disk_of, bodies_on, records_of, IsSynced};
 
     /// Starts from a disk, which no one else writes, with the state that its records make; it runs no script. A disk on which
     /// nothing was started becomes that of a client that knows nothing yet. The disk comes back if this gives no client.
@@ -58,6 +69,9 @@ impl<D: Disk> Kept<D> {
         ensures only { (state : State) → StandFor (D.medium.reads disk) state
             → IfOk result (λ kept. state_of kept ≡ state) }
         ensures synced { IfOk result (λ kept. IsSynced D.medium kept) }
+
+        // No stamp of a server is known.
+        ensures stamps { IfOk result (λ kept. stamps_of kept ≡ unstamped (state_of kept).held) }
 
         // A transaction that runs is second class. All acts hold in turn, are guarded by their reads, and have spellings.
         ensures class { IfOk result (λ kept. IsSecond (class_in kept)) }
@@ -107,6 +121,7 @@ impl<D: Disk> Kept<D> {
                 journal,
                 memory,
                 buffer: Text::new(alloc),
+                held_record: None,
             }),
             Err(fault) => Err((journal.into_disk(), fault)),
         }
@@ -139,6 +154,7 @@ impl<D: Disk> Kept<D> {
         ensures noted { OnOk result (EachStands (D.medium.may_leave (disk_of self.new)) (after (state_of self.old) change)) }
         ensures state { OnOk result (state_of self.new ≡ after (state_of self.old) change) }
         ensures class { OnOk result (class_in self.new ≡ class_after change (class_in self.old)) }
+        ensures stamps { OnOk result (stamps_of self.new ≡ restamped (state_of self.old).items (stamps_of self.old) change) }
         ensures bodies { OnOk result (bodies_on D.medium self.new ≡ bodies_on D.medium self.old ++ change_spelling change ∷ []) }
         ensures records { OnOk result (records_of self.new ≡ records_of self.old + 1) }
         ensures synced { OnOk result (IsSynced D.medium self.new) }
@@ -149,57 +165,16 @@ impl<D: Disk> Kept<D> {
     {
         spell(&change, &mut self.buffer)?;
         self.journal.append(self.buffer.as_bytes())?;
+        forget_held(&mut self.held_record, &change);
         self.memory.note(alloc, change)?;
         Ok(())
-    }
-
-    /// The same, if the spelling of the change is at hand: that is the record, and the change is not spelled again.
-    ///
-    /// # Errors
-    ///
-    /// As of `note`.
-    pub fn note_spelled(
-        &mut self,
-        alloc: Global,
-        change: Change,
-        spelling: &[u8],
-    ) -> Result<(), JournalFault>
-        requires synced { IsSynced D.medium self.old }
-        requires change { IsChange change }
-        requires follows { CanFollow (state_of self.old) change }
-        requires spelled { spelling.now ≡ change_spelling change }
-
-        // However this returns, every image stands for the state before or for the one after: its records are those before,
-        // or those and the record of this change.
-        ensures images { EachStandsEither (D.medium.may_leave (disk_of self.new))
-            (state_of self.old) (after (state_of self.old) change) }
-        ensures one_record { EachDecodesEither (D.medium.may_leave (disk_of self.new))
-            (Encodes (bodies_on D.medium self.old))
-            (Encodes (bodies_on D.medium self.old ++ change_spelling change ∷ [])) }
-
-        // If the disk failed, nothing has changed in memory.
-        ensures stopped { IsErrOf result JournalFault.Stopped → state_of self.new ≡ state_of self.old }
-        ensures stopped_class { IsErrOf result JournalFault.Stopped → class_in self.new ≡ class_in self.old }
-
-        ensures noted { OnOk result (EachStands (D.medium.may_leave (disk_of self.new)) (after (state_of self.old) change)) }
-        ensures state { OnOk result (state_of self.new ≡ after (state_of self.old) change) }
-        ensures class { OnOk result (class_in self.new ≡ class_after change (class_in self.old)) }
-        ensures bodies { OnOk result (bodies_on D.medium self.new ≡ bodies_on D.medium self.old ++ change_spelling change ∷ []) }
-        ensures records { OnOk result (records_of self.new ≡ records_of self.old + 1) }
-        ensures synced { OnOk result (IsSynced D.medium self.new) }
-
-        ensures faults { CountsJournalFault result
-            (D.medium.faults (disk_of self.old)) (D.medium.faults (disk_of self.new)) }
-        ensures arms { D.medium.arms (disk_of self.new) ≡ D.medium.arms (disk_of self.old) }
-    {
-        self.journal.append(spelling)?;
-        Ok(self.memory.note(alloc, change)?)
     }
 
     /// Puts the running transaction, if there is one, into this class. Writes nothing.
     pub fn set_class(&mut self, first: bool)
         ensures class { class_in self.new ≡ classed first (class_in self.old) }
         ensures state { state_of self.new ≡ state_of self.old }
+        ensures stamps { stamps_of self.new ≡ stamps_of self.old }
         ensures disk { disk_of self.new ≡ disk_of self.old }
         ensures records { records_of self.new ≡ records_of self.old }
         ensures synced { IsSynced D.medium self.old → IsSynced D.medium self.new }
@@ -212,6 +187,15 @@ impl<D: Disk> Kept<D> {
         ensures { result.now ≡ (state_of self.now).held }
     {
         self.memory.durable.held.tree()
+    }
+
+    /// The paths that are known of the held tree, with their stamps.
+    pub fn known_with_stamps(&self, alloc: Global) -> Result<Known, NoMemory>
+        ensures known { IfOk result (λ known. known ≡ known_with_stamps (stamps_of self.now)) }
+        ensures rising { IfOk result (λ known. IsTrue (is_sorted path_cmp known)) }
+        ensures each { IfOk result (AllByRecursion IsStampedPath) }
+    {
+        self.memory.durable.held.known_with_stamps(alloc)
     }
 
     /// The tree that scripts read: the held one after all that waits and runs.
@@ -258,6 +242,7 @@ impl<D: Disk> Kept<D> {
         ensures images { SameImages (D.medium.may_leave (disk_of self.old)) (D.medium.may_leave (disk_of self.new)) }
         ensures faults { D.medium.faults (disk_of self.new) ≡ D.medium.faults (disk_of self.old) }
         ensures state { state_of self.new ≡ state_of self.old }
+        ensures stamps { stamps_of self.new ≡ stamps_of self.old }
         ensures class { class_in self.new ≡ class_in self.old }
         ensures records { records_of self.new ≡ records_of self.old }
         ensures synced { IsSynced D.medium self.old → IsSynced D.medium self.new }
@@ -274,8 +259,36 @@ impl<D: Disk> Kept<D> {
     }
 }
 
+/// Forgets the record of the held tree, if another tree may be held after the change.
+fn forget_held(held_record: &mut Option<Text>, change: &Change)
+    ensures { (items : List Item) (held : Stamps) → IsHeldRecord held_record.old (nodes_of held)
+        → IsHeldRecord held_record.new (nodes_of (restamped items held change.now)) }
+{
+    if touches_held(change) {
+        *held_record = None;
+    }
+}
+
+/// Whether another tree may be held after the change.
+fn touches_held(change: &Change) -> bool
+    ensures { (items : List Item) (held : Stamps) → result ≡ false → restamped items held change.now ≡ held }
+{
+    match change {
+        Change::Held(_) => true,
+        Change::Fetched(_) => true,
+        Change::Conflicted => true,
+        Change::Left => true,
+        Change::Begun { .. } => false,
+        Change::Acted(_) => false,
+        Change::Ended => false,
+        Change::Cut => false,
+        Change::Resolved(_) => false,
+        Change::Repaired(_) => false,
+    }
+}
+
 /// Makes the text the record of this change, and nothing else.
-fn spell(change: &Change, out: &mut Text) -> Result<(), NoMemory>
+pub(crate) fn spell(change: &Change, out: &mut Text) -> Result<(), NoMemory>
     requires { IsChange change.now }
     ensures { OnOk result (out.new ≡ change_spelling change.now) }
 {

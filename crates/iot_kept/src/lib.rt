@@ -2,6 +2,7 @@
 //! what it was after it.
 #![tactic(auto)]
 
+mod bringing;
 mod durable;
 mod following;
 mod guards;
@@ -11,6 +12,7 @@ mod memory;
 mod replay;
 mod running;
 
+pub use bringing::{BringFault, Purpose};
 pub use iot_changes::Change;
 pub use iot_disk::{JournalFault, StartFault};
 pub use kept::Kept;

@@ -1,9 +1,13 @@
 //! What is durable of a client, in memory, with the tree that scripts read.
-ghost use Rattle.std.specs.Prelude.{◌≡◌, None, IfOk, OnOk};
+ghost use Rattle.std.specs.Prelude.{◌≡◌, [], None, IfOk, OnOk};
 ghost use Rattle.iot_acts.specs.Traces.{FitsIfAny, after_update};
+ghost use Rattle.iot_stamp.specs.Stamps.{unstamped};
+ghost use Rattle.iot_tree.specs.Tree.{root_alone};
+ghost use Rattle.iot_tree.specs.declared.nodes.Node.TheVariants.{FarDir};
 ghost use Rattle.iot_kept.specs.States.{opening, view, AllHold};
-ghost use Rattle.iot_kept.specs.Changes.{CanFollow, after, seen, FitsView};
-ghost use Rattle.iot_kept.specs.Memory.{memory_state, class_of, class_after, Sees, TakesIf};
+ghost use Rattle.iot_kept.specs.Changes.{CanFollow, after, seen, with_acts, FitsView};
+ghost use Rattle.iot_kept.specs.Stamps.{restamped};
+ghost use Rattle.iot_kept.specs.Memory.{memory_state, transaction_of, class_of, class_after, Sees, TakesIf};
 
 use crate::durable::Durable;
 use iot_changes::Change;
@@ -28,6 +32,7 @@ impl Memory {
         ensures state { IfOk result (λ memory. memory_state memory ≡ opening) }
         ensures class { IfOk result (λ memory. class_of memory.durable.running ≡ None) }
         ensures sees { IfOk result Sees }
+        ensures stamps { IfOk result (λ memory. memory.durable.held ≡ unstamped (root_alone FarDir)) }
     {
         let durable = Durable {
             held: Held::new(alloc)?,
@@ -39,7 +44,8 @@ impl Memory {
         Ok(Memory { durable, view })
     }
 
-    /// Makes a change that can follow. A transaction that begins is second class. After an error nothing is said of it.
+    /// Makes a change that can follow. A tree that it brings has no stamps of the server, and a transaction that begins is second class.
+    /// After an error nothing is said of it.
     pub(crate) fn note(&mut self, alloc: Global, change: Change) -> Result<(), NoMemory>
         requires follows { CanFollow (memory_state self.old) change }
         requires hold { AllHold (memory_state self.old) }
@@ -47,10 +53,28 @@ impl Memory {
         ensures state { OnOk result (memory_state self.new ≡ after (memory_state self.old) change) }
         ensures class { OnOk result
             (class_of self.new.durable.running ≡ class_after change (class_of self.old.durable.running)) }
+        ensures stamps { OnOk result
+            (self.new.durable.held ≡ restamped self.old.durable.queue self.old.durable.held change) }
         ensures sees { OnOk result (Sees self.new) }
     {
         see(alloc, &mut self.view, &change)?;
-        self.durable.note(alloc, change, &self.view)
+        self.durable.note(alloc, change)
+    }
+
+    /// Scripts read the held tree from now on: what runs, if it does, has no acts any more.
+    pub(crate) fn show_held(&mut self, alloc: Global) -> Result<(), NoMemory>
+        requires { self.old.durable.queue ≡ [] }
+        ensures held { OnOk result (self.new.durable.held ≡ self.old.durable.held) }
+        ensures queue { OnOk result (self.new.durable.queue ≡ self.old.durable.queue) }
+        ensures last { OnOk result (self.new.durable.last ≡ self.old.durable.last) }
+        ensures running { OnOk result (transaction_of self.new.durable.running
+            ≡ with_acts (λ acts. []) (transaction_of self.old.durable.running)) }
+        ensures class { OnOk result (class_of self.new.durable.running ≡ class_of self.old.durable.running) }
+        ensures sees { OnOk result (Sees self.new) }
+    {
+        self.view = self.durable.held.tree().copy(alloc)?;
+        self.durable.drop_acts(alloc);
+        Ok(())
     }
 
     /// Makes the change if it can follow, and says whether it can.

@@ -1,6 +1,7 @@
 //! What the records on a disk make.
-ghost use Rattle.std.specs.Prelude.{◌≤◌, ◌+◌, ◌^◌, length, IfOk, IfErr};
+ghost use Rattle.std.specs.Prelude.{◌≡◌, ◌≤◌, ◌+◌, ◌^◌, length, IfOk, IfErr};
 ghost use Rattle.iot_journal.specs.Decoding.{records};
+ghost use Rattle.iot_stamp.specs.Stamps.{unstamped};
 ghost use Rattle.iot_kept.specs.States.{opening, AllHold};
 ghost use Rattle.iot_kept.specs.Memory.{memory_state, class_of, IsSecond, Sees};
 ghost use Rattle.iot_kept.specs.Standing.{Leads};
@@ -21,6 +22,7 @@ pub(crate) fn replay(alloc: Global, bodies: &Bodies) -> Result<Memory, StartFaul
     ensures leads { IfOk result (λ memory. Leads bodies.now opening (memory_state memory)) }
     ensures class { IfOk result (λ memory. IsSecond (class_of memory.durable.running)) }
     ensures sees { IfOk result Sees }
+    ensures stamps { IfOk result (λ memory. memory.durable.held ≡ unstamped (memory_state memory).held) }
     ensures err { IfErr result (λ fault. IsReason fault bodies.now) }
 {
     let mut memory = Memory::new(alloc)?;

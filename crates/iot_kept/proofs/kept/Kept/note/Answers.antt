@@ -1,4 +1,6 @@
-use Rattle.std.proofs.Common.{◌∙◌}
+use Rattle.iot_stamp.specs.Stamps.{Stamps, nodes_of}
+use Rattle.iot_kept.specs.Kept.{IsHeldRecord}
+use Rattle.std.proofs.Common.{◌∙◌, subst, sym}
 use Rattle.iot_kept.specs.States.{opening}
 use Rattle.iot_kept.proofs.StandingLaws.{each_stands, either_stands, is_record, leads_push, synced_leads}
 use Rattle.iot_kept.proofs.SyncedLaws.{synced_holds}
@@ -42,4 +44,7 @@ returns-clause-synced g c =
       journal = done.synced;
       leads = synced_leads _ _ _ _ c.as_bytes.result.now c.args.change given.synced.leads is given.follows done.bodies made.state;
       sees = made.sees;
+      spelled =
+          subst (λ (held : Stamps). IsHeldRecord c.forget_held.new.held_record (nodes_of held)) (sym made.stamps)
+          (c.forget_held.ensures c.args.self.now.memory.durable.queue c.args.self.now.memory.durable.held given.synced.spelled);
     }

@@ -1,0 +1,45 @@
+-- What becomes of the held tree by the changes that a reply brings.
+use Rattle.std.specs.Prelude.{ℕ, Result, Ok, Err}
+use Rattle.iot_count.specs.Counts.{Rose, Stayed}
+use Rattle.iot_disk.specs.declared.faults.JournalFault.{JournalFault}
+use Rattle.iot_disk.specs.declared.faults.JournalFault.TheVariants as journal
+use Rattle.iot_held.specs.declared.merging.MergeFault.{MergeFault}
+use Rattle.iot_held.specs.declared.merging.MergeFault.TheVariants as merge
+use Rattle.iot_tree.specs.Tree.{Nodes}
+use Rattle.iot_tree.specs.declared.changes.Changes.{Changes}
+use Rattle.iot_stamp.specs.Refresh.{merged}
+use Rattle.iot_stamp.specs.Stamps.{Stamps, nodes_of}
+use Rattle.iot_changes.specs.declared.changes.Change.{Change}
+use Rattle.iot_changes.specs.declared.changes.Change.TheVariants.{Held, Fetched}
+use Rattle.iot_kept.specs.declared.bringing.Purpose.{Purpose}
+use Rattle.iot_kept.specs.declared.bringing.Purpose.TheVariants.{Hold, Fetch}
+use Rattle.iot_kept.specs.declared.bringing.BringFault.{BringFault}
+use Rattle.iot_kept.specs.declared.bringing.BringFault.TheVariants.{NoMemory, Stopped, NoTree}
+
+abbrev pub of_merge : MergeFault → BringFault
+of_merge merge.NoMemory = NoMemory
+of_merge merge.NoTree = NoTree
+
+abbrev pub of_journal : JournalFault → BringFault
+of_journal journal.NoMemory = NoMemory
+of_journal journal.Stopped = Stopped
+
+-- the held tree after these changes
+abbrev pub brought : Stamps → Changes → Stamps
+brought held changes = merged held changes.rows changes.gone
+
+-- the change of what is durable that brings this tree
+abbrev pub brought_for : Purpose → Nodes → Change
+brought_for Hold tree = Held tree
+brought_for Fetch tree = Fetched tree
+
+-- the change that these changes make of what is held
+abbrev pub bringing : Purpose → Stamps → Changes → Change
+bringing purpose held changes = brought_for purpose (nodes_of (brought held changes))
+
+-- the disk's count of faults, before and after a call with this answer: it rises if the call was stopped, and only then
+abbrev pub CountsBringFault : {T : Type 0} → Result T BringFault → ℕ → ℕ → Type 0
+CountsBringFault (Ok _) before now = Stayed before now
+CountsBringFault (Err NoMemory) before now = Stayed before now
+CountsBringFault (Err NoTree) before now = Stayed before now
+CountsBringFault (Err Stopped) before now = Rose before now

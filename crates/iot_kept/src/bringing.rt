@@ -1,0 +1,207 @@
+//! The held tree after what a reply brings.
+ghost use Rattle.std.specs.Prelude.{◌≡◌, ◌≢◌, ◌+◌, ◌++◌, [], ◌∷◌, IfOk, IfErr, OnOk, OnErr, IsErrOf, true};
+ghost use Rattle.iot_codec.specs.Rules.{AreChanges, IsTreeOfRows};
+ghost use Rattle.iot_journal.specs.Decoding.{Encodes};
+ghost use Rattle.iot_journal.specs.Images.{EachDecodesEither};
+ghost use Rattle.iot_tree.specs.Tree.{IsTree, Nodes};
+ghost use Rattle.iot_changes.specs.Rules.{IsChange};
+ghost use Rattle.iot_changes.specs.Spelling.{change_spelling};
+ghost use Rattle.iot_stamp.specs.Stamps.{nodes_of};
+ghost use Rattle.iot_kept.specs.Bringing.{of_merge, of_journal, brought, brought_for, bringing, CountsBringFault};
+ghost use Rattle.iot_kept.specs.Changes.{CanFollow, after};
+ghost use Rattle.iot_kept.specs.Kept.{IsHeldRecord};
+ghost use Rattle.iot_kept.specs.Standing.{EachStandsEither};
+ghost use Rattle.iot_kept.specs.declared.bringing.BringFault.TheVariants.{NoMemory as NoRoom};
+
+use crate::kept::{Kept, spell};
+use iot_changes::Change;
+use iot_disk::{Disk, JournalFault};
+use iot_held::{Held, MergeFault};
+use iot_text::{NoMemory, Text};
+use iot_tree::{Changes, Tree};
+use std::alloc::Global;
+use thiserror::Error;
+
+/// What a reply's changes are brought for.
+#[derive(Clone, Copy, Debug, PartialEq, Eq)]
+pub enum Purpose {
+    /// To be held while nothing runs.
+    Hold,
+    /// For the transaction that runs, which starts again.
+    Fetch,
+}
+
+/// Why changes are not brought.
+#[derive(Clone, Copy, Debug, PartialEq, Eq, Error)]
+pub enum BringFault {
+    #[error("out of memory")]
+    NoMemory,
+    #[error("the disk failed")]
+    Stopped,
+    /// What they make of the held tree is no tree.
+    #[error("what the changes make is no tree")]
+    NoTree,
+}
+
+impl From<MergeFault> for BringFault {
+    ghost from_gives = { λ merge fault. fault ≡ of_merge merge };
+
+    fn from(fault: MergeFault) -> Self {
+        match fault {
+            MergeFault::NoMemory => BringFault::NoMemory,
+            MergeFault::NoTree => BringFault::NoTree,
+        }
+    }
+}
+
+impl From<JournalFault> for BringFault {
+    ghost from_gives = { λ journal fault. fault ≡ of_journal journal };
+
+    fn from(fault: JournalFault) -> Self {
+        match fault {
+            JournalFault::NoMemory => BringFault::NoMemory,
+            JournalFault::Stopped => BringFault::Stopped,
+        }
+    }
+}
+
+impl From<NoMemory> for BringFault {
+    ghost from_gives = { λ _ fault. fault ≡ NoRoom };
+
+    fn from(_failed: NoMemory) -> Self {
+        BringFault::NoMemory
+    }
+}
+
+impl<D: Disk> Kept<D> {
+    ghost use Rattle.iot_kept.specs.Kept.{state_of, stamps_of, class_in, disk_of, bodies_on, records_of, IsSynced};
+
+    /// Merges the changes into the held tree, and appends one record, of the whole tree, which is on the disk when this answers Ok.
+    /// Costs a pass over the tree if there are changes, and in any case a copy of the record's bytes.
+    ///
+    /// # Errors
+    ///
+    /// `NoTree`, exactly if the outcome is no tree; it changes nothing. `Stopped` if the disk failed in this call, and `NoMemory`: each
+    /// image of the disk then stands for the state before or for the one after it.
+    pub fn bring(
+        &mut self,
+        alloc: Global,
+        changes: Changes,
+        purpose: Purpose,
+    ) -> Result<(), BringFault>
+        requires synced { IsSynced D.medium self.old }
+        requires changes { AreChanges changes }
+        requires follows { CanFollow (state_of self.old) (brought_for purpose (state_of self.old).held) }
+
+        // However this returns, every image stands for the state before or for the one after: its records are those before,
+        // or those and the record of this change.
+        ensures images { EachStandsEither (D.medium.may_leave (disk_of self.new))
+            (state_of self.old) (after (state_of self.old) (bringing purpose (stamps_of self.old) changes)) }
+        ensures one_record { EachDecodesEither (D.medium.may_leave (disk_of self.new))
+            (Encodes (bodies_on D.medium self.old))
+            (Encodes (bodies_on D.medium self.old ++ change_spelling (bringing purpose (stamps_of self.old) changes) ∷ [])) }
+
+        ensures no_tree { IsErrOf result BringFault.NoTree → IsTree (nodes_of (brought (stamps_of self.old) changes)) → ⊥ }
+        ensures nothing { IsErrOf result BringFault.NoTree → self.new ≡ self.old }
+        ensures stopped { IsErrOf result BringFault.Stopped → IsTree (nodes_of (brought (stamps_of self.old) changes)) }
+
+        ensures tree { OnOk result (IsTree (nodes_of (brought (stamps_of self.old) changes))) }
+        ensures stamps { OnOk result (stamps_of self.new ≡ brought (stamps_of self.old) changes) }
+        ensures state { OnOk result (state_of self.new ≡ after (state_of self.old) (bringing purpose (stamps_of self.old) changes)) }
+        ensures class { OnOk result (class_in self.new ≡ class_in self.old) }
+        ensures bodies { OnOk result (bodies_on D.medium self.new
+            ≡ bodies_on D.medium self.old ++ change_spelling (bringing purpose (stamps_of self.old) changes) ∷ []) }
+        ensures records { OnOk result (records_of self.new ≡ records_of self.old + 1) }
+        ensures synced { OnOk result (IsSynced D.medium self.new) }
+
+        ensures faults { CountsBringFault result
+            (D.medium.faults (disk_of self.old)) (D.medium.faults (disk_of self.new)) }
+        ensures arms { D.medium.arms (disk_of self.new) ≡ D.medium.arms (disk_of self.old) }
+    {
+        merge(
+            &mut self.memory.durable.held,
+            &mut self.held_record,
+            alloc,
+            changes,
+        )?;
+        let held = self.memory.durable.held.tree();
+        let text = record_for(held, &mut self.held_record, alloc, purpose)?;
+        self.journal.append(text.as_bytes())?;
+        keep(&mut self.held_record, text, purpose);
+        self.memory.show_held(alloc)?;
+        Ok(())
+    }
+}
+
+/// Merges the changes into the held tree in memory. After an error nothing has changed.
+fn merge(
+    held: &mut Held,
+    held_record: &mut Option<Text>,
+    alloc: Global,
+    changes: Changes,
+) -> Result<(), MergeFault>
+    requires changes { AreChanges changes }
+    requires spelled { IsHeldRecord held_record.old (nodes_of held.old) }
+    ensures stamps { OnOk result (held.new ≡ brought held.old changes) }
+    ensures tree { OnOk result (IsTree (nodes_of held.new)) }
+    ensures spelled { OnOk result (IsHeldRecord held_record.new (nodes_of held.new)) }
+    ensures err { OnErr result (held.new ≡ held.old) }
+    ensures same { OnErr result (held_record.new ≡ held_record.old) }
+    ensures no_tree { IfErr result (λ fault. fault ≢ MergeFault.NoMemory → IsTree (nodes_of (brought held.old changes)) → ⊥) }
+{
+    let is_new = !is_nothing(&changes);
+    held.merge(alloc, changes)?;
+    if is_new {
+        *held_record = None;
+    }
+    Ok(())
+}
+
+/// The record for this purpose: the one that was spelled last, if the held tree is as it was then.
+fn record_for(
+    held: &Tree,
+    held_record: &mut Option<Text>,
+    alloc: Global,
+    purpose: Purpose,
+) -> Result<Text, NoMemory>
+    requires tree { IsTreeOfRows held.now }
+    requires spelled { IsHeldRecord held_record.old held.now }
+    ensures is { IfOk result (λ text. text ≡ change_spelling (brought_for purpose held.now)) }
+    ensures spelled { OnOk result (IsHeldRecord held_record.new held.now) }
+{
+    match purpose {
+        Purpose::Hold => match held_record.take() {
+            Some(text) => Ok(text),
+            None => spelled(Change::Held(held.copy(alloc)?), alloc),
+        },
+        Purpose::Fetch => spelled(Change::Fetched(held.copy(alloc)?), alloc),
+    }
+}
+
+/// Keeps a record of the held tree for the next one.
+fn keep(held_record: &mut Option<Text>, text: Text, purpose: Purpose)
+    ensures { (held : Nodes) → text ≡ change_spelling (brought_for purpose held) → IsHeldRecord held_record.old held
+        → IsHeldRecord held_record.new held }
+{
+    if let Purpose::Hold = purpose {
+        *held_record = Some(text);
+    }
+}
+
+/// Whether there are neither rows nor paths that are gone.
+fn is_nothing(changes: &Changes) -> bool
+    ensures rows { result ≡ true → changes.now.rows ≡ [] }
+    ensures gone { result ≡ true → changes.now.gone ≡ [] }
+{
+    changes.rows.is_empty() && changes.gone.is_empty()
+}
+
+/// The record of the change, in memory of its own.
+fn spelled(change: Change, alloc: Global) -> Result<Text, NoMemory>
+    requires { IsChange change }
+    ensures { IfOk result (λ text. text ≡ change_spelling change) }
+{
+    let mut out = Text::new(alloc);
+    spell(&change, &mut out)?;
+    Ok(out)
+}
