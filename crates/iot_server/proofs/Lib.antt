@@ -1,4 +1,4 @@
+mod ChangesLaws
 mod NumbersLaws
-mod PrunedLaws
 mod RepliesLaws
 mod StandingLaws

@@ -2,7 +2,6 @@
 use Rattle.std.proofs.Common.{◌≡◌, ◌++◌, ◌∷◌, ℕ, List, Option, None, Result, Ok, Err, IfOk, refl, sym, ap, subst, ◌∙◌}
 use Rattle.iot_certify.specs.declared.verdict.Verdict.TheVariants.{Differs}
 use Rattle.iot_server.specs.Replies.{IsAnswered, IsJudged, Submits}
-use Rattle.iot_server.proofs.PrunedLaws.{prune_same}
 use Rattle.iot_server.proofs.StandingLaws.{verdict_answer}
 use Rattle.iot_acts.specs.Guards.{AllGuarded}
 use Rattle.iot_acts.specs.Turns.{turns, DiffersAt}
@@ -11,11 +10,13 @@ use Rattle.iot_certify.specs.declared.verdict.Verdict.{Verdict}
 use Rattle.iot_codec.specs.Rules.{AreActs, IsAnswer}
 use Rattle.iot_codec.specs.Spelling.{label_spelling, acts_spelling}
 use Rattle.iot_limits.specs.Spelled.{IsSpelledTree}
+use Rattle.iot_stamp.specs.Refresh.{changes_for}
+use Rattle.iot_stamp.specs.Stamps.{Stamps}
 use Rattle.iot_store.specs.Numbers.{number_in}
 use Rattle.iot_store.specs.States.{State}
-use Rattle.iot_tree.specs.Snapshots.{has, prune, widen}
 use Rattle.iot_tree.specs.Tree.{Nodes, Path}
 use Rattle.iot_tree.specs.declared.acts.Act.{Act}
+use Rattle.iot_tree.specs.declared.changes.Changes.{Changes}
 use Rattle.iot_tree.specs.declared.labels.Label.{Label}
 use Rattle.iot_tree.specs.declared.questions.Answer.{Answer}
 use Rattle.iot_tree.specs.declared.want.Want.{Want}
@@ -31,20 +32,14 @@ if_ok P Q (Ok x) follows is = follows x is
 if_ok P Q (Err e) follows is = tt
 
 module _ (before : State) (bodies : List (List ℕ)) (bytes : List ℕ) where
-  pub refreshed : (client : ℕ) (known paths : List Path) (want : Want) (t : Nodes)
-      → (here : Nodes) → here ≡ before.tree
-      → ((p : Path) → has paths p ≡ widen (has known) here want p) → t ≡ prune here (has paths)
-      → IsReply (Objects t) → bytes ≡ reply_spelling (Objects t) → IsAnswered before bodies (Refresh client known want) bytes before bodies
-  refreshed client known paths want t here same each cut is spelled = record {
-    reply = Objects t;
-    answers = (
-      ap Objects
-          (cut ∙ prune_same (has paths) (widen (has known) here want) each here
-          ∙ ap (λ (tree : Nodes). prune tree (widen (has known) tree want)) same),
-      refl,
-    );
+  pub refreshed : (client : ℕ) (known : List (Path × ℕ)) (want : Want) (changes : Changes) (here : Stamps) → here ≡ before.stamps
+      → changes ≡ changes_for here known want → IsReply (Objects changes) → bytes ≡ reply_spelling (Objects changes)
+      → IsAnswered before bodies (Refresh client known want) bytes before bodies
+  refreshed client known want changes here same is has spelled = record {
+    reply = Objects changes;
+    answers = (ap Objects (is ∙ ap (λ (s : Stamps). changes_for s known want) same), refl);
     records = refl;
-    spelled = record { value = is; spelled = sym spelled };
+    spelled = record { value = has; spelled = sym spelled };
   }
 
   module _ (label : Label) (acts : List Act) where

@@ -5,10 +5,10 @@ use Rattle.iot_acts.specs.Turns.{turns, DiffersAt}
 use Rattle.iot_certify.specs.Verdicts.{IsVerdictOnActs, IfDiffers}
 use Rattle.iot_certify.specs.declared.verdict.Verdict.{Verdict}
 use Rattle.iot_certify.specs.declared.verdict.Verdict.TheVariants.{Holds, Differs}
+use Rattle.iot_stamp.specs.Refresh.{changes_for}
 use Rattle.iot_store.specs.Numbers.{number_in}
 use Rattle.iot_store.specs.Records.{record_spelling}
 use Rattle.iot_store.specs.States.{State, after_commit}
-use Rattle.iot_tree.specs.Snapshots.{has, prune, widen}
 use Rattle.iot_tree.specs.Tree.{Nodes}
 use Rattle.iot_tree.specs.declared.acts.Act.{Act}
 use Rattle.iot_tree.specs.declared.labels.Label.{Label}
@@ -40,13 +40,13 @@ Submits None before label acts reply after =
 -- the reply to a request, by the state before, and the state after it
 abbrev pub Answers : State → Request → Reply → State → Type 0
 Answers before (Refresh client known want) reply after =
-    (reply ≡ Objects (prune before.tree (widen (has known) before.tree want))) × (after ≡ before)
+    (reply ≡ Objects (changes_for before.stamps known want)) × (after ≡ before)
 Answers before (Commit label acts) reply after = Submits (number_in before.labels label.client label.tid) before label acts reply after
 
 -- the bodies of the records after it: a commit that was made has one more, its own
 abbrev pub records_after : Request → Reply → List (List ℕ) → List (List ℕ)
 records_after (Refresh client known want) reply bodies = bodies
-records_after (Commit label acts) (Objects tree) bodies = bodies
+records_after (Commit label acts) (Objects changes) bodies = bodies
 records_after (Commit label acts) (Committed number) bodies = bodies ++ record_spelling label acts ∷ []
 records_after (Commit label acts) (Already number) bodies = bodies
 records_after (Commit label acts) (Conflict read answer) bodies = bodies

@@ -1,6 +1,6 @@
 //! The reply to a request.
 ghost use Rattle.std.specs.Prelude.{◌≡◌, ◌+◌, ◌++◌, ◌∷◌, ℕ, List, IfOk, OnOk, IsErrOf, None};
-ghost use Rattle.iot_codec.specs.Rules.{ArePaths, IsLabel, AreActs};
+ghost use Rattle.iot_codec.specs.Rules.{AreKnown, IsLabel, AreActs};
 ghost use Rattle.iot_codec.specs.Spelling.{label_spelling, acts_spelling};
 ghost use Rattle.iot_disk.specs.Faults.{CountsJournalFault};
 ghost use Rattle.iot_journal.specs.Decoding.{Encodes};
@@ -19,10 +19,9 @@ ghost use Rattle.iot_wire.specs.declared.replies.Reply.TheVariants.{Committed};
 
 use iot_certify::{Verdict, certify_acts};
 use iot_disk::{Disk, JournalFault};
-use iot_prune::{prune, widen};
 use iot_store::Store;
 use iot_text::NoMemory;
-use iot_tree::{Acts, Label, Paths, Want};
+use iot_tree::{Acts, Known, Label, Want};
 use iot_wire::{Reply, Request, write_reply};
 use std::alloc::Global;
 
@@ -52,7 +51,7 @@ pub(crate) fn answer<D: Disk>(
             client: _,
             known,
             want,
-        } => Ok(lend(alloc, store, known, &want)?),
+        } => Ok(lend(alloc, store, &known, &want)?),
         Request::Commit { label, acts } => submit(alloc, store, label, &acts, after_tag(bytes)),
     }
 }
@@ -67,25 +66,22 @@ fn after_tag(bytes: &[u8]) -> &[u8]
     }
 }
 
-/// Its tree, cut down to what is known or wanted. One pass.
+/// What changed in its tree for a client that knows these paths, with these stamps, and wants this besides. One pass over the
+/// tree and the paths.
 fn lend<D: Disk>(
     alloc: Global,
     store: &Store<D>,
-    known: Paths,
+    known: &Known,
     want: &Want,
 ) -> Result<Vec<u8>, NoMemory>
     requires synced { IsSynced D.medium store.now }
-    requires known { ArePaths known }
+    requires known { AreKnown known.now }
     ensures { (client : _) → IfOk result (λ bytes.
-        IsAnswered (state_of store.now) (bodies_on D.medium store.now) (Refresh client known want.now) bytes.items
+        IsAnswered (state_of store.now) (bodies_on D.medium store.now) (Refresh client known.now want.now) bytes.items
         (state_of store.now) (bodies_on D.medium store.now)) }
 {
-    let tree = store.tree();
-    let paths = widen(alloc, known, tree, want)?;
-    let objects = prune(alloc, tree, &paths)?;
-    // That it is a tree is known of its rows.
-    let _rows = objects.rows();
-    write_reply(alloc, &Reply::Objects(objects))
+    let changes = store.stamped().changed(alloc, known.as_slice(), want)?;
+    write_reply(alloc, &Reply::Objects(changes))
 }
 
 /// The number of a transaction that is among the commits; any other is judged.

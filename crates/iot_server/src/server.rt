@@ -91,10 +91,11 @@ impl<D: Disk> Server<D> {
         }
     }
 
-    /// Answers the bytes that a client sent. A refresh is answered by the tree, cut down to what the client knows or wants to know;
-    /// it takes one pass. A commit is answered by the number of its transaction, if that is among the commits or if all that it read
-    /// still holds, and else by the read that differs; it takes as much as the request is long, and a search for each read and
-    /// update. Its record is on the disk when this answers Ok.
+    /// Answers the bytes that a client sent. A refresh is answered by what changed for the client: of the tree, cut down to what
+    /// the client knows or wants to know, the rows that are new to it, with their stamps, and the paths that it sent and that are
+    /// gone. It takes one pass over the tree and the sent paths. A commit is answered by the number of its transaction, if that is
+    /// among the commits or if all that it read still holds, and else by the read that differs; it takes as much as the request is
+    /// long, and a search for each read and update. Its record is on the disk when this answers Ok.
     ///
     /// # Errors
     ///
