@@ -12,7 +12,7 @@ use Rattle.iot_exec.specs.Execs.{IsNextAt, RunsOn, place, kept_by, act_count}
 use Rattle.iot_changes.specs.declared.changes.Change.TheVariants.{Acted}
 use Rattle.iot_kept.specs.States.{State, view}
 use Rattle.iot_kept.specs.Changes.{CanFollow}
-use Rattle.iot_client.specs.Ties.{Live, live, state_of, place_of}
+use Rattle.iot_client.specs.Ties.{Live, live, state_of, stamps_of, place_of}
 use Rattle.iot_client.specs.Calls.{has_ended, missed_by, CanActIfAny, CutsOff, CutsOffNextIfAny, Notes, StepIsIfAny}
 use Rattle.iot_client.specs.Doing.{IsAble, Did, DidIfAny, DecidesIfAny}
 use Rattle.iot_wire.specs.Meanings.{IsRefresh}
@@ -77,7 +77,7 @@ decided_stays first (Some i) (Some j) t path decided = ap (λ (i : Interpreter).
 decided_fetch : {D : Type 0} (client : Client D) (class : Option Bool) (i j : Option Interpreter) (first : Bool) (t : Nodes) (path : Path)
     (request : List ℕ) → RunsIn (state_of client) class i → IsSome (state_of client).running → ((f : Bool) → class ≡ Some f → first ≡ f)
     → t ≡ view (state_of client) → IsAble i → DecidesIfAny first i t (decides.Missed path) j
-    → IsRefresh (place_of client) (state_of client).held (wants.Path path) request
+    → IsRefresh (place_of client) (stamps_of client) (wants.Path path) request
     → StepIsIfAny client (live class i) (steps.Fetch request path) client
 decided_fetch client class None j first t path request runs some is sees able decided asks = absurd able
 decided_fetch client class (Some i) None first t path request runs some is sees able decided asks = absurd decided
@@ -89,7 +89,7 @@ pub decided_misses : {D : Type 0} (client : Client D) (class : Option Bool) (j :
     (path : Path) (request : List ℕ) → RunsIn (state_of client) class client.interpreter → IsSome (state_of client).running
     → ((f : Bool) → class ≡ Some f → first ≡ f) → t ≡ view (state_of client) → IsAble client.interpreter
     → DecidesIfAny first client.interpreter t (decides.Missed path) j
-    → IsRefresh (place_of client) (state_of client).held (wants.Path path) request
+    → IsRefresh (place_of client) (stamps_of client) (wants.Path path) request
     → StepIsIfAny client (live class client.interpreter) (steps.Fetch request path) (record client { interpreter = j })
 decided_misses client class j first t path request runs some is sees able decided asks =
     subst

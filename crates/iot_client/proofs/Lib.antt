@@ -1,4 +1,3 @@
-pub mod MessagesLaws
 pub mod RepliesLaws
 pub mod WholeLaws
 pub mod TiesLaws

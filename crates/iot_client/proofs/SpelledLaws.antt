@@ -46,8 +46,8 @@ use Rattle.iot_changes.specs.Rules.{IsResolution}
 use Rattle.iot_kept.specs.Spelled.{IsSpelledItem, AreSpelledItems, IsSpelledState}
 use Rattle.iot_kept.specs.States.{Transaction, State, after_each, after_items, view, EachHold, AllHold}
 use Rattle.iot_kept.proofs.SpelledLaws.{rows_after_acts}
-use Rattle.iot_kept.proofs.StatesLaws.{hold_fit}
-use Rattle.iot_held.specs.Fitting.{UpdatesFit}
+use Rattle.iot_stamp.proofs.ActingLaws.{holds_fit}
+use Rattle.iot_stamp.specs.Acting.{UpdatesFit}
 use Rattle.iot_client.specs.Doing.{Did, DidIfAny}
 use Rattle.iot_client.specs.Ties.{IsRun, IsRunIfAny}
 use Rattle.iot_client.specs.declared.interpreter.Done.{Done}
@@ -132,7 +132,7 @@ pub head_fits : (items : List Item) (item : Item) (t : Nodes) → Some item ≡ 
 head_fits [] item t is hold = absurd cc
 head_fits (first ∷ items) item t is hold =
     let same : first ≡ item = cc in
-    subst (λ (x : Item). UpdatesFit t x.acts) same (hold_fit first.acts t hold.0)
+    subst (λ (x : Item). UpdatesFit t x.acts) same (holds_fit t first.acts hold.0)
 
 -- ---- files that rise and have spellings
 

@@ -23,7 +23,7 @@ use Rattle.iot_kept.specs.States.{Transaction, State, acts_of, after_items, view
 use Rattle.iot_kept.specs.Changes.{CanFollow, with_acts, after}
 use Rattle.iot_kept.specs.Memory.{transaction_of, class_of}
 use Rattle.iot_kept.specs.declared.running.Running.{Running}
-use Rattle.iot_client.specs.Ties.{IsRunIfAny, Live, live, state_of, place_of, count, run_of, IsBegunIfAny, IsOwnRunIfAny}
+use Rattle.iot_client.specs.Ties.{IsRunIfAny, Live, live, state_of, stamps_of, place_of, count, run_of, IsBegunIfAny, IsOwnRunIfAny}
 use Rattle.iot_client.specs.Calls.{idle, has_ended, may_end, next_acts, missed, missed_by}
 use Rattle.iot_client.specs.Calls.{IsFirstIfAny, CanActIfAny, Notes, StepIsIfAny, EndsIfAny}
 use Rattle.iot_wire.specs.Meanings.{IsRefresh}
@@ -209,7 +209,7 @@ module _ (state : State) (class : Option Bool) (i : Interpreter) (runs : RunsIn 
 
   pub misses : {D : Type 0} (client : Client D) (path : Path) (request : List ℕ) → state_of client ≡ state
       → Some path ≡ missed_by first (next_miss (kept_by i.exec) (place i.exec) t)
-      → IsRefresh (place_of client) (state_of client).held (wants.Path path) request
+      → IsRefresh (place_of client) (stamps_of client) (wants.Path path) request
       → StepIsIfAny client (live class (Some i)) (steps.Fetch request path) client
   misses client path request own is asks =
       let both = found known.first path _

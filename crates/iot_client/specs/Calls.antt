@@ -4,7 +4,9 @@ use Rattle.std.specs.Prelude.{⊤, IsOk, IsSome, Option, Some, None, Result, Ok,
 use Rattle.iot_acts.specs.Traces.{after_acts}
 use Rattle.iot_journal.specs.Decoding.{Encodes}
 use Rattle.iot_journal.specs.Images.{EachDecodesEither}
-use Rattle.iot_tree.specs.Tree.{Path, Nodes, IsWhole}
+use Rattle.iot_tree.specs.Tree.{Path, Nodes, IsTree, IsWhole}
+use Rattle.iot_tree.specs.declared.changes.Changes.{Changes}
+use Rattle.iot_stamp.specs.Stamps.{Stamps, nodes_of}
 use Rattle.iot_tree.specs.declared.acts.Act.{Act}
 use Rattle.iot_tree.specs.declared.limits.TheConstants.{ACT_LIMIT}
 use Rattle.iot_tree.specs.declared.want.Want.TheVariants as wants
@@ -23,6 +25,9 @@ use Rattle.iot_resolve.specs.Resolved.{resolved}
 use Rattle.iot_resolve.specs.declared.plan.Plan.{Plan}
 use Rattle.iot_kept.specs.States.{Transaction, State, view}
 use Rattle.iot_kept.specs.Changes.{IsInConflict, CanFollow, after}
+use Rattle.iot_kept.specs.Bringing.{brought, bringing}
+use Rattle.iot_kept.specs.Stamps.{StampsBy}
+use Rattle.iot_kept.specs.declared.bringing.Purpose.{Purpose}
 use Rattle.iot_kept.specs.Standing.{EachStandsEither}
 use Rattle.iot_changes.specs.Rules.{IsChange}
 use Rattle.iot_changes.specs.Spelling.{change_spelling}
@@ -30,8 +35,8 @@ use Rattle.iot_changes.specs.declared.changes.Change.{Change}
 use Rattle.iot_changes.specs.declared.changes.Change.TheVariants as changes
 use Rattle.iot_client.specs.Faults.{MayFail}
 use Rattle.iot_wire.specs.Meanings.{IsRefresh}
-use Rattle.iot_client.specs.Messages.{IsToldBy, objects_in, whole_in, noted_in}
-use Rattle.iot_client.specs.Ties.{state_of, place_of, records_of, Live, count, run_of}
+use Rattle.iot_client.specs.Messages.{IsToldBy, objects_in, nothing_held, noted_in}
+use Rattle.iot_client.specs.Ties.{state_of, stamps_of, place_of, records_of, Live, count, run_of}
 use Rattle.iot_client.specs.declared.client.Client.{Client}
 use Rattle.iot_client.specs.declared.fault.ClientFault.{ClientFault}
 use Rattle.iot_client.specs.declared.fault.ClientFault.TheVariants.{NoMemory, Stopped, Busy, Pending, Idle, NotAtEnd, Nothing}
@@ -108,24 +113,25 @@ Refuses None old new (Ok value) = Unit {0}
 Refuses None old new (Err fault) = MayFail fault
 Refuses (Some fault) old new result = (result ≡ Err fault) × (new ≡ old)
 
--- how a call ends that reads a reply: it is done if that is one that it takes, and refused at the place where it is bad, which
--- changes nothing; or memory ran out, or the disk failed
-abbrev pub EndsBy : {D X T : Type 0} → Result X ℕ → Client D → Client D → Result T ClientFault → Type 0
-EndsBy read old new (Ok value) = IsOk read
-EndsBy read old new (Err NoMemory) = ⊤
-EndsBy read old new (Err Stopped) = IsOk read
-EndsBy read old new (Err Busy) = ⊥
-EndsBy read old new (Err Pending) = ⊥
-EndsBy read old new (Err Idle) = ⊥
-EndsBy read old new (Err NotAtEnd) = ⊥
-EndsBy read old new (Err Nothing) = ⊥
-EndsBy read old new (Err NotManual) = ⊥
-EndsBy read old new (Err (BadReply at)) = (read ≡ Err at) × (new ≡ old)
+-- how a call ends that reads a reply, by what this can be read as: it is done if that is one that it takes, and refused at the place where
+-- it is bad, which changes nothing; or memory ran out, or the disk failed
+abbrev pub EndsBy : {D X T : Type 0} → (Result X ℕ → Type 0) → Client D → Client D → Result T ClientFault → Type 0
+EndsBy {X = X} Reads old new (Ok value) = (x : X) × Reads (Ok x)
+EndsBy Reads old new (Err NoMemory) = ⊤
+EndsBy {X = X} Reads old new (Err Stopped) = (x : X) × Reads (Ok x)
+EndsBy Reads old new (Err Busy) = ⊥
+EndsBy Reads old new (Err Pending) = ⊥
+EndsBy Reads old new (Err Idle) = ⊥
+EndsBy Reads old new (Err NotAtEnd) = ⊥
+EndsBy Reads old new (Err Nothing) = ⊥
+EndsBy Reads old new (Err NotManual) = ⊥
+EndsBy Reads old new (Err (BadReply at)) = Reads (Err at) × (new ≡ old)
 
 -- before that, the state may refuse the call
-abbrev pub RefusesReply : {D X T : Type 0} → Option ClientFault → Result X ℕ → Client D → Client D → Result T ClientFault → Type 0
-RefusesReply None read old new result = EndsBy read old new result
-RefusesReply (Some fault) read old new result = (result ≡ Err fault) × (new ≡ old)
+abbrev pub RefusesReply : {D X T : Type 0} → Option ClientFault → (Result X ℕ → Type 0) → Client D → Client D → Result T ClientFault
+    → Type 0
+RefusesReply None Reads old new result = EndsBy Reads old new result
+RefusesReply (Some fault) Reads old new result = (result ≡ Err fault) × (new ≡ old)
 
 -- why an interpreter's transaction may not be ended
 abbrev pub not_at_end : Bool → ℕ → Option ClientFault
@@ -137,6 +143,7 @@ not_at_end over acts = if over || leb ACT_LIMIT acts then None else Some NotAtEn
 pub record Notes {D : Type 0} (change : Change) (old new : Client D) : Type 0 where
   pub follows : CanFollow (state_of old) change
   pub state : state_of new ≡ after (state_of old) change
+  pub stamps : StampsBy change (state_of old).items (stamps_of old) (stamps_of new)
   pub place : place_of new ≡ place_of old
   pub records : records_of new ≡ records_of old + 1
 
@@ -148,20 +155,24 @@ pub record CutsOff (change : Change) (state : State) (bodies : List (List ℕ)) 
   pub either : EachStandsEither images state (after state change)
   pub one_record : EachDecodesEither images (Encodes bodies) (Encodes (bodies ++ change_spelling change ∷ []))
 
--- the change is one by the tree that the reply brings
-pub record Brings {D : Type 0} (brought_by : Nodes → Change) (reply : List ℕ) (old new : Client D) : Type 0 where
-  pub tree : Nodes
-  pub brought : objects_in reply ≡ Ok tree
-  pub spelled : IsMessage IsReply reply_spelling reply (Objects tree)
-  pub notes : Notes (brought_by tree) old new
+-- the changes that the reply brings were merged into the held tree; the outcome is a tree, and the change of what is durable is the one
+-- that brings it
+pub record Brings {D : Type 0} (purpose : Purpose) (reply : List ℕ) (old new : Client D) : Type 0 where
+  pub changes : Changes
+  pub read : objects_in reply ≡ Ok changes
+  pub spelled : IsMessage IsReply reply_spelling reply (Objects changes)
+  pub stamps : stamps_of new ≡ brought (stamps_of old) changes
+  pub tree : IsTree (nodes_of (brought (stamps_of old) changes))
+  pub notes : Notes (bringing purpose (stamps_of old) changes) old new
 
 -- it was stopped while it appended that change
-pub record CutsOffByTree (brought_by : Nodes → Change) (reply : List ℕ) (state : State) (bodies : List (List ℕ))
+pub record CutsOffByTree (purpose : Purpose) (reply : List ℕ) (held : Stamps) (state : State) (bodies : List (List ℕ))
     (images : List ℕ → Type 0) : Type 0 where
-  pub tree : Nodes
-  pub brought : objects_in reply ≡ Ok tree
-  pub spelled : IsMessage IsReply reply_spelling reply (Objects tree)
-  pub cuts_off : CutsOff (brought_by tree) state bodies images
+  pub changes : Changes
+  pub read : objects_in reply ≡ Ok changes
+  pub spelled : IsMessage IsReply reply_spelling reply (Objects changes)
+  pub tree : IsTree (nodes_of (brought held changes))
+  pub cuts_off : CutsOff (bringing purpose held changes) state bodies images
 
 -- what is so of the first that waits, if there is one
 abbrev pub HeadIsIfAny : (Item → Type 0) → List Item → Type 0
@@ -220,21 +231,23 @@ pub record CutsOffRerun (code : Code) (server : Nodes) (state : State) (bodies :
   pub run : IsHeadsRun state.held state.items code server done
   pub cuts_off : CutsOff (changes.Resolved done) state bodies images
 
--- and the tree is the one that the reply brings
+-- and the tree is the one that the reply makes of nothing
 pub record Resolves {D : Type 0} (reply : List ℕ) (code : Code) (old new : Client D) : Type 0 where
-  pub tree : Nodes
-  pub brought : whole_in reply ≡ Ok tree
-  pub spelled : IsMessage IsReply reply_spelling reply (Objects tree)
-  pub whole : IsWhole tree
-  pub reruns : Reruns code tree old new
+  pub changes : Changes
+  pub read : objects_in reply ≡ Ok changes
+  pub spelled : IsMessage IsReply reply_spelling reply (Objects changes)
+  pub tree : IsTree (nodes_of (brought nothing_held changes))
+  pub whole : IsWhole (nodes_of (brought nothing_held changes))
+  pub reruns : Reruns code (nodes_of (brought nothing_held changes)) old new
 
 -- so it was if it was stopped while it appended the change
 pub record CutsOffByRun (reply : List ℕ) (code : Code) (state : State) (bodies : List (List ℕ)) (images : List ℕ → Type 0) : Type 0 where
-  pub tree : Nodes
-  pub brought : whole_in reply ≡ Ok tree
-  pub spelled : IsMessage IsReply reply_spelling reply (Objects tree)
-  pub whole : IsWhole tree
-  pub reruns : CutsOffRerun code tree state bodies images
+  pub changes : Changes
+  pub read : objects_in reply ≡ Ok changes
+  pub spelled : IsMessage IsReply reply_spelling reply (Objects changes)
+  pub tree : IsTree (nodes_of (brought nothing_held changes))
+  pub whole : IsWhole (nodes_of (brought nothing_held changes))
+  pub reruns : CutsOffRerun code (nodes_of (brought nothing_held changes)) state bodies images
 
 -- if a transaction runs that was begun since the start, it is first class
 abbrev pub IsFirstIfAny : Option Live → Type 0
@@ -305,7 +318,7 @@ pub record Misses {D : Type 0} (old : Client D) (live : Live) (path : Path) (new
 abbrev pub StepIs : {D : Type 0} → Client D → Live → Step → Client D → Type 0
 StepIs old live (Acted acts ended) new = DoesNext old live acts ended new
 StepIs old live (Fetch request path) new =
-    IsRefresh (place_of old) (state_of old).held (wants.Path path) request × Misses old live path new
+    IsRefresh (place_of old) (stamps_of old) (wants.Path path) request × Misses old live path new
 StepIs old live (AtEnd acts) new = (has_ended (state_of old) live.code ≡ true) × (acts ≡ count (state_of old)) × (new ≡ old)
 StepIs old live (AtLimit acts) new =
     (has_ended (state_of old) live.code ≡ false) × (acts ≡ ACT_LIMIT) × (count (state_of old) ≡ ACT_LIMIT) × (new ≡ old)

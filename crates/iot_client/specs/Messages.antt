@@ -3,7 +3,11 @@ use Rattle.std.specs.Prelude.{◌≡◌, ℕ, ⊤, Bool, if◌then◌else◌, le
 use Rattle.std.specs.FinMap.{entries}
 use Rattle.std.specs.List.{list_all}
 use Rattle.iot_tree.specs.Snapshots.{is_known}
-use Rattle.iot_tree.specs.Tree.{Row, Nodes}
+use Rattle.iot_tree.specs.Tree.{Row, Nodes, IsTree, IsWhole, root_alone}
+use Rattle.iot_tree.specs.declared.changes.Changes.{Changes}
+use Rattle.iot_tree.specs.declared.nodes.Node.TheVariants.{FarDir}
+use Rattle.iot_stamp.specs.Stamps.{Stamps, nodes_of, unstamped}
+use Rattle.iot_kept.specs.Bringing.{brought}
 use Rattle.iot_tree.specs.declared.labels.Label.{Label}
 use Rattle.iot_tree.specs.declared.labels.OnConflict.{OnConflict}
 use Rattle.iot_tree.specs.declared.labels.OnConflict.TheVariants as options
@@ -95,20 +99,40 @@ IsSubmission client (item ∷ items) ask = IsAsked client item item.stage ask
 
 -- ---- replies
 
--- the tree of a reply that brings one; a reply of another kind is bad from its beginning on
-abbrev pub objects : Result Reply ℕ → Result Nodes ℕ
-objects (Ok (Objects tree)) = Ok tree
+-- the changes of a reply that brings some; a reply of another kind is bad from its beginning on
+abbrev pub objects : Result Reply ℕ → Result Changes ℕ
+objects (Ok (Objects changes)) = Ok changes
 objects (Ok (Committed number)) = Err 0
 objects (Ok (Already number)) = Err 0
 objects (Ok (Conflict read answer)) = Err 0
 objects (Err at) = Err at
 
-abbrev pub objects_in : List ℕ → Result Nodes ℕ
+abbrev pub objects_in : List ℕ → Result Changes ℕ
 objects_in bytes = objects (whole reply_at bytes)
 
--- a tree is read of the bytes that are the spelling of a reply which brings it
+-- changes are read of the bytes that are the spelling of a reply which brings them
 abbrev pub ReadsObjects : List ℕ → Type 0
-ReadsObjects bytes = (tree : Nodes) → IsMessage IsReply reply_spelling bytes (Objects tree) → objects_in bytes ≡ Ok tree
+ReadsObjects bytes = (changes : Changes) → IsMessage IsReply reply_spelling bytes (Objects changes) → objects_in bytes ≡ Ok changes
+
+-- what a reply makes of a held tree: that tree after its changes, if this passes the test; else it is bad at its end, and a reply that
+-- brings no changes at its first fault
+pub data Makes (Passes : Nodes → Type 0) (held : Stamps) (bytes : List ℕ) : Result Stamps ℕ → Type 0 where
+  made : (changes : Changes) → objects_in bytes ≡ Ok changes → Passes (nodes_of (brought held changes))
+      → Makes Passes held bytes (Ok (brought held changes))
+  no_tree : (changes : Changes) → objects_in bytes ≡ Ok changes → (Passes (nodes_of (brought held changes)) → ⊥)
+      → Makes Passes held bytes (Err (length bytes))
+  no_changes : (at : ℕ) → objects_in bytes ≡ Err at → Makes Passes held bytes (Err at)
+
+-- merged into what is held, it is a tree
+abbrev pub MakesTree : Stamps → List ℕ → Result Stamps ℕ → Type 0
+MakesTree held bytes = Makes IsTree held bytes
+
+-- merged into nothing, it is a whole tree
+abbrev pub nothing_held : Stamps
+nothing_held = unstamped (root_alone FarDir)
+
+abbrev pub MakesWhole : List ℕ → Result Stamps ℕ → Type 0
+MakesWhole bytes = Makes (λ t. IsTree t × IsWhole t) nothing_held bytes
 
 -- whether the inside of every object of a tree is known
 abbrev pub is_known_row : Row → Bool
@@ -117,17 +141,18 @@ is_known_row row = is_known row.1
 abbrev pub is_whole : Nodes → Bool
 is_whole tree = list_all is_known_row (entries tree)
 
--- the whole tree of a reply that brings one; a reply with a tree that is not whole is bad at its end
-abbrev pub whole_tree : ℕ → Result Nodes ℕ → Result Nodes ℕ
-whole_tree end (Ok tree) = if is_whole tree then Ok tree else Err end
-whole_tree end (Err at) = Err at
+-- the stamped tree is what the reply's changes make of nothing, and it is a whole tree
+pub record MakesOf (bytes : List ℕ) (held : Stamps) : Type 0 where
+  pub changes : Changes
+  pub read : objects_in bytes ≡ Ok changes
+  pub spelled : IsMessage IsReply reply_spelling bytes (Objects changes)
+  pub is : held ≡ brought nothing_held changes
+  pub tree : IsTree (nodes_of held)
+  pub whole : IsWhole (nodes_of held)
 
-abbrev pub whole_in : List ℕ → Result Nodes ℕ
-whole_in bytes = whole_tree (length bytes) (objects_in bytes)
-
--- what a reply says of a transaction that was submitted; one that brings a tree is bad from its beginning on
+-- what a reply says of a transaction that was submitted; one that brings changes is bad from its beginning on
 abbrev pub noted : Result Reply ℕ → Result Noted ℕ
-noted (Ok (Objects tree)) = Err 0
+noted (Ok (Objects changes)) = Err 0
 noted (Ok (Committed number)) = Ok (notes.Settled number)
 noted (Ok (Already number)) = Ok (notes.Settled number)
 noted (Ok (Conflict read answer)) = Ok (notes.Conflict read)
@@ -158,3 +183,16 @@ Reads read (Err NotAtEnd) = ⊥
 Reads read (Err Nothing) = ⊥
 Reads read (Err NotManual) = ⊥
 Reads read (Err (BadReply at)) = read ≡ Err at
+
+-- the same by a relation
+abbrev pub ReadsAs : {X : Type 0} → (Result X ℕ → Type 0) → Result X ClientFault → Type 0
+ReadsAs As (Ok value) = As (Ok value)
+ReadsAs As (Err NoMemory) = ⊤
+ReadsAs As (Err Stopped) = ⊥
+ReadsAs As (Err Busy) = ⊥
+ReadsAs As (Err Pending) = ⊥
+ReadsAs As (Err Idle) = ⊥
+ReadsAs As (Err NotAtEnd) = ⊥
+ReadsAs As (Err Nothing) = ⊥
+ReadsAs As (Err NotManual) = ⊥
+ReadsAs As (Err (BadReply at)) = As (Err at)

@@ -8,6 +8,7 @@ use Rattle.iot_lang.specs.Scripts.{IsScript}
 use Rattle.iot_exec.specs.Runs.{run}
 use Rattle.iot_exec.specs.Execs.{IsRunning}
 use Rattle.iot_exec.specs.declared.ran.Ran.{Ran}
+use Rattle.iot_stamp.specs.Stamps.{Stamps}
 use Rattle.iot_kept.specs.Kept as kept
 use Rattle.iot_kept.specs.States.{Transaction, State, acts_of, after_items, view}
 use Rattle.iot_client.specs.declared.client.Client.{Client}
@@ -18,6 +19,10 @@ use Rattle.iot_client.specs.declared.interpreter.Interpreter.{Interpreter}
 -- what is durable
 abbrev pub state_of : {D : Type 0} → Client D → State
 state_of client = kept.state_of client.kept
+
+-- the held tree with the server's stamps, which no disk keeps
+abbrev pub stamps_of : {D : Type 0} → Client D → Stamps
+stamps_of client = kept.stamps_of client.kept
 
 -- the client's place
 abbrev pub place_of : {D : Type 0} → Client D → ℕ

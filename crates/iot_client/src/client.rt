@@ -5,6 +5,7 @@ ghost use Rattle.iot_disk.specs.Disk.{armed_with, Only, SameImages};
 ghost use Rattle.iot_journal.specs.Decoding.{Encodes, decoded, is_started};
 ghost use Rattle.iot_journal.specs.Images.{EachDecodes};
 ghost use Rattle.iot_journal.specs.Start.{ChangesNothing};
+ghost use Rattle.iot_stamp.specs.Stamps.{unstamped};
 ghost use Rattle.iot_kept.specs.Causes.{HasCause, TakesBytes};
 ghost use Rattle.iot_kept.specs.Memory.{transaction_of, class_of};
 ghost use Rattle.iot_kept.specs.Spelled.{IsSpelledState};
@@ -32,7 +33,7 @@ pub struct Client<D: Disk> {
 }
 
 impl<D: Disk> Client<D> {
-    ghost use Rattle.iot_client.specs.Ties.{state_of, place_of, disk_of, bodies_on, records_of, live_of, class_by};
+    ghost use Rattle.iot_client.specs.Ties.{state_of, stamps_of, place_of, disk_of, bodies_on, records_of, live_of, class_by};
     ghost use Rattle.iot_client.specs.Ties.{IsTied, IsBegunIfAny, IsOwnRunIfAny};
 
     /// Starts the client at this place from its disk, which no one else writes; it runs no script. A disk on which nothing was started
@@ -54,6 +55,9 @@ impl<D: Disk> Client<D> {
         ensures tied { IfOk result (λ client. IsTied D.medium client) }
         ensures live { IfOk result (λ client. live_of client ≡ None) }
         ensures place { IfOk result (λ client. place_of client ≡ me) }
+
+        // No stamp of a server is known.
+        ensures stamps { IfOk result (λ client. stamps_of client ≡ unstamped (state_of client).held) }
 
         // All acts hold in turn, are guarded by their reads, and have spellings.
         ensures hold { IfOk result (λ client. AllHold (state_of client)) }
@@ -170,6 +174,7 @@ impl<D: Disk> Client<D> {
         ensures images { SameImages (D.medium.may_leave (disk_of self.old)) (D.medium.may_leave (disk_of self.new)) }
         ensures faults { D.medium.faults (disk_of self.new) ≡ D.medium.faults (disk_of self.old) }
         ensures state { state_of self.new ≡ state_of self.old }
+        ensures stamps { stamps_of self.new ≡ stamps_of self.old }
         ensures place { place_of self.new ≡ place_of self.old }
         ensures live { live_of self.new ≡ live_of self.old }
         ensures records { records_of self.new ≡ records_of self.old }

@@ -44,7 +44,8 @@ pub enum ClientFault {
     #[error("the first transaction is not in manual repair")]
     NotManual,
 
-    /// The bytes are no reply of the kind that the call takes. `at` is the offset of their first fault, and 0 if they are another reply.
+    /// The bytes are no reply of the kind that the call takes. `at` is the offset of their first fault, 0 if they are another reply, and
+    /// their length if what they bring makes no tree.
     #[error("no such reply, from offset {at} on")]
     BadReply { at: u64 },
 }

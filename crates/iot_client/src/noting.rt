@@ -1,7 +1,6 @@
 //! The one place where what is durable of a client changes.
 ghost use Rattle.std.specs.Prelude.{◌≡◌, IfErr, OnOk, IsErrOf};
 ghost use Rattle.iot_changes.specs.Rules.{IsChange};
-ghost use Rattle.iot_changes.specs.Spelling.{change_spelling};
 ghost use Rattle.iot_kept.specs.Changes.{CanFollow};
 ghost use Rattle.iot_kept.specs.Kept.{IsSynced};
 ghost use Rattle.iot_kept.specs.Memory.{class_after};
@@ -34,31 +33,6 @@ impl<D: Disk> Client<D> {
             (state_of self.old) (bodies_on D.medium self.old) (D.medium.may_leave (disk_of self.new)) }
     {
         self.kept.note(alloc, change)?;
-        Ok(())
-    }
-
-    /// The same, if the spelling of the change is at hand.
-    pub(crate) fn note_spelled(
-        &mut self,
-        alloc: Global,
-        change: Change,
-        spelling: &[u8],
-    ) -> Result<(), ClientFault>
-        requires synced { IsSynced D.medium self.old.kept }
-        requires change { IsChange change }
-        requires follows { CanFollow (state_of self.old) change }
-        requires spelled { spelling.now ≡ change_spelling change }
-        ensures notes { OnOk result (Notes change self.old self.new) }
-        ensures class { OnOk result (class_in self.new ≡ class_after change (class_in self.old)) }
-        ensures synced { OnOk result (IsSynced D.medium self.new.kept) }
-        ensures interpreter { self.new.interpreter ≡ self.old.interpreter }
-        ensures fails { IfErr result MayFail }
-        ensures counts { CountsFault result (D.medium.faults (disk_of self.old)) (D.medium.faults (disk_of self.new)) }
-        ensures arms { D.medium.arms (disk_of self.new) ≡ D.medium.arms (disk_of self.old) }
-        ensures stopped { IsErrOf result ClientFault.Stopped → CutsOff change
-            (state_of self.old) (bodies_on D.medium self.old) (D.medium.may_leave (disk_of self.new)) }
-    {
-        self.kept.note_spelled(alloc, change, spelling)?;
         Ok(())
     }
 

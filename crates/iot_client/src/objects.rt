@@ -1,10 +1,12 @@
 //! Asking for objects, and holding what a reply brings.
-ghost use Rattle.std.specs.Prelude.{◌≡◌, ◌≤◌, None, IfOk, IfErr, OnOk, IsErrOf};
+ghost use Rattle.std.specs.Prelude.{◌≡◌, ◌≤◌, None, Ok, IfOk, OnOk, IsErrOf};
+ghost use Rattle.iot_kept.specs.Bringing.{brought_for};
 ghost use Rattle.iot_kept.specs.Changes.{CanFollow};
-ghost use Rattle.iot_client.specs.Calls.{unready, RefusesFor, RefusesReply, Notes, Brings, CutsOff, CutsOffByTree};
-ghost use Rattle.iot_client.specs.Faults.{CountsFault, MayFail};
+ghost use Rattle.iot_kept.specs.Kept.{IsSynced};
+ghost use Rattle.iot_client.specs.Calls.{unready, RefusesFor, RefusesReply, EndsBy, Brings, CutsOffByTree};
+ghost use Rattle.iot_client.specs.Faults.{CountsFault};
 ghost use Rattle.iot_wire.specs.Meanings.{IsRefresh};
-ghost use Rattle.iot_client.specs.Messages.{objects_in, ReadsObjects};
+ghost use Rattle.iot_client.specs.Messages.{objects_in, MakesTree, ReadsObjects};
 ghost use Rattle.iot_wire.specs.Messages.{IsMessage};
 ghost use Rattle.iot_wire.specs.Rules.{IsReply};
 ghost use Rattle.iot_wire.specs.Spelling.{reply_spelling};
@@ -12,15 +14,16 @@ ghost use Rattle.iot_wire.specs.declared.replies.Reply.TheVariants.{Objects};
 
 use crate::client::Client;
 use crate::fault::ClientFault;
-use crate::replies::objects;
+use crate::replies::{bad_at_its_end, objects};
 use crate::requests::refresh;
 use iot_disk::Disk;
-use iot_kept::Change;
-use iot_tree::{Duplicate, Tree, Want};
+use iot_kept::{BringFault, Purpose};
+use iot_text::{NoMemory, Text};
+use iot_tree::{Changes, Duplicate, Want};
 use std::alloc::Global;
 
 impl<D: Disk> Client<D> {
-    ghost use Rattle.iot_client.specs.Ties.{state_of, place_of, disk_of, bodies_on, live_of, IsTied};
+    ghost use Rattle.iot_client.specs.Ties.{state_of, stamps_of, place_of, disk_of, bodies_on, class_in, live_of, IsTied};
 
     /// The request for what is wanted, and for what is known of the held tree. It changes nothing.
     ///
@@ -29,57 +32,80 @@ impl<D: Disk> Client<D> {
     /// `Busy` if a transaction runs, `Pending` if one waits, `NoMemory`.
     pub fn ask(&self, alloc: Global, want: &Want) -> Result<Vec<u8>, ClientFault>
         requires { place_of self.now ≤ 7 }
-        ensures request { IfOk result (λ bytes. IsRefresh (place_of self.now) (state_of self.now).held want.now bytes.items) }
+        ensures request { IfOk result (λ bytes. IsRefresh (place_of self.now) (stamps_of self.now) want.now bytes.items) }
         ensures refuses { RefusesFor (unready (state_of self.now).running (state_of self.now).items) result }
     {
         match self.unready() {
             Some(fault) => Err(fault),
-            None => Ok(refresh(alloc, self.me, self.kept.held(), want.copy(alloc)?)?.into_bytes()),
+            None => Ok(self.request_for(alloc, want.copy(alloc)?)?.into_bytes()),
         }
     }
 
-    /// Holds the tree that the reply brings. Appends one record, as long as the tree.
+    /// Merges the changes that the reply brings into the held tree. Appends one record, as long as that tree; a reply that brings nothing
+    /// costs no more than to append it.
     ///
     /// # Errors
     ///
-    /// `Busy` if a transaction runs, `Pending` if one waits, `BadReply` if the bytes are no reply that brings a tree, `NoMemory`,
-    /// `Stopped`.
+    /// `Busy` if a transaction runs, `Pending` if one waits, `BadReply` if the bytes are no reply that brings changes, or, at their end, if
+    /// these make no tree of the held one, `NoMemory`, `Stopped`.
     pub fn take_objects(&mut self, alloc: Global, reply: &[u8]) -> Result<(), ClientFault>
         requires { IsTied D.medium self.old }
-        ensures brings { OnOk result (Brings (λ tree. Change.Held tree) reply.now self.old self.new) }
+        ensures brings { OnOk result (Brings Purpose.Hold reply.now self.old self.new) }
         ensures only { ReadsObjects reply.now }
         ensures live { OnOk result (live_of self.new ≡ None) }
         ensures tied { OnOk result (IsTied D.medium self.new) }
-        ensures refuses { RefusesReply (unready (state_of self.old).running (state_of self.old).items) (objects_in reply.now)
-            self.old self.new result }
+        ensures refuses { RefusesReply (unready (state_of self.old).running (state_of self.old).items)
+            (MakesTree (stamps_of self.old) reply.now) self.old self.new result }
         ensures counts { CountsFault result (D.medium.faults (disk_of self.old)) (D.medium.faults (disk_of self.new)) }
         ensures arms { D.medium.arms (disk_of self.new) ≡ D.medium.arms (disk_of self.old) }
-        ensures stopped { IsErrOf result ClientFault.Stopped → CutsOffByTree (λ tree. Change.Held tree) reply.now
-            (state_of self.old) (bodies_on D.medium self.old) (D.medium.may_leave (disk_of self.new)) }
+        ensures stopped { IsErrOf result ClientFault.Stopped → CutsOffByTree Purpose.Hold reply.now
+            (stamps_of self.old) (state_of self.old) (bodies_on D.medium self.old) (D.medium.may_leave (disk_of self.new)) }
     {
         match self.unready() {
             Some(refusal) => Err(refusal),
             None => {
-                let tree = objects(alloc, reply)?;
-                self.hold(alloc, tree, reply)
+                let changes = objects(alloc, reply)?;
+                self.bring(alloc, changes, Purpose::Hold, reply)
             }
         }
     }
 
-    /// Holds the tree. The reply that brings it is the record of that, as it stands.
-    fn hold(&mut self, alloc: Global, tree: Tree, reply: &[u8]) -> Result<(), ClientFault>
-        requires tied { IsTied D.medium self.old }
-        requires spelled { IsMessage IsReply reply_spelling reply.now (Objects tree) }
-        requires follows { CanFollow (state_of self.old) (Change.Held tree) }
-        ensures notes { OnOk result (Notes (Change.Held tree) self.old self.new) }
-        ensures live { OnOk result (live_of self.new ≡ None) }
-        ensures tied { OnOk result (IsTied D.medium self.new) }
-        ensures fails { IfErr result MayFail }
+    /// The request for what is known, and for what is wanted.
+    pub(crate) fn request_for(&self, alloc: Global, want: Want) -> Result<Text, NoMemory>
+        requires { place_of self.now ≤ 7 }
+        ensures { IfOk result (IsRefresh (place_of self.now) (stamps_of self.now) want) }
+    {
+        let known = self.kept.known_with_stamps(alloc)?;
+        refresh(alloc, self.me, known, want)
+    }
+
+    /// Merges the changes that the reply brings into the held tree, for this purpose.
+    pub(crate) fn bring(
+        &mut self,
+        alloc: Global,
+        changes: Changes,
+        purpose: Purpose,
+        reply: &[u8],
+    ) -> Result<(), ClientFault>
+        requires synced { IsSynced D.medium self.old.kept }
+        requires read { objects_in reply.now ≡ Ok changes }
+        requires spelled { IsMessage IsReply reply_spelling reply.now (Objects changes) }
+        requires follows { CanFollow (state_of self.old) (brought_for purpose (state_of self.old).held) }
+        ensures brings { OnOk result (Brings purpose reply.now self.old self.new) }
+        ensures class { OnOk result (class_in self.new ≡ class_in self.old) }
+        ensures synced { OnOk result (IsSynced D.medium self.new.kept) }
+        ensures interpreter { self.new.interpreter ≡ self.old.interpreter }
+        ensures ends { EndsBy (MakesTree (stamps_of self.old) reply.now) self.old self.new result }
         ensures counts { CountsFault result (D.medium.faults (disk_of self.old)) (D.medium.faults (disk_of self.new)) }
         ensures arms { D.medium.arms (disk_of self.new) ≡ D.medium.arms (disk_of self.old) }
-        ensures stopped { IsErrOf result ClientFault.Stopped → CutsOff (Change.Held tree)
-            (state_of self.old) (bodies_on D.medium self.old) (D.medium.may_leave (disk_of self.new)) }
+        ensures stopped { IsErrOf result ClientFault.Stopped → CutsOffByTree purpose reply.now
+            (stamps_of self.old) (state_of self.old) (bodies_on D.medium self.old) (D.medium.may_leave (disk_of self.new)) }
     {
-        self.note_spelled(alloc, Change::Held(tree), reply)
+        match self.kept.bring(alloc, changes, purpose) {
+            Ok(()) => Ok(()),
+            Err(BringFault::NoMemory) => Err(ClientFault::NoMemory),
+            Err(BringFault::Stopped) => Err(ClientFault::Stopped),
+            Err(BringFault::NoTree) => Err(bad_at_its_end(reply)),
+        }
     }
 }

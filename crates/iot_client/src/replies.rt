@@ -1,6 +1,5 @@
 //! What a client reads of the server's replies.
-ghost use Rattle.std.specs.Prelude.{◌≡◌, IfOk, IfErr};
-ghost use Rattle.iot_tree.specs.Tree.{IsWhole};
+ghost use Rattle.std.specs.Prelude.{◌≡◌, IfOk, IfErr, length};
 ghost use Rattle.std.specs.List.{list_all};
 ghost use Rattle.iot_client.specs.Faults.{IsNoStop};
 ghost use Rattle.iot_client.specs.Messages.{is_known_row};
@@ -8,52 +7,66 @@ ghost use Rattle.iot_wire.specs.Messages.{IsMessage};
 ghost use Rattle.iot_wire.specs.Rules.{IsReply};
 ghost use Rattle.iot_wire.specs.Spelling.{reply_spelling};
 ghost use Rattle.iot_wire.specs.declared.replies.Reply.TheVariants.{Objects};
-ghost use Rattle.iot_client.specs.Messages.{objects_in, whole_in, is_whole, noted_in, Reads, ReadsObjects, ReadsNoted, IsToldBy};
+ghost use Rattle.iot_client.specs.Messages.{objects_in, MakesWhole, MakesOf, ReadsAs, is_whole, noted_in, Reads, ReadsObjects};
+ghost use Rattle.iot_client.specs.Messages.{ReadsNoted, IsToldBy};
 
 use crate::fault::ClientFault;
 use crate::noted::Noted;
+use iot_held::{Held, MergeFault};
 use iot_text::Path;
-use iot_tree::{Node, Tree};
+use iot_tree::{Changes, Node, Tree};
 use iot_wire::{Reply, read_reply};
 use std::alloc::Global;
 
-/// The tree of a reply that brings one.
+/// The changes of a reply that brings some.
 ///
 /// # Errors
 ///
 /// `BadReply` exactly if the bytes are no such reply, at the first fault, or at 0 if they are another one; `NoMemory`.
-pub(crate) fn objects(alloc: Global, reply: &[u8]) -> Result<Tree, ClientFault>
+pub(crate) fn objects(alloc: Global, reply: &[u8]) -> Result<Changes, ClientFault>
     ensures reads { Reads (objects_in reply.now) result }
-    ensures found { IfOk result (λ tree. IsMessage IsReply reply_spelling reply.now (Objects tree)) }
+    ensures found { IfOk result (λ changes. IsMessage IsReply reply_spelling reply.now (Objects changes)) }
     ensures only { ReadsObjects reply.now }
     ensures fault { IfErr result IsNoStop }
 {
     match read_reply(alloc, reply)? {
-        Reply::Objects(tree) => Ok(tree),
+        Reply::Objects(changes) => Ok(changes),
         _ => Err(ClientFault::BadReply { at: 0 }),
     }
 }
 
-/// The whole tree of a reply that brings one.
+/// The whole tree that a reply makes of nothing.
 ///
 /// # Errors
 ///
-/// `BadReply` exactly if the bytes are no such reply: at the first fault, at 0 if they are another one, and at their end if the tree
-/// is not whole; `NoMemory`.
-pub(crate) fn whole(alloc: Global, reply: &[u8]) -> Result<Tree, ClientFault>
-    ensures reads { Reads (whole_in reply.now) result }
-    ensures found { IfOk result (λ tree. IsMessage IsReply reply_spelling reply.now (Objects tree)) }
-    ensures whole { IfOk result IsWhole }
+/// `BadReply` exactly if the bytes are no reply that makes one: at the first fault, at 0 if they are another reply, and at their end if
+/// what they make is no whole tree; `NoMemory`.
+pub(crate) fn whole(alloc: Global, reply: &[u8]) -> Result<Held, ClientFault>
+    ensures makes { ReadsAs (MakesWhole reply.now) result }
+    ensures found { IfOk result (MakesOf reply.now) }
     ensures only { ReadsObjects reply.now }
     ensures fault { IfErr result IsNoStop }
 {
-    let tree = objects(alloc, reply)?;
-    if !is_whole(&tree) {
-        return Err(ClientFault::BadReply {
-            at: reply.len() as u64,
-        });
+    let changes = objects(alloc, reply)?;
+    let mut held = Held::new(alloc)?;
+    match held.merge(alloc, changes) {
+        Ok(()) => (),
+        Err(MergeFault::NoMemory) => return Err(ClientFault::NoMemory),
+        Err(MergeFault::NoTree) => return Err(bad_at_its_end(reply)),
     }
-    Ok(tree)
+    if !is_whole(held.tree()) {
+        return Err(bad_at_its_end(reply));
+    }
+    Ok(held)
+}
+
+/// What the reply makes is no tree that the call takes.
+pub(crate) fn bad_at_its_end(reply: &[u8]) -> ClientFault
+    ensures { result ≡ ClientFault.BadReply (length reply.now) }
+{
+    ClientFault::BadReply {
+        at: reply.len() as u64,
+    }
 }
 
 /// Whether the inside of every object of the tree is known.
@@ -74,7 +87,7 @@ fn all_known(rows: &[(Path, Node)]) -> bool
 ///
 /// # Errors
 ///
-/// `BadReply` exactly if the bytes are no reply, at the first fault, or bring a tree, at 0; `NoMemory`.
+/// `BadReply` exactly if the bytes are no reply, at the first fault, or bring changes, at 0; `NoMemory`.
 pub(crate) fn noted(alloc: Global, reply: &[u8]) -> Result<Noted, ClientFault>
     ensures reads { Reads (noted_in reply.now) result }
     ensures found { IfOk result (IsToldBy reply.now) }

@@ -1,8 +1,8 @@
 //! What a client sends to the server.
 ghost use Rattle.std.specs.Prelude.{◌≡◌, ◌≤◌, IfOk};
-ghost use Rattle.std.specs.List.{AllByRecursion};
-ghost use Rattle.iot_text.specs.Paths.{IsPath};
-ghost use Rattle.iot_codec.specs.Rules.{IsWant, IsLabel};
+ghost use Rattle.iot_codec.specs.Rules.{AreKnown, IsWant, IsLabel};
+ghost use Rattle.iot_stamp.specs.Refresh.{known_with_stamps};
+ghost use Rattle.iot_stamp.specs.Stamps.{Stamps};
 ghost use Rattle.iot_changes.specs.Rules.{IsResolution};
 ghost use Rattle.iot_kept.specs.Spelled.{IsSpelledItem};
 ghost use Rattle.iot_wire.specs.Meanings.{IsRefresh};
@@ -10,20 +10,23 @@ ghost use Rattle.iot_client.specs.Messages.{IsCommit, label_in, IsWholeRequest};
 ghost use Rattle.iot_client.specs.Messages.{IsResolvedCommit, resolved_label, way_of, IsAsked};
 
 use crate::asks::Ask;
-use iot_prune::known;
 use iot_queue::{Item, Resolution, Stage};
 use iot_text::{Name, NoMemory, Path, Text};
-use iot_tree::{ACT_LIMIT, Duplicate, Files, Label, OnConflict, Paths, Tree, Want, Way};
+use iot_tree::{ACT_LIMIT, Duplicate, Files, Known, Label, OnConflict, Want, Way};
 use iot_wire::{Request, write_request};
 use std::alloc::Global;
 
-/// The request for what is known of the held tree, and for what is wanted.
-pub(crate) fn refresh(alloc: Global, client: u64, held: &Tree, want: Want) -> Result<Text, NoMemory>
-    requires { client ≤ 7 }
-    ensures { IfOk result (IsRefresh client held.now want) }
+/// The request for what is known of the held tree, with its stamps, and for what is wanted.
+pub(crate) fn refresh(
+    alloc: Global,
+    client: u64,
+    known: Known,
+    want: Want,
+) -> Result<Text, NoMemory>
+    requires client { client ≤ 7 }
+    requires known { AreKnown known }
+    ensures { (held : Stamps) → known ≡ known_with_stamps held → IfOk result (IsRefresh client held want) }
 {
-    let known = known(alloc, held)?;
-    each_is_path(known.as_slice());
     wants_path(&want);
     let request = Request::Refresh {
         client,
@@ -33,16 +36,7 @@ pub(crate) fn refresh(alloc: Global, client: u64, held: &Tree, want: Want) -> Re
     Ok(Text::from(write_request(alloc, &request)?))
 }
 
-/// A `Path` is always one, as its names say: so is each of these.
-fn each_is_path(paths: &[Path])
-    ensures { AllByRecursion IsPath paths.now }
-{
-    'paths: for path in paths {
-        let _names = path.names();
-    }
-}
-
-/// The same of the path that is wanted.
+/// A `Path` is always one, as its names say: so is the one that is wanted.
 fn wants_path(want: &Want)
     ensures { IsWant want.now }
 {
@@ -64,7 +58,7 @@ fn whole(alloc: Global, client: u64) -> Result<Text, NoMemory>
 {
     let request = Request::Refresh {
         client,
-        known: Paths::new(alloc),
+        known: Known::new(alloc),
         want: Want::Below(Path::root(alloc)),
     };
     Ok(Text::from(write_request(alloc, &request)?))

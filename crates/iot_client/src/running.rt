@@ -1,33 +1,36 @@
 //! The calls on the transaction that runs.
 ghost use Rattle.std.specs.Prelude.{◌≡◌, ◌≤◌, ◌+◌, Bool, [], true, None, Some, IsSome, IfOk, IfErr, OnOk, IfSome, IfNone, IsErrOf};
-ghost use Rattle.iot_codec.specs.Rules.{IsOption, IsTreeOfRows};
+ghost use Rattle.iot_codec.specs.Rules.{IsOption};
 ghost use Rattle.iot_text.specs.Names.{IsName};
 ghost use Rattle.iot_kept.specs.Changes.{CanFollow};
 ghost use Rattle.iot_kept.specs.States.{view};
-ghost use Rattle.iot_client.specs.Calls.{busy, idle, may_end, unended, Refuses, RefusesReply, Notes, Brings};
+ghost use Rattle.iot_client.specs.Calls.{busy, idle, may_end, unended, Refuses, RefusesReply, EndsBy, Notes, Brings};
 ghost use Rattle.iot_client.specs.Calls.{CutsOff, CutsOffByTree, CutsOffNextIfAny};
 ghost use Rattle.iot_client.specs.Calls.{second_class, IsFirstIfAny, StepIsIfAny, EndsIfAny, CutsIfAny};
 ghost use Rattle.iot_client.specs.Doing.{IsAble};
 ghost use Rattle.iot_client.specs.Faults.{CountsFault, MayFail};
-ghost use Rattle.iot_client.specs.Messages.{objects_in, ReadsObjects};
+ghost use Rattle.iot_client.specs.Messages.{objects_in, MakesTree, ReadsObjects};
+ghost use Rattle.iot_wire.specs.Messages.{IsMessage};
+ghost use Rattle.iot_wire.specs.Rules.{IsReply};
+ghost use Rattle.iot_wire.specs.Spelling.{reply_spelling};
+ghost use Rattle.iot_wire.specs.declared.replies.Reply.TheVariants.{Objects};
 
 use crate::client::Client;
 use crate::ended::Ended;
 use crate::fault::ClientFault;
 use crate::interpreter::{Decided, Interpreter, again_by, decide_by};
 use crate::replies::objects;
-use crate::requests::refresh;
 use crate::steps::Step;
 use iot_disk::Disk;
-use iot_kept::Change;
+use iot_kept::{Change, Purpose};
 use iot_lang::Script;
 use iot_text::{Name, NoMemory};
-use iot_tree::{Duplicate, OnConflict, Tree, Want};
+use iot_tree::{Changes, Duplicate, OnConflict, Want};
 use std::alloc::Global;
 use std::rc::Rc;
 
 impl<D: Disk> Client<D> {
-    ghost use Rattle.iot_client.specs.Ties.{state_of, place_of, disk_of, bodies_on, records_of, live_of, IsTied, IsBegunIfAny};
+    ghost use Rattle.iot_client.specs.Ties.{state_of, stamps_of, place_of, disk_of, bodies_on, records_of, live_of, IsTied, IsBegunIfAny};
 
     /// Begins a transaction of this script, and gives its number. A first-class one needs that none waits.
     ///
@@ -86,31 +89,33 @@ impl<D: Disk> Client<D> {
         }
     }
 
-    /// Holds the tree that the reply brings for the running transaction, which is first class and starts again. Appends one record, as
-    /// long as the tree.
+    /// Merges the changes that the reply brings into the held tree, for the running transaction, which is first class and starts again.
+    /// Appends one record, as long as that tree.
     ///
     /// # Errors
     ///
-    /// `Idle` if no transaction runs, `BadReply` if the bytes are no reply that brings a tree, `NoMemory`, `Stopped`.
+    /// `Idle` if no transaction runs, `BadReply` if the bytes are no reply that brings changes, or, at their end, if these make no tree of
+    /// the held one, `NoMemory`, `Stopped`.
     pub fn fetched(&mut self, alloc: Global, reply: &[u8]) -> Result<(), ClientFault>
         requires tied { IsTied D.medium self.old }
         requires begun { IsBegunIfAny (state_of self.old).running (live_of self.old) }
         requires first { IsFirstIfAny (live_of self.old) }
-        ensures brings { OnOk result (Brings (λ tree. Change.Fetched tree) reply.now self.old self.new) }
+        ensures brings { OnOk result (Brings Purpose.Fetch reply.now self.old self.new) }
         ensures only { ReadsObjects reply.now }
         ensures live { OnOk result (live_of self.new ≡ live_of self.old) }
         ensures tied { OnOk result (IsTied D.medium self.new) }
-        ensures refuses { RefusesReply (idle (state_of self.old).running) (objects_in reply.now) self.old self.new result }
+        ensures refuses { RefusesReply (idle (state_of self.old).running) (MakesTree (stamps_of self.old) reply.now)
+            self.old self.new result }
         ensures counts { CountsFault result (D.medium.faults (disk_of self.old)) (D.medium.faults (disk_of self.new)) }
         ensures arms { D.medium.arms (disk_of self.new) ≡ D.medium.arms (disk_of self.old) }
-        ensures stopped { IsErrOf result ClientFault.Stopped → CutsOffByTree (λ tree. Change.Fetched tree) reply.now
-            (state_of self.old) (bodies_on D.medium self.old) (D.medium.may_leave (disk_of self.new)) }
+        ensures stopped { IsErrOf result ClientFault.Stopped → CutsOffByTree Purpose.Fetch reply.now
+            (stamps_of self.old) (state_of self.old) (bodies_on D.medium self.old) (D.medium.may_leave (disk_of self.new)) }
     {
         match self.idle() {
             Some(fault) => Err(fault),
             None => {
-                let tree = objects(alloc, reply)?;
-                self.begin_again(alloc, tree)
+                let changes = objects(alloc, reply)?;
+                self.begin_again(alloc, changes, reply)
             }
         }
     }
@@ -119,6 +124,7 @@ impl<D: Disk> Client<D> {
     pub fn second(&mut self)
         requires { IsTied D.medium self.old }
         ensures state { state_of self.new ≡ state_of self.old }
+        ensures stamps { stamps_of self.new ≡ stamps_of self.old }
         ensures place { place_of self.new ≡ place_of self.old }
         ensures disk { disk_of self.new ≡ disk_of self.old }
         ensures records { records_of self.new ≡ records_of self.old }
@@ -184,7 +190,7 @@ impl<D: Disk> Client<D> {
 
 // What a call does that is not refused.
 impl<D: Disk> Client<D> {
-    ghost use Rattle.iot_client.specs.Ties.{state_of, place_of, disk_of, bodies_on, class_in, live_of, IsTied, IsBegunIfAny};
+    ghost use Rattle.iot_client.specs.Ties.{state_of, stamps_of, place_of, disk_of, bodies_on, class_in, live_of, IsTied, IsBegunIfAny};
 
     fn run(
         &mut self,
@@ -223,21 +229,27 @@ impl<D: Disk> Client<D> {
         Ok(number)
     }
 
-    fn begin_again(&mut self, alloc: Global, tree: Tree) -> Result<(), ClientFault>
+    fn begin_again(
+        &mut self,
+        alloc: Global,
+        changes: Changes,
+        reply: &[u8],
+    ) -> Result<(), ClientFault>
         requires tied { IsTied D.medium self.old }
-        requires spelled { IsTreeOfRows tree }
-        requires follows { CanFollow (state_of self.old) (Change.Fetched tree) }
-        ensures notes { OnOk result (Notes (Change.Fetched tree) self.old self.new) }
+        requires read { objects_in reply.now ≡ Ok changes }
+        requires spelled { IsMessage IsReply reply_spelling reply.now (Objects changes) }
+        requires follows { CanFollow (state_of self.old) (Change.Fetched (state_of self.old).held) }
+        ensures brings { OnOk result (Brings Purpose.Fetch reply.now self.old self.new) }
         ensures live { OnOk result (live_of self.new ≡ live_of self.old) }
         ensures tied { OnOk result (IsTied D.medium self.new) }
-        ensures fails { IfErr result MayFail }
+        ensures ends { EndsBy (MakesTree (stamps_of self.old) reply.now) self.old self.new result }
         ensures counts { CountsFault result (D.medium.faults (disk_of self.old)) (D.medium.faults (disk_of self.new)) }
         ensures arms { D.medium.arms (disk_of self.new) ≡ D.medium.arms (disk_of self.old) }
-        ensures stopped { IsErrOf result ClientFault.Stopped → CutsOff (Change.Fetched tree)
-            (state_of self.old) (bodies_on D.medium self.old) (D.medium.may_leave (disk_of self.new)) }
+        ensures stopped { IsErrOf result ClientFault.Stopped → CutsOffByTree Purpose.Fetch reply.now
+            (stamps_of self.old) (state_of self.old) (bodies_on D.medium self.old) (D.medium.may_leave (disk_of self.new)) }
     {
         let again = again_by(&self.interpreter, alloc)?;
-        self.note(alloc, Change::Fetched(tree))?;
+        self.bring(alloc, changes, Purpose::Fetch, reply)?;
         self.interpreter = again;
         Ok(())
     }
@@ -319,7 +331,7 @@ impl<D: Disk> Client<D> {
             }
             Decided::Missed(path) => {
                 let want = Want::Path(path.copy(alloc)?);
-                let request = refresh(alloc, self.me, self.kept.held(), want)?;
+                let request = self.request_for(alloc, want)?;
                 Ok(Step::Fetch { request, path })
             }
         }

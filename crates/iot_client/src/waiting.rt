@@ -3,13 +3,13 @@ ghost use Rattle.std.specs.Prelude.{◌≡◌, ◌≤◌, Ok, IfOk, IfErr, OnOk,
 ghost use Rattle.iot_acts.specs.Traces.{after_acts};
 ghost use Rattle.iot_changes.specs.Rules.{IsResolution};
 ghost use Rattle.iot_codec.specs.Rules.{IsTreeOfRows};
-ghost use Rattle.iot_held.specs.Fitting.{UpdatesFit};
+ghost use Rattle.iot_stamp.specs.Acting.{UpdatesFit};
 ghost use Rattle.iot_kept.specs.Changes.{HeadIs, IsSubmitted};
 ghost use Rattle.iot_kept.specs.States.{view};
 ghost use Rattle.iot_client.specs.Calls.{empty_queue, not_manual, RefusesFor, Refuses, RefusesReply, Notes, CutsOff, CutsOffByVerdict};
 ghost use Rattle.iot_client.specs.Calls.{HeadIsIfAny, verdict_change, IsPlanned, IsHeadsRun, Reruns, Resolves, CutsOffRerun, CutsOffByRun};
 ghost use Rattle.iot_client.specs.Faults.{CountsFault, MayFail};
-ghost use Rattle.iot_client.specs.Messages.{IsSubmission, whole_in, ReadsObjects, noted_in, ReadsNoted, IsToldBy};
+ghost use Rattle.iot_client.specs.Messages.{IsSubmission, MakesWhole, ReadsObjects, noted_in, ReadsNoted, IsToldBy};
 
 use crate::asks::Ask;
 use crate::client::Client;
@@ -18,7 +18,7 @@ use crate::noted::Noted;
 use crate::replies::{noted, whole};
 use crate::requests::ask_for;
 use iot_disk::Disk;
-use iot_held::Held;
+use iot_held::pass;
 use iot_kept::Change;
 use iot_lang::Script;
 use iot_queue::Resolution;
@@ -66,7 +66,8 @@ impl<D: Disk> Client<D> {
         ensures view { OnOk result (view (state_of self.new) ≡ view (state_of self.old)) }
         ensures live { OnOk result (live_of self.new ≡ live_of self.old) }
         ensures tied { OnOk result (IsTied D.medium self.new) }
-        ensures refuses { RefusesReply (empty_queue (state_of self.old).items) (noted_in reply.now) self.old self.new result }
+        ensures refuses { RefusesReply (empty_queue (state_of self.old).items) (λ read. noted_in reply.now ≡ read)
+            self.old self.new result }
         ensures counts { CountsFault result (D.medium.faults (disk_of self.old)) (D.medium.faults (disk_of self.new)) }
         ensures arms { D.medium.arms (disk_of self.new) ≡ D.medium.arms (disk_of self.old) }
         ensures stopped { IsErrOf result ClientFault.Stopped → CutsOffByVerdict reply.now
@@ -83,11 +84,12 @@ impl<D: Disk> Client<D> {
     }
 
     /// Runs this script, which is the one that is planned for the first transaction that waits, on the whole tree that the reply
-    /// brings: the transaction is to be submitted with that run. Copies the held tree and the server's once.
+    /// makes of nothing: the transaction is to be submitted with that run. Copies the held tree and the server's once.
     ///
     /// # Errors
     ///
-    /// `Nothing` if none waits, `BadReply` if the bytes are no reply that brings a whole tree, `NoMemory`, `Stopped`.
+    /// `Nothing` if none waits, `BadReply` if the bytes are no reply that makes one, at their end if what it makes is not whole,
+    /// `NoMemory`, `Stopped`.
     pub fn resolve(
         &mut self,
         alloc: Global,
@@ -101,7 +103,7 @@ impl<D: Disk> Client<D> {
         ensures view { OnOk result (view (state_of self.new) ≡ view (state_of self.old)) }
         ensures live { OnOk result (live_of self.new ≡ live_of self.old) }
         ensures tied { OnOk result (IsTied D.medium self.new) }
-        ensures refuses { RefusesReply (empty_queue (state_of self.old).items) (whole_in reply.now) self.old self.new result }
+        ensures refuses { RefusesReply (empty_queue (state_of self.old).items) (MakesWhole reply.now) self.old self.new result }
         ensures counts { CountsFault result (D.medium.faults (disk_of self.old)) (D.medium.faults (disk_of self.new)) }
         ensures arms { D.medium.arms (disk_of self.new) ≡ D.medium.arms (disk_of self.old) }
         ensures stopped { IsErrOf result ClientFault.Stopped → CutsOffByRun reply.now script.value
@@ -111,7 +113,7 @@ impl<D: Disk> Client<D> {
             Some(fault) => Err(fault),
             None => {
                 let server = whole(alloc, reply)?;
-                self.run_again(alloc, script, &server)
+                self.run_again(alloc, script, server.tree())
             }
         }
     }
@@ -208,21 +210,20 @@ impl<D: Disk> Client<D> {
         };
         let local = local_tree(alloc, self.kept.held(), plan.keeps, &head.acts)?;
         let _block = script.block();
-        resolve(alloc, &plan, script, local.tree(), server)
+        resolve(alloc, &plan, script, &local, server)
     }
 }
 
 /// The held tree after the acts, if a run keeps files of it. Any other run does not look at it, and then it is the held one as it is.
-fn local_tree(alloc: Global, held: &Tree, keeps: bool, acts: &Acts) -> Result<Held, NoMemory>
+fn local_tree(alloc: Global, held: &Tree, keeps: bool, acts: &Acts) -> Result<Tree, NoMemory>
     requires { UpdatesFit held.now acts.now }
     ensures { IfOk result (λ local. keeps ≡ true → local ≡ after_acts held.now acts.now) }
 {
-    let mut local = Held::new(alloc)?;
-    local.merge(held.copy(alloc)?);
+    let mut local = held.copy(alloc)?;
     if !keeps {
         return Ok(local);
     }
-    local.pass_in_place(alloc, acts)?;
+    pass(alloc, &mut local, acts.as_slice())?;
     Ok(local)
 }
 

@@ -1,5 +1,5 @@
 use Rattle.std.proofs.Common.{List, ℕ, Option, ap, refl, subst, ◌∙◌}
-use Rattle.iot_tree.specs.Tree.{Path, Nodes}
+use Rattle.iot_tree.specs.Tree.{Path}
 use Rattle.iot_tree.specs.declared.want.Want.TheVariants as wants
 use Rattle.iot_changes.specs.declared.changes.Change.TheVariants.{Acted}
 use Rattle.iot_kept.specs.Changes.{after}
@@ -7,7 +7,7 @@ use Rattle.iot_kept.specs.States.{view}
 use Rattle.iot_kept.proofs.SyncedLaws.{synced_holds, synced_spelled}
 use Rattle.iot_wire.specs.Meanings.{IsRefresh}
 use Rattle.iot_client.specs.declared.interpreter.Decided.TheVariants.{Did, Missed}
-use Rattle.iot_client.specs.Ties.{state_of, bodies_on, disk_of, class_in, live}
+use Rattle.iot_client.specs.Ties.{state_of, stamps_of, bodies_on, disk_of, class_in, live}
 use Rattle.iot_client.specs.declared.fault.ClientFault.TheVariants.{Stopped}
 use Rattle.iot_client.specs.declared.interpreter.Interpreter.{Interpreter}
 use Rattle.iot_client.proofs.DoingLaws.{decided_can, decided_did, decided_misses, decided_on, follows, lives_on, next_in_doubt}
@@ -76,6 +76,7 @@ returns-in_ok-note-in-Did-clause-step g c =
     (record {
       follows = c.in_ok-note-in-Did.ensures.notes.follows;
       state = c.in_ok-note-in-Did.ensures.notes.state;
+      stamps = c.in_ok-note-in-Did.ensures.notes.stamps;
       place = c.in_ok-note-in-Did.ensures.notes.place;
       records = c.in_ok-note-in-Did.ensures.notes.records;
     })
@@ -108,6 +109,5 @@ returns-in_ok-request-in-Missed-clause-step g c =
     c.in-Missed.is c.view.ensures c.in_ok-decided.ensures in
     decided_misses old (class_in old) c.decide_by.new.interpreter c.is_first-first.result (view (state_of old)) c.in-Missed.path
     c.in_ok-request-in-Missed.request c.requires.tied.runs c.requires.runs c.is_first-first.ensures refl c.requires.able decided
-    (subst (λ (t : Nodes). IsRefresh old.me t (wants.Path c.in-Missed.path) request) c.held.ensures
-    (subst (λ (p : Path). IsRefresh old.me c.held.result.now (wants.Path p) request) c.in_ok-copy-in-Missed.ensures
-    c.in_ok-request-in-Missed.ensures))
+    (subst (λ (p : Path). IsRefresh old.me (stamps_of old) (wants.Path p) request) c.in_ok-copy-in-Missed.ensures
+    c.in_ok-request-in-Missed.ensures)

@@ -1,7 +1,9 @@
 use Rattle.std.proofs.Common.{arith}
 use Rattle.std.specs.Prelude.{IsSome}
-use Rattle.iot_client.specs.Ties.{state_of, class_in}
-use Rattle.iot_client.proofs.RepliesLaws.{only_objects, brings}
+use Rattle.iot_client.specs.Ties.{state_of, stamps_of, class_in}
+use Rattle.iot_tree.specs.Tree.{IsTree}
+use Rattle.iot_client.specs.Calls.{idle}
+use Rattle.iot_client.proofs.RepliesLaws.{only_objects, refuses_on}
 use Rattle.iot_client.proofs.StepsLaws.{none_waits, not_idle}
 use Rattle.iot_client.proofs.client.Client.fetched.Goals as goal
 
@@ -14,15 +16,8 @@ begin_again-requires-clause-follows g c =
 pub returns-in-Some-clause-only : goal.returns-in-Some-clause-only
 returns-in-Some-clause-only g c = only_objects c.args.reply.now (omega arith)
 
-pub returns-in_ok-tree-in-None-clause-brings : goal.returns-in_ok-tree-in-None-clause-brings
-returns-in_ok-tree-in-None-clause-brings g c =
-    brings c.begin_again.result _ c.args.reply.now c.args.self.now c.begin_again.new.self c.in_ok-tree-in-None.tree
-    c.in_ok-tree-in-None.ensures.reads c.in_ok-tree-in-None.ensures.found c.begin_again.ensures.notes
-
-pub returns-in_ok-tree-in-None-clause-stopped : goal.returns-in_ok-tree-in-None-clause-stopped
-returns-in_ok-tree-in-None-clause-stopped g c = λ is. record {
-  tree = c.in_ok-tree-in-None.tree;
-  brought = c.in_ok-tree-in-None.ensures.reads;
-  spelled = c.in_ok-tree-in-None.ensures.found;
-  cuts_off = c.begin_again.ensures.stopped is;
-}
+pub returns-in_err-changes-in-None-clause-refuses : goal.returns-in_err-changes-in-None-clause-refuses
+returns-in_err-changes-in-None-clause-refuses g c =
+    refuses_on IsTree (stamps_of c.args.self.now) c.args.reply.now c.in_err-changes-in-None.field-0.0
+    c.in_err-changes-in-None.ensures.reads c.args.self.now (idle (state_of c.args.self.now).running)
+    c.from_residual.result c.in-None.ensures.cause c.from_residual.ensures.1

@@ -3,7 +3,7 @@ use Rattle.std.proofs.lemmas.Result.{IfOk-weaker}
 use Rattle.iot_tree.specs.Tree.{Nodes}
 use Rattle.iot_acts.specs.Traces.{after_acts}
 use Rattle.iot_codec.specs.Rules.{IsTreeOfRows}
-use Rattle.iot_held.specs.Fitting.{UpdatesFit}
+use Rattle.iot_stamp.specs.Acting.{UpdatesFit}
 use Rattle.iot_lang.specs.Scripts.{IsScript}
 use Rattle.iot_queue.specs.Queues.{head_of}
 use Rattle.iot_resolve.specs.Resolved.{resolved}
@@ -34,9 +34,9 @@ run_is g c =
     IfOk-weaker c.resolve.result _ _
     (λ done is.
     is
-    ∙ same_run c.in-Some-plan_of.plan c.args.script.value c.tree.result.now
+    ∙ same_run c.in-Some-plan_of.plan c.args.script.value c.in_ok-local.local
     (after_acts (state_of c.args.self.now).held acts) c.args.server.now
-    (λ keeps. c.tree.ensures.value ∙ c.in_ok-local.ensures keeps ∙ ap (λ (t : Nodes). after_acts t acts) c.held.ensures))
+    (λ keeps. c.in_ok-local.ensures keeps ∙ ap (λ (t : Nodes). after_acts t acts) c.held.ensures))
     c.resolve.ensures.resolved
 
 pub returns-clause-run : goal.returns-clause-run
