@@ -5,7 +5,6 @@ use Rattle.std.proofs.Common.{◌≡◌, ◌+◌, ℕ, Bool, true, false, List, 
 use Rattle.std.proofs.Common.{refl, sym, ap, subst, ◌∙◌, length-append, rules, if◌then◌else◌, zero, suc, ◌-◌, ◌<◌, slice_get, arith}
 use Rattle.std.specs.Prelude.{IfOk, OnOk, IsErrOf, IfErr}
 use Rattle.std.proofs.lemmas.List.{append-nil}
-use Rattle.std.specs.Cmp.Derive.{both_true}
 use Rattle.std.specs.FinMap.{get, entries}
 use Rattle.std.specs.List.{AllByRecursion, list_all}
 use Rattle.std.proofs.lemmas.Option.{slice_get_within, same_Some}
@@ -16,9 +15,16 @@ use Rattle.iot_laptop.specs.Below.{KeepsDisk, Appended, UpStands, StepsFrom, Ans
 use Rattle.iot_laptop.specs.Below.{Between, no_text, name_of, SpellsVerdict, Laptop, Seated, Read, Resolution, Code, Ran, IsHeadsRun}
 use Rattle.iot_laptop.specs.Below.{may_end, verdict_change, CanAct, next_acts, StepIs, Plan, act_once, reach, resolution_of}
 use Rattle.iot_laptop.specs.Below.{transaction_name, acts_output, Gone, Act, Step, Path, FarDir, Item, HeadIs, Spells, reads_of, head_of}
-use Rattle.iot_tree.specs.Tree.{Row, IsWhole}
-use Rattle.iot_tree.specs.declared.nodes.Node.TheVariants.{Dir, File, FarFile}
-use Rattle.iot_client.specs.Messages.{ReadsObjects, ReadsNoted, noted_in, objects_in, is_known_row, is_whole, whole_tree, whole_in}
+use Rattle.iot_client.specs.Messages.{ReadsObjects, ReadsNoted, noted_in, objects_in, Makes, no_tree, no_changes}
+use Rattle.iot_codec.specs.Rules.{IsTreeOfRows}
+use Rattle.iot_kept.specs.Bringing.{brought_for, bringing}
+use Rattle.iot_kept.specs.declared.bringing.Purpose.{Purpose}
+use Rattle.iot_kept.proofs.BringingLaws.{brought_spelled}
+use Rattle.iot_kept.proofs.SyncedLaws.{synced_spelled}
+use Rattle.iot_tree.specs.declared.changes.Changes.{Changes as RowChanges}
+use Rattle.iot_laptop.specs.Below.{Stamps, nodes_of, stamps_of, brought, nothing_held}
+use Rattle.iot_laptop.specs.Laptops.{stamps_by, stamps_in}
+use Rattle.iot_laptop.proofs.TrailsLaws.{same_changes}
 use Rattle.iot_machine.proofs.PossiblyLaws.{possibly_sure, appends_possibly}
 use Rattle.iot_node.proofs.PostsLaws.{same_counts}
 use Rattle.iot_node.proofs.StepsToLaws.{bind, answers}
@@ -29,15 +35,12 @@ use Rattle.iot_changes.specs.declared.changes.Change.TheVariants.{Begun, Repaire
 use Rattle.iot_kept.specs.Standing.{Leads, IsRecord}
 use Rattle.iot_kept.proofs.StandingLaws.{leads_push}
 use Rattle.iot_client.specs.Calls.{CutsOff, Brings, CutsOffByTree, CutsOffByVerdict, CutsOffByRun, Resolves, Ends, EndsIfAny}
-use Rattle.iot_client.specs.Calls.{CutsOffNextIfAny, CutsOffNext, StepIsIfAny, empty_queue, RefusesReply}
+use Rattle.iot_client.specs.Calls.{CutsOffNextIfAny, CutsOffNext, StepIsIfAny, CutsOffRerun, Reruns, RefusesReply}
 use Rattle.iot_client.specs.Faults.{CountsFault, MayFail}
 use Rattle.iot_machine.specs.Nodes.{changed}
 use Rattle.iot_node.specs.Steps.{EndsBy}
 use Rattle.iot_client.proofs.SpelledLaws.{tree_spelled}
 use Rattle.iot_client.specs.declared.noted.Noted.{Noted as NotedIn}
-use Rattle.iot_tree.proofs.EachLaws.{each_entry}
-use Rattle.iot_tree.specs.Snapshots.{is_known}
-use Rattle.iot_tree.specs.declared.nodes.Node.{Node as TreeNode}
 use Rattle.iot_tree.specs.declared.questions.Answer.{Answer}
 use Rattle.iot_wire.specs.Messages.{IsOneMessage}
 use Rattle.iot_wire.specs.Rules.{IsReply}
@@ -68,37 +71,31 @@ use Rattle.iot_laptop.specs.Calls as calls
 
 -- ---- trees
 
--- the tree that was read is the one that the reply spells
-pub brought_tree : (reply : List ℕ) (tree t : Nodes) → ReadsObjects reply → objects_in reply ≡ Ok tree → SpellsTree reply t → tree ≡ t
-brought_tree reply tree t only brought spells = let read : objects_in reply ≡ Ok t = only t spells in cc
+-- the changes that are read are those of which the reply makes this tree
+pub spelled_changes : {reply : List ℕ} {held : Stamps} {t : Nodes} (read : RowChanges) → ReadsObjects reply → objects_in reply ≡ Ok read
+    → SpellsTree held reply t → nodes_of (brought held read) ≡ t
+spelled_changes {reply} {held} read only is spells =
+    ap (λ (changes : RowChanges). nodes_of (brought held changes)) (same_changes reply read spells.changes only is spells.spelled)
+    ∙ sym spells.is
 
-known_node : (t : Nodes) → IsWhole t → (path : Path) (node : TreeNode) → get t path ≡ Some node → is_known node ≡ true
-known_node t whole path Dir is = refl
-known_node t whole path (File bytes) is = refl
-known_node t whole path FarDir is = absurd (whole.no_far_dir path is)
-known_node t whole path FarFile is = absurd (whole.no_far_file path is)
+-- a call is not refused that reads a reply which makes such a tree
+pub none_bad : {D : Type 0} (old new : Client D) (Passes : Nodes → Type 0) {held : Stamps} {reply : List ℕ} {t : Nodes}
+    → ReadsObjects reply → SpellsTree held reply t → Passes t → (refusal : Option ClientFault) → refusal ≡ None
+    → (answer : Result (Unit {0}) ClientFault) → RefusesReply refusal (Makes Passes held reply) old new answer → IfErr answer MayFail
+none_bad old new Passes {held} {reply} {t} only spells passes (Some fault) none answer refuses = absurd cc
+none_bad old new Passes {held} {reply} {t} only spells passes None none answer refuses = by answer refuses
+  where
+    not_refused : (at : ℕ) → Makes Passes held reply (Err at) → ⊥
+    not_refused at (no_tree changes read fails) =
+        fails (subst Passes (sym (spelled_changes changes only read spells)) passes)
+    not_refused at (no_changes bad is) = let both : Ok spells.changes ≡ Err at = sym (only spells.changes spells.spelled) ∙ is in absurd cc
 
-all_known : (rows : List Row) → AllByRecursion (λ (row : Row). is_known row.1 ≡ true) rows → list_all is_known_row rows ≡ true
-all_known [] each = refl
-all_known (row ∷ rows) each = both_true each.0 (all_known rows each.1)
-
-whole_is : (t : Nodes) → IsWhole t → is_whole t ≡ true
-whole_is t whole = all_known (entries t) (each_entry (λ (path : Path) (node : TreeNode). is_known node ≡ true) t (known_node t whole))
-
-pub whole_read : (reply : List ℕ) (t : Nodes) → ReadsObjects reply → SpellsTree reply t → IsWhole t → whole_in reply ≡ Ok t
-whole_read reply t only spells whole =
-    ap (whole_tree (length reply)) (only t spells) ∙ ap (λ (b : Bool). if b then Ok t else Err (length reply)) (whole_is t whole)
-
--- a call that reads a reply which brings a whole tree may fail, and is not refused
-pub none_bad : {D : Type 0} (old new : Client D) (read : Result Nodes ℕ) (t : Nodes) → read ≡ Ok t → (Is : Item → Type 0)
-    (items : List Item) → HeadIs Is items → (answer : Result (Unit {0}) ClientFault) → RefusesReply (empty_queue items) read old new answer
-    → IfErr answer MayFail
-none_bad old new read t is Is [] some answer refuses = absurd some
-none_bad old new read t is Is (item ∷ items) some (Ok done) refuses = tt
-none_bad old new read t is Is (item ∷ items) some (Err faults.NoMemory) refuses = tt
-none_bad old new read t is Is (item ∷ items) some (Err faults.Stopped) refuses = tt
-none_bad old new read t is Is (item ∷ items) some (Err (faults.BadReply at)) refuses = let bad : read ≡ Err at = refuses.0 in absurd cc
-none_bad old new read t is Is (item ∷ items) some (Err other) refuses = absurd refuses
+    by : (answer : Result (Unit {0}) ClientFault) → RefusesReply None (Makes Passes held reply) old new answer → IfErr answer MayFail
+    by (Ok t) refuses = tt
+    by (Err faults.NoMemory) refuses = tt
+    by (Err faults.Stopped) refuses = tt
+    by (Err (faults.BadReply at)) refuses = absurd (not_refused at refuses.0)
+    by (Err other) refuses = absurd refuses
 
 -- ---- verdicts
 
@@ -373,24 +370,32 @@ module _ {D T : Type 0} {medium : Medium D} {laptop : Laptop D} {was now : Clien
   pub leaves : Noted medium was now answer Left (live_of was) → Changes medium leave laptop new x y (done result)
   leaves noted scripts = alone scripts leave Left (live_of was) noted (λ m here. left_live here)
 
-  -- the change by the tree that the reply spells
-  pub brings : {brought_by : Nodes → Change} {other : Nodes → ClientState → ClientState} {live : Option Live} {reply : List ℕ}
-      → ReadsObjects reply → OnOk answer (Brings brought_by reply was now) → OnOk answer (live_of now ≡ live)
-      → (IsErrOf answer Stopped → CutsOffByTree brought_by reply s (bodies_on medium was) (medium.may_leave (disk_of now)))
+  -- the change by the tree that the reply makes
+  pub brings : {purpose : Purpose} {other : Nodes → ClientState → ClientState} {live : Option Live} {reply : List ℕ}
+      → IsTied medium was → ReadsObjects reply → OnOk answer (Brings purpose reply was now) → OnOk answer (live_of now ≡ live)
+      → (IsErrOf answer Stopped
+      → CutsOffByTree purpose reply (stamps_of was) s (bodies_on medium was) (medium.may_leave (disk_of now)))
       → ((scripts : List Declared) (first : Bool) (m : ClientState) → KeptLive scripts s (live_of was) first m → (t : Nodes)
-      → CanFollow s (brought_by t) → IsTree t → IsSpelledTree t → KeptLive scripts (after s (brought_by t)) live first (other t m))
-      → (t : Nodes) → SpellsTree reply t → Changes medium (other t) laptop new x y (done result)
-  brings {brought_by} {other} {live} {reply} only brought lives stops known t spells scripts =
-      alone scripts (other t) (brought_by t) live
+      → CanFollow s (brought_for purpose t) → IsTree t → IsSpelledTree t
+      → KeptLive scripts (after s (brought_for purpose t)) live first (other t m))
+      → (t : Nodes) → SpellsTree (stamps_in laptop) reply t → Changes medium (other t) laptop new x y (done result)
+  brings {purpose} {other} {live} {reply} tied only brought_by lives stops known t spells_it scripts =
+      let spells : SpellsTree (stamps_of was) reply t =
+      subst (λ (held : Stamps). SpellsTree held reply t) (ap stamps_by up) spells_it in
+      let is : (read : RowChanges) → objects_in reply ≡ Ok read → bringing purpose (stamps_of was) read ≡ brought_for purpose t =
+      λ read of. ap (brought_for purpose) (spelled_changes read only of spells) in
+      let rows : IsTreeOfRows t =
+      subst IsTreeOfRows (sym spells.is)
+      (brought_spelled (stamps_of was) spells.changes (synced_spelled medium was.kept tied.synced).held spells.spelled.value
+      (subst IsTree spells.is spells.tree)) in
+      alone scripts (other t) (brought_for purpose t) live
       (record {
         notes = IfOk-weaker answer _ _ (λ u it.
-            rw (brought_tree reply it.tree t only it.brought spells) at it.notes) brought;
+            subst (λ (change : Change). Notes change was now) (is it.changes it.read) it.notes) brought_by;
         lives = lives;
-        stops = λ stopped.
-            let it = stops stopped in
-            rw (brought_tree reply it.tree t only it.brought spells) at it.cuts_off;
+        stops = λ stopped. let it = stops stopped in subst cuts (is it.changes it.read) it.cuts_off;
       })
-      (λ m here follows. known scripts m.first m.node.durable here t follows spells.value.tree (tree_spelled t spells.value))
+      (λ m here follows. known scripts m.first m.node.durable here t follows spells.tree (tree_spelled t rows))
 
   -- the next transaction begins
   pub begins : (number : T → ℕ) (script : Declared) (option : OnConflictNamed) (first : Bool) → IsScript script.code
@@ -445,22 +450,23 @@ module _ {D T : Type 0} {medium : Medium D} {laptop : Laptop D} {was now : Clien
   pub resolves : (reply : List ℕ) (code : Code) → IsScript code → ReadsObjects reply → OnOk answer (Resolves reply code was now)
       → OnOk answer (live_of now ≡ live_of was)
       → (IsErrOf answer Stopped → CutsOffByRun reply code s (bodies_on medium was) (medium.may_leave (disk_of now)))
-      → (t : Nodes) → SpellsTree reply t → (scripts : List Declared) (plan : Plan) → Plans medium scripts laptop plan
+      → (t : Nodes) → SpellsTree nothing_held reply t → (scripts : List Declared) (plan : Plan) → Plans medium scripts laptop plan
       → plan.script.code ≡ code → calls.Resolves medium scripts plan t laptop new x y (done result)
   resolves reply code script only ran lives stops t spells scripts plan plans same =
       let stage : clients.Stage = clients.Resolved (resolution_of plan t) in
       ends_alone scripts (reach stage) (λ b. b) (λ m here known.
       let live : (done : Resolution) → IsHeadsRun s.held s.items code t done
       → KeptLive scripts (after s (Resolved done)) (live_of was) m.first (reach stage m.node.durable) =
-      resolved_live known plan (plans m here) code same script t spells.value.tree in
+      resolved_live known plan (plans m here) code same script t spells.tree in
       record {
         live = live_of was;
         ok = if_two answer ran lives (λ u it lives.
-            let reruns = rw (brought_tree reply it.tree t only (only it.tree it.spelled) spells) at it.reruns in
+            let reruns = subst (λ (u : Nodes). Reruns code u was now) (spelled_changes it.changes only it.read spells) it.reruns in
             (Resolved reruns.done, reruns.notes, rw lives (live reruns.done reruns.run)));
         cut = λ stopped.
             let it = stops stopped in
-            let rerun = rw (brought_tree reply it.tree t only (only it.tree it.spelled) spells) at it.reruns in
+            let rerun = subst (λ (u : Nodes). CutsOffRerun code u s (bodies_on medium was) (medium.may_leave (disk_of now)))
+            (spelled_changes it.changes only it.read spells) it.reruns in
             (Resolved rerun.done, rerun.cuts_off, live rerun.done rerun.run);
       })
       (λ steps. steps) (λ steps. steps)
@@ -560,8 +566,8 @@ module _ {D : Type 0} {medium : Medium D} {laptop : Laptop D} {was now : Client 
       let kept = stays (steps.Fetch request path) same it.2.1.stays in (
         kept.0,
         kept.1,
-        subst (λ (p : Post (Seated D) D). IsRefresh laptop.place (state_by p).held (wants.Path path) request) (sym up)
-            (subst (λ (p : ℕ). IsRefresh p (state_of was).held (wants.Path path) request) placed it.2.0),
+        subst (λ (p : Post (Seated D) D). IsRefresh laptop.place (stamps_by p) (wants.Path path) request) (sym up)
+            (subst (λ (p : ℕ). IsRefresh p (stamps_of was) (wants.Path path) request) placed it.2.0),
         subst (λ (p : Post (Seated D) D). IsFirstOf (live_by p)) (sym up) (subst IsFirstOf (sym it.1) it.2.1.first),
       )
   steps_by (Ok (steps.AtEnd acts)) same = stays (steps.AtEnd acts) same (did (steps.AtEnd acts) same).2.2

@@ -1,4 +1,5 @@
 pub mod CallsLaws
+pub mod TrailsLaws
 pub mod KeptStatesLaws
 pub mod LaptopsLaws
 pub mod NodesLaws

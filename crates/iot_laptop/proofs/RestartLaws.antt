@@ -7,6 +7,7 @@ use Rattle.std.proofs.lemmas.List.{append-nil}
 use Rattle.std.proofs.lemmas.Option.{same_Some}
 use Rattle.iot_journal.specs.Decoding.{decoded}
 use Rattle.iot_laptop.specs.Below.{Nodes, IsTree, Transaction, opening, Notes, second_class, state_of, live_of, disk_of, bodies_on, IsTied}
+use Rattle.iot_laptop.specs.Below.{stamps_of}
 use Rattle.iot_laptop.specs.Below.{place_of, records_of, Client, ClientFault, Stopped, Medium, At, Declared, ClientState, base, cut}
 use Rattle.iot_laptop.specs.Below.{new_client, Node, unopened, Refines, Possibly, OpensNode, stopped_line, transaction_name, KeepsDisk}
 use Rattle.iot_laptop.specs.Below.{counts_on, IsEmpty, is_on, PostStands, UpStands, StepsFrom, CameIf, StepsTo, Halt, Over, Post, Up, Down}
@@ -38,9 +39,10 @@ use Rattle.iot_link.specs.Links as links
 use Rattle.iot_laptop.specs.Calls.{GoesOn, ReturnedStands, Returned, Came, running_name}
 use Rattle.iot_laptop.specs.Kept.{RunningKeptIfAny, StateKept}
 use Rattle.iot_laptop.specs.Laptops.{LaptopStands, FallenStands, ClientStands, awake, StandsAnyhow, is_alive, disk_by, state_in, live_by}
-use Rattle.iot_laptop.specs.Laptops.{state_by, fallen, Stands, Relinked, IsSecondNow, IsCutLink, after_passage, IsUnopened, unopened_laptop}
+use Rattle.iot_laptop.specs.Laptops.{state_by, stamps_by, fallen, Stands, Relinked, IsSecondNow, IsCutLink, after_passage}
+use Rattle.iot_laptop.specs.Laptops.{IsUnopened, unopened_laptop}
 use Rattle.iot_laptop.specs.Scripts.{AreNamed}
-use Rattle.iot_laptop.specs.Seats.{seating, besides, IsClientImage}
+use Rattle.iot_laptop.specs.Seats.{seating, Besides, besides, none_besides, IsClientImage}
 use Rattle.iot_laptop.proofs.CallsLaws.{keeps_post, Behaves, Before, Fits, goes_at, halts_at, fits_with}
 use Rattle.iot_laptop.proofs.KeptStatesLaws.{live_with, cut_live, live_then, second_live, idle_is, idle_runs}
 use Rattle.iot_laptop.proofs.NodesLaws.{Posted, not_both, kept_up, node_stands, fallen_stands, awake_stands, awake_at, fallen_at, at_node}
@@ -91,7 +93,8 @@ module _ {D : Type 0} (medium : Medium D) (laptop : Laptop D) where
 
   -- ---- second class
 
-  module _ (was now : Client D) (state : state_of now ≡ state_of was) (place : place_of now ≡ place_of was)
+  module _ (was now : Client D) (state : state_of now ≡ state_of was) (stamps : stamps_of now ≡ stamps_of was)
+      (place : place_of now ≡ place_of was)
       (disk : disk_of now ≡ disk_of was) (records : records_of now ≡ records_of was) (live : live_of now ≡ second_class (live_of was))
       (tied : IsTied medium now) where
     second_stands : (scripts : List Declared) (m : machine.Client)
@@ -115,6 +118,7 @@ module _ {D : Type 0} (medium : Medium D) (laptop : Laptop D) where
     is_second is = record {
       place = refl;
       state = state ∙ sym (ap state_by is);
+      stamps = stamps ∙ sym (ap stamps_by is);
       link = refl;
       disk = ap Some disk ∙ sym (ap (λ (p : Post (Seated D) D). disk_by p) is);
       alive = sym (ap (λ (p : Post (Seated D) D). is_on p) is);
@@ -131,6 +135,7 @@ module _ {D : Type 0} (medium : Medium D) (laptop : Laptop D) where
   over_second link new is second = record {
     place = second.place;
     state = second.state;
+    stamps = second.stamps;
     stands = λ scripts m here.
         subst (LaptopStands medium scripts new) (is m here.link)
         (second.stands scripts (record m { link = link }) (over_link link scripts m here));
@@ -294,14 +299,14 @@ module _ {D : Type 0} (medium : Medium D) (laptop : Laptop D) (new : IsUnopened 
 
 pub live_again : {D : Type 0} (old new : Post (Seated D) D) → posts.live_of besides new ≡ posts.live_of besides old → live_by new ≡
     live_by old
-live_again (Up a) (Up b) same = same_Some _ _ same
+live_again (Up a) (Up b) same = ap (λ (b : Besides). b.live) (same_Some _ _ same)
 live_again (Up a) new same = absurd cc
 live_again old (Up b) same = absurd cc
 live_again old new same = refl
 
-pub live_fresh : {D : Type 0} (new : Post (Seated D) D) (on : Bool) → posts.live_of besides new ≡ (if on then Some None else None)
+pub live_fresh : {D : Type 0} (new : Post (Seated D) D) (on : Bool) → posts.live_of besides new ≡ (if on then Some none_besides else None)
     → live_by new ≡ None
-live_fresh (Up b) true same = same_Some _ _ same
+live_fresh (Up b) true same = ap (λ (b : Besides). b.live) (same_Some _ _ same)
 live_fresh (Up b) false same = absurd cc
 live_fresh new on same = refl
 
@@ -313,7 +318,7 @@ pub record CameBack {D : Type 0} (medium : Medium D) (old : Laptop D) (post : Po
   pub off : is_alive old ≡ false
   pub steps : Refines (Posted medium old) (ComesBack old.name no_text) old.post post x y on
   pub is : is_on post ≡ on
-  pub live : posts.live_of besides post ≡ (if on then Some None else None)
+  pub live : posts.live_of besides post ≡ (if on then Some none_besides else None)
   pub came : (node : Node ClientState) → Posted medium old old.post node
       → CameIf (seating medium old.place) medium on old.post old.name x y node
 

@@ -1,8 +1,8 @@
 -- What a client is as the keeper of a node: how it starts, and what its disk holds.
-use Rattle.std.proofs.Common.{◌≡◌, ℕ, List, length, sym, ap, subst, ◌∙◌}
+use Rattle.std.proofs.Common.{◌≡◌, ℕ, List, length, None, sym, ap, subst, ◌∙◌}
 use Rattle.iot_journal.specs.Decoding.{decoded}
 use Rattle.iot_laptop.specs.Below.{Medium, StandFor, State, IsTied, state_of, place_of, disk_of, bodies_on, Client, ClientState, counts_on}
-use Rattle.iot_laptop.specs.Below.{Seated}
+use Rattle.iot_laptop.specs.Below.{Seated, live_of, stamps_of}
 use Rattle.iot_node.proofs.PostsLaws.{same_counts}
 use Rattle.iot_disk.specs.declared.faults.StartFault.{StartFault}
 use Rattle.iot_journal.specs.Decoding.{Encodes}
@@ -11,7 +11,10 @@ use Rattle.iot_node.specs.Keeping.{EachIs, Comes, Fails, CountsStart}
 use Rattle.iot_disk.specs.declared.faults.StartFault.TheVariants as faults
 use Rattle.iot_kept.specs.Causes as kept_causes
 use Rattle.iot_laptop.specs.Kept.{StateKept}
-use Rattle.iot_laptop.specs.Seats.{IsSeated, IsClientImage, seating}
+use Rattle.iot_stamp.specs.Stamps.{unstamped}
+use Rattle.iot_laptop.specs.Seats.{IsSeated, IsClientImage, seating, besides, none_besides}
+use Rattle.iot_laptop.specs.Trails.{lent_stamps}
+use Rattle.iot_laptop.proofs.TrailsLaws.{none_lent}
 
 -- images that decode as one does which is what the client keeps are that too
 same_images : (images : List ℕ → Type 0) (bytes : List ℕ) (count : ℕ) (m : ClientState) → EachDecodes images (decoded bytes)
@@ -45,6 +48,12 @@ module _ {D : Type 0} (medium : Medium D) where
       }
 
   module _ (disk : D) where
+    -- what is known besides after a start
+    pub seat_fresh : (it : Client D) → live_of it ≡ None → stamps_of it ≡ unstamped (state_of it).held
+        → besides (record { client = it }) ≡ none_besides
+    seat_fresh it live stamps =
+        (λ i. record { live = live i; lent = (ap lent_stamps stamps ∙ none_lent (state_of it).held) i })
+
     pub seat_comes : (place : ℕ) (it : Client D) → ((state : State) → StandFor (medium.reads disk) state → state_of it ≡ state)
         → decoded (medium.reads disk) ≡ Encodes (bodies_on medium it) → IsTied medium it → place_of it ≡ place
         → EachDecodes (medium.may_leave (disk_of it)) (decoded (medium.reads disk))

@@ -3,7 +3,8 @@ pub use Rattle.iot_acts.specs.Traces.{after_acts}
 pub use Rattle.iot_acts.specs.Turns.{reads_of}
 pub use Rattle.iot_changes.specs.declared.changes.Change.TheVariants.{Resolved}
 pub use Rattle.iot_client.specs.Calls.{Notes, IsHeadsRun, may_end, verdict_change, CanAct, next_acts, StepIs, second_class, is_over_if_any}
-pub use Rattle.iot_client.specs.Ties.{records_of, Live, state_of, place_of, disk_of, live_of, IsTied, bodies_on, IsOwnRunIfAny, class_by}
+pub use Rattle.iot_client.specs.Ties.{records_of, Live, state_of, place_of, disk_of, live_of, stamps_of, IsTied, bodies_on}
+pub use Rattle.iot_client.specs.Ties.{IsOwnRunIfAny, class_by}
 pub use Rattle.iot_client.specs.declared.client.Client.{Client}
 pub use Rattle.iot_client.specs.declared.fault.ClientFault.{ClientFault}
 pub use Rattle.iot_client.specs.declared.fault.ClientFault.TheVariants.{Stopped}
@@ -43,6 +44,10 @@ pub use Rattle.iot_queue.specs.Queues.{head_of}
 pub use Rattle.iot_queue.specs.declared.items.Item.{Item}
 pub use Rattle.iot_queue.specs.declared.items.Resolution.{Resolution}
 pub use Rattle.iot_queue.specs.declared.items.Stage.{Stage}
+pub use Rattle.iot_client.specs.Messages.{nothing_held}
+pub use Rattle.iot_kept.specs.Bringing.{brought}
+pub use Rattle.iot_stamp.specs.Stamps.{Stamps, nodes_of}
+pub use Rattle.iot_tree.specs.declared.changes.Changes.{Changes}
 pub use Rattle.iot_tree.specs.Tree.{Nodes, IsTree, Path, IsWhole}
 pub use Rattle.iot_tree.specs.declared.acts.Act.{Act}
 pub use Rattle.iot_tree.specs.declared.acts.Read.{Read}

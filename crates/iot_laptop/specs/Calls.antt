@@ -5,7 +5,9 @@ use Rattle.iot_laptop.specs.Below.{reads_of, Nodes, Act, Read, Item, Stage, Tran
 use Rattle.iot_laptop.specs.Below.{Declared, ClientState, base, so_far, act_once, repair, reach, Plan, resolution_of, Acts, next_step}
 use Rattle.iot_laptop.specs.Below.{transaction_name, acts_output, stopped_line, no_text, Node, Appends, Appended, CameIf, Answered}
 use Rattle.iot_laptop.specs.Below.{StepsFrom, PostStands, UpStands, Up, Halt, NoMemory, Over, Try, name_of, SpellsVerdict, Laptop, Gone}
-use Rattle.iot_laptop.specs.Below.{Seated}
+use Rattle.iot_laptop.specs.Below.{Seated, Spells, brought, nothing_held}
+use Rattle.iot_tree.specs.declared.changes.Changes.{Changes as RowChanges}
+use Rattle.iot_wire.specs.declared.replies.Reply.TheVariants as replies
 use Rattle.iot_tree.specs.declared.labels.Label.{Label}
 use Rattle.iot_tree.specs.declared.labels.OnConflict.{OnConflict}
 use Rattle.iot_wire.specs.Messages.{IsMessage}
@@ -30,7 +32,7 @@ use Rattle.iot_machine.specs.Options as options
 use Rattle.iot_machine.specs.Serving as serving
 use Rattle.iot_node.specs.declared.lines.Transaction as names
 use Rattle.iot_laptop.specs.Alone.{NotesAlone, StartsAlone}
-use Rattle.iot_laptop.specs.Laptops.{LaptopStands, ClientStands, NodeStands, state_in, live_in, waits_of, IsFirst}
+use Rattle.iot_laptop.specs.Laptops.{LaptopStands, ClientStands, NodeStands, state_in, stamps_in, live_in, waits_of, IsFirst}
 use Rattle.iot_laptop.specs.Messages.{verdict_of, told_change}
 use Rattle.iot_laptop.specs.Scripts.{IsNamed, HasNamed, AreNamed, option_named}
 use Rattle.iot_laptop.specs.Seats.{seating}
@@ -66,6 +68,19 @@ pub record GoesOn {D T : Type 0} (medium : Medium D) (old new : Laptop D) (count
   pub silent : OnOk result (y ≡ x)
   pub stopped : IsErrOf result Over → IsErrOf answer faults.Stopped
   pub rest : new ≡ record old { post = new.post }
+
+-- what is so unless memory ran out
+abbrev pub UnlessNoMemory : Result (Unit {0}) Halt → Type 0 → Type 0
+UnlessNoMemory (Ok t) P = P
+UnlessNoMemory (Err NoMemory) P = Unit {0}
+UnlessNoMemory (Err Over) P = P
+
+-- the changes of the reply were merged into what it held; or it is down
+abbrev pub TakesStamps : {D T : Type 0} → (reply : List ℕ) → (old new : Laptop D) → Result T Halt → Type 0
+TakesStamps reply old new (Ok t) =
+    (changes : RowChanges) → Spells reply (replies.Objects changes) → stamps_in new ≡ brought (stamps_in old) changes
+TakesStamps reply old new (Err NoMemory) = Unit {0}
+TakesStamps reply old new (Err Over) = stamps_in new ≡ nothing_held
 
 -- that it was done, or why not
 abbrev pub done : {T : Type 0} → Result T Halt → Result (Unit {0}) Halt
@@ -205,7 +220,7 @@ NextIs medium laptop (Err Over) = IsNext medium laptop Acts
 abbrev pub TakesStep : {D : Type 0} → Medium D → (old new : Laptop D) → (x y : List ℕ) → Result Step Halt → Type 0
 TakesStep medium old new x y (Ok (steps.Acted acts ended)) = Changes medium act_once old new x y (Ok tt)
 TakesStep medium old new x y (Ok (steps.Fetch request path)) =
-    (new ≡ old) × (y ≡ x) × IsRefresh (old.place) (state_in old).held (wanted.Path path) request × IsFirst old
+    (new ≡ old) × (y ≡ x) × IsRefresh (old.place) (stamps_in old) (wanted.Path path) request × IsFirst old
 TakesStep medium old new x y (Ok over) = (new ≡ old) × (y ≡ x)
 TakesStep medium old new x y (Err halt) = Changes medium act_once old new x y (Err halt)
 

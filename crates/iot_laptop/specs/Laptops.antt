@@ -2,7 +2,8 @@
 use Rattle.std.specs.Prelude.{◌≡◌, ℕ, Bool, true, false, List, [], ◌∷◌, length, Option, Some, None}
 use Rattle.iot_laptop.specs.Below.{Nodes, IsTree, IsScript, IsSpelledTree, Item, Transaction, State, opening, Live, Client, Medium, Passage}
 use Rattle.iot_laptop.specs.Below.{Declared, ClientState, new_client, unopened, Possibly, IsEmpty, is_on, PostStands, Post, Up, Down}
-use Rattle.iot_laptop.specs.Below.{no_text, Laptop, Seated}
+use Rattle.iot_laptop.specs.Below.{no_text, Laptop, Seated, Stamps, nothing_held}
+use Rattle.iot_laptop.specs.Trails.{KeepsTrail}
 use Rattle.iot_machine.specs.Machine.{break, cut_off}
 use Rattle.iot_machine.specs.Clients.{view}
 use Rattle.iot_machine.specs.Nodes.{Counts}
@@ -29,6 +30,11 @@ abbrev pub live_by : {D : Type 0} → Post (Seated D) D → Option Live
 live_by (Up seated) = client.live_of seated.client
 live_by other = None
 
+-- what a live client holds, with the server's stamps; of one that is down nothing is held
+abbrev pub stamps_by : {D : Type 0} → Post (Seated D) D → Stamps
+stamps_by (Up seated) = client.stamps_of seated.client
+stamps_by other = nothing_held
+
 -- the live client itself
 abbrev pub lent_by : {D : Type 0} → Post (Seated D) D → Option (Client D)
 lent_by (Up seated) = Some seated.client
@@ -48,6 +54,9 @@ state_in laptop = state_by laptop.post
 abbrev pub live_in : {D : Type 0} → Laptop D → Option Live
 live_in laptop = live_by laptop.post
 
+abbrev pub stamps_in : {D : Type 0} → Laptop D → Stamps
+stamps_in laptop = stamps_by laptop.post
+
 abbrev pub records_in : {D : Type 0} → Laptop D → ℕ
 records_in laptop = records_by laptop.post
 
@@ -57,6 +66,10 @@ disk_by post = disk_of (λ seated. client.disk_of seated.client) post
 
 abbrev pub disk_in : {D : Type 0} → Laptop D → Option D
 disk_in laptop = disk_by laptop.post
+
+-- what it had of a server's stamps, it still has
+abbrev pub KeepsTrails : {D : Type 0} → Laptop D → Laptop D → Type 0
+KeepsTrails old new = KeepsTrail (stamps_in old) (stamps_in new)
 
 -- ---- what is live
 
@@ -185,6 +198,7 @@ pub record Relinked {D : Type 0} (medium : Medium D) (change : machine.Client �
     (old new : Laptop D) : Type 0 where
   pub place : SamePlace old new
   pub state : state_in new ≡ state_in old
+  pub stamps : stamps_in new ≡ stamps_in old
   pub stands : (scripts : List Declared) (m : machine.Client) → LaptopStands medium scripts old m
       → LaptopStands medium scripts new (change m)
 
@@ -192,6 +206,7 @@ pub record Relinked {D : Type 0} (medium : Medium D) (change : machine.Client �
 pub record IsSecondNow {D : Type 0} (medium : Medium D) (old new : Laptop D) : Type 0 where
   pub place : SamePlace old new
   pub state : state_in new ≡ state_in old
+  pub stamps : stamps_in new ≡ stamps_in old
   pub link : new.link ≡ old.link
   pub disk : disk_in new ≡ disk_in old
   pub alive : is_alive new ≡ is_alive old
@@ -203,6 +218,7 @@ pub record IsCutLink {D : Type 0} (medium : Medium D) (old new : Laptop D) : Typ
   pub place : SamePlace old new
   pub name : new.name ≡ old.name
   pub alive : is_alive new ≡ is_alive old
+  pub stamps : stamps_in new ≡ stamps_in old
   pub disk : disk_in new ≡ disk_in old
   pub stands : (scripts : List Declared) (m : machine.Client) → ClientStands medium scripts old m
       → ClientStands medium scripts new (cut_off m)

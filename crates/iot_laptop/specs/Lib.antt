@@ -2,6 +2,7 @@ pub mod Alone
 pub mod Below
 pub mod Calls
 pub mod Kept
+pub mod Trails
 pub mod Laptops
 pub mod Messages
 pub mod Scripts

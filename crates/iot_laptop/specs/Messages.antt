@@ -1,6 +1,7 @@
 -- What the server's replies say, and what becomes of a transaction by what its client is told.
-use Rattle.std.specs.Prelude.{ℕ, List}
-use Rattle.iot_laptop.specs.Below.{Nodes, Read, ClientState, leave, reach, Spells, SpellsVerdict}
+use Rattle.std.specs.Prelude.{◌≡◌, ℕ, List}
+use Rattle.iot_laptop.specs.Below.{Nodes, IsTree, Stamps, nodes_of, brought, Changes, Read, ClientState, leave, reach, Spells}
+use Rattle.iot_laptop.specs.Below.{SpellsVerdict}
 use Rattle.iot_tree.specs.declared.labels.OnConflict.{OnConflict}
 use Rattle.iot_tree.specs.declared.labels.OnConflict.TheVariants.{Reexec, Resolver, Abort, Manual}
 use Rattle.iot_wire.specs.declared.replies.Reply.TheVariants as replies
@@ -11,19 +12,22 @@ use Rattle.iot_laptop.specs.declared.verdict.Verdict.TheVariants.{Settled, Confl
 
 -- ---- replies
 
--- the reply brings this tree
-abbrev pub SpellsTree : List ℕ → Nodes → Type 0
-SpellsTree bytes t = Spells bytes (replies.Objects t)
+-- what the reply brings makes this tree of a held one
+pub record SpellsTree (held : Stamps) (bytes : List ℕ) (t : Nodes) : Type 0 where
+  pub changes : Changes
+  pub spelled : Spells bytes (replies.Objects changes)
+  pub is : t ≡ nodes_of (brought held changes)
+  pub tree : IsTree t
 
 -- the reply says something of it
 pub record IsVerdict (reads : List Read) (bytes : List ℕ) : Type 0 where
   pub told : serving.Verdict
   pub is : SpellsVerdict reads bytes told
 
--- the reply brings some tree
-pub record BringsTree (bytes : List ℕ) : Type 0 where
+-- it makes some tree of it
+pub record BringsTree (held : Stamps) (bytes : List ℕ) : Type 0 where
   pub tree : Nodes
-  pub is : SpellsTree bytes tree
+  pub is : SpellsTree held bytes tree
 
 -- a verdict of the laptop's as one of the machine's
 abbrev pub verdict_of : Verdict → serving.Verdict

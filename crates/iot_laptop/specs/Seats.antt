@@ -1,8 +1,10 @@
 -- For which state of the machine a client stands as the keeper of a node, and the bytes of a disk.
-use Rattle.std.specs.Prelude.{◌≡◌, ℕ, List, Option, length}
-use Rattle.iot_laptop.specs.Below.{Live, state_of, place_of, disk_of, records_of, live_of, IsTied, Medium, State, StandFor, ClientState}
+use Rattle.std.specs.Prelude.{◌≡◌, ℕ, List, Option, None, length}
+use Rattle.iot_laptop.specs.Below.{Live, state_of, place_of, disk_of, records_of, live_of, stamps_of, Stamps, IsTied, Medium, State}
+use Rattle.iot_laptop.specs.Below.{StandFor, ClientState}
 use Rattle.iot_laptop.specs.Below.{Keeping, Seated}
 use Rattle.iot_laptop.specs.Kept.{StateKept}
+use Rattle.iot_laptop.specs.Trails.{lent_stamps}
 
 -- it knows its place, its state is tied to its disk, which has so many records, and that is what a client of the machine keeps
 pub record IsSeated {D : Type 0} (medium : Medium D) (place : ℕ) (seated : Seated D) (count : ℕ) (m : ClientState) : Type 0 where
@@ -25,6 +27,14 @@ seating medium place = record {
   disk = λ seated. disk_of seated.client;
 }
 
--- what it knows of its running transaction besides
-abbrev pub besides : {D : Type 0} → Seated D → Option Live
-besides seated = live_of seated.client
+-- what no disk keeps: the script of what runs and its class, and the stamps that a server gave
+pub record Besides : Type 0 where
+  pub live : Option Live
+  pub lent : Option Stamps
+
+abbrev pub besides : {D : Type 0} → Seated D → Besides
+besides seated = record { live = live_of seated.client; lent = lent_stamps (stamps_of seated.client) }
+
+-- what a client has of that after a start
+abbrev pub none_besides : Besides
+none_besides = record { live = None; lent = None }

@@ -1,7 +1,7 @@
 //! The calls of a client that append a record. It is alive before each; if its disk fails in one, it has stopped.
-ghost use Rattle.std.specs.Prelude.{◌≡◌, ◌≤◌, List, true, [], None, Some, IfOk, IfErr, OnOk, is_some};
+ghost use Rattle.std.specs.Prelude.{◌≡◌, ◌≤◌, List, true, false, [], None, Some, IfOk, IfErr, OnOk, IsErrOf, is_some};
 ghost use Rattle.iot_laptop.specs.Below.{may_end, HeadIs, IsSubmitted, IsByHand, acts_of, IsScript, Declared, Plan, hold, fetch, end};
-ghost use Rattle.iot_laptop.specs.Below.{leave, acts_output, KeepsDisk, Nodes, IsWhole};
+ghost use Rattle.iot_laptop.specs.Below.{leave, acts_output, KeepsDisk, Nodes, IsWhole, nothing_held};
 ghost use Rattle.iot_client.specs.Faults.{MayFail};
 ghost use Rattle.iot_queue.specs.declared.items.Stage.TheVariants.{Conflict as in_conflict};
 ghost use Rattle.iot_laptop.specs.Calls.{appended, done};
@@ -21,18 +21,21 @@ use std::alloc::Global;
 use std::rc::Rc;
 
 impl<D: Disk> Laptop<D> {
-    ghost use Rattle.iot_laptop.specs.Laptops.{Stands, SamePlace, IsFirst, IsFree, is_alive, state_in, live_in, disk_in};
+    ghost use Rattle.iot_laptop.specs.Laptops.{Stands, SamePlace, IsFirst, IsFree, KeepsTrails, is_alive, state_in, stamps_in, live_in};
+    ghost use Rattle.iot_laptop.specs.Laptops.{disk_in};
     ghost use Rattle.iot_laptop.specs.Calls.{Changes, Begins, Repairs, Plans, Resolves, NextIs, TakesStep, IsDoneIn, IsGone, waits_after};
-    ghost use Rattle.iot_laptop.specs.Calls.{IsTold, TakesVerdict, GoesOn, head_reads};
+    ghost use Rattle.iot_laptop.specs.Calls.{IsTold, TakesVerdict, TakesStamps, UnlessNoMemory, GoesOn, head_reads};
 
     /// Holds what the reply brings.
     pub fn take(&mut self, alloc: Global, reply: &[u8], out: &mut Text) -> Result<(), Halt>
         requires stands { Stands D.medium self.old }
         requires idle { (state_in self.old).running ≡ None }
         requires none { (state_in self.old).items ≡ [] }
-        requires brings { BringsTree reply.now }
-        ensures does { (t : Nodes) → SpellsTree reply.now t → Changes D.medium (hold t) self.old self.new out.old out.new result }
+        requires brings { BringsTree (stamps_in self.old) reply.now }
+        ensures does { (t : Nodes) → SpellsTree (stamps_in self.old) reply.now t
+            → Changes D.medium (hold t) self.old self.new out.old out.new result }
         ensures free { OnOk result (IsFree (state_in self.new)) }
+        ensures stamps { TakesStamps reply.now self.old self.new result }
         ensures place { SamePlace self.old self.new }
         ensures disk { KeepsDisk D.medium (disk_in self.old) (disk_in self.new) }
     {
@@ -48,8 +51,10 @@ impl<D: Disk> Laptop<D> {
     pub fn fetched(&mut self, alloc: Global, reply: &[u8], out: &mut Text) -> Result<(), Halt>
         requires stands { Stands D.medium self.old }
         requires first { IsFirst self.old }
-        requires brings { BringsTree reply.now }
-        ensures does { (t : Nodes) → SpellsTree reply.now t → Changes D.medium (fetch t) self.old self.new out.old out.new result }
+        requires brings { BringsTree (stamps_in self.old) reply.now }
+        ensures does { (t : Nodes) → SpellsTree (stamps_in self.old) reply.now t
+            → Changes D.medium (fetch t) self.old self.new out.old out.new result }
+        ensures stamps { TakesStamps reply.now self.old self.new result }
         ensures place { SamePlace self.old self.new }
         ensures disk { KeepsDisk D.medium (disk_in self.old) (disk_in self.new) }
     {
@@ -77,6 +82,7 @@ impl<D: Disk> Laptop<D> {
         requires script { IsScript script.value }
         ensures does { Begins D.medium (record { name = name.now; code = script.value }) option first
             self.old self.new out.old out.new (done result) }
+        ensures trails { UnlessNoMemory (done result) (KeepsTrails self.old self.new) }
         ensures place { SamePlace self.old self.new }
         ensures disk { KeepsDisk D.medium (disk_in self.old) (disk_in self.new) }
     {
@@ -95,6 +101,7 @@ impl<D: Disk> Laptop<D> {
         requires runs { is_some (state_in self.old).running ≡ true }
         ensures next { NextIs D.medium self.old result }
         ensures does { TakesStep D.medium self.old self.new out.old out.new result }
+        ensures trails { UnlessNoMemory (done result) (KeepsTrails self.old self.new) }
         ensures place { SamePlace self.old self.new }
         ensures disk { KeepsDisk D.medium (disk_in self.old) (disk_in self.new) }
     {
@@ -114,6 +121,7 @@ impl<D: Disk> Laptop<D> {
         ensures does { Changes D.medium end self.old self.new out.old out.new (done result) }
         ensures gone { IfOk result (IsGone D.medium self.old) }
         ensures waits { waits_after self.new result }
+        ensures trails { UnlessNoMemory (done result) (KeepsTrails self.old self.new) }
         ensures place { SamePlace self.old self.new }
         ensures disk { KeepsDisk D.medium (disk_in self.old) (disk_in self.new) }
     {
@@ -158,6 +166,7 @@ impl<D: Disk> Laptop<D> {
         requires told { IsVerdict (head_reads (state_in self.old).items) reply.now }
         ensures does { TakesVerdict D.medium reply.now self.old self.new out.old out.new (done result) }
         ensures told { IfOk result (IsTold reply.now self.old) }
+        ensures trails { UnlessNoMemory (done result) (KeepsTrails self.old self.new) }
         ensures place { SamePlace self.old self.new }
         ensures disk { KeepsDisk D.medium (disk_in self.old) (disk_in self.new) }
     {
@@ -183,11 +192,13 @@ impl<D: Disk> Laptop<D> {
     ) -> Result<(), Halt>
         requires stands { Stands D.medium self.old }
         requires conflict { HeadIs (λ item. item.stage ≡ in_conflict) (state_in self.old).items }
-        requires brings { BringsTree reply.now }
-        requires whole { (t : Nodes) → SpellsTree reply.now t → IsWhole t }
+        requires brings { BringsTree nothing_held reply.now }
+        requires whole { (t : Nodes) → SpellsTree nothing_held reply.now t → IsWhole t }
         requires script { IsScript script.value }
-        ensures does { (t : Nodes) → SpellsTree reply.now t → (scripts : List Declared) (plan : Plan) → Plans D.medium scripts self.old plan
+        ensures does { (t : Nodes) → SpellsTree nothing_held reply.now t → (scripts : List Declared) (plan : Plan)
+            → Plans D.medium scripts self.old plan
             → plan.script.code ≡ script.value → Resolves D.medium scripts plan t self.old self.new out.old out.new result }
+        ensures trails { UnlessNoMemory result (KeepsTrails self.old self.new) }
         ensures place { SamePlace self.old self.new }
         ensures disk { KeepsDisk D.medium (disk_in self.old) (disk_in self.new) }
     {
@@ -204,6 +215,7 @@ impl<D: Disk> Laptop<D> {
         requires stands { Stands D.medium self.old }
         requires manual { HeadIs IsByHand (state_in self.old).items }
         ensures does { Repairs D.medium script.now self.old self.new out.old out.new result }
+        ensures trails { UnlessNoMemory result (KeepsTrails self.old self.new) }
         ensures place { SamePlace self.old self.new }
         ensures disk { KeepsDisk D.medium (disk_in self.old) (disk_in self.new) }
     {
@@ -220,6 +232,7 @@ impl<D: Disk> Laptop<D> {
         requires stands { Stands D.medium self.old }
         requires manual { HeadIs IsByHand (state_in self.old).items }
         ensures does { Changes D.medium leave self.old self.new out.old out.new result }
+        ensures trails { UnlessNoMemory result (KeepsTrails self.old self.new) }
         ensures place { SamePlace self.old self.new }
         ensures disk { KeepsDisk D.medium (disk_in self.old) (disk_in self.new) }
     {
@@ -242,6 +255,7 @@ impl<D: Disk> Laptop<D> {
         requires alive { is_alive self.old ≡ true }
         requires fault { IfErr answer MayFail }
         ensures goes { GoesOn D.medium self.old self.new count answer out.old out.new result }
+        ensures down { IsErrOf result Halt.Over → is_alive self.new ≡ false }
         ensures place { SamePlace self.old self.new }
         ensures disk { disk_in self.new ≡ disk_in self.old }
     {

@@ -15,7 +15,7 @@ use std::alloc::Global;
 impl<D: Disk> Laptop<D> {
     ghost use Rattle.iot_machine.specs.Events.{Connects, Disconnects, Loses, CrashesClient, RestartsClient, ArmsClient, CutsOff};
     ghost use Rattle.iot_laptop.specs.Alone.{OpensClient};
-    ghost use Rattle.iot_laptop.specs.Laptops.{ClientStands, StandsAnyhow, IsUnopened, SamePlace, is_alive, state_in, disk_in};
+    ghost use Rattle.iot_laptop.specs.Laptops.{ClientStands, StandsAnyhow, IsUnopened, SamePlace, KeepsTrails, is_alive, state_in, disk_in};
     ghost use Rattle.iot_laptop.specs.Calls.{ReturnedStands, Returned, running_name, Came};
 
     // ---- its link
@@ -24,6 +24,7 @@ impl<D: Disk> Laptop<D> {
     pub fn connect(&mut self, out: &mut Text) -> Result<(), NoMemory>
         ensures step { OnOk result ((scripts : List Declared)
             → Refines (ClientStands D.medium scripts) Connects self.old self.new out.old out.new tt) }
+        ensures trails { KeepsTrails self.old self.new }
         ensures place { SamePlace self.old self.new }
         ensures alive { is_alive self.new ≡ is_alive self.old }
         ensures disk { disk_in self.new ≡ disk_in self.old }
@@ -37,6 +38,7 @@ impl<D: Disk> Laptop<D> {
         requires { StandsAnyhow D.medium self.old }
         ensures step { OnOk result ((scripts : List Declared)
             → Refines (ClientStands D.medium scripts) Disconnects self.old self.new out.old out.new tt) }
+        ensures trails { KeepsTrails self.old self.new }
         ensures place { SamePlace self.old self.new }
         ensures alive { is_alive self.new ≡ is_alive self.old }
         ensures disk { disk_in self.new ≡ disk_in self.old }
@@ -49,6 +51,7 @@ impl<D: Disk> Laptop<D> {
     pub fn lose(&mut self, loss: Loss, out: &mut Text) -> Result<(), NoMemory>
         ensures step { OnOk result ((scripts : List Declared)
             → Refines (ClientStands D.medium scripts) (Loses loss) self.old self.new out.old out.new tt) }
+        ensures trails { KeepsTrails self.old self.new }
         ensures place { SamePlace self.old self.new }
         ensures alive { is_alive self.new ≡ is_alive self.old }
         ensures disk { disk_in self.new ≡ disk_in self.old }
@@ -65,6 +68,7 @@ impl<D: Disk> Laptop<D> {
         ensures step { IfOk result (λ on. (scripts : List Declared)
             → Refines (ClientStands D.medium scripts) OpensClient self.old self.new out.old out.new on) }
         ensures alive { IfOk result (λ on. is_alive self.new ≡ on) }
+        ensures trails { OnOk result (KeepsTrails self.old self.new) }
         ensures place { SamePlace self.old self.new }
         ensures disk { KeepsDisk D.medium (disk_in self.old) (disk_in self.new) }
     {
@@ -75,6 +79,7 @@ impl<D: Disk> Laptop<D> {
     pub fn crash(&mut self, out: &mut Text) -> Result<(), NoMemory>
         ensures step { OnOk result ((scripts : List Declared)
             → Refines (ClientStands D.medium scripts) CrashesClient self.old self.new out.old out.new tt) }
+        ensures trails { OnOk result (KeepsTrails self.old self.new) }
         ensures place { SamePlace self.old self.new }
         ensures disk { disk_in self.new ≡ disk_in self.old }
     {
@@ -91,6 +96,7 @@ impl<D: Disk> Laptop<D> {
         // The image that it came back from decides whether the record in doubt was kept.
         ensures came { is_fallen self.old.post ≡ true → OnOk result ((scripts : List Declared) (m : machine.Client)
             → ClientStands D.medium scripts self.old m → Came D.medium self.old out.old out.new m) }
+        ensures trails { OnOk result (KeepsTrails self.old self.new) }
         ensures place { SamePlace self.old self.new }
         ensures disk { KeepsDisk D.medium (disk_in self.old) (disk_in self.new) }
     {
@@ -112,6 +118,7 @@ impl<D: Disk> Laptop<D> {
         requires { Returned D.medium self.old }
         ensures cuts { OnOk result ((scripts : List Declared)
             → StepsTo (ReturnedStands D.medium scripts) (ClientStands D.medium scripts) CutsOff self.old self.new out.old out.new tt) }
+        ensures trails { OnOk result (KeepsTrails self.old self.new) }
         ensures place { SamePlace self.old self.new }
         ensures disk { KeepsDisk D.medium (disk_in self.old) (disk_in self.new) }
     {
@@ -152,6 +159,7 @@ impl<D: Disk> Laptop<D> {
     pub fn arm(&mut self, calls: u64, pick: Pick, out: &mut Text) -> Result<(), NoMemory>
         ensures step { OnOk result ((scripts : List Declared)
             → Refines (ClientStands D.medium scripts) (ArmsClient calls pick) self.old self.new out.old out.new tt) }
+        ensures trails { KeepsTrails self.old self.new }
         ensures place { SamePlace self.old self.new }
         ensures same { IfErr result (λ _. self.new ≡ self.old) }
         ensures text { Extends out.old out.new }

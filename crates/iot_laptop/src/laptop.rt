@@ -24,8 +24,8 @@ pub struct Laptop<D: Disk> {
 }
 
 impl<D: Disk> Laptop<D> {
-    ghost use Rattle.iot_laptop.specs.Laptops.{is_alive, state_in, live_in, disk_in, lent_by, records_in, waits_of, IsView, Stands};
-    ghost use Rattle.iot_laptop.specs.Laptops.{StandsAnyhow, FallenStands, IsLent, IsUnopened, unopened_laptop};
+    ghost use Rattle.iot_laptop.specs.Laptops.{is_alive, state_in, stamps_in, live_in, disk_in, lent_by, records_in, waits_of, IsView};
+    ghost use Rattle.iot_laptop.specs.Laptops.{Stands, StandsAnyhow, FallenStands, IsLent, IsUnopened, unopened_laptop};
 
     /// The client of this name at this place, on an empty disk. It was never started.
     pub fn unopened(name: Name, place: u64, disk: D) -> Laptop<D>
@@ -190,7 +190,7 @@ impl<D: Disk> Laptop<D> {
         requires place { self.now.place ≤ 7 }
         requires idle { (state_in self.now).running ≡ None }
         requires none { (state_in self.now).items ≡ [] }
-        ensures { IfOk result (λ request. IsRefresh self.now.place (state_in self.now).held want.now request.items) }
+        ensures { IfOk result (λ request. IsRefresh self.now.place (stamps_in self.now) want.now request.items) }
     {
         match self.client().ask(alloc, want) {
             Ok(request) => Ok(request),

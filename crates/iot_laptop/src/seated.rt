@@ -11,20 +11,19 @@ pub struct Seated<D: Disk> {
 }
 
 impl<D: Disk> Keeper<D> for Seated<D> {
-    ghost use Rattle.std.specs.Prelude.{Option, None};
-    ghost use Rattle.iot_laptop.specs.Below.{Live, ClientState};
-    ghost use Rattle.iot_laptop.specs.Seats.{seating, besides};
+    ghost use Rattle.iot_laptop.specs.Below.{ClientState};
+    ghost use Rattle.iot_laptop.specs.Seats.{Besides, seating, besides, none_besides};
 
     ghost Kept = { ClientState };
 
     ghost keeping = { seating D.medium };
 
-    // The script of what runs, and its class, are on no disk.
-    ghost Live = { Option Live };
+    // The script of what runs, its class, and the server's stamps are on no disk.
+    ghost Live = { Besides };
 
     ghost live = { besides };
 
-    ghost fresh = { None };
+    ghost fresh = { none_besides };
 
     fn start(alloc: Global, disk: D, place: u64) -> Result<Self, (D, StartFault)> {
         match Client::start(alloc, disk, place) {

@@ -10,7 +10,8 @@ use Rattle.iot_server.specs.Servers as servers
 use Rattle.iot_wire.specs.declared.replies.Reply.TheVariants as replies
 use Rattle.iot_wire.specs.declared.requests.Request.TheVariants as requests
 use Rattle.iot_server_node.specs.Records.{BeginsWith, EachBegins, DiskBegins, KeepsRecords}
-use Rattle.iot_server_node.specs.Servers.{IsLonger, IsLongerIfAny, NodeIsKnown, ServerIsSound, KeepsCommits, Lives, Handled, Refused}
+use Rattle.iot_server_node.specs.Servers.{IsLonger, IsOneMore, IsOneMoreIfAny, NodeIsKnown, ServerIsSound, KeepsCommits, Lives}
+use Rattle.iot_server_node.specs.Servers.{Handled, Refused}
 use Rattle.iot_server_node.proofs.KeepersLaws.{records_more, same_bodies, image_stands}
 use Rattle.iot_server_node.proofs.ServersLaws.{lasts}
 
@@ -34,6 +35,9 @@ image_begins bytes n commits longer is image =
     (image.has_records ∙ ap (λ (them : List Commit). Encodes (records_of them)) is.is
     ∙ ap Encodes (records_more commits is.later (root_alone Dir)))
     (image_stands bytes n longer image)
+
+pub is_longer : {commits longer : List Commit} → IsOneMore commits longer → IsLonger commits longer
+is_longer more = record { later = more.commit ∷ []; is = more.is }
 
 -- also with its own
 pub own_begins : (bytes : List ℕ) (n : ℕ) (commits : List Commit) → IsImage bytes n commits → BeginsWith (records_of commits) bytes
@@ -60,7 +64,7 @@ module _ {D : Type 0} (medium : Medium D) where
         each = λ image there. elim (it.each.each image there) [
           | inl is ↦ own_begins image it.count node.durable is
           | inr more ↦ image_begins image (it.count + 1) node.durable more.0
-              (subst (IsLongerIfAny node.durable) more.1 known.longer) more.2
+              (is_longer (subst (IsOneMoreIfAny node.durable) more.1 known.longer)) more.2
         ];
       })
 

@@ -11,7 +11,7 @@ use Rattle.iot_journal.proofs.DecodingLaws.{length-bodies-le}
 use Rattle.iot_journal.proofs.ImagesLaws.{records_fit}
 use Rattle.iot_server.specs.Servers as servers
 use Rattle.iot_store.specs.Stamps.{opening_stamps, next_stamp, stamped_acts}
-use Rattle.iot_server_node.specs.Records.{stamps_from}
+use Rattle.iot_server_node.proofs.StampsLaws.{stamps_split}
 use Rattle.iot_disk.specs.declared.faults.StartFault.{StartFault}
 use Rattle.iot_disk.specs.declared.faults.StartFault.TheVariants as start
 use Rattle.iot_store.specs.Causes.{HasCause, TakesBytes}
@@ -38,22 +38,6 @@ records_more (commit ∷ commits) later t =
     ap (λ (rs : List (List ℕ)). record_spelling (label_of commit) (run_entry commit.entry t).acts ∷ rs)
     (records_more commits later (run_entry commit.entry t).tree)
 
--- the stamps of a longer list
-stamps_more : (commits : List Commit) (commit : Commit) (t : Nodes) (stamps : Stamps) (before : ℕ)
-    → stamps_from (commits ++ commit ∷ []) t stamps before
-    ≡ stamped_acts (stamps_from commits t stamps before) (run_entry commit.entry (tree_from (entries_of commits) t)).acts
-    (next_stamp (before + length commits))
-stamps_more [] commit t stamps before =
-    let number : before ≡ before + length {A = Commit} [] = omega arith in
-    ap (λ n. stamped_acts stamps (run_entry commit.entry t).acts (next_stamp n)) number
-stamps_more (first ∷ commits) commit t stamps before =
-    let next = run_entry first.entry t in
-    let mid = stamped_acts stamps next.acts (next_stamp before) in
-    let number : before + 1 + length commits ≡ before + length (first ∷ commits) = omega arith in
-    stamps_more commits commit next.tree mid (before + 1)
-    ∙ ap (λ n. stamped_acts (stamps_from commits next.tree mid (before + 1))
-    (run_entry commit.entry (tree_from (entries_of commits) next.tree)).acts (next_stamp n)) number
-
 -- the record and the state after a commit with this label and these acts
 module _ (commits : List Commit) {commit : Commit} {label : Label} {acts : List Act}
     (are : AreOf commit (tree_after commits) label acts) where
@@ -66,7 +50,7 @@ module _ (commits : List Commit) {commit : Commit} {label : Label} {acts : List 
   state_is =
       let number : 0 + length commits ≡ length (map label_of commits) = omega (arith, length-map commits label_of) in
       let stamps =
-      stamps_more commits commit (root_alone Dir) opening_stamps 0
+      stamps_split commits (commit ∷ []) (root_alone Dir) opening_stamps 0
       ∙ (λ i. stamped_acts (state_of commits).stamps (are.has_acts i) (next_stamp (number i))) in
       λ i. record {
         tree = (tree_after-append commits commit ∙ are.made) i;

@@ -1,4 +1,5 @@
 mod Common
+pub mod StampsLaws
 pub mod KeepersLaws
 pub mod ServersLaws
 mod ServingLaws

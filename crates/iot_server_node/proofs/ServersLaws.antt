@@ -15,7 +15,7 @@ use Rattle.iot_server.specs.Traffic.{no_traffic}
 use Rattle.iot_machine.specs.Serving.{added_text, commit_text}
 use Rattle.iot_node.specs.Posts as posts
 use Rattle.iot_server_node.specs.Keepers.{traffic_in}
-use Rattle.iot_server_node.specs.Servers.{is_up, IsKnown, AreKnown, AreKnownIfAny, IsLongerIfAny, NodeIsKnown, HasAnsweredIn}
+use Rattle.iot_server_node.specs.Servers.{is_up, IsKnown, AreKnown, AreKnownIfAny, IsOneMoreIfAny, NodeIsKnown, HasAnsweredIn}
 use Rattle.iot_server_node.specs.Servers.{HavingAnswered, IsUnopened, answered_since, live, IsLive, Lives}
 use Rattle.iot_server_node.proofs.KeepersLaws.{keeps_images, record_is, state_is}
 use Rattle.iot_machine.proofs.FollowsLaws.{all_as, all_push, at_push}
@@ -73,7 +73,7 @@ module _ (names : List (List ℕ)) where
   known_stopped commit one node after text (inr stop) known = subst (NodeIsKnown names) (sym stop.2.is) (record {
     durable = known.durable;
     doubt = all_push (IsKnown names) node.durable commit one known.durable;
-    longer = record { later = commit ∷ []; is = refl };
+    longer = record { commit = commit; is = refl };
   })
 
 -- one client more has a name
@@ -258,7 +258,7 @@ module _ {D : Type 0} (medium : Medium D) (names : List (List ℕ)) where
         (record {
           durable = all_push (IsKnown names) node.durable commit known here.known.durable;
           doubt = here.known.doubt;
-          longer = subst (IsLongerIfAny (add_commit commit node.durable)) (sym here.post.sure) tt;
+          longer = subst (IsOneMoreIfAny (add_commit commit node.durable)) (sym here.post.sure) tt;
         })
 
 -- ---- how it handles a request

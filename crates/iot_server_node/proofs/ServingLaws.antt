@@ -20,8 +20,13 @@ use Rattle.iot_wire.specs.Messages.{IsOneMessage}
 use Rattle.iot_wire.proofs.MessagesLaws.{call_one}
 use Rattle.iot_wire.proofs.SpellingLaws.{request_laws}
 use Rattle.iot_machine.specs.Serving.{Lends, Submission, Judges, committed, Settled, Conflict, number_of, commit_text}
-use Rattle.iot_judging.proofs.RunTreesLaws.{list_tree, list_whole}
-use Rattle.iot_server_node.specs.Servers.{count_of, Handled, Refused, ServesBy, ServerIsSound, live, IsKnown, HavingAnswered, IsSubmission}
+use Rattle.iot_judging.proofs.RunTreesLaws.{list_tree}
+use Rattle.iot_stamp.specs.Refresh.{changes_for, known_with_stamps}
+use Rattle.iot_stamp.specs.Stamps.{Stamps, nodes_of}
+use Rattle.iot_wire.specs.declared.replies.Reply.TheVariants as replies
+use Rattle.iot_server_node.proofs.StampsLaws.{list_stamped}
+use Rattle.iot_server_node.specs.Servers.{count_of, stamps_of, Handled, Refused, ServesBy, ServerIsSound, live, IsKnown}
+use Rattle.iot_server_node.specs.Servers.{HavingAnswered, IsSubmission}
 use Rattle.iot_server_node.specs.Servers.{IsHanded, IsNamedIn, HasAnsweredIn, GivesUp}
 use Rattle.iot_server_node.proofs.KeepersLaws.{leads_list, as_many, record_is, state_is, leads_more}
 use Rattle.iot_server_node.proofs.ServersLaws.{stands_still, stands_longer, with_known, known_stopped}
@@ -73,13 +78,14 @@ pub by_servers : {D A : Type 0} {medium : Medium D} {names : List (List ℕ)} {c
     (Spelled : List ℕ → A → Type 0) (message : Message) (served : Served) {old new : ServerNode D} {y : List ℕ}
     → ServerIsSound medium old → Handled medium message.request.items served.reply.items old new
     → served.committed ≡ committed_since (count_of old) (count_of new)
-    → ((was now : Server D) → Handles medium message.request.items served.reply.items was now → ServerIsSound medium (live was)
+    → ((was now : Server D) → old ≡ live was → Handles medium message.request.items served.reply.items was now
+    → ServerIsSound medium (live was)
     → served.committed ≡ committed_since (count_of (live was)) (count_of (live now))
     → ServesBy medium names call Spelled message.handed (Some served) (live was) (live now) y y)
     → ServesBy medium names call Spelled message.handed (Some served) old new y y
 by_servers {medium = medium} Spelled message served sound handled counted serves =
     rw (handled.old_is, handled.new_is)
-    (serves handled.was handled.now handled.by (subst (ServerIsSound medium) handled.old_is sound)
+    (serves handled.was handled.now handled.old_is handled.by (subst (ServerIsSound medium) handled.old_is sound)
     (counted ∙ (λ i. committed_since (count_of (handled.old_is i)) (count_of (handled.new_is i)))))
 
 -- ---- one that has no reply
@@ -115,38 +121,51 @@ refused_lasts {D} {medium} {names} {asked} fault {old} {mid} {new} {node} {n} al
 
 -- ---- a request for objects
 
-module _ {D : Type 0} (medium : Medium D) (message : Message) {client : ℕ} (held : Nodes) {want : Want}
+module _ {D : Type 0} (medium : Medium D) (message : Message) {client : ℕ} (held : Stamps) {want : Want}
     (asks : IsRefresh client held want message.request.items) where
-  -- its tree, cut down to what is known or wanted
+  -- what changed in its tree for what is known or wanted, and with that its tree cut down to this
   pub lends : (names : List (List ℕ)) (served : Served) {old new : ServerNode D} {y : List ℕ} → ServerIsSound medium old
       → Handled medium message.request.items served.reply.items old new
       → served.committed ≡ committed_since (count_of old) (count_of new)
-      → ServesBy medium names (Lends held want) (SpellsCut held want) message.handed (Some served) old new y y
-  lends names served sound handled counted =
-      by_servers (SpellsCut held want) message served sound handled counted (λ was now it sound counted.
+      → ServesBy medium names (Lends (nodes_of held) want) (SpellsCut (stamps_of old) held want) message.handed (Some served) old new y y
+  lends names served {old} sound handled counted =
+      by_servers (SpellsCut (stamps_of old) held want) message served sound handled counted (λ was now is it sound counted.
       let told = answers_it message served it asks in
-      let its_tree = ap (λ (s : State). s.tree) sound.stands.post.stands.has_state in (
+      let stamped = list_stamped sound.node.durable in
+      let stamps : stamps_of old ≡ (servers.state_of was).stamps = ap stamps_of is in
+      let its_stamps = stamps ∙ ap (λ (s : State). s.stamps) sound.stands.post.stands.has_state in
+      let its_tree : nodes_of (stamps_of old) ≡ (servers.state_of was).tree =
+      ap nodes_of its_stamps ∙ stamped.nodes ∙ sym (ap (λ (s : State). s.tree) sound.stands.post.stands.has_state) in (
         refl,
         (
-          snapshot held want (servers.state_of was).tree,
+          snapshot (nodes_of held) want (servers.state_of was).tree,
           record {
-            spelled = subst (Spells served.reply.items) told.answers.0 told.spelled;
-            server = (servers.state_of was).tree;
-            tree = subst IsTree (sym its_tree) (list_tree sound.node.durable);
-            whole = subst IsWhole (sym its_tree) (list_whole sound.node.durable);
-            cut = refl;
+            spelled =
+                subst (λ (s : Stamps). Spells served.reply.items (replies.Objects (changes_for s (known_with_stamps held) want)))
+                (sym stamps)
+                (subst (Spells served.reply.items) told.answers.0 told.spelled);
+            tree = subst (λ (s : Stamps). IsTree (nodes_of s)) (sym its_stamps) (subst IsTree (sym stamped.nodes) stamped.tree);
+            whole = subst (λ (s : Stamps). IsWhole (nodes_of s)) (sym its_stamps) (subst IsWhole (sym stamped.nodes) stamped.whole);
+            cut = ap (snapshot (nodes_of held) want) (sym its_tree);
           },
           λ n x. record {
             step = λ node here. (
               [],
               node,
               ap (λ (text : List ℕ). x ++ text) (still_silent message served it counted told.answers.1),
-              (refl, ap (λ (s : State). Some (snapshot held want s.tree)) here.post.stands.has_state, refl),
+              (refl, ap (λ (s : State). Some (snapshot (nodes_of held) want s.tree)) here.post.stands.has_state, refl),
               stands_still medium names it here told.records told.answers.1,
             );
           },
         ),
       ))
+
+  -- and its stamps stay
+  pub stays_stamped : (served : Served) {old new : ServerNode D} → Handled medium message.request.items served.reply.items old new
+      → stamps_of new ≡ stamps_of old
+  stays_stamped served handled =
+      let told = answers_it message served handled.by asks in
+      ap stamps_of handled.new_is ∙ ap (λ (s : State). s.stamps) told.answers.1 ∙ sym (ap stamps_of handled.old_is)
 
   appends_nothing : (was now : Server D) → Refuses medium message.request.items append.Stopped was now → ⊥
   appends_nothing was now stops =
@@ -421,7 +440,7 @@ module _ {message : Message} {it : Submission} (hands : IsHanded message it) whe
         → served.committed ≡ committed_since (count_of old) (count_of new)
         → ServesBy medium names (Judges it) (SpellsVerdict it.reads) message.handed (Some served) old new y y
     judges served {y = y} sound handled counted =
-        by_servers (SpellsVerdict it.reads) message served sound handled counted (λ was now done sound counted.
+        by_servers (SpellsVerdict it.reads) message served sound handled counted (λ was now is done sound counted.
         by_found served y done counted _ refl (told served y done counted).answers)
 
     -- the server stops as it commits it

@@ -3,6 +3,8 @@ use Rattle.std.specs.Prelude.{◌≡◌, ℕ, ◌++◌, List, [], leb, if◌then
 use Rattle.iot_server_node.specs.Prelude.{Nodes, IsTree, IsWhole, Want, IsMessage, IsRequest, request_spelling, Request, snapshot}
 use Rattle.iot_server_node.specs.Prelude.{commit_line, Handed, Spells}
 use Rattle.iot_wire.specs.declared.replies.Reply.TheVariants as replies
+use Rattle.iot_stamp.specs.Refresh.{changes_for, known_with_stamps}
+use Rattle.iot_stamp.specs.Stamps.{Stamps, nodes_of}
 use Rattle.iot_node.specs.Lines.{name_of}
 
 -- ---- requests
@@ -30,10 +32,10 @@ said_of (Some number) handed = printed_under number handed
 
 -- ---- replies
 
--- the reply brings this tree, which is what of some whole tree a client with this held tree knows and wants
-pub record SpellsCut (held : Nodes) (want : Want) (bytes : List ℕ) (t : Nodes) : Type 0 where
-  pub spelled : Spells bytes (replies.Objects t)
-  pub server : Nodes
-  pub tree : IsTree server
-  pub whole : IsWhole server
-  pub cut : t ≡ snapshot held want server
+-- the reply brings what changed in this stamped tree, which is whole, for a client with this held tree and want: so that one makes
+-- this tree of what it holds
+pub record SpellsCut (server held : Stamps) (want : Want) (bytes : List ℕ) (t : Nodes) : Type 0 where
+  pub spelled : Spells bytes (replies.Objects (changes_for server (known_with_stamps held) want))
+  pub tree : IsTree (nodes_of server)
+  pub whole : IsWhole (nodes_of server)
+  pub cut : t ≡ snapshot (nodes_of held) want (nodes_of server)

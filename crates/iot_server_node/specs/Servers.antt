@@ -1,5 +1,5 @@
 -- The server as a node, alive or down: for which node of the machine it stands, and what it does.
-use Rattle.std.specs.Prelude.{◌≡◌, ℕ, ◌+◌, ◌<◌, ◌%◌, ◌^◌, Bool, true, false, List, [], ◌++◌, length, map, Option, Some, None, IsSome}
+use Rattle.std.specs.Prelude.{◌≡◌, ℕ, ◌+◌, ◌<◌, ◌%◌, ◌^◌, Bool, true, false, List, [], ◌∷◌, ◌++◌, length, map, Option, Some, None, IsSome}
 use Rattle.std.specs.Prelude.{slice_index_or, option_map, Err}
 use Rattle.std.specs.List.{AllByRecursion}
 use Rattle.iot_server_node.specs.Prelude.{Nodes, IsTree, Act, Label, after_acts, reads_of, Medium, JournalFault, run_entry, Call, Commit}
@@ -12,6 +12,8 @@ use Rattle.iot_node.specs.Posts as posts
 use Rattle.iot_node.specs.declared.lines.Transaction.{Transaction}
 use Rattle.iot_server.specs.Servers as servers
 use Rattle.iot_wire.specs.declared.requests.Request.TheVariants as requests
+use Rattle.iot_stamp.specs.Stamps.{Stamps}
+use Rattle.iot_store.specs.Stamps.{opening_stamps}
 use Rattle.iot_server_node.specs.Keepers.{lists, traffic_in, Handles, Refuses}
 use Rattle.iot_server_node.specs.Messages.{said_of}
 use Rattle.iot_server_node.specs.Records.{DiskBegins, label_of, records_of}
@@ -45,6 +47,15 @@ lent_of server = lent_in server.post
 abbrev pub tree_of : {D : Type 0} → ServerNode D → Option Nodes
 tree_of server = option_map (λ it. (servers.state_of it).tree) (lent_of server)
 
+-- the stamps of a live server's tree
+abbrev pub stamps_in : {D : Type 0} → Post (ServerKeeper D) D → Stamps
+stamps_in (Up keeper) = (servers.state_of keeper.server).stamps
+stamps_in (Down fallen) = opening_stamps
+stamps_in Between = opening_stamps
+
+abbrev pub stamps_of : {D : Type 0} → ServerNode D → Stamps
+stamps_of server = stamps_in server.post
+
 -- how many commits a live server has
 abbrev pub count_in : {D : Type 0} → Post (ServerKeeper D) D → ℕ
 count_in (Up keeper) = length (servers.state_of keeper.server).labels
@@ -73,15 +84,20 @@ pub record IsLonger (commits longer : List Commit) : Type 0 where
   pub later : List Commit
   pub is : longer ≡ commits ++ later
 
-abbrev pub IsLongerIfAny : List Commit → Option (List Commit) → Type 0
-IsLongerIfAny commits None = Unit {0}
-IsLongerIfAny commits (Some longer) = IsLonger commits longer
+-- it has one commit more
+pub record IsOneMore (commits longer : List Commit) : Type 0 where
+  pub commit : Commit
+  pub is : longer ≡ commits ++ commit ∷ []
 
--- so is each commit of what is durable, and of what is in doubt, which begins with what is durable
+abbrev pub IsOneMoreIfAny : List Commit → Option (List Commit) → Type 0
+IsOneMoreIfAny commits None = Unit {0}
+IsOneMoreIfAny commits (Some longer) = IsOneMore commits longer
+
+-- so is each commit of what is durable, and of what is in doubt, which has one more than what is durable
 pub record NodeIsKnown (names : List (List ℕ)) (node : Node (List Commit)) : Type 0 where
   pub durable : AreKnown names node.durable
   pub doubt : AreKnownIfAny names node.doubt
-  pub longer : IsLongerIfAny node.durable node.doubt
+  pub longer : IsOneMoreIfAny node.durable node.doubt
 
 -- a live server has answered so many requests since its start, as far as it can count
 abbrev pub HasAnsweredIn : {D : Type 0} → ℕ → Post (ServerKeeper D) D → Type 0

@@ -5,12 +5,13 @@ ghost use Rattle.iot_disk.specs.declared.faults.JournalFault.TheVariants.{Stoppe
 ghost use Rattle.iot_machine.specs.Texts.{tree_text};
 ghost use Rattle.iot_server_node.specs.Prelude.{Commit, add_commit, tree_after, Node, unopened, doubting, Submission, Lends, Judges};
 ghost use Rattle.iot_server_node.specs.Prelude.{server_name, kept_text, OpensNode, Crashes, Restarts, ArmsDisk, Shows, IsRefresh, IsEmpty};
-ghost use Rattle.iot_server_node.specs.Prelude.{KeepsDisk, counts_on, Lasts, CameIf, StepsTo, Nodes, Want};
+ghost use Rattle.iot_server_node.specs.Prelude.{KeepsDisk, counts_on, Lasts, CameIf, StepsTo, Want};
 ghost use Rattle.iot_server.specs.Servers as servers;
 ghost use Rattle.iot_server_node.specs.Deciding.{DecidesServer};
 ghost use Rattle.iot_server_node.specs.Keepers.{lists};
 ghost use Rattle.iot_server_node.specs.Messages.{committed_since};
 ghost use Rattle.iot_server_node.specs.Records.{KeepsRecords};
+ghost use Rattle.iot_stamp.specs.Stamps.{Stamps, nodes_of};
 ghost use Rattle.iot_text.specs.Texts.{Extends};
 
 use crate::keeper::ServerKeeper;
@@ -42,7 +43,8 @@ pub struct Served {
 impl<D: Disk> ServerNode<D> {
     ghost use Rattle.iot_judging.specs.Verdicts.{SpellsVerdict};
     ghost use Rattle.iot_server_node.specs.Messages.{IsSomeRequest, SpellsCut, printed_under};
-    ghost use Rattle.iot_server_node.specs.Servers.{is_up, disk_of, post_of, count_of, tree_of, lent_of, ServerStands, HavingAnswered};
+    ghost use Rattle.iot_server_node.specs.Servers.{is_up, disk_of, post_of, count_of, tree_of, stamps_of, lent_of, ServerStands};
+    ghost use Rattle.iot_server_node.specs.Servers.{HavingAnswered};
     ghost use Rattle.iot_server_node.specs.Servers.{ServerIsSound, IsUnopened, HasDisk, IsLive, Handled, Refused, GivesUp, ServesBy};
     ghost use Rattle.iot_server_node.specs.Servers.{IsHanded, IsNamedIn, LendsServer, KeepsCommits, answered_since};
 
@@ -89,17 +91,20 @@ impl<D: Disk> ServerNode<D> {
         requires sound { ServerIsSound D.medium self.old }
         requires request { IsSomeRequest message.now.request.items }
         ensures up { IfOk result (λ served. is_up self.new ≡ is_some served) }
-        ensures lends { IfOk result (λ served. (client : ℕ) (held : Nodes) (want : Want) (names : List (List ℕ))
+        ensures lends { IfOk result (λ served. (client : ℕ) (held : Stamps) (want : Want) (names : List (List ℕ))
             → IsRefresh client held want message.now.request.items
-            → ServesBy D.medium names (Lends held want) (SpellsCut held want) message.now.handed served
-            self.old self.new out.old out.new) }
+            → ServesBy D.medium names (Lends (nodes_of held) want) (SpellsCut (stamps_of self.old) held want) message.now.handed
+            served self.old self.new out.old out.new) }
+        ensures stamps { IfOk result (λ served. (client : ℕ) (held : Stamps) (want : Want)
+            → IsRefresh client held want message.now.request.items
+            → IfSome served (λ _. stamps_of self.new ≡ stamps_of self.old)) }
         ensures judges { IfOk result (λ served. (it : Submission) (names : List (List ℕ))
             → IsHanded message.now it → IsNamedIn names it
             → ServesBy D.medium names (Judges it) (SpellsVerdict it.reads) message.now.handed served
             self.old self.new out.old out.new) }
 
         // If memory runs out, the disk still holds the list of commits, or that and the transaction that was handed in.
-        ensures lends_lasts { IfErr result (λ _. (client : ℕ) (held : Nodes) (want : Want) (names : List (List ℕ)) (n : ℕ)
+        ensures lends_lasts { IfErr result (λ _. (client : ℕ) (held : Stamps) (want : Want) (names : List (List ℕ)) (n : ℕ)
             (node : Node (List Commit)) → IsRefresh client held want message.now.request.items
             → ServerStands D.medium names self.old node n → Lasts (lists D.medium) D.medium (post_of self.new) node) }
         ensures judges_lasts { IfErr result (λ _. (it : Submission) (names : List (List ℕ)) (n : ℕ)

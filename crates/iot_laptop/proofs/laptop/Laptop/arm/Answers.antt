@@ -1,5 +1,6 @@
 use Rattle.std.proofs.lemmas.Result.{IfOk-weaker}
 use Rattle.iot_laptop.specs.Below.{no_text}
+use Rattle.iot_laptop.proofs.TrailsLaws.{again_trails}
 use Rattle.iot_laptop.proofs.RestartLaws.{arms, live_again}
 use Rattle.iot_laptop.proofs.laptop.Laptop.arm.Goals as goal
 
@@ -11,3 +12,6 @@ returns-clause-step g c =
     (live_again c.args.self.now.post c.arm.new.self c.arm.ensures.live) c.args.out.now c.arm.new.out
     (rw c.as_bytes.ensures.value at (step c.args.self.now.place no_text)))
     c.arm.ensures.step
+
+pub returns-clause-trails : goal.returns-clause-trails
+returns-clause-trails g c = again_trails c.args.self.now.post c.arm.new.self c.arm.ensures.live

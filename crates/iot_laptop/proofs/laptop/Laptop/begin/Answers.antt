@@ -1,4 +1,7 @@
+use Rattle.std.proofs.lemmas.Result.{IfOk-weaker}
 use Rattle.std.proofs.Common.{rules}
+use Rattle.iot_laptop.proofs.NodesLaws.{lent_at}
+use Rattle.iot_laptop.proofs.TrailsLaws.{goes_trails, noted_trails}
 use Rattle.iot_laptop.proofs.CallsLaws.{begins}
 use Rattle.iot_laptop.proofs.laptop.Laptop.begin.Goals as goal
 
@@ -8,3 +11,10 @@ returns-clause-does g c =
     begins c.in-Up.is c.goes_on.ensures.goes (search rules) (λ number. number)
     (record { name = c.args.name.now; code = c.args.script.value }) c.args.option c.args.first c.requires.script
     is.number is.notes is.live is.stopped
+
+pub returns-clause-trails : goal.returns-clause-trails
+returns-clause-trails g c =
+    let tied = (lent_at _ _ _ c.in-Up.is c.requires.stands).tied in
+    goes_trails c.in-Up.is c.goes_on.ensures.goes c.goes_on.ensures.down
+    (IfOk-weaker c.begin-answer.result _ _ (λ _. noted_trails _ c.in-Up.seated.client c.begin-answer.new.self _ tt tied)
+    c.begin-answer.ensures.notes)

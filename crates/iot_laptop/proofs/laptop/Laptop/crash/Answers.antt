@@ -1,4 +1,6 @@
 use Rattle.iot_laptop.specs.Below.{no_text}
+use Rattle.std.proofs.lemmas.Result.{IfOk-weaker}
+use Rattle.iot_laptop.proofs.TrailsLaws.{off_trails}
 use Rattle.iot_laptop.proofs.CallsLaws.{if_two}
 use Rattle.iot_laptop.proofs.RestartLaws.{crashes}
 use Rattle.iot_laptop.proofs.laptop.Laptop.crash.Goals as goal
@@ -11,3 +13,8 @@ returns-clause-step g c =
 
 pub returns-clause-disk : goal.returns-clause-disk
 returns-clause-disk g c = c.crash.ensures.disk c.args.self.now.place
+
+pub returns-clause-trails : goal.returns-clause-trails
+returns-clause-trails g c =
+    IfOk-weaker c.crash.result _ _ (λ _ off. off_trails c.args.self.now (record c.args.self.now { post = c.crash.new.self }) off)
+    c.crash.ensures.down

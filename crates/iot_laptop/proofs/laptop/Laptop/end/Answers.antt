@@ -1,7 +1,9 @@
+use Rattle.std.proofs.lemmas.Result.{IfOk-at_ok, IfOk-weaker}
 use Rattle.std.proofs.Common.{ap, ◌∙◌, rules}
-use Rattle.std.proofs.lemmas.Result.{IfOk-at_ok}
 use Rattle.iot_laptop.specs.Below.{Laptop}
 use Rattle.iot_laptop.specs.Laptops.{state_in, waits_of}
+use Rattle.iot_laptop.proofs.NodesLaws.{lent_at}
+use Rattle.iot_laptop.proofs.TrailsLaws.{goes_trails, noted_trails}
 use Rattle.iot_laptop.proofs.CallsLaws.{ends, is_done, waits_now}
 use Rattle.iot_laptop.proofs.laptop.Laptop.end.Goals as goal
 
@@ -27,3 +29,17 @@ returns-in-Err-clause-over g c = is_done g.D.Disk.medium c.args.self.now c.requi
 
 pub returns-in_err-output-clause-over : goal.returns-in_err-output-clause-over
 returns-in_err-output-clause-over g c = is_done g.D.Disk.medium c.args.self.now c.requires.over
+
+pub returns-in-Ok-clause-trails : goal.returns-in-Ok-clause-trails
+returns-in-Ok-clause-trails g c =
+    let tied = (lent_at _ _ _ c.in-Up.is c.requires.stands).tied in
+    rw c.in-Ok.is at (goes_trails c.in-Up.is c.goes_on.ensures.goes c.goes_on.ensures.down
+    (IfOk-weaker c.end-answer.result _ _ (λ _. noted_trails _ c.in-Up.seated.client c.end-answer.new.self _ tt tied)
+    c.end-answer.ensures.notes))
+
+pub returns-in-Err-clause-trails : goal.returns-in-Err-clause-trails
+returns-in-Err-clause-trails g c =
+    let tied = (lent_at _ _ _ c.in-Up.is c.requires.stands).tied in
+    rw c.in-Err.is at (goes_trails c.in-Up.is c.goes_on.ensures.goes c.goes_on.ensures.down
+    (IfOk-weaker c.end-answer.result _ _ (λ _. noted_trails _ c.in-Up.seated.client c.end-answer.new.self _ tt tied)
+    c.end-answer.ensures.notes))

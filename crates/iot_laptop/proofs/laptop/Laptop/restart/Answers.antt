@@ -1,6 +1,7 @@
 use Rattle.std.proofs.Common.{◌≡◌, Bool, sym, subst, ◌∙◌}
 use Rattle.std.proofs.lemmas.Result.{IfOk-weaker}
 use Rattle.iot_laptop.specs.Below.{no_text}
+use Rattle.iot_laptop.proofs.TrailsLaws.{fresh_trails}
 use Rattle.iot_laptop.proofs.RestartLaws.{CameBack, says_up, is_standing, stops_again, came_again, is_back, comes_back, came_back}
 use Rattle.iot_laptop.proofs.RestartLaws.{keeps_then}
 use Rattle.iot_laptop.proofs.laptop.Laptop.restart.Given.{Over}
@@ -52,3 +53,15 @@ returns-clause-came g c = λ down.
 
 pub returns-clause-disk : goal.returns-clause-disk
 returns-clause-disk g c = keeps_then g.D.Disk.medium _ _ _ c.come_back.ensures.disk c.cut_off.ensures.disk
+
+pub returns-then-not-branch-clause-trails : goal.returns-then-not-branch-clause-trails
+returns-then-not-branch-clause-trails g c = λ server bound positive it.
+    fresh_trails c.come_back.new.self c.in_ok-come_back.field-0 c.in_ok-come_back.ensures.live server bound positive
+
+pub returns-clause-trails : goal.returns-clause-trails
+returns-clause-trails g c =
+    IfOk-weaker c.cut_off.result _ _
+    (λ _ keeps server bound positive it.
+    keeps server bound positive
+    (fresh_trails c.come_back.new.self c.in_ok-come_back.field-0 c.in_ok-come_back.ensures.live server bound positive))
+    c.cut_off.ensures.trails

@@ -1,4 +1,4 @@
-use Rattle.iot_laptop.proofs.SeatsLaws.{seat_comes, seat_fails}
+use Rattle.iot_laptop.proofs.SeatsLaws.{seat_comes, seat_fails, seat_fresh}
 use Rattle.iot_laptop.proofs.seated.SeatedKeeper.start.Goals as goal
 
 pub returns-in-Ok-clause-comes : goal.returns-in-Ok-clause-comes
@@ -11,3 +11,6 @@ returns-in-Err-clause-fails g c =
     seat_fails g.D.Disk.medium c.args.disk c.args.place c.in-Err.refused.1 c.in-Err.refused.0 c.in-Err.ensures.never
     c.in-Err.ensures.cause
     c.in-Err.ensures.bodies c.in-Err.ensures.arms
+
+pub returns-in-Ok-clause-live : goal.returns-in-Ok-clause-live
+returns-in-Ok-clause-live g c = seat_fresh g.D.Disk.medium c.args.disk c.in-Ok.client c.in-Ok.ensures.live c.in-Ok.ensures.stamps

@@ -1,6 +1,6 @@
 use Rattle.iot_server_node.proofs.Common.{arith, ap, ◌∙◌, committed_since}
 use Rattle.iot_server_node.proofs.KeepersLaws.{always_err, few_commits}
-use Rattle.iot_server_node.proofs.ServingLaws.{lends, lends_always, lends_lasts, judges, judges_stopped, judges_lasts}
+use Rattle.iot_server_node.proofs.ServingLaws.{lends, stays_stamped, lends_always, lends_lasts, judges, judges_stopped, judges_lasts}
 use Rattle.iot_server_node.proofs.ServersLaws.{is_live, answered_off}
 use Rattle.iot_server_node.specs.Servers.{count_of}
 use Rattle.iot_server_node.proofs.BeginningLaws.{handled_records, refused_records}
@@ -61,3 +61,8 @@ pub returns-in_err-give_up-in-Err-clause-records : goal.returns-in_err-give_up-i
 returns-in_err-give_up-in-Err-clause-records g c =
     refused_records g.D.Disk.medium g.met.D.Disk.reads_is_image c.args.message.now.request.items c.in-Err.fault c.give_up.new.self
     c.requires.sound c.in-Err.ensures.refused c.give_up.ensures.disk
+
+pub returns-in-Ok-clause-stamps : goal.returns-in-Ok-clause-stamps
+returns-in-Ok-clause-stamps g c client held want asks =
+    stays_stamped g.D.Disk.medium c.args.message.now held asks (record { reply = c.in-Ok.reply; committed = c.committed_by.result })
+    c.in-Ok.ensures.handled
