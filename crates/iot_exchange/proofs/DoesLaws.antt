@@ -16,7 +16,9 @@ use Rattle.iot_exchange.specs.Words.{Asks, Answers, Tells, Then, Goes, either, R
 use Rattle.iot_exchange.specs.Words.{Pair, OnConflict, unless_stopped, Notes, KeepsDisk, StepsTo, Halt, NoMemory, Over, disk_of}
 use Rattle.iot_exchange.specs.Words.{ServerStands, ServerNode, KeepsRecords, Stands, awake, disk_in, SamePlace, Laptop, NotesAlone, Whole}
 use Rattle.iot_exchange.specs.Words.{is_alive, fallen, Nodes, after_acts, Item, is_drained, IfUp, line, pends, runs, SyncsAll, ItemsStand}
-use Rattle.iot_exchange.specs.Words.{state_in, waits_of, ClientStands}
+use Rattle.iot_exchange.specs.Words.{KeepsTrails, UnlessNoMemory, state_in, stamps_in, waits_of, ClientStands}
+use Rattle.iot_exchange.specs.Following.{Follows}
+use Rattle.iot_exchange.proofs.FollowingLaws.{follows_kept}
 use Rattle.iot_exchange.specs.Pairs.{Both, two, IsAt, UpStands, AnyStands, IsReadyWith, IsStandingWith, KeepsDisks, PairStands, Does}
 use Rattle.iot_exchange.specs.Queues.{SyncsNext}
 use Rattle.iot_exchange.proofs.StepsLaws.{From, Steps, at_each, at_one, joined}
@@ -75,7 +77,12 @@ module _ {D : Type 0} {medium : Medium D} where
   -- one that is alive stands for its pair anyhow
   pub still : {scripts : List Declared} {names : List (List ℕ)} {c : ℕ} {u : Both D} {pair : Pair} → UpStands medium scripts names c u pair
       → AnyStands medium scripts names c u pair
-  still here = record { place = here.place; client = at_as here.client (awake here.client.is) refl refl; server = here.server }
+  still here = record {
+    place = here.place;
+    client = at_as here.client (awake here.client.is) refl refl;
+    server = here.server;
+    follows = here.follows;
+  }
 
   module _ {scripts : List Declared} {names : List (List ℕ)} {c : ℕ} {u : Both D} {pair : Pair} where
     pub anyhow : AnyStands medium scripts names c u pair → StandsAnyhow medium u.laptop
@@ -258,30 +265,65 @@ pub starts : (script : Declared) (option : OnConflict Declared) (first : Bool)
 starts script option first =
     lift_then (notes (begin script option)) (lift_unless (λ done. lift_class (Some tt) (set_class first) (λ m. refl)))
 
+-- what the client holds after a call still follows the server's list, unless memory ran out
+abbrev pub FollowsNow : {D : Type 0} → Medium D → List Declared → Both D → Laptop D → Result (Unit {0}) Halt → Type 0
+FollowsNow medium scripts v new result =
+    UnlessNoMemory result ((names : List (List ℕ)) (c : ℕ) (pair : Pair) → UpStands medium scripts names c v pair
+    → Follows (stamps_in new) pair.server.durable)
+
+still_follows : {D : Type 0} (medium : Medium D) (scripts : List Declared) (v : Both D) (new : Laptop D) (result : Result (Unit {0}) Halt)
+    → UnlessNoMemory result (KeepsTrails v.laptop new) → FollowsNow medium scripts v new result
+still_follows medium scripts v new (Err NoMemory) trails = tt
+still_follows medium scripts v new (Err Over) trails = λ names c pair here. follows_kept _ _ pair.server.durable trails here.follows
+still_follows medium scripts v new (Ok done) trails = λ names c pair here. follows_kept _ _ pair.server.durable trails here.follows
+
 module _ {D : Type 0} {medium : Medium D} where
   lifted : {A : Type 0} {one : Try Client A} {call : Try Pair A} {P Q : Laptop D → Client → Type 0} {old new : Laptop D}
       {server : ServerNode D} {x y : List ℕ} {a : Option A} (names : List (List ℕ)) (c : ℕ) → Lifts one call → SamePlace old new
+      → ((pair : Pair) → PairStands c (IsAt P names c) (ServerStands medium names) (two old server) pair
+      → Follows (stamps_in new) pair.server.durable)
       → StepsTo P Q one old new x y a
       → StepsTo (PairStands c (IsAt P names c) (ServerStands medium names)) (PairStands c (IsAt Q names c) (ServerStands medium names)) call
       (two old server) (two new server) x y a
-  lifted {a = a} names c lifts place it = record {
+  lifted {a = a} names c lifts place follows it = record {
     step = λ pair here.
         let t = it.step pair.client here.client.is in
-        let did = lifts.lift pair t.0 a t.1 t.3 in
-        let client = at_as here.client t.4 place did.1 in
-        (t.0, record pair { client = t.1 }, t.2, did.0, record { place = here.place; client = client; server = here.server });
+        let did = lifts.lift pair t.0 a t.1 t.3 in (
+          t.0,
+          record pair { client = t.1 },
+          t.2,
+          did.0,
+          record {
+            place = here.place;
+            client = at_as here.client t.4 place did.1;
+            server = here.server;
+            follows = follows pair here;
+          },
+        );
   }
 
-  pub by_client : {scripts : List Declared} {one : Try Client (Unit {0})} {call : Try Pair (Unit {0})} {u v : Both D} {new : Laptop D}
+  pub by_call : {scripts : List Declared} {one : Try Client (Unit {0})} {call : Try Pair (Unit {0})} {u v : Both D} {new : Laptop D}
       {x y : List ℕ} {result : Result (Unit {0}) Halt} → Lifts one call → KeepsDisks medium u v → SamePlace v.laptop new
-      → EndsAlone medium scripts one v.laptop new x y result → KeepsDisk medium (disk_in v.laptop) (disk_in new)
-      → Does medium scripts call v (two new v.server) x y result
-  by_client {result = Err NoMemory} lifts keeps place it more =
+      → FollowsNow medium scripts v new result → EndsAlone medium scripts one v.laptop new x y result
+      → KeepsDisk medium (disk_in v.laptop) (disk_in new) → Does medium scripts call v (two new v.server) x y result
+  by_call {result = Err NoMemory} lifts keeps place follows it more =
       record { step = λ names c. record { is = tt }; disks = keeps_more (keeps_now keeps) more }
-  by_client lifts keeps place it more = record {
-    step = λ names c. record { is = lifted names c lifts place it.is };
+  by_call {result = Err Over} lifts keeps place follows it more = record {
+    step = λ names c. record { is = lifted names c lifts place (follows names c) it.is };
     disks = keeps_more (keeps_now keeps) more;
   }
+  by_call {result = Ok done} lifts keeps place follows it more = record {
+    step = λ names c. record { is = lifted names c lifts place (follows names c) it.is };
+    disks = keeps_more (keeps_now keeps) more;
+  }
+
+  -- one that does not ask the server
+  pub by_client : {scripts : List Declared} {one : Try Client (Unit {0})} {call : Try Pair (Unit {0})} {u v : Both D} {new : Laptop D}
+      {x y : List ℕ} {result : Result (Unit {0}) Halt} → Lifts one call → KeepsDisks medium u v → SamePlace v.laptop new
+      → UnlessNoMemory result (KeepsTrails v.laptop new) → EndsAlone medium scripts one v.laptop new x y result
+      → KeepsDisk medium (disk_in v.laptop) (disk_in new) → Does medium scripts call v (two new v.server) x y result
+  by_client {scripts = scripts} {v = v} {new = new} {result = result} lifts keeps place trails it more =
+      by_call lifts keeps place (still_follows medium scripts v new result trails) it more
 
 -- ---- again and again
 
@@ -392,6 +434,7 @@ module _ {D : Type 0} {medium : Medium D} {scripts : List Declared} {u : Both D}
     place = here.place;
     client = at_as here.client (awake_stands medium scripts u.laptop pair.client alive here.client.is) refl refl;
     server = here.server;
+    follows = here.follows;
   }
 
   pub ready_there : is_alive u.laptop ≡ true → IsStandingWith medium scripts u → IsReadyWith medium scripts u

@@ -15,6 +15,29 @@ use Rattle.iot_exchange.specs.Pairs.{Both, two, IsAt, UpStands, Query, Objects, 
 use Rattle.iot_exchange.specs.Pairs.{Asked, IsReady, KeepsDisks, Does}
 use Rattle.iot_exchange.proofs.DoesLaws.{StepsOn, at_as, OfEach, then_does, answers}
 use Rattle.iot_exchange.proofs.StepsLaws.{bind, gets, asks, then_ends}
+use Rattle.std.proofs.Common.{◌<◌, ◌^◌, length, map, arith}
+use Rattle.std.specs.FinMap.{entries}
+use Rattle.std.specs.List.{filter_map}
+use Rattle.iot_kept.specs.Bringing.{brought}
+use Rattle.iot_machine.specs.Clients.{snapshot}
+use Rattle.iot_machine.proofs.WholeLaws.{whole_comes}
+use Rattle.iot_server_node.specs.Records.{state_of}
+use Rattle.iot_stamp.specs.Refresh.{known_stamp, known_with_stamps}
+use Rattle.iot_stamp.specs.Stamps.{stamped_node}
+use Rattle.iot_stamp.proofs.MappedLaws.{entries_of_mapped}
+use Rattle.iot_tree.specs.Tree.{IsTree}
+use Rattle.iot_tree.specs.declared.changes.Changes.{Changes}
+use Rattle.iot_tree.specs.declared.want.Want.TheVariants as wanted
+use Rattle.iot_tree.proofs.RowLaws.{entries_rows, root_map, root_rows}
+use Rattle.iot_wire.proofs.MessagesLaws.{call_one}
+use Rattle.iot_wire.proofs.SpellingLaws.{reply_laws}
+use Rattle.iot_exchange.specs.Words.{AsksAll, FarDir, IsOneMessage, IsReply, IsWhole, Over, NoMemory, Row, Stamps, TakesStamps, new_client}
+use Rattle.iot_exchange.specs.Words.{nodes_of, nothing_held, reply_spelling, root_alone, stamps_in, stamps_of}
+use Rattle.iot_exchange.specs.Following.{Follows}
+use Rattle.iot_exchange.specs.Pairs.{IfReplied, LendsIfReplied, StaysUp}
+use Rattle.iot_exchange.proofs.DoesLaws.{FollowsNow}
+use Rattle.iot_exchange.proofs.FollowingLaws.{Grows, follows_nothing, follows_on, follows_refreshed, held_is, makes_cut}
+use Rattle.iot_exchange.proofs.FollowingLaws.{nodes_none, up_stamps}
 
 -- what is so anyhow
 pub on_err : {T E P : Type 0} (r : Result T E) → P → IfErr r (λ _. P)
@@ -26,13 +49,14 @@ on_err (Err e) so = so
 module _ {D : Type 0} (medium : Medium D) (message : Message) (old new : ServerNode D) (x : List ℕ) where
   -- whatever is asked
   pub serves : (served : Option Served) (y : List ℕ)
-      → ((client : ℕ) (held : Nodes) (want : Want) (names : List (List ℕ)) → IsRefresh client held want message.request.items
-      → ServesBy medium names (Lends held want) (SpellsCut held want) message.handed served old new x y)
+      → ((client : ℕ) (held : Stamps) (want : Want) (names : List (List ℕ)) → IsRefresh client held want message.request.items
+      → ServesBy medium names (Lends (nodes_of held) want) (SpellsCut (stamps_of old) held want) message.handed served old new x y)
       → ((it : Submission) (names : List (List ℕ)) → IsHanded message it → IsNamedIn names it
       → ServesBy medium names (Judges it) (SpellsVerdict it.reads) message.handed served old new x y)
-      → (names : List (List ℕ)) (query : Query) → AsksFor names message query
+      → (names : List (List ℕ)) (query : Query) → AsksFor names message old query
       → ServesBy medium names (request_of query) (Spells query) message.handed served old new x y
-  serves served y lends judges names (Objects client held want) asked = lends client held want names asked
+  serves served y lends judges names (Objects client held server tree want) asked =
+      rw (asked.1, asked.2) (lends client held want names asked.0)
   serves served y lends judges names (Judgment it) asked = judges it names asked.0 asked.1
 
   -- it replies, and what it committed is said
@@ -57,13 +81,16 @@ same_name p m = refl
 -- ---- what the server makes of it
 
 module _ {D A : Type 0} {medium : Medium D} {scripts : List Declared} {names : List (List ℕ)} {c : ℕ} {server later : ServerNode D}
-    {request : Call (Node (List Commit)) (Option A)} {x y : List ℕ} {laptop : Laptop D} where
+    {request : Call (Node (List Commit)) (Option A)} {x y : List ℕ} {laptop : Laptop D}
+    (grows : (node after : Node (List Commit)) (text : List ℕ) (a : Option A) → request node text a after
+    → Grows node.durable after.durable) where
   -- it alone does it, and counts so many more
   by_server : {a : Option A} (count : ℕ → ℕ)
       → ((n : ℕ) → StepsTo (HavingAnswered medium names n) (HavingAnswered medium names (count n)) request server later x y a)
       → StepsTo (UpStands medium scripts names c)
       (λ w pair. (pair.place ≡ c) × IsAt (LaptopStands medium scripts) names c w.laptop pair.client
-      × ServerStands medium names w.server pair.server (count pair.requests))
+      × ServerStands medium names w.server pair.server (count pair.requests)
+      × Follows (stamps_in w.laptop) pair.server.durable)
       (At its_server request) (two laptop server) (two laptop later) x y a
   by_server count it = record {
     step = λ pair here.
@@ -72,7 +99,12 @@ module _ {D A : Type 0} {medium : Medium D} {scripts : List Declared} {names : L
           record pair { server = t.1 },
           t.2,
           record { inner = t.1; step = t.3; is = refl },
-          (here.place, here.client, t.4),
+          (
+            here.place,
+            here.client,
+            t.4,
+            follows_on (stamps_in laptop) pair.server.durable t.1.durable (grows pair.server t.1 t.0 _ t.3) here.follows,
+          ),
         );
   }
 
@@ -80,13 +112,15 @@ module _ {D A : Type 0} {medium : Medium D} {scripts : List Declared} {names : L
       → Serves (ServerStands medium names) Spelled request reply server later x y
       → Exchanges (UpStands medium scripts names c) Spelled (Handles request) reply (two laptop server) (two laptop later) x y
   handles None it = record {
-    is = bind (by_server (λ n. n) it.is) (gets (λ pair here. (refl, record { place = here.0; client = here.1; server = here.2 })));
+    is = bind (by_server (λ n. n) it.is) (gets (λ pair here.
+        (refl, record { place = here.0; client = here.1; server = here.2; follows = here.3 })));
   }
   handles (Some reply) it = record {
     is = (
       it.is.0,
       it.is.1,
-      bind (by_server (λ n. n + 1) it.is.2) (gets (λ pair here. (refl, record { place = here.0; client = here.1; server = here.2 }))),
+      bind (by_server (λ n. n + 1) it.is.2) (gets (λ pair here.
+          (refl, record { place = here.0; client = here.1; server = here.2; follows = here.3 }))),
     );
   }
 
@@ -114,6 +148,7 @@ module _ {D : Type 0} {medium : Medium D} {old new : Laptop D} {server : ServerN
       place = here.place;
       client = at_as here.client (it.after.stands scripts pair.client here.client.is) it.after.place (same_name p pair.client);
       server = here.server;
+      follows = subst (λ (held : Stamps). Follows held pair.server.durable) (sym it.after.stamps) here.follows;
     }
 
     module _ {A : Type 0} {request : Call (Node (List Commit)) (Option A)} where
@@ -134,22 +169,24 @@ module _ {D : Type 0} {medium : Medium D} {old new : Laptop D} {server : ServerN
           → Exchanges (UpStands medium scripts names c) Spelled (Exchange request) None (two old server) (two new server) x x
       request_lost it = record { is = exchanged it (gets (λ pair here. (refl, linked it here))) }
 
-      module _ {Spelled : List ℕ → A → Type 0} {later : ServerNode D} {x y : List ℕ} where
+      module _ {Spelled : List ℕ → A → Type 0} {later : ServerNode D} {x y : List ℕ}
+          (grows : (node after : Node (List Commit)) (text : List ℕ) (a : Option A) → request node text a after
+          → Grows node.durable after.durable) where
         -- the server handled it, and its reply is lost
         pub reply_lost : (reply : Option (Vec ℕ Global)) → Passed medium old new server ReplyLost
             → Serves (ServerStands medium names) Spelled request reply server later x y
             → Exchanges (UpStands medium scripts names c) Spelled (Exchange request) None (two old server) (two new later) x y
         reply_lost None it served =
-            record { is = exchanged it (bind (handles None served).is (gets (λ pair here. (refl, linked it here)))) }
+            record { is = exchanged it (bind (handles grows None served).is (gets (λ pair here. (refl, linked it here)))) }
         reply_lost (Some reply) it served =
-            record { is = exchanged it (bind (handles (Some reply) served).is.2 (gets (λ pair here. (refl, linked it here)))) }
+            record { is = exchanged it (bind (handles grows (Some reply) served).is.2 (gets (λ pair here. (refl, linked it here)))) }
 
         -- the reply comes
         pub comes : {reply : Vec ℕ Global} → Passed medium old new server Reaches
             → Serves (ServerStands medium names) Spelled request (Some reply) server later x y
             → Exchanges (UpStands medium scripts names c) Spelled (Exchange request) (Some reply) (two old server) (two new later) x y
         comes {reply} it served =
-            let e = (handles {laptop = old} (Some reply) served).is in
+            let e = (handles {laptop = old} grows (Some reply) served).is in
             record { is = (e.0, e.1, exchanged it (bind e.2 (gets (λ pair here. (refl, linked it here))))) }
 
         -- none comes, since the server stopped
@@ -157,10 +194,11 @@ module _ {D : Type 0} {medium : Medium D} {old new : Laptop D} {server : ServerN
             → Serves (ServerStands medium names) Spelled request None server later x y → Relinked medium break new last
             → Exchanges (UpStands medium scripts names c) Spelled (Exchange request) None (two old server) (two last later) x y
         none_comes it served broke = record {
-          is = exchanged it (bind (handles None served).is (gets (λ pair here.
-              let its = (linked it here).client in
-              let client = at_as its (broke.stands scripts pair.client its.is) broke.place refl in
-              (refl, record { place = here.place; client = client; server = here.server }))));
+          is = exchanged it (bind (handles grows None served).is (gets (λ pair here.
+              let mid = linked it here in
+              let client = at_as mid.client (broke.stands scripts pair.client mid.client.is) broke.place refl in
+              let follows = subst (λ (held : Stamps). Follows held pair.server.durable) (sym broke.stamps) mid.follows in
+              (refl, record { place = here.place; client = client; server = here.server; follows = follows }))));
         }
 
 -- ---- tests
@@ -199,24 +237,154 @@ module _ {D : Type 0} {medium : Medium D} {scripts : List Declared} {u v : Both 
       → KeepsDisks medium u v → Does medium scripts (Holds change want) u v x y (Ok false)
   missed change none keeps = then_does {next = holds change} (λ names c. brings (none names c)) keeps (answers keeps)
 
--- the reply brings a tree, which is held
-pub came : {D : Type 0} {medium : Medium D} {scripts : List Declared} (change : Nodes → ClientState → ClientState) (client : ℕ)
-    (want : Want) {message : Message} {reply : Vec ℕ Global} {u v w : Both D} {x y z : List ℕ} {result : Result Bool Halt}
-    → Asked medium scripts message (Some reply) u v x y → IsRefresh client (state_in u.laptop).held want message.request.items
-    → KeepsDisks medium u w
-    → ((t : Nodes) → SpellsTree reply.items t → Does medium scripts (holds change (Some t)) v w y z result)
-    → Does medium scripts (Holds change want) u w x z result
-came change client want {u = u} asked is keeps each = record {
-  step = λ names c.
-      let e = (asked.is names c (Objects client (state_in u.laptop).held want) is).is in
-      then_ends {next = holds change} (brings want e.2) ((each e.0 e.1.spelled).step names c);
-  disks = keeps;
-}
+-- what an asking client and the server are after an exchange with a reply: the client as it was, and the server up
+pub record Replied {D : Type 0} (message : Message) (u v : Both D) : Type 0 where
+  pub same : v.laptop ≡ u.laptop
+  pub lends : (client : ℕ) (held : Stamps) (want : Want) → IsRefresh client held want message.request.items
+      → StaysUp u.server v.server
 
-pub brings_tree : {D : Type 0} {medium : Medium D} (client : ℕ) (held : Nodes) (want : Want) {message : Message} {reply : Vec ℕ Global}
-    {u v : Both D} {x y : List ℕ} → IsReady medium u
-    → ((scripts : List Declared) → Asked medium scripts message (Some reply) u v x y)
-    → IsRefresh client held want message.request.items → BringsTree reply.items
-brings_tree client held want ready asked is =
-    let e = ((asked ready.scripts).is ready.names ready.c (Objects client held want) is).is in
-    record { tree = e.0; is = e.1.spelled }
+-- the reply makes one tree of a held one
+same_tree : {held : Stamps} {bytes : List ℕ} {t u : Nodes} → length bytes < 2 ^ 64 → SpellsTree held bytes t → SpellsTree held bytes u
+    → t ≡ u
+same_tree {held} {bytes} short one other =
+    let only : IsOneMessage IsReply reply_spelling bytes = call_one _ _ _ reply_laws bytes short in
+    let same : one.changes ≡ other.changes = let objects = only _ _ one.spelled other.spelled in cc in
+    one.is ∙ ap (λ (changes : Changes). nodes_of (brought held changes)) same ∙ sym other.is
+
+module _ {D : Type 0} {medium : Medium D} (client : ℕ) (held : Stamps) (tree : Nodes) (want : Want) {message : Message}
+    {u v : Both D} (is : IsRefresh client held want message.request.items)
+    (tree_is : tree ≡ nodes_of held) (replied : Replied message u v)
+    (holds_there : (scripts : List Declared) (names : List (List ℕ)) (c : ℕ) (pair : Pair) → UpStands medium scripts names c v pair
+    → Follows held pair.server.durable × IsTree (nodes_of held)) where
+  abbrev asks_for : Query
+  asks_for = Objects client held (stamps_of u.server) tree want
+
+  -- its stamps are those of each list for which it stands then
+  its_stamps : (scripts : List Declared) (names : List (List ℕ)) (c : ℕ) (pair : Pair) → UpStands medium scripts names c v pair
+      → stamps_of u.server ≡ (state_of pair.server.durable).stamps
+  its_stamps scripts names c pair here =
+      let stays = replied.lends client held want is in
+      sym stays.stamps ∙ up_stamps medium names v.server pair.server pair.requests stays.up here.server
+
+  module _ {reply : Vec ℕ Global} {x y : List ℕ} (ready : IsReady medium u)
+      (asked : (scripts : List Declared) → Asked medium scripts message (Some reply) u v x y) where
+    abbrev first : IfReplied (Spells asks_for) (Some reply) (λ a. StepsTo (UpStands medium ready.scripts ready.names ready.c)
+        (UpStands medium ready.scripts ready.names ready.c) (Exchange (request_of asks_for)) u v x y a)
+    first = ((asked ready.scripts).is ready.names ready.c asks_for (is, refl, tree_is)).is
+
+    -- what the reply spells makes a tree of what is held
+    pub spells_tree : {t : Nodes} → SpellsCut (stamps_of u.server) held want reply.items t → SpellsTree held reply.items t
+    spells_tree cut =
+        let s = first.2.step ready.pair ready.stands in
+        let there = holds_there ready.scripts ready.names ready.c s.1 s.4 in
+        makes_cut held s.1.server.durable (stamps_of u.server) want reply.items _ there.0 there.1
+        (its_stamps ready.scripts ready.names ready.c s.1 s.4) cut
+
+    pub brings_tree : BringsTree held reply.items
+    brings_tree = record { tree = first.0; is = spells_tree first.1 }
+
+    -- then what is held still follows the server's list
+    pub still_after : (scripts : List Declared) (names : List (List ℕ)) (c : ℕ) (pair : Pair) → UpStands medium scripts names c v pair
+        → Follows (brought held brings_tree.is.changes) pair.server.durable
+    still_after scripts names c pair here =
+        let there = holds_there scripts names c pair here in
+        follows_refreshed held pair.server.durable (stamps_of u.server) want reply.items first.0 there.0 there.1
+        (its_stamps scripts names c pair here) first.1 brings_tree.is.changes
+        (omega (arith, reply.ok, reply.small)) brings_tree.is.spelled
+
+-- ---- what a client holds
+
+module _ {D : Type 0} {medium : Medium D} {message : Message} {reply : Vec ℕ Global} {u v : Both D} {x y : List ℕ}
+    (ready : IsReady medium u) (asked : (scripts : List Declared) → Asked medium scripts message (Some reply) u v x y)
+    (replied : Replied message u v) where
+  own_there : (scripts : List Declared) (names : List (List ℕ)) (c : ℕ) (pair : Pair) → UpStands medium scripts names c v pair
+      → Follows (stamps_in u.laptop) pair.server.durable × IsTree (nodes_of (stamps_in u.laptop))
+  own_there scripts names c pair here = (
+    subst (λ (laptop : Laptop D). Follows (stamps_in laptop) pair.server.durable) replied.same here.follows,
+    subst (λ (laptop : Laptop D). IsTree (nodes_of (stamps_in laptop))) replied.same
+        (subst IsTree (held_is v.laptop.post) here.client.is.state.tree),
+  )
+
+  module _ (client : ℕ) (want : Want) (is : IsRefresh client (stamps_in u.laptop) want message.request.items) where
+    -- the reply makes a tree of it
+    pub brings_own : BringsTree (stamps_in v.laptop) reply.items
+    brings_own =
+        subst (λ (laptop : Laptop D). BringsTree (stamps_in laptop) reply.items) (sym replied.same)
+        (brings_tree client (stamps_in u.laptop) (state_in u.laptop).held want is (held_is u.laptop.post) replied own_there ready asked)
+
+    -- which is held, ..
+    pub came : {scripts : List Declared} (change : Nodes → ClientState → ClientState) {w : Both D} {z : List ℕ} {result : Result Bool Halt}
+        → KeepsDisks medium u w
+        → ((t : Nodes) → SpellsTree (stamps_in v.laptop) reply.items t → Does medium scripts (holds change (Some t)) v w y z result)
+        → Does medium scripts (Holds change want) u w x z result
+    came {scripts} change keeps each = record {
+      step = λ names c.
+          let e = ((asked scripts).is names c (Objects client (stamps_in u.laptop) (stamps_of u.server) (state_in u.laptop).held want)
+          (is, refl, held_is u.laptop.post)).is in
+          let spells = spells_tree client (stamps_in u.laptop) (state_in u.laptop).held want is (held_is u.laptop.post) replied own_there
+          ready asked e.1 in
+          then_ends {next = holds change} (brings want e.2)
+          ((each e.0
+          (subst (λ (laptop : Laptop D). SpellsTree (stamps_in laptop) reply.items e.0) (sym replied.same) spells)).step names c);
+      disks = keeps;
+    }
+
+    -- .. and goes on following the server's list
+    pub takes : (scripts : List Declared) (new : Laptop D) (result : Result (Unit {0}) Halt)
+        → TakesStamps reply.items v.laptop new result → FollowsNow medium scripts v new result
+    takes scripts new (Ok done) takes_it = λ names c pair here.
+        let own = brings_tree client (stamps_in u.laptop) (state_in u.laptop).held want is (held_is u.laptop.post) replied own_there ready
+        asked in
+        subst (λ (now : Stamps). Follows now pair.server.durable)
+        (sym (takes_it own.is.changes own.is.spelled
+        ∙ ap (λ (laptop : Laptop D). brought (stamps_in laptop) own.is.changes) replied.same))
+        (still_after client (stamps_in u.laptop) (state_in u.laptop).held want is (held_is u.laptop.post) replied own_there ready asked
+        scripts names c pair here)
+    takes scripts new (Err NoMemory) takes_it = tt
+    takes scripts new (Err Over) takes_it = λ names c pair here.
+        subst (λ (now : Stamps). Follows now pair.server.durable) (sym takes_it) (follows_nothing pair.server.durable)
+
+-- ---- the server's whole tree
+
+-- what is known of nothing
+none_known : known_with_stamps nothing_held ≡ []
+none_known =
+    ap (filter_map known_stamp)
+    (entries_of_mapped (λ p node. stamped_node node 0) (root_alone FarDir)
+    ∙ ap (map (λ (row : Row). (row.0, stamped_node row.1 0)))
+    (ap entries (sym (root_map FarDir)) ∙ entries_rows (([], FarDir) ∷ []) refl))
+
+pub asks_whole : {D : Type 0} {laptop : Laptop D} {item : Item} {request : List ℕ} → AsksAll laptop item request
+    → IsRefresh laptop.place nothing_held (wanted.Below []) request
+asks_whole asks = rw none_known asks.asked
+
+-- the query for it
+abbrev pub whole_query : {D : Type 0} → Laptop D → ServerNode D → Query
+whole_query laptop server = Objects laptop.place nothing_held (stamps_of server) new_client.held (wanted.Below [])
+
+module _ {D : Type 0} {medium : Medium D} {message : Message} {reply : Vec ℕ Global} {u v : Both D} {x y : List ℕ}
+    (ready : IsReady medium u) (asked : (scripts : List Declared) → Asked medium scripts message (Some reply) u v x y)
+    (replied : Replied message u v) (asks : IsRefresh u.laptop.place nothing_held (wanted.Below []) message.request.items) where
+  nothing_there : (scripts : List Declared) (names : List (List ℕ)) (c : ℕ) (pair : Pair) → UpStands medium scripts names c v pair
+      → Follows nothing_held pair.server.durable × IsTree (nodes_of nothing_held)
+  nothing_there scripts names c pair here =
+      (follows_nothing pair.server.durable, subst IsTree (sym nodes_none) (subst IsTree (root_map FarDir) (root_rows FarDir refl).tree))
+
+  -- the reply makes it of nothing
+  pub spells_whole : {t : Nodes} → SpellsCut (stamps_of u.server) nothing_held (wanted.Below []) reply.items t
+      → SpellsTree nothing_held reply.items t
+  spells_whole =
+      spells_tree u.laptop.place nothing_held new_client.held (wanted.Below []) asks (sym nodes_none) replied nothing_there ready asked
+
+  pub whole_came : BringsTree nothing_held reply.items × ((t : Nodes) → SpellsTree nothing_held reply.items t → IsWhole t)
+  whole_came =
+      let e = ((asked ready.scripts).is ready.names ready.c (whole_query u.laptop u.server) (asks, refl, sym nodes_none)).is in
+      let spells = spells_whole e.1 in (
+        record { tree = e.0; is = spells },
+        λ t of.
+            let same : t ≡ e.0 = same_tree (omega (arith, reply.ok, reply.small)) of spells in
+            let cut : e.0 ≡ nodes_of (stamps_of u.server) =
+            e.1.cut ∙ (λ i. snapshot (nodes_none i) (wanted.Below []) (nodes_of (stamps_of u.server)))
+            ∙ whole_comes (nodes_of (stamps_of u.server)) e.1.tree in
+            subst IsWhole (sym (same ∙ cut)) e.1.whole,
+      )

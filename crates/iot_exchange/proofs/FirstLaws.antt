@@ -32,7 +32,9 @@ use Rattle.iot_exchange.specs.Words.{IsByHand, IsRefresh, Medium, Try, Asks, The
 use Rattle.iot_exchange.specs.Words.{line, transaction_name, manual_line, resolve_line, Syncs, Verdict, Conflict, Halt, Over, Transaction}
 use Rattle.iot_exchange.specs.Words.{Message, waits_of, head_name, HandsIn, AsksAll, ItemsStand, state_in, LaptopStands, name_of}
 use Rattle.iot_exchange.specs.Words.{SpellsVerdict, told_change, SpellsTree, BringsTree, option_named, script_named, HasNamed, Laptop}
-use Rattle.iot_exchange.specs.Words.{ServerNode}
+use Rattle.iot_exchange.specs.Words.{ServerNode, nothing_held}
+use Rattle.iot_exchange.proofs.ExchangeLaws.{Replied, asks_whole, spells_whole, whole_query}
+use Rattle.iot_exchange.proofs.FollowingLaws.{nodes_none}
 use Rattle.iot_exchange.specs.Pairs.{Both, two, UpStands, KeepsDisks, Objects, Judgment, MissesAll, Does, AsksFor, Asked, IsReady}
 use Rattle.iot_exchange.specs.Pairs.{IsReadyWith}
 use Rattle.iot_exchange.specs.Saying.{synced_by, told_text, told_synced, resolver_said}
@@ -202,7 +204,8 @@ module _ {D : Type 0} {medium : Medium D} {scripts : List Declared} {names : Lis
           → DoesFrom medium scripts names c (sync_at head.first ms) pair new x z (Ok Unanswered)
       misses_at conflict not_manual planned misses wrote =
           let p = planned refl in
-          resolves_at refl p.1 (then_from here (misses.none (Objects 0 new_client.held (wanted.Below [])) x) (says (λ pair here. wrote)))
+          resolves_at refl p.1 (then_from here (misses.none (Objects 0 nothing_held nothing_held new_client.held (wanted.Below [])) x)
+          (says (λ pair here. wrote)))
       misses_at manual not_manual planned misses wrote = absurd (not_manual refl)
       misses_at same not_manual planned misses wrote =
           asks_from (then_from here (misses.none (Judgment (submission_of head.first pair)) x) (says (λ pair here. wrote)))
@@ -357,7 +360,7 @@ module _ {D : Type 0} {medium : Medium D} {scripts : List Declared} {names : Lis
     submission = submission_by (stage_there here first) hands.submitted (head here first).stands.planned
 
     -- the message asks for a judgment of what the machine submits
-    asks_judgment : AsksFor names (message_of it) (Judgment (submission_of mi pair))
+    asks_judgment : AsksFor names (message_of it) old.server (Judgment (submission_of mi pair))
     asks_judgment = (
       record {
         label = label_in old.laptop.place first.item first.item.stage;
@@ -436,12 +439,6 @@ module _ {D : Type 0} {laptop : Laptop D} {t : Transaction} (it : Submitted) (fi
 
 -- ---- the whole tree
 
--- a new client knows nothing
-nothing_known : known (root_alone FarDir) ≡ []
-nothing_known =
-    ap known (sym (root_map FarDir))
-    ∙ ap (paths_where (λ (row : Row). is_known row.1)) (entries_rows (([], FarDir) ∷ []) refl)
-
 -- ---- plans
 
 -- what the machine plans if the client plans this, by this script
@@ -505,10 +502,6 @@ module _ {D : Type 0} {medium : Medium D} {scripts : List Declared} {laptop : La
 abbrev pub asking : Vec ℕ Global → Message
 asking request = record { request = request; handed = None }
 
-asks_below : {D : Type 0} {laptop : Laptop D} {item : Item} {request : List ℕ} → AsksAll laptop item request
-    → IsRefresh laptop.place new_client.held (wanted.Below []) request
-asks_below asks = rw nothing_known asks.asked
-
 -- what is planned for the head is planned for it
 plan_is : {D : Type 0} {laptop : Laptop D} {Is : Item → Type 0} {t : Transaction} {plan : plans.Plan} (first : First Is laptop t)
     → IsHeadPlan (state_in laptop).items plan → resolves.plan_of first.item ≡ Some plan
@@ -523,21 +516,7 @@ module _ {D : Type 0} {laptop : Laptop D} {t : Transaction} (request : Vec ℕ G
   resolves_away asked wrote = each_from asked.disks (λ names c pair here.
       let p = planned_there here first first.is.conflict in
       resolves_from here first first.is.conflict p.1 (then_from here
-      (asked.is names c (Objects laptop.place new_client.held (wanted.Below [])) (asks_below first.is)).is (says (λ pair here. wrote))))
-
-  -- the server's whole tree came
-  pub whole_came : {medium : Medium D} {mid : Both D} {x y : List ℕ} {reply : Vec ℕ Global} → IsReady medium (two laptop server)
-      → ((scripts : List Declared) → Asked medium scripts (asking request) (Some reply) (two laptop server) mid x y)
-      → BringsTree reply.items × (length reply.items < 2 ^ 64 → (u : Nodes) → SpellsTree reply.items u → IsWhole u)
-  whole_came {reply = reply} ready asked =
-      let e = ((asked ready.scripts).is ready.names ready.c (Objects laptop.place new_client.held (wanted.Below []))
-      (asks_below first.is)).is in (
-        record { tree = e.0; is = e.1.spelled },
-        λ short u spells.
-            let one : IsOneMessage IsReply reply_spelling reply.items = call_one _ _ _ reply_laws reply.items short in
-            let same : u ≡ e.0 = let objects = one _ _ spells e.1.spelled in cc in
-            subst IsWhole (sym (same ∙ e.1.cut ∙ whole_comes e.1.server e.1.tree)) e.1.whole,
-      )
+      (asked.is names c (whole_query laptop server) (asks_whole first.is, refl, sym nodes_none)).is (says (λ pair here. wrote))))
 
   module _ (plan : plans.Plan) (is : IsHeadPlan (state_in laptop).items plan) where
     -- its script is declared
@@ -548,16 +527,18 @@ module _ {D : Type 0} {laptop : Laptop D} {t : Transaction} (request : Vec ℕ G
     -- it is resolved on that by what is planned for it
     pub resolves_told : {medium : Medium D} {scripts : List Declared} {mid new : Both D} {x y z : List ℕ} {reply : Vec ℕ Global}
         {code : Code} {result : Result Synced Halt}
-        → IsCodeOf plan.script scripts code → KeepsDisks medium (two laptop server) new
-        → Asked medium scripts (asking request) (Some reply) (two laptop server) mid x y
-        → ((p : Plan) (u : Nodes) → SpellsTree reply.items u → Plans medium scripts laptop p → p.script.code ≡ code
+        → IsCodeOf plan.script scripts code → KeepsDisks medium (two laptop server) new → IsReady medium (two laptop server)
+        → ((scripts : List Declared) → Asked medium scripts (asking request) (Some reply) (two laptop server) mid x y)
+        → Replied (asking request) (two laptop server) mid
+        → ((p : Plan) (u : Nodes) → SpellsTree nothing_held reply.items u → Plans medium scripts laptop p → p.script.code ≡ code
         → Does medium scripts
         (NotesAloud (reach (clients.Resolved (resolution_of p u))) (resolve_line (name_of t) (resolver_said plan)) Moved)
         mid new y z result)
         → Does medium scripts Syncs (two laptop server) new x z result
-    resolves_told {medium} {scripts} coded keeps asked each = each_from keeps (λ names c pair here.
+    resolves_told {medium} {scripts} coded keeps ready asked replied each = each_from keeps (λ names c pair here.
         let plans = plans_it {medium = medium} {scripts = scripts} first (plan_is first is) coded.is in
-        let e = (asked.is names c (Objects laptop.place new_client.held (wanted.Below [])) (asks_below first.is)).is in
+        let e = ((asked scripts).is names c (whole_query laptop server) (asks_whole first.is, refl, sym nodes_none)).is in
         resolves_from here first first.is.conflict
         (sym (ap (head_plan (kept pair).held) (head here first).split) ∙ plans pair.client here.client.is)
-        (then_from here e.2 ((each _ e.0 e.1.spelled plans coded.has).step names c)))
+        (then_from here e.2
+        ((each _ e.0 (spells_whole ready asked replied (asks_whole first.is) e.1) plans coded.has).step names c)))

@@ -1,4 +1,5 @@
 pub mod StepsLaws
+pub mod FollowingLaws
 pub mod DoesLaws
 pub mod ExchangeLaws
 pub mod FirstLaws

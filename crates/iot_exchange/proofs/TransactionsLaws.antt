@@ -15,6 +15,7 @@ use Rattle.iot_queue.specs.declared.items.Stage.TheVariants as stages
 use Rattle.iot_machine.specs.Clients as clients
 use Rattle.iot_node.proofs.StepsToLaws as calls
 use Rattle.iot_laptop.proofs.LaptopsLaws as laptops
+use Rattle.iot_exchange.specs.Words.{KeepsTrails, UnlessNoMemory}
 use Rattle.iot_exchange.specs.Words.{ClientState, TakesStep, Path, RunLine, Live, class_by, is_over_if_any, may_end, Next, AtEnd, AtLimit}
 use Rattle.iot_exchange.specs.Words.{base, so_far, next_step, next_by, next_away, says_reads, place_text, stage_kept, items_kept, end_line}
 use Rattle.iot_exchange.specs.Words.{step_by, Ended, ended_of, syncs_or_waits, joins, Ends, Refuses, RunningStands, RunningStandsIfAny}
@@ -210,11 +211,13 @@ module _ {D : Type 0} {medium : Medium D} {scripts : List Declared} {u : Both D}
 pub step_halted : {D : Type 0} {medium : Medium D} {scripts : List Declared} {u : Both D} {new : Laptop D} {x y : List ℕ} (loud : Bool)
     {result : Result Step Halt} {outer : Result Bool Halt} {fault : Halt} → result ≡ Err fault
     → is_some (state_in u.laptop).running ≡ true → NextIs medium u.laptop result → IsErrAnd outer (λ other. other ≡ fault)
-    → KeepsDisks medium u u → SamePlace u.laptop new → TakesStep medium u.laptop new x y result
+    → KeepsDisks medium u u → SamePlace u.laptop new → UnlessNoMemory (done result) (KeepsTrails u.laptop new)
+    → TakesStep medium u.laptop new x y result
     → KeepsDisk medium (disk_in u.laptop) (disk_in new) → Does medium scripts (Steps loud) u (two new u.server) x y outer
-step_halted loud {fault = NoMemory} was runs nexts is keeps place did more = no_memory is (keeps_more keeps more)
-step_halted {scripts = scripts} loud {fault = Over} was runs nexts is keeps place did more =
-    steps_by loud runs (rw was at nexts) (hands_on refl is (by_client (notes act_once) keeps place ((rw was at did) scripts) more))
+step_halted loud {fault = NoMemory} was runs nexts is keeps place trails did more = no_memory is (keeps_more keeps more)
+step_halted {scripts = scripts} loud {fault = Over} was runs nexts is keeps place trails did more =
+    steps_by loud runs (rw was at nexts) (hands_on refl is
+    (by_client (notes act_once) keeps place (rw was at trails) ((rw was at did) scripts) more))
 
 -- a client that is as it was
 pub does_as : {D A : Type 0} {medium : Medium D} {scripts : List Declared} {call : Try Pair A} {old new : Laptop D} {server : ServerNode D}

@@ -1,5 +1,6 @@
 pub mod Words
 pub mod Scripts
+pub mod Following
 pub mod Pairs
 pub mod Queues
 pub mod Saying

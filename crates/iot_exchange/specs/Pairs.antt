@@ -7,6 +7,8 @@ use Rattle.iot_exchange.specs.Words.{Option, Vec, ℕ, List, None, Some, Result,
 use Rattle.iot_exchange.specs.Words.{Declared, Client, Commit, Pair, Node, Submission, Verdict, Lends, Judges, Exchange, KeepsDisk, StepsTo}
 use Rattle.iot_exchange.specs.Words.{Halt, SpellsVerdict, SpellsCut, KeepsRecords, ServerStands, IsHanded, IsNamedIn, disk_of, Message}
 use Rattle.iot_exchange.specs.Words.{ServerNode, Stands, LaptopStands, ClientStands, state_in, disk_in, Laptop}
+use Rattle.iot_exchange.specs.Words.{Stamps, nodes_of, is_up, stamps_in, stamps_of, true}
+use Rattle.iot_exchange.specs.Following.{Follows}
 use Rattle.iot_exchange.specs.Scripts.{IsMeant}
 
 -- ---- a client and the server
@@ -21,12 +23,13 @@ two laptop server = record { laptop = laptop; server = server }
 abbrev pub Both : Type 0 → Type 0
 Both D = Two (Laptop D) (ServerNode D)
 
--- they stand for this pair, whose client is at place c among all clients
-pub record PairStands {L S : Type 0} (c : ℕ) (clients : L → Client → Type 0) (servers : S → Node (List Commit) → ℕ → Type 0)
-    (w : Two L S) (pair : Pair) : Type 0 where
+-- they stand for this pair, whose client is at place c among all clients; and what the client holds follows the server's list
+pub record PairStands {D : Type 0} (c : ℕ) (clients : Laptop D → Client → Type 0) (servers : ServerNode D → Node (List Commit) → ℕ → Type 0)
+    (w : Both D) (pair : Pair) : Type 0 where
   pub place : pair.place ≡ c
   pub client : clients w.laptop pair.client
   pub server : servers w.server pair.server pair.requests
+  pub follows : Follows (stamps_in w.laptop) pair.server.durable
 
 -- a laptop that stands for a client in this way, and is at place c among clients of these names
 pub record IsAt {D : Type 0} (stands : Laptop D → Client → Type 0) (names : List (List ℕ)) (c : ℕ) (laptop : Laptop D) (m : Client)
@@ -94,29 +97,30 @@ pub record Does {D A : Type 0} (medium : Medium D) (scripts : List Declared) (ca
 
 -- ---- exchanges
 
--- what is asked of the server: what of its tree is known and wanted, or its verdict on a transaction
+-- what is asked of the server: what changed of its tree, of what is known and wanted, or its verdict on a transaction
 pub data Query : Type 0 where
-  Objects : (client : ℕ) → (held : Nodes) → Want → Query
+  Objects : (client : ℕ) → (held server : Stamps) → (tree : Nodes) → Want → Query
   Judgment : Submission → Query
 
 abbrev pub Answered : Query → Type 0
-Answered (Objects client held want) = Nodes
+Answered (Objects client held server tree want) = Nodes
 Answered (Judgment it) = Verdict
 
 -- what the machine's server does with it
 abbrev pub request_of : (query : Query) → Call (Node (List Commit)) (Option (Answered query))
-request_of (Objects client held want) = Lends held want
+request_of (Objects client held server tree want) = Lends tree want
 request_of (Judgment it) = Judges it
 
 -- what a reply says
 abbrev pub Spells : (query : Query) → List ℕ → Answered query → Type 0
-Spells (Objects client held want) = SpellsCut held want
+Spells (Objects client held server tree want) = SpellsCut server held want
 Spells (Judgment it) = SpellsVerdict it.reads
 
--- the message asks this, where the clients have these names
-abbrev pub AsksFor : List (List ℕ) → Message → Query → Type 0
-AsksFor names message (Objects client held want) = IsRefresh client held want message.request.items
-AsksFor names message (Judgment it) = IsHanded message it × IsNamedIn names it
+-- the message asks this of the server, where the clients have these names
+abbrev pub AsksFor : {D : Type 0} → List (List ℕ) → Message → ServerNode D → Query → Type 0
+AsksFor names message node (Objects client held server tree want) =
+    IsRefresh client held want message.request.items × (server ≡ stamps_of node) × (tree ≡ nodes_of held)
+AsksFor names message node (Judgment it) = IsHanded message it × IsNamedIn names it
 
 -- what is so of the answer, if the reply spells one, and of none, if no reply came
 abbrev pub IfReplied : {A : Type 0} → (List ℕ → A → Type 0) → Option (Vec ℕ Global) → (Option A → Type 0) → Type 0
@@ -142,14 +146,26 @@ pub record Exchanges {W A : Type 0} (up : W → Pair → Type 0) (Spelled : List
 -- the message was sent, and this is the reply, if one came: whatever it asks, that was exchanged; and both have their disks
 pub record Asked {D : Type 0} (medium : Medium D) (scripts : List Declared) (message : Message) (reply : Option (Vec ℕ Global))
     (old new : Both D) (x y : List ℕ) : Type 0 where
-  pub is : (names : List (List ℕ)) (c : ℕ) (query : Query) → AsksFor names message query
+  pub is : (names : List (List ℕ)) (c : ℕ) (query : Query) → AsksFor names message old.server query
       → Exchanges (UpStands medium scripts names c) (Spells query) (Exchange (request_of query)) reply old new x y
   pub disks : KeepsDisks medium old new
 
 -- the client asks with this request for what it knows, and for something that it wants
 pub record IsAsked {D : Type 0} (laptop : Laptop D) (request : List ℕ) : Type 0 where
   pub want : Want
-  pub is : IsRefresh laptop.place (state_in laptop).held want request
+  pub is : IsRefresh laptop.place (stamps_in laptop) want request
+
+-- the server is alive before and after, and its tree has the stamps that it had
+pub record StaysUp {D : Type 0} (old new : ServerNode D) : Type 0 where
+  pub was_up : is_up old ≡ true
+  pub up : is_up new ≡ true
+  pub stamps : stamps_of new ≡ stamps_of old
+
+-- so it is if it replied to a client that asks for objects
+abbrev pub LendsIfReplied : {D : Type 0} → Message → Option (Vec ℕ Global) → ServerNode D → ServerNode D → Type 0
+LendsIfReplied message None old new = Unit {0}
+LendsIfReplied message (Some reply) old new =
+    (client : ℕ) (held : Stamps) (want : Want) → IsRefresh client held want message.request.items → StaysUp old new
 
 -- whatever is asked, no reply comes
 pub record MissesAll {D : Type 0} (medium : Medium D) (scripts : List Declared) (names : List (List ℕ)) (c : ℕ) (old new : Both D) : Type

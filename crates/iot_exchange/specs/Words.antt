@@ -27,12 +27,13 @@ pub use Rattle.iot_queue.specs.declared.items.Stage.{Stage}
 pub use Rattle.iot_kept.specs.Changes.{HeadIs, IsByHand, IsInConflict, IsSubmitted, IsSubmittedIn}
 pub use Rattle.iot_kept.specs.Memory.{class_of, transaction_of}
 pub use Rattle.iot_kept.specs.States.{State}
+pub use Rattle.iot_stamp.specs.Stamps.{Stamps, nodes_of}
 pub use Rattle.iot_wire.specs.Meanings.{IsRefresh}
 pub use Rattle.iot_wire.specs.Messages.{IsOneMessage}
 pub use Rattle.iot_wire.specs.Rules.{IsReply}
 pub use Rattle.iot_wire.specs.Spelling.{reply_spelling}
 pub use Rattle.iot_client.specs.Calls.{is_over_if_any, may_end}
-pub use Rattle.iot_client.specs.Messages.{way_of}
+pub use Rattle.iot_client.specs.Messages.{nothing_held, way_of}
 pub use Rattle.iot_client.specs.Ties.{Live, class_by}
 pub use Rattle.iot_client.specs.declared.steps.Step.{Step}
 pub use Rattle.iot_inspect.specs.declared.waiting.RunLine.{RunLine}
@@ -68,18 +69,18 @@ pub use Rattle.iot_node.specs.declared.lines.Transaction.{Transaction}
 pub use Rattle.iot_server_node.specs.Messages.{IsSomeRequest, SpellsCut, said_of}
 pub use Rattle.iot_server_node.specs.Records.{KeepsRecords}
 pub use Rattle.iot_server_node.specs.Servers.{HavingAnswered, IsHanded, IsNamedIn, IsSubmission, ServerIsSound, ServerStands, ServesBy}
-pub use Rattle.iot_server_node.specs.Servers.{disk_of, is_up}
+pub use Rattle.iot_server_node.specs.Servers.{disk_of, is_up, stamps_of}
 pub use Rattle.iot_server_node.specs.declared.message.Message.{Message}
 pub use Rattle.iot_server_node.specs.declared.server.Served.{Served}
 pub use Rattle.iot_server_node.specs.declared.server.ServerNode.{ServerNode}
 pub use Rattle.iot_laptop.specs.Alone.{NotesAlone, StartsAlone, set_class}
 pub use Rattle.iot_laptop.specs.Calls.{AsksAll, EndsAlone, HandsIn, IsDoneIn, IsGone, IsHeadPlan, IsNext, IsOver, IsUnended, NextIs, Plans}
 pub use Rattle.iot_laptop.specs.Calls.{TakesStep, acts_in, decision, decision_on, done, head_name, head_option, head_plan, head_reads}
-pub use Rattle.iot_laptop.specs.Calls.{label_in, undecided_word}
+pub use Rattle.iot_laptop.specs.Calls.{TakesStamps, UnlessNoMemory, label_in, undecided_word}
 pub use Rattle.iot_laptop.specs.Kept.{ItemStands, ItemsStand, ResolutionStands, StageStands}
 pub use Rattle.iot_laptop.specs.Laptops.{ClientStands, IsFirst, IsFree, LaptopStands, Relinked, RunningStands, RunningStandsIfAny}
 pub use Rattle.iot_laptop.specs.Laptops.{SamePlace, Stands, StandsAnyhow, after_passage, awake, disk_in, fallen, is_alive, live_in}
-pub use Rattle.iot_laptop.specs.Laptops.{state_in, waits_of}
+pub use Rattle.iot_laptop.specs.Laptops.{KeepsTrails, stamps_in, state_in, waits_of}
 pub use Rattle.iot_laptop.specs.Messages.{BringsTree, IsVerdict, SpellsTree, told_change, verdict_of}
 pub use Rattle.iot_laptop.specs.Scripts.{HasNamed, IsNamed, ItemIsNamed, option_named, script_named}
 pub use Rattle.iot_laptop.specs.declared.laptop.Laptop.{Laptop}

@@ -3,6 +3,7 @@ ghost use Rattle.std.specs.Prelude.{◌≡◌, ◌++◌};
 ghost use Rattle.iot_exchange.specs.Words.{IfSome, IsSomeRequest, ServerIsSound, ℕ, List, true, false, IfOk, IfErr, OnOk, Declared};
 ghost use Rattle.iot_exchange.specs.Words.{state_in, KeepsDisk, said_of, KeepsRecords, ServerStands, is_up, disk_of};
 ghost use Rattle.iot_exchange.specs.Pairs.{two, IsReady, KeepsDisks, Query, AsksFor, Spells, request_of, Serves, Asked, MissesAll};
+ghost use Rattle.iot_exchange.specs.Pairs.{LendsIfReplied};
 
 use iot_disk::Disk;
 use iot_laptop::Laptop;
@@ -25,6 +26,7 @@ pub(crate) fn exchange<D: Disk>(
         (two laptop.old server.old) (two laptop.new server.new) out.old out.new) }
     ensures same { IfOk result (λ reply. IfSome reply (λ _. laptop.new ≡ laptop.old)) }
     ensures state { IfOk result (λ _. state_in laptop.new ≡ state_in laptop.old) }
+    ensures lends { IfOk result (λ reply. LendsIfReplied message.now reply server.old server.new) }
     ensures disks { IfErr result (λ _. KeepsDisks D.medium (two laptop.old server.old) (two laptop.new server.new)) }
 {
     let up = server.is_up();
@@ -55,8 +57,9 @@ fn serve<D: Disk>(
     requires up { is_up server.old ≡ true }
     requires sound { ServerIsSound D.medium server.old }
     requires request { IsSomeRequest message.now.request.items }
-    ensures asks { IfOk result (λ reply. (names : List (List ℕ)) (query : Query) → AsksFor names message.now query
+    ensures asks { IfOk result (λ reply. (names : List (List ℕ)) (query : Query) → AsksFor names message.now server.old query
         → Serves (ServerStands D.medium names) (Spells query) (request_of query) reply server.old server.new out.old out.new) }
+    ensures lends { IfOk result (λ reply. LendsIfReplied message.now reply server.old server.new) }
     ensures disk { KeepsDisk D.medium (disk_of server.old) (disk_of server.new) }
     ensures records { KeepsRecords D.medium (disk_of server.old) (disk_of server.new) }
 {

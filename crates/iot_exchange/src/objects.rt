@@ -1,5 +1,6 @@
 //! What a client asks of the server: objects, over its link.
-ghost use Rattle.iot_exchange.specs.Words.{IsFirst, IsFree, Hoards, Takes, List, IfOk, IsRefresh, state_in, Declared, hold, fetch};
+ghost use Rattle.iot_exchange.specs.Words.{IsFirst, IsFree, Hoards, Takes, List, IfOk, IsRefresh, stamps_in, state_in, Declared};
+ghost use Rattle.iot_exchange.specs.Words.{hold, fetch};
 ghost use Rattle.iot_exchange.specs.Words.{Refreshes, Holds, Want as Wanted};
 ghost use Rattle.iot_exchange.specs.Pairs.{two, IsReady, IsAsked, Does};
 
@@ -117,7 +118,7 @@ pub(crate) fn fetch<D: Disk>(
     requires ready { IsReady D.medium (two laptop.old server.old) }
     requires first { IsFirst laptop.old }
     requires asked { IsAsked laptop.old request }
-    ensures { (want : Wanted) → IsRefresh laptop.old.place (state_in laptop.old).held want request
+    ensures { (want : Wanted) → IsRefresh laptop.old.place (stamps_in laptop.old) want request
         → (scripts : List Declared) → Does D.medium scripts (Holds fetch want)
         (two laptop.old server.old) (two laptop.new server.new) out.old out.new result }
 {

@@ -1,6 +1,7 @@
 //! What a client does with its transactions: they begin, are stepped and end.
 ghost use Rattle.iot_laptop.specs.Calls.{Begins as Starts};
 ghost use Rattle.std.specs.Prelude.{◌≡◌};
+ghost use Rattle.iot_exchange.specs.Words.{KeepsTrails, UnlessNoMemory};
 ghost use Rattle.iot_exchange.specs.Words.{Begins, BeginsAloud, StepsAloud, Ends, List, None, [], true, Repeats, Declared};
 ghost use Rattle.iot_exchange.specs.Words.{OnConflict as Chosen, Steps, Stands, SamePlace, state_in, disk_in, KeepsDisk};
 ghost use Rattle.iot_exchange.specs.Scripts.{script_of, scripts_of, Means};
@@ -85,6 +86,7 @@ fn start<D: Disk>(
     requires idle { (state_in laptop.old).running ≡ None }
     requires alone { first ≡ true → (state_in laptop.old).items ≡ [] }
     ensures does { Starts D.medium (script_of script.now) option first laptop.old laptop.new out.old out.new result }
+    ensures trails { UnlessNoMemory result (KeepsTrails laptop.old laptop.new) }
     ensures place { SamePlace laptop.old laptop.new }
     ensures disk { KeepsDisk D.medium (disk_in laptop.old) (disk_in laptop.new) }
 {

@@ -1,4 +1,9 @@
 -- A new world is that of a machine that has opened, and what is declared in a world is declared in the machine.
+use Rattle.iot_client.specs.Messages.{nothing_held}
+use Rattle.iot_exchange.specs.Following.{Follows}
+use Rattle.iot_exchange.proofs.FollowingLaws.{follows_kept, follows_nothing}
+use Rattle.iot_stamp.specs.Stamps.{Stamps}
+use Rattle.iot_world.specs.Prelude.{KeepsTrails, stamps_in}
 use Rattle.iot_world.proofs.Common.{◌≡◌, ℕ, ◌<◌, Bool, List, [], ◌∷◌, length, map, Some, refl, sym, ap, subst, ◌∙◌, arith, suc, ◌+◌, true}
 use Rattle.iot_world.proofs.Common.{false, ◌++◌, drop, append_assoc, get_or-append_seam, set-append_seam, append-nil, length-append}
 use Rattle.iot_world.proofs.Common.{map-append, sound_opening, AreFresh, ArePlaced, AreUnarmed, GivesBack, Opens, with_first, with_clients}
@@ -44,6 +49,7 @@ module _ {D : Type 0} (medium : Medium D) (disks : List D) (first : D) (rest : L
           stands = record {
             server = s.4;
             clients_ = rw clients tt;
+            follow = rw clients tt;
             scripts = ap (λ (ss : List DeclaredScript). exchange.scripts_of ss) (sym scripts);
             apart = λ place script at. absurd cc;
             placed = subst ArePlaced (sym clients) (λ place laptop at. absurd cc);
@@ -135,19 +141,25 @@ module _ {D : Type 0} (medium : Medium D) (name : List ℕ) (old : World D) (cli
   -- ---- the machine declares it
 
   module _ (knows : was.place ≡ client_count old) (stays : next.place ≡ was.place)
-      (unopened : (scripts : List Declared) → FallenStands medium scripts was (unopened_laptop name (counts_on medium disk))) where
+      (unopened : (scripts : List Declared) → FallenStands medium scripts was (unopened_laptop name (counts_on medium disk)))
+      (empty : stamps_in was ≡ nothing_held) where
     module _ (m : Machine) (here : StandsFor medium old m) where
       counts_are : counts_on medium disk ∷ map (counts_on medium) rest.items ≡ m.spare
       counts_are = ap (map (counts_on medium)) (sym spare) ∙ here.counts
 
-      stands : (k : machine.Client) → ClientStands medium m.scripts next k → k.name ≡ name
+      stands : (k : machine.Client) → ClientStands medium m.scripts next k → k.name ≡ name → KeepsTrails was next
           → StandsFor medium joined (record (add_client name m) { clients = m.clients ++ k ∷ [] })
-      stands k started called = record {
+      stands k started called trails = record {
         server =
             subst (λ (names : List (List ℕ)). ServerStands medium names old.server m.server m.requests)
             (sym (map-append (λ (k : machine.Client). k.name) m.clients (k ∷ [])))
             (rw called (more_names medium (names_in m) name old.server m.server m.requests here.server));
         clients_ = rw push (each_push (ClientStands medium m.scripts) old.clients.items m.clients next k started here.clients_);
+        follow =
+            rw push (all_push (λ l. Follows (stamps_in l) m.server.durable) old.clients.items next
+            (follows_kept (stamps_in was) (stamps_in next) m.server.durable trails
+            (subst (λ (held : Stamps). Follows held m.server.durable) (sym empty) (follows_nothing m.server.durable)))
+            here.follow);
         scripts = here.scripts;
         apart = here.apart;
         placed =
@@ -196,7 +208,7 @@ module _ {D : Type 0} (medium : Medium D) (name : List ℕ) (old : World D) (cli
             subst (λ (ks : List machine.Client). StandsFor medium joined (record m' { clients = ks }))
                 (sym (set-append_seam m.clients (client_of name m) [] s.1))
                 (stands m here s.1 s.4
-                ((opens_keeps name).at (client_in m' c) s.1 s.0 starts.on (ap (λ (k : machine.Client). k.name) is) s.3)),
+                ((opens_keeps name).at (client_in m' c) s.1 s.0 starts.on (ap (λ (k : machine.Client). k.name) is) s.3) starts.trails),
           );
     }
       where
@@ -218,6 +230,7 @@ module _ {D : Type 0} (medium : Medium D) where
       record {
         server = rw adds.server here.server;
         clients_ = rw adds.clients (clients_more m.scripts one medium old.clients.items m.clients here.clients_);
+        follow = rw adds.clients here.follow;
         scripts =
             ap (λ (ss : List Declared). ss ++ one ∷ []) here.scripts
             ∙ sym (map-append exchange.script_of old.scripts.items (record { name = name; script = code } ∷ []))

@@ -1,5 +1,6 @@
 -- What the disks that a world gives back hold and count: the first has the list, the next what clients keep, and the others are spare.
 use Rattle.std.proofs.lemmas.Option.{same_Some}
+use Rattle.iot_server_node.proofs.BeginningLaws.{is_longer}
 use Rattle.iot_world.proofs.Common.{◌≡◌, ◌+◌, ℕ, List, [], ◌∷◌, ◌++◌, length, map, Option, Some, None, inl, inr, refl, sym, ap, subst, ◌∙◌}
 use Rattle.iot_world.proofs.Common.{arith, length-append, map-append, lasts, has_disk, node_stands, IsListed, Holds, IsKept, KeepsClient}
 use Rattle.iot_world.proofs.Common.{DisksHold, counts_in, StandsForSome, KeepsNode, Each, StandsFor, Opens, KeepsDisks, with_clients}
@@ -9,7 +10,7 @@ use Rattle.iot_world.specs.Prelude.{is_some, true, Result, Ok, Err, IfErr, OnOk,
 use Rattle.iot_world.specs.Prelude.{names_in, no_text, Machine, Commit, Node, Counts, Refines, kept_text, CountsOn, KeepsDisk, counts_on}
 use Rattle.iot_world.specs.Prelude.{Keeping, PostStands, Lasts, HoldsEither, StepsTo, Post, Up, Down, Between, lists, IsImage, HasDisk}
 use Rattle.iot_world.specs.Prelude.{HavingAnswered, ServerNode, ClientStands, StandsAnyhow, disk_in, IsClientImage, seating, Laptop, World}
-use Rattle.iot_world.specs.Prelude.{Client, Transaction, base, BeginsWith, DiskBegins, records_of, IsLongerIfAny}
+use Rattle.iot_world.specs.Prelude.{Client, Transaction, base, BeginsWith, DiskBegins, records_of, IsOneMoreIfAny}
 use Rattle.iot_machine.specs.Machine as machine
 use Rattle.iot_node.specs.Posts.{disk_of}
 use Rattle.iot_node.proofs.PostsLaws.{lasts_in}
@@ -247,13 +248,13 @@ module _ {D : Type 0} (medium : Medium D) where
       (arms.commits.keeps (names_in m) m.server m.requests here.server)
 
   -- so it is of a list that the images hold
-  list_begins : (images : List ℕ → Type 0) (commits : List Commit) (doubt : Option (List Commit)) → IsLongerIfAny commits doubt
+  list_begins : (images : List ℕ → Type 0) (commits : List Commit) (doubt : Option (List Commit)) → IsOneMoreIfAny commits doubt
       → HoldsList images commits doubt → (image : List ℕ) → images image → BeginsWith (records_of commits) image
   list_begins images commits None longer holds image there = own_begins image (length commits) commits (holds image there)
   list_begins images commits (Some after) longer holds image there =
       elim (holds image there) [
         | inl is ↦ own_begins image (length commits) commits is
-        | inr is ↦ image_begins image (length after) commits after longer is
+        | inr is ↦ image_begins image (length after) commits after (is_longer longer) is
       ]
 
   pub held_begins : (handed back : List D) (m : Machine) → DisksHold medium handed back m → FirstBegins medium m.server.durable back

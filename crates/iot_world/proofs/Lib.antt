@@ -1,6 +1,7 @@
 mod Common
 pub mod ListLaws
 pub mod ScriptsLaws
+pub mod GrowingLaws
 pub mod WorldsLaws
 pub mod DisksLaws
 pub mod DeclaringLaws

@@ -1,6 +1,7 @@
 -- Lists that are looked up and changed at a place, and lists that go together by place.
 use Rattle.std.proofs.lemmas.Option.{same_Some, slice_get_read}
 use Rattle.iot_world.proofs.Common.{◌≡◌, ◌<◌, ℕ, zero, suc, List, [], ◌∷◌, ◌++◌, length, map, refl, sym, ap, subst, ◌∙◌, slice_get}
+use Rattle.std.specs.List.{AllByRecursion}
 use Rattle.iot_world.proofs.Common.{slice_index_or, slice_set, get_or, Some, Each}
 
 -- ---- one element
@@ -10,6 +11,12 @@ pub looked_up : {A : Type 0} (xs ys : List A) (place : ℕ) (x : A) → ys ≡ x
     → slice_get xs place ≡ Some x
 looked_up xs ys place x same within value =
     ap (λ l. slice_get l place) (sym same) ∙ slice_get_read ys (length ys) place x refl within value
+
+-- so what is so of all is so of it
+pub all_got : {A : Type 0} (P : A → Type 0) (xs : List A) (place : ℕ) (x : A) → AllByRecursion P xs → slice_get xs place ≡ Some x → P x
+all_got P [] place x all is = absurd cc
+all_got P (y ∷ xs) zero x all is = subst P (same_Some y x is) all.0
+all_got P (y ∷ xs) (suc place) x all is = all_got P xs place x all.1 is
 
 -- ---- two lists
 

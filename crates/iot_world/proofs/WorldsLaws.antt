@@ -16,7 +16,14 @@ use Rattle.iot_event.specs.declared.event.ClientEvent.TheVariants as client_even
 use Rattle.iot_event.specs.declared.event.Task.{Task}
 use Rattle.iot_exchange.specs.Pairs.{two, AnyStands, IsStandingWith}
 use Rattle.iot_exchange.specs.Scripts as exchange
-use Rattle.iot_world.proofs.ListLaws.{looked_up, each_get, each_set, each_length, each_place_set}
+use Rattle.iot_event.specs.declared.event.Event.TheVariants as events
+use Rattle.iot_exchange.specs.Following.{Follows}
+use Rattle.iot_exchange.proofs.FollowingLaws.{Grows, follows_kept}
+use Rattle.iot_world.specs.Prelude.{KeepsTrails, stamps_in}
+use Rattle.iot_world.specs.World.{AllFollow}
+use Rattle.iot_world.proofs.Common.{all_set}
+use Rattle.iot_world.proofs.GrowingLaws.{all_follow, event_grows, same_list}
+use Rattle.iot_world.proofs.ListLaws.{looked_up, all_got, each_get, each_set, each_length, each_place_set}
 
 -- ---- what befalls a client leaves its name
 
@@ -95,6 +102,7 @@ module _ {D : Type 0} (medium : Medium D) where
           few = omega (arith, inside_here, same_length, here.eight);
         };
         server = here.server;
+        follows = all_got (λ l. Follows (stamps_in l) m.server.durable) world.clients.items c laptop here.follow get;
       }
 
   pub task_stands : (world : World D) (c : ℕ) (laptop : Laptop D) (ss : List DeclaredScript) → slice_get world.clients.items c ≡ Some laptop
@@ -125,11 +133,12 @@ module _ {D : Type 0} (medium : Medium D) where
 
     stands_with : (m : Machine) (node : Node (List Commit)) (n : ℕ) (ks : List Client) → StandsFor medium old m
         → map (λ (k : Client). k.name) ks ≡ names_in m → ServerStands medium (names_in m) server_ node n
-        → Each (ClientStands medium m.scripts) clients.items ks → ArePlaced clients.items
+        → Each (ClientStands medium m.scripts) clients.items ks → AllFollow clients.items node.durable → ArePlaced clients.items
         → length clients.items ≡ length old.clients.items → StandsFor medium now (record m { server = node; requests = n; clients = ks })
-    stands_with m node n ks here names served each placed many = record {
+    stands_with m node n ks here names served each follow placed many = record {
       server = subst (λ (names : List (List ℕ)). ServerStands medium names server_ node n) (sym names) served;
       clients_ = each;
+      follow = follow;
       scripts = here.scripts;
       apart = here.apart;
       placed = placed;
@@ -146,59 +155,77 @@ module _ {D : Type 0} (medium : Medium D) where
 
       put_there : (m : Machine) (k : Client) (node : Node (List Commit)) (n : ℕ) → StandsFor medium old m
           → ClientStands medium m.scripts laptop k → laptop.place ≡ c → k.name ≡ (client_in m c).name
-          → ServerStands medium (names_in m) server_ node n
+          → ServerStands medium (names_in m) server_ node n → Grows m.server.durable node.durable
+          → Follows (stamps_in laptop) node.durable
           → StandsFor medium now (record m { server = node; requests = n; clients = slice_set m.clients c k })
-      put_there m k node n here stands place name served =
+      put_there m k node n here stands place name served more follows =
           stands_with m node n (slice_set m.clients c k) here (map-set_same (λ (k : Client). k.name) m.clients c k no_client name) served
           (rw put (each_set (ClientStands medium m.scripts) old.clients.items m.clients c laptop k stands here.clients_))
+          (rw put (all_set (λ l. Follows (stamps_in l) node.durable) old.clients.items c laptop was (λ it. follows)
+          (all_follow old.clients.items m.server.durable node.durable more here.follow)))
           (subst ArePlaced (sym put) (each_place_set (λ n (l : Laptop D). l.place ≡ n) old.clients.items c laptop here.placed place))
           (ap length put ∙ length-set old.clients.items c laptop)
 
       -- what the two do is done at that place
       at_pair : {A : Type 0} {call : Call Pair A} {x y : List ℕ} {a : A}
+          → ((m n : Machine) (text : List ℕ) → StandsFor medium old m → At (pair_at c) call m text a n
+          → Grows m.server.durable n.server.durable)
           → ((names : List (List ℕ)) → StepsTo (AnyStands medium (scripts_of old) names c) (AnyStands medium (scripts_of old) names c) call
           (two was old.server) (two laptop server_) x y a) → MakesStep medium (At (pair_at c) call) old now x y a
-      at_pair {x = x} {y = y} {a = a} one = at_part (pair_at c) old now x y a (λ m here.
+      at_pair {x = x} {y = y} {a = a} grow one = at_part (pair_at c) old now x y a (λ m here.
           let s = (one (names_in m)).step ((pair_at c).get m) (pair_here old m here c was get) in
           let is = subst (λ (ss : List Declared). ClientStands medium ss laptop s.1.client) (sym here.scripts) s.4.client.is in
           let same = same_Some _ _ (sym s.4.client.named ∙ name_here old m here c was get) in
-          (s.0, s.1, s.2, s.3, put_there m s.1.client s.1.server s.1.requests here is s.4.client.place same s.4.server))
+          let more = grow m ((pair_at c).set s.1 m) s.0 here (record { inner = s.1; step = s.3; is = refl }) in
+          (s.0, s.1, s.2, s.3, put_there m s.1.client s.1.server s.1.requests here is s.4.client.place same s.4.server more s.4.follows))
 
       pub at_task : (ss : List DeclaredScript) (task : Task ℕ) (x y : List ℕ) → ss ≡ old.scripts.items
           → ((names : List (List ℕ)) (place : ℕ)
           → StepsTo (AnyStands medium (exchange.scripts_of ss) names place) (AnyStands medium (exchange.scripts_of ss) names place)
           (IfUp (task_part (exchange.scripts_of ss) task)) (two was old.server) (two laptop server_) x y tt)
           → MakesStep medium (client_part (scripts_of old) c (client_events.Task task)) old now x y tt
-      at_task ss task x y same one = at_pair (λ names. rw same at (one names c))
+      at_task ss task x y same one =
+          at_pair
+          (λ m n text here step.
+          event_grows medium old (events.At c (client_events.Task task)) m n text here
+          (gets_then (subst (λ (ss : List Declared). client_part ss c (client_events.Task task) m text tt n) (sym here.scripts) step)))
+          (λ names. rw same at (one names c))
 
   -- so is what the client does alone
   pub at_client : {A : Type 0} {call : Call Client A} (old : World D) (clients : Vec (Laptop D) Global) (c : ℕ) (was laptop : Laptop D)
       (x y : List ℕ) (a : A) → KeepsName call → c < length old.clients.items → was ≡ slice_index_or old.clients.items c was
-      → clients.items ≡ slice_set old.clients.items c laptop → laptop.place ≡ was.place
+      → clients.items ≡ slice_set old.clients.items c laptop → laptop.place ≡ was.place → KeepsTrails was laptop
       → ((scripts : List Declared) → Refines (ClientStands medium scripts) call was laptop x y a)
       → MakesStep medium (At (client_at c) call) old (record old { clients = clients }) x y a
-  at_client old clients c was laptop x y a keeps inside value put same one = at_part (client_at c) old _ x y a (λ m here.
+  at_client old clients c was laptop x y a keeps inside value put same trails one = at_part (client_at c) old _ x y a (λ m here.
       let get = looked_up _ _ _ _ refl inside value in
       let s = (one m.scripts).step (client_in m c) (client_here old m here c was get) in
       let named = (keeps (client_in m c).name).at (client_in m c) s.1 s.0 a refl s.3 in
+      let followed = all_got (λ l. Follows (stamps_in l) m.server.durable) old.clients.items c was here.follow get in
+      let follows = follows_kept (stamps_in was) (stamps_in laptop) m.server.durable trails followed in
       let there = put_there old old.server clients c was laptop inside value put m s.1 m.server m.requests here s.4 in
-      (s.0, s.1, s.2, s.3, there (same ∙ here.placed c was get) named here.server))
+      (s.0, s.1, s.2, s.3, there (same ∙ here.placed c was get) named here.server (same_list m.server.durable) follows))
 
   -- ---- the server
 
   module _ (old : World D) (server_ : ServerNode D) where
     served : (m : Machine) (node : Node (List Commit)) (n : ℕ) → StandsFor medium old m
-        → ServerStands medium (names_in m) server_ node n
+        → ServerStands medium (names_in m) server_ node n → Grows m.server.durable node.durable
         → StandsFor medium (record old { server = server_ }) (record m { server = node; requests = n })
-    served m node n here stands = stands_with old server_ old.clients m node n m.clients here refl stands here.clients_ here.placed refl
+    served m node n here stands more =
+        stands_with old server_ old.clients m node n m.clients here refl stands here.clients_
+        (all_follow old.clients.items m.server.durable node.durable more here.follow) here.placed refl
 
     pub at_server : {A : Type 0} {call : Call (Node (List Commit)) A} (x y : List ℕ) (a : A)
+        → ((m n : Machine) (text : List ℕ) → StandsFor medium old m → At server call m text a n
+        → Grows m.server.durable n.server.durable)
         → ((names : List (List ℕ)) (n : ℕ)
         → StepsTo (HavingAnswered medium names n) (HavingAnswered medium names n) call old.server server_ x y a)
         → MakesStep medium (At server call) old (record old { server = server_ }) x y a
-    at_server x y a one = at_part server old _ x y a (λ m here.
+    at_server x y a grow one = at_part server old _ x y a (λ m here.
         let s = (one (names_in m) m.requests).step m.server here.server in
-        (s.0, s.1, s.2, s.3, served m s.1 m.requests here s.4))
+        let more = grow m (server.set s.1 m) s.0 here (record { inner = s.1; step = s.3; is = refl }) in
+        (s.0, s.1, s.2, s.3, served m s.1 m.requests here s.4 more))
 
     -- it comes back, and counts anew unless it was alive
     pub restarts : (x y : List ℕ) → ((names : List (List ℕ)) (n : ℕ)
@@ -207,19 +234,27 @@ module _ {D : Type 0} (medium : Medium D) where
         → MakesStep medium RestartsServer old (record old { server = server_ }) x y tt
     restarts x y one = record {
       step = λ m here.
-          let s = (one (names_in m) m.requests).step m.server here.server in (
+          let s = (one (names_in m) m.requests).step m.server here.server in
+          let n : Machine = counts_anew m.server.alive (server.set s.1 m) in
+          let step : RestartsServer m s.0 tt n =
+          gets_then (gets_then (then_silent (server.set s.1 m) tt (record { inner = s.1; step = s.3; is = refl }) (refl, refl))) in
+          let more = event_grows medium old (events.Server nodes.Restart) m n s.0 here step in (
             s.0,
-            counts_anew m.server.alive (server.set s.1 m),
+            n,
             s.2,
-            gets_then (gets_then (then_silent (server.set s.1 m) tt (record { inner = s.1; step = s.3; is = refl }) (refl, refl))),
-            anew m s.1 here m.server.alive
+            step,
+            anew m s.1 here m.server.alive (subst (Grows m.server.durable) (same_server m.server.alive (server.set s.1 m)) more)
                 (subst (λ (b : Bool). ServerStands medium (names_in m) server_ s.1 (answered_since b m.requests))
                 (sym (up_is medium (names_in m) old.server m.server m.requests here.server)) s.4),
           );
     }
       where
-        anew : (m : Machine) (node : Node (List Commit)) → StandsFor medium old m → (alive : Bool)
+        same_server : (alive : Bool) (n : Machine) → (counts_anew alive n).server.durable ≡ n.server.durable
+        same_server true n = refl
+        same_server false n = refl
+
+        anew : (m : Machine) (node : Node (List Commit)) → StandsFor medium old m → (alive : Bool) → Grows m.server.durable node.durable
             → ServerStands medium (names_in m) server_ node (answered_since alive m.requests)
             → StandsFor medium (record old { server = server_ }) (counts_anew alive (server.set node m))
-        anew m node here true stands = served m node m.requests here stands
-        anew m node here false stands = served m node 0 here stands
+        anew m node here true more stands = served m node m.requests here stands more
+        anew m node here false more stands = served m node 0 here stands more

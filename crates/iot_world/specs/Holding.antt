@@ -1,7 +1,7 @@
 -- What the disks hold that a world gives back, and what they count.
 use Rattle.std.specs.Prelude.{◌≡◌, ◌⊎◌, ◌∷◌, ◌++◌}
 use Rattle.iot_world.specs.Prelude.{ℕ, List, length, map, Option, Some, None, Transaction, State, StandFor, Medium, ClientState, Running}
-use Rattle.iot_world.specs.Prelude.{base, so_far, Machine, Client, Commit, Counts, IsImage, IsLongerIfAny}
+use Rattle.iot_world.specs.Prelude.{base, so_far, Machine, Client, Commit, Counts, IsImage, IsOneMoreIfAny}
 use Rattle.iot_machine.specs.Recorded.{option_named, queue_kept}
 use Rattle.iot_world.specs.World.{Each}
 
@@ -47,7 +47,7 @@ pub record DisksHold {D : Type 0} (medium : Medium D) (handed back : List D) (m 
   pub spare : List D
   pub is : back ≡ server ∷ clients ++ spare
   pub list : HoldsList (medium.may_leave server) m.server.durable m.server.doubt
-  pub longer : IsLongerIfAny m.server.durable m.server.doubt
+  pub longer : IsOneMoreIfAny m.server.durable m.server.doubt
   pub each : Each (KeepsClient medium) clients m.clients
   pub first : D
   pub front : List D

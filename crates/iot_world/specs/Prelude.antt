@@ -21,7 +21,7 @@ pub use Rattle.iot_kept.specs.States.{State, Transaction}
 pub use Rattle.iot_lang.specs.Code.{Code}
 pub use Rattle.iot_laptop.specs.Alone.{OpensClient}
 pub use Rattle.iot_laptop.specs.Calls.{Came}
-pub use Rattle.iot_laptop.specs.Laptops.{ClientStands, StandsAnyhow, disk_in, IsUnopened, SamePlace}
+pub use Rattle.iot_laptop.specs.Laptops.{ClientStands, KeepsTrails, StandsAnyhow, disk_in, stamps_in, IsUnopened, SamePlace}
 pub use Rattle.iot_laptop.specs.Scripts.{AreNamed, HasNamed, IsNamed, ItemIsNamed, RunIsNamedIfAny, script_named}
 pub use Rattle.iot_laptop.specs.Seats.{IsClientImage, seating}
 pub use Rattle.iot_laptop.specs.declared.laptop.Laptop.{Laptop}
@@ -50,7 +50,7 @@ pub use Rattle.iot_queue.specs.declared.items.Item.{Item}
 pub use Rattle.iot_server.specs.declared.server.Server.{Server}
 pub use Rattle.iot_server_node.specs.Keepers.{lists}
 pub use Rattle.iot_server_node.specs.Records.{BeginsWith, DiskBegins, EachBegins, IsImage, records_of}
-pub use Rattle.iot_server_node.specs.Servers.{HasDisk, HavingAnswered, IsLongerIfAny, IsServerOf, KeepsCommits, ServerStands}
+pub use Rattle.iot_server_node.specs.Servers.{HasDisk, HavingAnswered, IsOneMoreIfAny, IsServerOf, KeepsCommits, ServerStands}
 pub use Rattle.iot_server_node.specs.Servers.{answered_since, disk_of, is_up, post_of}
 pub use Rattle.iot_server_node.specs.declared.server.ServerNode.{ServerNode}
 pub use Rattle.iot_tree.specs.Tree.{Nodes}

@@ -12,7 +12,9 @@ use Rattle.iot_event.specs.declared.event.Event.TheVariants as events
 use Rattle.iot_machine.specs.Clients as clients
 use Rattle.iot_machine.specs.Machine as machines
 use Rattle.iot_server_node.specs.Servers as servers
-use Rattle.iot_laptop.specs.Laptops.{ItemsStand, RunningStandsIfAny}
+use Rattle.iot_laptop.specs.Laptops.{ItemsStand, KeepsTrails, RunningStandsIfAny, stamps_in}
+use Rattle.iot_machine.specs.Machine.{Commit}
+use Rattle.iot_exchange.specs.Following.{Follows}
 use Rattle.iot_exchange.specs.Scripts as exchange
 use Rattle.iot_world.specs.Disks.{IsUnarmed, FirstBegins}
 
@@ -52,11 +54,16 @@ Each stands ws ms = ⊥
 abbrev pub ArePlaced : {D : Type 0} → List (Laptop D) → Type 0
 ArePlaced {D = D} laptops = (place : ℕ) (laptop : Laptop D) → slice_get laptops place ≡ Some laptop → laptop.place ≡ place
 
--- its nodes, with their links, are those of the machine, no two of its scripts have the same name, and there is an empty disk for each
--- client that may still be declared
+-- what each client holds follows this list of the server's
+abbrev pub AllFollow : {D : Type 0} → List (Laptop D) → List Commit → Type 0
+AllFollow laptops commits = AllByRecursion (λ laptop. Follows (stamps_in laptop) commits) laptops
+
+-- its nodes, with their links, are those of the machine, what each client holds follows the server's list, no two of its scripts have the
+-- same name, and there is an empty disk for each client that may still be declared
 pub record StandsFor {D : Type 0} (medium : Medium D) (world : World D) (m : Machine) : Type 0 where
   pub server : ServerStands medium (names_in m) world.server m.server m.requests
   pub clients_ : Each (ClientStands medium m.scripts) world.clients.items m.clients
+  pub follow : AllFollow world.clients.items m.server.durable
   pub scripts : m.scripts ≡ scripts_of world
   pub apart : AreApart m.scripts
   pub placed : ArePlaced world.clients.items
@@ -190,6 +197,7 @@ pub record Starts {D : Type 0} (medium : Medium D) (name : List ℕ) (old new : 
   pub on : Bool
   pub between : List ℕ
   pub opens : (scripts : List Declared) → Refines (ClientStands medium scripts) OpensClient old new before between on
+  pub trails : KeepsTrails old new
   pub says : after ≡ between ++ said_of on name
 
 -- a script joins

@@ -2,7 +2,8 @@
 ghost use Rattle.std.specs.Prelude.{◌≡◌, List, true, OnOk};
 ghost use Rattle.iot_event.specs.declared.event.Event.TheVariants.{Server};
 ghost use Rattle.iot_machine.specs.Events.{server_part};
-ghost use Rattle.iot_world.specs.Prelude.{Show, ClientStands, StandsAnyhow, SamePlace, disk_in, Declared, node_part, link_part, Refines};
+ghost use Rattle.iot_world.specs.Prelude.{Show, ClientStands, StandsAnyhow, SamePlace, KeepsTrails, disk_in, Declared};
+ghost use Rattle.iot_world.specs.Prelude.{Refines, node_part, link_part};
 ghost use Rattle.iot_text.specs.Texts.{Extends};
 ghost use Rattle.iot_world.specs.Allowed.{arms_a_disk, stops_node};
 ghost use Rattle.iot_world.specs.Deciding.{Decides, ClientDecides};
@@ -54,6 +55,7 @@ pub(crate) fn befall<D: Disk>(
     ensures step { OnOk result ((scripts : List Declared) → Refines (ClientStands D.medium scripts) (node_part what)
         laptop.old laptop.new out.old out.new tt) }
     ensures decided { OnOk result (ClientDecides D.medium what out.old out.new laptop.old) }
+    ensures trails { OnOk result (KeepsTrails laptop.old laptop.new) }
     ensures place { SamePlace laptop.old laptop.new }
     ensures disk { KeepsNode D.medium (stops_node what) result laptop.old laptop.new }
     ensures text { stops_node what ≡ true → Extends out.old out.new }
@@ -88,6 +90,7 @@ pub(crate) fn relink<D: Disk>(
     requires { StandsAnyhow D.medium laptop.old }
     ensures step { OnOk result ((scripts : List Declared) → Refines (ClientStands D.medium scripts) (link_part what)
         laptop.old laptop.new out.old out.new tt) }
+    ensures trails { KeepsTrails laptop.old laptop.new }
     ensures place { SamePlace laptop.old laptop.new }
     ensures disk { disk_in laptop.new ≡ disk_in laptop.old }
 {

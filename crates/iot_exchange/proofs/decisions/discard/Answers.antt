@@ -10,13 +10,15 @@ discard-requires-clause-manual g c = (decided c.args.laptop.now _ (sym c.decisio
 
 pub returns-in_err-discard-in-Ok : goal.returns-in_err-discard-in-Ok
 returns-in_err-discard-in-Ok g c server ready scripts =
-    let noted = by_client (notes leave) ready.keeps c.discard.ensures.place (c.discard.ensures.does scripts) c.discard.ensures.disk in
+    let noted = by_client (notes leave) ready.keeps c.discard.ensures.place c.discard.ensures.trails (c.discard.ensures.does scripts)
+    c.discard.ensures.disk in
     decides (sym c.decision.ensures ∙ c.in-Ok.is) noted.disks (λ names at mi named pair here.
     steps.from (steps.hands_on c.in_err-discard-in-Ok.was c.from_residual.ensures.1 (noted.step names at)) here)
 
 pub returns-in_ok-say_of-in-Ok : goal.returns-in_ok-say_of-in-Ok
 returns-in_ok-say_of-in-Ok g c server ready scripts =
-    let noted = by_client (notes leave) ready.keeps c.discard.ensures.place (c.discard.ensures.does scripts) c.discard.ensures.disk in
+    let noted = by_client (notes leave) ready.keeps c.discard.ensures.place c.discard.ensures.trails (c.discard.ensures.does scripts)
+    c.discard.ensures.disk in
     decides (sym c.decision.ensures ∙ c.in-Ok.is) noted.disks (λ names at mi named pair here.
     steps.from (steps.goes_then c.in_ok-discard-in-Ok.was (noted.step names at) (steps.says (λ after there.
     c.in_ok-say_of-in-Ok.ensures ∙ ap (λ (n : List ℕ). c.discard.new.out ++ discard_line n) (sym (named after there))))) here)

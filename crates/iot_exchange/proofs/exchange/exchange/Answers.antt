@@ -1,6 +1,7 @@
 use Rattle.std.proofs.Common.{◌∙◌}
 use Rattle.iot_exchange.proofs.ExchangeLaws.{on_err, passed, away, request_lost, reply_lost, comes, none_comes}
 use Rattle.iot_exchange.proofs.DoesLaws.{keeps_served}
+use Rattle.iot_exchange.proofs.FollowingLaws.{grows}
 use Rattle.iot_exchange.proofs.exchange.exchange.Goals as goal
 
 pub returns-in-Away-clause-asked : goal.returns-in-Away-clause-asked
@@ -19,7 +20,7 @@ returns-in-RequestLost-clause-asked g c scripts = record {
 pub returns-in_ok-_lost-in-ReplyLost-clause-asked : goal.returns-in_ok-_lost-in-ReplyLost-clause-asked
 returns-in_ok-_lost-in-ReplyLost-clause-asked g c scripts = record {
   is = λ names at query asks.
-      reply_lost _ (passed c.is_up-up.ensures c.pass.ensures.passage c.pass.ensures.after c.in-ReplyLost.is)
+      reply_lost (grows query) _ (passed c.is_up-up.ensures c.pass.ensures.passage c.pass.ensures.after c.in-ReplyLost.is)
       (c.in_ok-_lost-in-ReplyLost.ensures.asks names query asks);
   disks = keeps_served c.requires.ready.keeps c.pass.ensures.disk c.in_ok-_lost-in-ReplyLost.ensures.disk
       c.in_ok-_lost-in-ReplyLost.ensures.records;
@@ -38,7 +39,7 @@ returns-in_err-reply-in-Both-clause-disks g c =
 pub returns-in-Some-clause-asked : goal.returns-in-Some-clause-asked
 returns-in-Some-clause-asked g c scripts = record {
   is = λ names at query asks.
-      comes (passed c.is_up-up.ensures c.pass.ensures.passage c.pass.ensures.after c.in-Both.is)
+      comes (grows query) (passed c.is_up-up.ensures c.pass.ensures.passage c.pass.ensures.after c.in-Both.is)
       (rw c.in-Some.is at (c.in_ok-reply-in-Both.ensures.asks names query asks));
   disks = keeps_served c.requires.ready.keeps c.pass.ensures.disk c.in_ok-reply-in-Both.ensures.disk
       c.in_ok-reply-in-Both.ensures.records;
@@ -47,7 +48,7 @@ returns-in-Some-clause-asked g c scripts = record {
 pub returns-in-None-clause-asked : goal.returns-in-None-clause-asked
 returns-in-None-clause-asked g c scripts = record {
   is = λ names at query asks.
-      none_comes (passed c.is_up-up.ensures c.pass.ensures.passage c.pass.ensures.after c.in-Both.is)
+      none_comes (grows query) (passed c.is_up-up.ensures c.pass.ensures.passage c.pass.ensures.after c.in-Both.is)
       (rw c.in-None.is at (c.in_ok-reply-in-Both.ensures.asks names query asks)) c.broke.ensures.after;
   disks = keeps_served c.requires.ready.keeps (c.broke.ensures.disk ∙ c.pass.ensures.disk) c.in_ok-reply-in-Both.ensures.disk
       c.in_ok-reply-in-Both.ensures.records;

@@ -1,14 +1,16 @@
 use Rattle.std.proofs.Common.{refl}
-use Rattle.iot_exchange.specs.Words.{state_in, hold}
+use Rattle.iot_exchange.specs.Words.{nothing_held, stamps_in, stamps_of, state_in, hold}
 use Rattle.iot_exchange.specs.Pairs.{Objects}
-use Rattle.iot_exchange.proofs.DoesLaws.{hands_on, then_answers, by_client, notes, keeps_more}
-use Rattle.iot_exchange.proofs.ExchangeLaws.{missed, came, brings_tree}
+use Rattle.iot_exchange.proofs.DoesLaws.{hands_on, then_answers, by_call, notes, keeps_more}
+use Rattle.iot_exchange.proofs.FollowingLaws.{held_is}
+use Rattle.iot_exchange.proofs.ExchangeLaws.{missed, came, brings_own, takes}
 use Rattle.iot_exchange.proofs.objects.bring.Goals as goal
 
 pub returns-then-not-is_connected : goal.returns-then-not-is_connected
 returns-then-not-is_connected g c = record {
   does = λ scripts. missed c.args.want.now hold (λ names at.
-      (c.miss.ensures.all scripts names at).none (Objects 0 (state_in c.args.laptop.now).held c.args.want.now) _) c.miss.ensures.disks;
+      (c.miss.ensures.all scripts names at).none (Objects 0 nothing_held nothing_held (state_in c.args.laptop.now).held c.args.want.now) _)
+      c.miss.ensures.disks;
   free = rw c.miss.ensures.state c.requires.free;
 }
 
@@ -18,26 +20,47 @@ take-requires g c = record {
   idle = rw c.in_ok-reply.ensures.state c.requires.free.idle;
   none = rw c.in_ok-reply.ensures.state c.requires.free.none;
   brings = rw c.deref.ensures.value
-      (brings_tree c.args.laptop.now.place (state_in c.args.laptop.now).held c.args.want.now c.requires.ready
-      (rw c.in-Some.is at c.in_ok-reply.ensures.asked) c.in_ok-request.ensures);
+      (brings_own c.requires.ready (rw c.in-Some.is at c.in_ok-reply.ensures.asked) (record {
+        same = rw c.in-Some.is at c.in_ok-reply.ensures.same;
+        lends = rw c.in-Some.is at c.in_ok-reply.ensures.lends;
+      })
+      c.args.laptop.now.place c.args.want.now c.in_ok-request.ensures);
 }
 
 pub returns-in_err-take-in-Some-clause-does : goal.returns-in_err-take-in-Some-clause-does
 returns-in_err-take-in-Some-clause-does g c scripts =
-    let asked = rw c.in-Some.is at (c.in_ok-reply.ensures.asked scripts) in
-    came hold c.args.laptop.now.place c.args.want.now asked c.in_ok-request.ensures (keeps_more asked.disks c.take.ensures.disk)
+    let asked = rw c.in-Some.is at c.in_ok-reply.ensures.asked in
+    came c.requires.ready asked (record {
+      same = rw c.in-Some.is at c.in_ok-reply.ensures.same;
+      lends = rw c.in-Some.is at c.in_ok-reply.ensures.lends;
+    }) c.args.laptop.now.place c.args.want.now c.in_ok-request.ensures hold
+    (keeps_more (asked scripts).disks c.take.ensures.disk)
     (λ t spells. hands_on c.in_err-take-in-Some.was c.from_residual-in_err-take-in-Some.ensures.1
-    (by_client (notes (hold t)) asked.disks c.take.ensures.place ((rw c.deref.ensures.value at c.take.ensures.does) t spells scripts)
-    c.take.ensures.disk))
+    (by_call (notes (hold t)) (asked scripts).disks c.take.ensures.place
+    (takes c.requires.ready asked (record {
+      same = rw c.in-Some.is at c.in_ok-reply.ensures.same;
+      lends = rw c.in-Some.is at c.in_ok-reply.ensures.lends;
+    }) c.args.laptop.now.place c.args.want.now c.in_ok-request.ensures scripts c.take.new.self c.take.result
+    (rw c.deref.ensures.value at c.take.ensures.stamps))
+    ((rw c.deref.ensures.value at c.take.ensures.does) t spells scripts) c.take.ensures.disk))
 
 pub returns-in-Some : goal.returns-in-Some
 returns-in-Some g c = record {
   does = λ scripts.
-      let asked = rw c.in-Some.is at (c.in_ok-reply.ensures.asked scripts) in
-      came hold c.args.laptop.now.place c.args.want.now asked c.in_ok-request.ensures (keeps_more asked.disks c.take.ensures.disk)
+      let asked = rw c.in-Some.is at c.in_ok-reply.ensures.asked in
+      came c.requires.ready asked (record {
+        same = rw c.in-Some.is at c.in_ok-reply.ensures.same;
+        lends = rw c.in-Some.is at c.in_ok-reply.ensures.lends;
+      }) c.args.laptop.now.place c.args.want.now c.in_ok-request.ensures hold
+      (keeps_more (asked scripts).disks c.take.ensures.disk)
       (λ t spells. then_answers c.in_ok-take-in-Some.was refl
-      (by_client (notes (hold t)) asked.disks c.take.ensures.place ((rw c.deref.ensures.value at c.take.ensures.does) t spells scripts)
-      c.take.ensures.disk));
+      (by_call (notes (hold t)) (asked scripts).disks c.take.ensures.place
+      (takes c.requires.ready asked (record {
+        same = rw c.in-Some.is at c.in_ok-reply.ensures.same;
+        lends = rw c.in-Some.is at c.in_ok-reply.ensures.lends;
+      }) c.args.laptop.now.place c.args.want.now c.in_ok-request.ensures scripts c.take.new.self c.take.result
+      (rw c.deref.ensures.value at c.take.ensures.stamps))
+      ((rw c.deref.ensures.value at c.take.ensures.does) t spells scripts) c.take.ensures.disk));
   free = c.in_ok-take-in-Some.ensures.free;
 }
 
@@ -46,7 +69,10 @@ returns g c = record {
   does = λ scripts.
       let asked = rw c.in-None.is at (c.in_ok-reply.ensures.asked scripts) in
       missed c.args.want.now hold (λ names at.
-      (asked.is names at (Objects c.args.laptop.now.place (state_in c.args.laptop.now).held c.args.want.now) c.in_ok-request.ensures).is)
+      (asked.is names at
+      (Objects c.args.laptop.now.place (stamps_in c.args.laptop.now) (stamps_of c.args.server.now) (state_in c.args.laptop.now).held
+      c.args.want.now)
+      (c.in_ok-request.ensures, refl, held_is c.args.laptop.now.post)).is)
       asked.disks;
   free = rw c.in_ok-reply.ensures.state c.requires.free;
 }

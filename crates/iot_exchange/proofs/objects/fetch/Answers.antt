@@ -1,8 +1,9 @@
 use Rattle.std.proofs.Common.{refl}
-use Rattle.iot_exchange.specs.Words.{state_in, fetch}
+use Rattle.iot_exchange.specs.Words.{stamps_in, stamps_of, state_in, fetch}
 use Rattle.iot_exchange.specs.Pairs.{Objects}
-use Rattle.iot_exchange.proofs.DoesLaws.{hands_on, then_answers, by_client, notes, keeps_more}
-use Rattle.iot_exchange.proofs.ExchangeLaws.{missed, came, brings_tree}
+use Rattle.iot_exchange.proofs.DoesLaws.{hands_on, then_answers, by_call, notes, keeps_more}
+use Rattle.iot_exchange.proofs.FollowingLaws.{held_is}
+use Rattle.iot_exchange.proofs.ExchangeLaws.{missed, came, brings_own, takes}
 use Rattle.iot_exchange.proofs.objects.fetch.Goals as goal
 
 pub exchange-requires-clause-request : goal.exchange-requires-clause-request
@@ -13,28 +14,49 @@ fetched-requires-clause-stands g c = rw (rw c.in-Some.is at c.in_ok-reply.ensure
 
 pub fetched-requires-clause-brings : goal.fetched-requires-clause-brings
 fetched-requires-clause-brings g c = rw c.deref.ensures.value
-    (brings_tree c.args.laptop.now.place (state_in c.args.laptop.now).held c.requires.asked.want c.requires.ready
-    (rw c.in-Some.is at c.in_ok-reply.ensures.asked) (rw c.into_bytes.ensures c.requires.asked.is))
+    (brings_own c.requires.ready (rw c.in-Some.is at c.in_ok-reply.ensures.asked) (record {
+      same = rw c.in-Some.is at c.in_ok-reply.ensures.same;
+      lends = rw c.in-Some.is at c.in_ok-reply.ensures.lends;
+    })
+    c.args.laptop.now.place c.requires.asked.want (rw c.into_bytes.ensures c.requires.asked.is))
 
 pub returns-in_err-fetched-in-Some : goal.returns-in_err-fetched-in-Some
 returns-in_err-fetched-in-Some g c want refresh scripts =
-    let asked = rw c.in-Some.is at (c.in_ok-reply.ensures.asked scripts) in
-    came fetch c.args.laptop.now.place want asked (rw c.into_bytes.ensures refresh) (keeps_more asked.disks c.fetched.ensures.disk)
+    let asked = rw c.in-Some.is at c.in_ok-reply.ensures.asked in
+    came c.requires.ready asked (record {
+      same = rw c.in-Some.is at c.in_ok-reply.ensures.same;
+      lends = rw c.in-Some.is at c.in_ok-reply.ensures.lends;
+    }) c.args.laptop.now.place want (rw c.into_bytes.ensures refresh) fetch (keeps_more (asked scripts).disks c.fetched.ensures.disk)
     (λ t spells. hands_on c.in_err-fetched-in-Some.was c.from_residual-in_err-fetched-in-Some.ensures.1
-    (by_client (notes (fetch t)) asked.disks c.fetched.ensures.place ((rw c.deref.ensures.value at c.fetched.ensures.does) t spells scripts)
-    c.fetched.ensures.disk))
+    (by_call (notes (fetch t)) (asked scripts).disks c.fetched.ensures.place
+    (takes c.requires.ready asked (record {
+      same = rw c.in-Some.is at c.in_ok-reply.ensures.same;
+      lends = rw c.in-Some.is at c.in_ok-reply.ensures.lends;
+    }) c.args.laptop.now.place want (rw c.into_bytes.ensures refresh) scripts c.fetched.new.self c.fetched.result
+    (rw c.deref.ensures.value at c.fetched.ensures.stamps))
+    ((rw c.deref.ensures.value at c.fetched.ensures.does) t spells scripts) c.fetched.ensures.disk))
 
 pub returns-in-Some : goal.returns-in-Some
 returns-in-Some g c want refresh scripts =
-    let asked = rw c.in-Some.is at (c.in_ok-reply.ensures.asked scripts) in
-    came fetch c.args.laptop.now.place want asked (rw c.into_bytes.ensures refresh) (keeps_more asked.disks c.fetched.ensures.disk)
+    let asked = rw c.in-Some.is at c.in_ok-reply.ensures.asked in
+    came c.requires.ready asked (record {
+      same = rw c.in-Some.is at c.in_ok-reply.ensures.same;
+      lends = rw c.in-Some.is at c.in_ok-reply.ensures.lends;
+    }) c.args.laptop.now.place want (rw c.into_bytes.ensures refresh) fetch (keeps_more (asked scripts).disks c.fetched.ensures.disk)
     (λ t spells. then_answers c.in_ok-fetched-in-Some.was refl
-    (by_client (notes (fetch t)) asked.disks c.fetched.ensures.place ((rw c.deref.ensures.value at c.fetched.ensures.does) t spells scripts)
-    c.fetched.ensures.disk))
+    (by_call (notes (fetch t)) (asked scripts).disks c.fetched.ensures.place
+    (takes c.requires.ready asked (record {
+      same = rw c.in-Some.is at c.in_ok-reply.ensures.same;
+      lends = rw c.in-Some.is at c.in_ok-reply.ensures.lends;
+    }) c.args.laptop.now.place want (rw c.into_bytes.ensures refresh) scripts c.fetched.new.self c.fetched.result
+    (rw c.deref.ensures.value at c.fetched.ensures.stamps))
+    ((rw c.deref.ensures.value at c.fetched.ensures.does) t spells scripts) c.fetched.ensures.disk))
 
 pub returns : goal.returns
 returns g c want refresh scripts =
     let asked = rw c.in-None.is at (c.in_ok-reply.ensures.asked scripts) in
     missed want fetch (λ names at.
-    (asked.is names at (Objects c.args.laptop.now.place (state_in c.args.laptop.now).held want) (rw c.into_bytes.ensures refresh)).is)
+    (asked.is names at
+    (Objects c.args.laptop.now.place (stamps_in c.args.laptop.now) (stamps_of c.args.server.now) (state_in c.args.laptop.now).held want)
+    (rw c.into_bytes.ensures refresh, refl, held_is c.args.laptop.now.post)).is)
     asked.disks

@@ -1,11 +1,12 @@
-use Rattle.std.proofs.Common.{arith, rules, tests, bytes_eq}
+use Rattle.std.proofs.Common.{rules, tests, bytes_eq}
 use Rattle.std.proofs.lemmas.Iterator.{YieldsList-from_slice}
 use Rattle.std.proofs.lemmas.Iterator.Search.{find_from_yields_List}
 use Rattle.iot_exchange.specs.Words.{IsInConflict, Resolved, reach, resolution_of, NoMemory}
 use Rattle.iot_exchange.proofs.NamesLaws.{code_found, none_found}
 use Rattle.iot_exchange.specs.Scripts.{scripts_of}
 use Rattle.iot_exchange.proofs.DoesLaws.{by_client, notes, hands_on, then_tells, keeps_more, no_memory}
-use Rattle.iot_exchange.proofs.FirstLaws.{head_is, whole_came, declared_for, resolves_away, resolves_told, synced_err}
+use Rattle.iot_exchange.proofs.ExchangeLaws.{asks_whole, whole_came}
+use Rattle.iot_exchange.proofs.FirstLaws.{head_is, declared_for, resolves_away, resolves_told, synced_err}
 use Rattle.iot_exchange.proofs.queues.resolve.Goals as goal
 
 pub exchange-requires-clause-request : goal.exchange-requires-clause-request
@@ -31,12 +32,13 @@ unreachable-requires g c =
 pub resolve-requires : goal.resolve-requires
 resolve-requires g c =
     let same = rw c.in-Some.is at c.in_ok-reply.ensures.same in
-    let whole = whole_came c.args.request c.requires.first c.requires.ready.ready (rw c.in-Some.is at c.in_ok-reply.ensures.asked) in
+    let whole = whole_came c.requires.ready.ready (rw c.in-Some.is at c.in_ok-reply.ensures.asked)
+    (record { same = same; lends = rw c.in-Some.is at c.in_ok-reply.ensures.lends }) (asks_whole c.requires.first.is) in
     record {
       stands = rw same c.requires.ready.ready.alive;
       conflict = rw same (head_is IsInConflict c.requires.first c.requires.first.is.conflict);
       brings = rw c.deref.ensures.value whole.0;
-      whole = rw c.deref.ensures.value (whole.1 (omega arith));
+      whole = rw c.deref.ensures.value whole.1;
       script = rw c.in_ok-code-in-Some.ensures.value c.in_ok-code-in-Some.ensures.script;
     }
 
@@ -44,30 +46,34 @@ pub returns-in_err-resolve-in-Some : goal.returns-in_err-resolve-in-Some
 returns-in_err-resolve-in-Some g c =
     let same = rw c.in-Some.is at c.in_ok-reply.ensures.same in
     let does = rw c.deref.ensures.value at c.resolve.ensures.does in
-    let asked = rw c.in-Some.is at (c.in_ok-reply.ensures.asked (scripts_of c.args.scripts.now)) in
+    let asked = rw c.in-Some.is at c.in_ok-reply.ensures.asked in
+    let keeps = (asked (scripts_of c.args.scripts.now)).disks in
     resolves_told c.args.request c.requires.first c.plan-plan.result (rw same at c.plan-plan.ensures)
     (code_found c.args.scripts.now c.plan-plan.result.script c.find.result
     (find_from_yields_List (λ w. bytes_eq c.plan-plan.result.script w.name) _ _ _ c.find.ensures.ran
     (YieldsList-from_slice c.args.scripts.now c.iter.ensures.rest) (λ x b q k. search (rules, tests)))
-    c.in-Some-find.is c.in_ok-code-in-Some.ensures.value) (keeps_more asked.disks c.resolve.ensures.disk) asked
+    c.in-Some-find.is c.in_ok-code-in-Some.ensures.value) (keeps_more keeps c.resolve.ensures.disk) c.requires.ready.ready asked
+    (record { same = same; lends = rw c.in-Some.is at c.in_ok-reply.ensures.lends })
     (λ p u spells plans coded. hands_on c.in_err-resolve-in-Some.was
     (synced_err c.in_err-resolve-in-Some.field-0.0 _ c.from_residual-in_err-resolve-in-Some.ensures.1)
-    (by_client (notes (reach (Resolved (resolution_of p u)))) asked.disks c.resolve.ensures.place
-    (does u spells _ p (rw same plans) coded) c.resolve.ensures.disk))
+    (by_client (notes (reach (Resolved (resolution_of p u)))) keeps c.resolve.ensures.place
+    c.resolve.ensures.trails (does u spells _ p (rw same plans) coded) c.resolve.ensures.disk))
 
 pub returns-in-Some : goal.returns-in-Some
 returns-in-Some g c =
     let same = rw c.in-Some.is at c.in_ok-reply.ensures.same in
     let does = rw c.deref.ensures.value at c.resolve.ensures.does in
-    let asked = rw c.in-Some.is at (c.in_ok-reply.ensures.asked (scripts_of c.args.scripts.now)) in
+    let asked = rw c.in-Some.is at c.in_ok-reply.ensures.asked in
+    let keeps = (asked (scripts_of c.args.scripts.now)).disks in
     resolves_told c.args.request c.requires.first c.plan-plan.result (rw same at c.plan-plan.ensures)
     (code_found c.args.scripts.now c.plan-plan.result.script c.find.result
     (find_from_yields_List (λ w. bytes_eq c.plan-plan.result.script w.name) _ _ _ c.find.ensures.ran
     (YieldsList-from_slice c.args.scripts.now c.iter.ensures.rest) (λ x b q k. search (rules, tests)))
-    c.in-Some-find.is c.in_ok-code-in-Some.ensures.value) (keeps_more asked.disks c.resolve.ensures.disk) asked
+    c.in-Some-find.is c.in_ok-code-in-Some.ensures.value) (keeps_more keeps c.resolve.ensures.disk) c.requires.ready.ready asked
+    (record { same = same; lends = rw c.in-Some.is at c.in_ok-reply.ensures.lends })
     (λ p u spells plans coded. then_tells c.in_ok-resolve-in-Some.was
-    (by_client (notes (reach (Resolved (resolution_of p u)))) asked.disks c.resolve.ensures.place
-    (does u spells _ p (rw same plans) coded) c.resolve.ensures.disk)
+    (by_client (notes (reach (Resolved (resolution_of p u)))) keeps c.resolve.ensures.place
+    c.resolve.ensures.trails (does u spells _ p (rw same plans) coded) c.resolve.ensures.disk)
     (λ names at pair here. c.in_ok-say_resolve-in-Some.ensures))
 
 pub returns : goal.returns

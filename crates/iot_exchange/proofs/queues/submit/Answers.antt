@@ -28,7 +28,7 @@ returns-in_err-told-in-Some g c scripts =
     hands_on (ap done c.in_err-told-in-Some.was)
     (synced_err c.in_err-told-in-Some.field-0.0 _ c.from_residual-in_err-told-in-Some.ensures.1)
     (by_client (notes (told_change verdict option)) asked.disks c.take_verdict.ensures.place
-    (settles verdict option spells has scripts) c.take_verdict.ensures.disk))
+    c.take_verdict.ensures.trails (settles verdict option spells has scripts) c.take_verdict.ensures.disk))
 
 pub returns-in-Some : goal.returns-in-Some
 returns-in-Some g c scripts =
@@ -41,7 +41,7 @@ returns-in-Some g c scripts =
     let chosen = same_Some _ _ (sym is_told.option ∙ has) in
     rw (c.by.ensures ∙ (λ i. told_synced (which i) (chosen i))) (then_tells (ap done c.in_ok-told-in-Some.was)
     (by_client (notes (told_change verdict option)) asked.disks c.take_verdict.ensures.place
-    (settles verdict option spells has scripts) c.take_verdict.ensures.disk)
+    c.take_verdict.ensures.trails (settles verdict option spells has scripts) c.take_verdict.ensures.disk)
     (λ names at pair here. c.in_ok-say_told-in-Some.ensures
     ∙ (λ i. c.take_verdict.new.out ++ told_text (name_of c.args.transaction.now) (which i) (chosen i)))))
 

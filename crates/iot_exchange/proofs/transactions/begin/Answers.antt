@@ -17,7 +17,7 @@ returns-then-waits g c scripts on_conflict means =
     asks_then (runs_here (sym c.runs.ensures ∙ c.if-runs.false))
     (asks_then (pends_here (sym c.waits.ensures ∙ c.if-waits.true))
     (by_client (starts (script_of c.args.script.now) on_conflict false) c.requires.keeps c.start.ensures.place
-    (c.start.ensures.does scripts on_conflict means.script_is means.resolver means.option_is) c.start.ensures.disk))
+    c.start.ensures.trails (c.start.ensures.does scripts on_conflict means.script_is means.resolver means.option_is) c.start.ensures.disk))
 
 pub bring-requires-clause-free : goal.bring-requires-clause-free
 bring-requires-clause-free g c = is_free (sym c.runs.ensures ∙ c.if-runs.false) (sym c.waits.ensures ∙ c.if-waits.false)
@@ -37,5 +37,6 @@ returns g c scripts on_conflict means =
     (asks_then (pends_here (sym c.waits.ensures ∙ c.if-waits.false))
     (goes_then c.in_ok-first.was (c.bring.ensures.does scripts)
     (by_client (starts (script_of c.args.script.now) on_conflict c.in_ok-first.first) (c.bring.ensures.does scripts).disks
-    c.start-2.ensures.place (c.start-2.ensures.does scripts on_conflict means.script_is means.resolver means.option_is)
+    c.start-2.ensures.place c.start-2.ensures.trails
+    (c.start-2.ensures.does scripts on_conflict means.script_is means.resolver means.option_is)
     c.start-2.ensures.disk)))

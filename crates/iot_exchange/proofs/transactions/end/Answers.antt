@@ -21,30 +21,34 @@ returns-in_err-gone g c =
     ends_over (sym c.runs.ensures ∙ c.if-not-runs.false) c.end.ensures.over
     (keeps_more c.requires.ready.keeps c.end.ensures.disk) (λ gone.
     hands_on (ap done c.in_err-gone.was) c.from_residual-in_err-gone.ensures.1
-    (by_client (notes end) c.requires.ready.keeps c.end.ensures.place (c.end.ensures.does _) c.end.ensures.disk))
+    (by_client (notes end) c.requires.ready.keeps c.end.ensures.place c.end.ensures.trails (c.end.ensures.does _) c.end.ensures.disk))
 
 pub returns-then-not-gone : goal.returns-then-not-gone
 returns-then-not-gone g c =
-    let noted = by_client (notes end) c.requires.ready.keeps c.end.ensures.place (c.end.ensures.does _) c.end.ensures.disk in
+    let noted = by_client (notes end) c.requires.ready.keeps c.end.ensures.place c.end.ensures.trails (c.end.ensures.does _)
+    c.end.ensures.disk in
     ends_gone c.in_ok-gone.gone (sym c.runs.ensures ∙ c.if-not-runs.false) c.end.ensures.over c.in_ok-gone.ensures.gone
     (ap done c.in_ok-gone.was) noted c.in_ok-say_of.ensures c.if-not-gone.true
     (tells noted.disks (λ names at pair here. c.in_ok-say_pending.ensures))
 
 pub sync-requires : goal.sync-requires
 sync-requires g c = ready_after (ap done c.in_ok-gone.was)
-    (by_client (notes end) c.requires.ready.keeps c.end.ensures.place (c.end.ensures.does _) c.end.ensures.disk) c.requires.stands
+    (by_client (notes end) c.requires.ready.keeps c.end.ensures.place c.end.ensures.trails (c.end.ensures.does _) c.end.ensures.disk)
+    c.requires.stands
 
 pub returns-in_err-sync : goal.returns-in_err-sync
 returns-in_err-sync g c =
     ends_gone c.in_ok-gone.gone (sym c.runs.ensures ∙ c.if-not-runs.false) c.end.ensures.over c.in_ok-gone.ensures.gone
-    (ap done c.in_ok-gone.was) (by_client (notes end) c.requires.ready.keeps c.end.ensures.place (c.end.ensures.does _) c.end.ensures.disk)
+    (ap done c.in_ok-gone.was) (by_client (notes end) c.requires.ready.keeps c.end.ensures.place c.end.ensures.trails
+    (c.end.ensures.does _) c.end.ensures.disk)
     c.in_ok-say_of.ensures c.if-not-gone.false
     (hands_on (ap synced_by c.in_err-sync.was) c.from_residual-in_err-sync.ensures.1 c.sync.ensures)
 
 pub returns-in-Unanswered : goal.returns-in-Unanswered
 returns-in-Unanswered g c =
     ends_gone c.in_ok-gone.gone (sym c.runs.ensures ∙ c.if-not-runs.false) c.end.ensures.over c.in_ok-gone.ensures.gone
-    (ap done c.in_ok-gone.was) (by_client (notes end) c.requires.ready.keeps c.end.ensures.place (c.end.ensures.does _) c.end.ensures.disk)
+    (ap done c.in_ok-gone.was) (by_client (notes end) c.requires.ready.keeps c.end.ensures.place c.end.ensures.trails
+    (c.end.ensures.does _) c.end.ensures.disk)
     c.in_ok-say_of.ensures c.if-not-gone.false
     (goes_then {next = waits_unless (ended_as c.in_ok-gone.gone)}
     (ap synced_by (c.in_ok-sync.was ∙ ap (λ (how : Synced). Ok how) c.in-Unanswered.is)) c.sync.ensures
@@ -53,7 +57,8 @@ returns-in-Unanswered g c =
 pub returns-in-Moved : goal.returns-in-Moved
 returns-in-Moved g c =
     ends_gone c.in_ok-gone.gone (sym c.runs.ensures ∙ c.if-not-runs.false) c.end.ensures.over c.in_ok-gone.ensures.gone
-    (ap done c.in_ok-gone.was) (by_client (notes end) c.requires.ready.keeps c.end.ensures.place (c.end.ensures.does _) c.end.ensures.disk)
+    (ap done c.in_ok-gone.was) (by_client (notes end) c.requires.ready.keeps c.end.ensures.place c.end.ensures.trails
+    (c.end.ensures.does _) c.end.ensures.disk)
     c.in_ok-say_of.ensures c.if-not-gone.false
     (goes_then {next = waits_unless (ended_as c.in_ok-gone.gone)}
     (ap synced_by (c.in_ok-sync.was ∙ ap (λ (how : Synced). Ok how) c.in-Moved.is)) c.sync.ensures (answers c.sync.ensures.disks))
@@ -61,7 +66,8 @@ returns-in-Moved g c =
 pub returns : goal.returns
 returns g c =
     ends_gone c.in_ok-gone.gone (sym c.runs.ensures ∙ c.if-not-runs.false) c.end.ensures.over c.in_ok-gone.ensures.gone
-    (ap done c.in_ok-gone.was) (by_client (notes end) c.requires.ready.keeps c.end.ensures.place (c.end.ensures.does _) c.end.ensures.disk)
+    (ap done c.in_ok-gone.was) (by_client (notes end) c.requires.ready.keeps c.end.ensures.place c.end.ensures.trails
+    (c.end.ensures.does _) c.end.ensures.disk)
     c.in_ok-say_of.ensures c.if-not-gone.false
     (goes_then {next = waits_unless (ended_as c.in_ok-gone.gone)}
     (ap synced_by (c.in_ok-sync.was ∙ ap (λ (how : Synced). Ok how) c.in-Stays.is)) c.sync.ensures (answers c.sync.ensures.disks))

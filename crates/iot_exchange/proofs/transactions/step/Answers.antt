@@ -13,14 +13,15 @@ returns-then-not-runs g c scripts = asks_then {next = step_of c.args.loud} (none
 pub returns-in_err-step : goal.returns-in_err-step
 returns-in_err-step g c scripts =
     step_halted c.args.loud c.in_err-step.was (sym c.runs.ensures ∙ c.if-not-runs.false) c.step.ensures.next
-    c.from_residual.ensures.1 c.requires.keeps c.step.ensures.place c.step.ensures.does c.step.ensures.disk
+    c.from_residual.ensures.1 c.requires.keeps c.step.ensures.place c.step.ensures.trails c.step.ensures.does c.step.ensures.disk
 
 pub returns-in-Acted : goal.returns-in-Acted
 returns-in-Acted g c scripts =
     let was = c.in_ok-step.was ∙ ap (λ (s : Step). Ok s) c.in-Acted.is in
     steps_by c.args.loud (sym c.runs.ensures ∙ c.if-not-runs.false) (rw was at c.step.ensures.next)
     (then_answers refl refl
-    (by_client (notes act_once) c.requires.keeps c.step.ensures.place ((rw was at c.step.ensures.does) scripts) c.step.ensures.disk))
+    (by_client (notes act_once) c.requires.keeps c.step.ensures.place (rw was at c.step.ensures.trails)
+    ((rw was at c.step.ensures.does) scripts) c.step.ensures.disk))
 
 pub returns-in-AtEnd : goal.returns-in-AtEnd
 returns-in-AtEnd g c scripts =

@@ -6,5 +6,6 @@ returns-else-branch-clause-step g c = record {
   on = false;
   between = c.open.new.out;
   opens = rw c.if-branch.false at c.in_ok-open.ensures.step;
+  trails = c.in_ok-open.ensures.trails;
   says = sym (append-nil c.open.new.out);
 }

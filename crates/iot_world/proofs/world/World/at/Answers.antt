@@ -1,6 +1,7 @@
 use Rattle.iot_world.proofs.Common.{refl, commits_kept}
 use Rattle.iot_world.proofs.DecidingLaws.{decides_here}
 use Rattle.iot_world.proofs.DisksLaws.{unless_armed, client_with, pair_with, put_keeps, node_arms, node_has, kept_follows, same_follows}
+use Rattle.iot_laptop.proofs.CallsLaws.{if_two}
 use Rattle.iot_world.proofs.EventsLaws.{then_ok}
 use Rattle.iot_world.proofs.ListLaws.{looked_up}
 use Rattle.iot_world.proofs.WorldsLaws.{node_keeps, link_keeps, stands_there, at_client, at_task, task_stands}
@@ -22,8 +23,9 @@ perform-requires-clause-stands g c =
 pub returns-in-Node-clause-step : goal.returns-in-Node-clause-step
 returns-in-Node-clause-step g c =
     rw c.in-Node.is
-    (then_ok _ c.befall.ensures.step (at_client _ _ _ _ _ _ _ _ _ (node_keeps c.in-Node.event) c.requires.inside
-    c.index_mut-laptop.ensures.value refl c.befall.ensures.place))
+    (if_two c.befall.result c.befall.ensures.step c.befall.ensures.trails (λ done step trails.
+    at_client _ _ _ _ _ _ _ _ _ (node_keeps c.in-Node.event) c.requires.inside c.index_mut-laptop.ensures.value refl c.befall.ensures.place
+    trails step))
 
 pub returns-in-Node-clause-decided : goal.returns-in-Node-clause-decided
 returns-in-Node-clause-decided g c =
@@ -46,7 +48,7 @@ pub returns-in-Link-clause-step : goal.returns-in-Link-clause-step
 returns-in-Link-clause-step g c =
     rw c.in-Link.is
     (then_ok _ c.relink.ensures.step (at_client _ _ _ _ _ _ _ _ _ (link_keeps c.in-Link.event) c.requires.inside
-    c.index_mut-laptop.ensures.value refl c.relink.ensures.place))
+    c.index_mut-laptop.ensures.value refl c.relink.ensures.place c.relink.ensures.trails))
 
 pub returns-in-Link-clause-arms : goal.returns-in-Link-clause-arms
 returns-in-Link-clause-arms g c =

@@ -1,18 +1,23 @@
 use Rattle.iot_world.proofs.Common.{refl, commits_same}
 use Rattle.iot_world.proofs.DisksLaws.{unless_armed, arms_same, server_with, server_arms, kept_follows, last_here}
+use Rattle.iot_event.specs.declared.event.Event.TheVariants as events
+use Rattle.iot_event.specs.declared.event.NodeEvent.TheVariants as nodes
+use Rattle.iot_world.proofs.GrowingLaws.{event_grows}
 use Rattle.iot_world.proofs.EventsLaws.{then_ok}
 use Rattle.iot_world.proofs.HoldingLaws.{server_after}
 use Rattle.iot_world.proofs.WorldsLaws.{at_server, restarts}
 use Rattle.iot_world.proofs.world.World.befall_server.Goals as goal
 
 pub returns-in-Show-clause-step : goal.returns-in-Show-clause-step
-returns-in-Show-clause-step g c = rw c.in-Show.is (then_ok _ c.show.ensures (at_server _ _ _ _ _ _))
+returns-in-Show-clause-step g c = rw c.in-Show.is (then_ok _ c.show.ensures (at_server _ _ _ _ _ _
+    (λ m n text. event_grows g.D.Disk.medium c.args.self.now (events.Server nodes.Show) m n text)))
 
 pub returns-in-Show-clause-arms : goal.returns-in-Show-clause-arms
 returns-in-Show-clause-arms g c = unless_armed _ _ _ (arms_same _ _ _ _ refl)
 
 pub returns-in-Stop-clause-step : goal.returns-in-Stop-clause-step
-returns-in-Stop-clause-step g c = rw c.in-Stop.is (then_ok _ c.arm.ensures.step (at_server _ _ _ _ _ _))
+returns-in-Stop-clause-step g c = rw c.in-Stop.is (then_ok _ c.arm.ensures.step (at_server _ _ _ _ _ _
+    (λ m n text. event_grows g.D.Disk.medium c.args.self.now (events.Server (nodes.Stop c.in-Stop.calls c.in-Stop.pick)) m n text)))
 
 pub returns-in-Stop-clause-disks : goal.returns-in-Stop-clause-disks
 returns-in-Stop-clause-disks g c =
@@ -23,7 +28,8 @@ pub returns-in-Stop-clause-arms : goal.returns-in-Stop-clause-arms
 returns-in-Stop-clause-arms g c = rw c.in-Stop.is (server_arms _ _ _ c.arm.result c.arm.ensures.same)
 
 pub returns-in-Crash-clause-step : goal.returns-in-Crash-clause-step
-returns-in-Crash-clause-step g c = rw c.in-Crash.is (then_ok _ c.crash.ensures.step (at_server _ _ _ _ _ _))
+returns-in-Crash-clause-step g c = rw c.in-Crash.is (then_ok _ c.crash.ensures.step (at_server _ _ _ _ _ _
+    (λ m n text. event_grows g.D.Disk.medium c.args.self.now (events.Server nodes.Crash) m n text)))
 
 pub returns-in-Crash-clause-arms : goal.returns-in-Crash-clause-arms
 returns-in-Crash-clause-arms g c =

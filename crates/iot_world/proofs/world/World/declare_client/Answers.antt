@@ -1,4 +1,5 @@
 use Rattle.iot_world.proofs.Common.{◌++◌, ◌∷◌, [], length, ap, ◌∙◌}
+use Rattle.iot_laptop.specs.Laptops.{stamps_by}
 use Rattle.iot_world.proofs.DisksLaws.{arms_same}
 use Rattle.iot_world.proofs.DeclaringLaws.{declares, joins, joined_keeps, joined_arms}
 use Rattle.iot_world.proofs.EventsLaws.{then_ok}
@@ -16,7 +17,8 @@ returns g c =
     let it = c.unopened-laptop.ensures in
     let kept = c.start-started.ensures in
     record {
-      step = then_ok _ kept.step (declares _ _ _ _ _ _ _ _ push taken.items (it.place ∙ at) kept.place it.stands _ _);
+      step = then_ok _ kept.step (declares _ _ _ _ _ _ _ _ push taken.items (it.place ∙ at) kept.place it.stands
+          (ap stamps_by it.unopened.down) _ _);
       declared = joins g.D.Disk.medium c.args.name.now _ _ _ _ was _ push taken.items c.start-started.result;
       disks = joined_keeps _ c.args.name.now _ _ _ _ was _ push taken.items it.disk kept.disk taken.len taken.capacity;
       arms = joined_arms _ c.args.name.now _ _ _ _ was _ push taken.items it.disk kept.disk;
