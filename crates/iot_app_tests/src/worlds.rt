@@ -95,6 +95,12 @@ fn waiting<D: Disk>(world: &World<D>, place: u64) -> usize {
     }
 }
 
+/// What the server was asked and has answered since its start, if it is alive: the requests, their bytes, and those of the replies.
+fn traffic<D: Disk>(world: &World<D>) -> Option<(u64, u64, u64)> {
+    let traffic = world.server()?.traffic();
+    Some((traffic.requests, traffic.received, traffic.sent))
+}
+
 /// A laptop that commits a file, and goes on without its server: what it does next waits, and what it does then runs.
 const EVENTS: &[u8] = b"client laptop\n\
     script one {\nwrite /one 1\n}\n\
@@ -131,5 +137,22 @@ fn a_world_is_looked_at(rt: HostRuntime) -> Result<(), Fail> {
     assert!(rt; waiting(&world, 0) == 1 && running(&world, 0) == Some(3));
     assert!(rt; waiting(&world, 1) == 0 && running(&world, 1).is_none());
     assert_eq!(rt; world.into_disks().len(), COUNT);
+    Ok(())
+}
+
+/// A laptop that hoards all of an empty server, twice.
+const HOARDS: &[u8] = b"client laptop\nhoard laptop /\nhoard laptop /\n";
+
+#[test]
+fn what_is_known_is_not_sent_again(rt: HostRuntime) -> Result<(), Fail> {
+    let alloc = rt.alloc();
+    let events = parse(alloc, HOARDS)?;
+    let mut said = Text::new(alloc);
+    let Ok(world) = world_after(alloc, &events, fresh_disks(alloc)?, &mut said) else {
+        return Err(Fail::new("memory ran out"));
+    };
+
+    // The requests have 26 and 42 bytes, of which 16 are the root with its stamp, and the replies 34 and 17.
+    assert!(rt; traffic(&world) == Some((2, 68, 51)));
     Ok(())
 }

@@ -22,6 +22,8 @@ mod langs;
 #[cfg(test)]
 mod prunes;
 #[cfg(test)]
+mod refreshes;
+#[cfg(test)]
 mod requests;
 #[cfg(test)]
 mod slots;

@@ -21,12 +21,21 @@ const LATE: &[u8] =
     \0\0\0\0\0\0\0\x02\x01\0\0\0\0\0\0\0\x01\0\0\0\0\0\0\0\x01d\x02\x01\0\0\0\0\0\0\0\0\x03\
     \x02\0\0\0\0\0\0\0\x01\0\0\0\0\0\0\0\x01d\0\0\0\0\0\0\0\0";
 
-/// Client 1 knows `/`, and wants nothing else.
-const REFRESH: &[u8] = b"\x01\0\0\0\0\0\0\0\x01\0\0\0\0\0\0\0\x01\0\0\0\0\0\0\0\0\x01";
+/// Client 1 knows `/` with stamp 1, and wants nothing else.
+const REFRESH: &[u8] = b"\x01\0\0\0\0\0\0\0\x01\
+    \0\0\0\0\0\0\0\x01\0\0\0\0\0\0\0\0\0\0\0\0\0\0\0\x01\x01";
 
-/// The root, and the far directory `/d`.
-const OBJECTS: &[u8] = b"\x01\0\0\0\0\0\0\0\x02\0\0\0\0\0\0\0\0\x01\
-    \0\0\0\0\0\0\0\x01\0\0\0\0\0\0\0\x01d\x03";
+/// The root, which has stamp 2 now, and the far directory `/d`. Nothing is gone.
+const OBJECTS: &[u8] = b"\x01\0\0\0\0\0\0\0\x02\0\0\0\0\0\0\0\0\x01\0\0\0\0\0\0\0\x02\
+    \0\0\0\0\0\0\0\x01\0\0\0\0\0\0\0\x01d\x03\0\0\0\0\0\0\0\0\
+    \0\0\0\0\0\0\0\0";
+
+/// Client 1 knows `/` with stamp 2.
+const AGAIN: &[u8] = b"\x01\0\0\0\0\0\0\0\x01\
+    \0\0\0\0\0\0\0\x01\0\0\0\0\0\0\0\0\0\0\0\0\0\0\0\x02\x01";
+
+/// Nothing is new, and nothing is gone.
+const NOTHING: &[u8] = b"\x01\0\0\0\0\0\0\0\0\0\0\0\0\0\0\0\0";
 
 const COMMITTED: &[u8] = b"\x02\0\0\0\0\0\0\0\x01";
 
@@ -54,12 +63,13 @@ fn each_request_has_its_reply(rt: HostRuntime) -> Result<(), Fail> {
     assert_eq!(rt; server.handle(alloc, COMMIT)?.as_slice(), ALREADY);
     assert_eq!(rt; server.handle(alloc, LATE)?.as_slice(), CONFLICT);
     assert_eq!(rt; server.handle(alloc, REFRESH)?.as_slice(), OBJECTS);
+    assert_eq!(rt; server.handle(alloc, AGAIN)?.as_slice(), NOTHING);
     let bad = server.handle(alloc, b"\x03");
     assert!(rt; matches!(bad, Err(ServerFault::Malformed { at: 0 })));
     let traffic = Traffic {
-        requests: 4,
-        received: 368,
-        sent: 64,
+        requests: 5,
+        received: 410,
+        sent: 105,
     };
     assert_eq!(rt; server.traffic(), traffic);
     assert_eq!(rt; server.store().number(), 1);

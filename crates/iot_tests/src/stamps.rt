@@ -1,9 +1,9 @@
 //! Refreshes by difference.
 use crate::fixtures::{path, tree};
-use iot_held::{MergeFault, merge_changes};
+use iot_held::{Held, MergeFault};
 use iot_stamp::Stamped;
 use iot_text::{NoMemory, Path, Text};
-use iot_tree::{Changes, Node, Paths, StampedRows, Tree, Update, Want};
+use iot_tree::{Changes, Node, Paths, StampedRows, Update, Want};
 use std::alloc::Global;
 use std::process::Abort;
 
@@ -28,11 +28,10 @@ fn spelled(alloc: Global, changes: &Changes) -> Result<Text, NoMemory> {
 }
 
 /// A server and a client as they open.
-fn opened(rt: &impl Abort, alloc: Global) -> Result<(Stamped, Stamped), NoMemory> {
+fn opened(rt: &impl Abort, alloc: Global) -> Result<(Stamped, Held), NoMemory> {
     let before = tree(rt, alloc, "mkdir /d\nwrite /d/n 1\n")?;
     let server = Stamped::with_stamp(alloc, before, 1)?;
-    let client = Stamped::unstamped(alloc, Tree::far_root(alloc)?)?;
-    Ok((server, client))
+    Ok((server, Held::new(alloc)?))
 }
 
 /// The server moves the file, with stamp 2.
@@ -47,15 +46,24 @@ fn refreshes(
     rt: &impl Abort,
     alloc: Global,
     server: &Stamped,
-    client: &mut Stamped,
+    client: &mut Held,
     want: &Want,
     expected: &[u8],
 ) -> Result<(), NoMemory> {
     let known = client.known_with_stamps(alloc)?;
     let changes = server.changed(alloc, known.as_slice(), want)?;
-    assert!(rt; merge_changes(alloc, client, &changes).is_ok());
     assert_eq!(rt; spelled(alloc, &changes)?.as_bytes(), expected);
+    assert!(rt; client.merge(alloc, changes).is_ok());
     Ok(())
+}
+
+/// The stamps of what the client knows, in the order of its paths.
+fn stamps_of(alloc: Global, client: &Held) -> Result<Vec<u64>, NoMemory> {
+    let mut stamps = Vec::new(alloc);
+    for (_, stamp) in client.known_with_stamps(alloc)?.as_slice() {
+        stamps.push(*stamp)?;
+    }
+    Ok(stamps)
 }
 
 #[test]
@@ -74,24 +82,34 @@ fn what_changed_is_sent_once(rt: HostRuntime) -> Result<(), NoMemory> {
         &Want::Nothing,
         b"d/2d/d2F/m0 /d/n",
     )?;
-    assert_eq!(rt; client.stamps(), [2, 2, 0].as_slice());
+    assert_eq!(rt; client.tree().rows().len(), 3);
+    assert_eq!(rt; stamps_of(alloc, &client)?.as_slice(), [2, 2].as_slice());
+
+    // After a restart no stamp is known, so all that is known comes again.
+    let mut client = Held::unstamped(alloc, client.tree().copy(alloc)?)?;
+    refreshes(
+        &rt,
+        alloc,
+        &server,
+        &mut client,
+        &Want::Nothing,
+        b"d/2d/d2F/m0",
+    )?;
     Ok(())
 }
 
 #[test]
 fn a_row_without_its_parent_is_refused(rt: HostRuntime) -> Result<(), NoMemory> {
     let alloc = rt.alloc();
-    let mut client = Stamped::unstamped(alloc, Tree::far_root(alloc)?)?;
+    let mut client = Held::new(alloc)?;
     let mut rows = StampedRows::new(alloc);
     rows.push((path(&rt, alloc, "/d"), (Node::FarDir, 1)))?;
     let changes = Changes {
         rows,
         gone: Paths::new(alloc),
     };
-    let refused = matches!(
-        merge_changes(alloc, &mut client, &changes),
-        Err(MergeFault::NoTree)
-    );
+    let refused = matches!(client.merge(alloc, changes), Err(MergeFault::NoTree));
     assert!(rt; refused);
+    assert_eq!(rt; client.tree().rows().len(), 1);
     Ok(())
 }

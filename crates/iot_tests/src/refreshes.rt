@@ -1,0 +1,196 @@
+//! Refreshes of a client at a server, in bytes, and what they leave on the client's disk.
+ghost use Rattle.std.specs.Prelude.{◌≡◌, ◌≤◌, IfOk, OnOk, true};
+ghost use Rattle.iot_disk.specs.Memory.{in_memory};
+ghost use Rattle.iot_server.specs.Servers.{IsSynced};
+ghost use Rattle.iot_client.specs.Calls.{HeadIsIfAny, IsPlanned};
+ghost use Rattle.iot_client.specs.Ties.{IsTied, place_of, state_of};
+
+use iot_client::{Client, ClientFault};
+use iot_disk::{Disk, MemDisk};
+use iot_lang::parse;
+use iot_queue::Stage;
+use iot_server::Server;
+use iot_text::Path;
+use iot_tree::{OnConflict, Want};
+use std::alloc::Global;
+use std::process::Abort;
+use std::rc::Rc;
+use std::test::Fail;
+
+/// Client 0 knows nothing, and wants the root with all below it.
+const FIRST: &[u8] = b"\x01\0\0\0\0\0\0\0\0\0\0\0\0\0\0\0\0\x03\0\0\0\0\0\0\0\0";
+
+/// The root, which has stamp 1. Nothing is gone.
+const ROOT: &[u8] = b"\x01\0\0\0\0\0\0\0\x01\0\0\0\0\0\0\0\0\x01\0\0\0\0\0\0\0\x01\
+    \0\0\0\0\0\0\0\0";
+
+/// It knows the root with stamp 1, and wants the same.
+const AGAIN: &[u8] = b"\x01\0\0\0\0\0\0\0\0\0\0\0\0\0\0\0\x01\0\0\0\0\0\0\0\0\0\0\0\0\0\0\0\x01\
+    \x03\0\0\0\0\0\0\0\0";
+
+/// Nothing is new, and nothing is gone.
+const NOTHING: &[u8] = b"\x01\0\0\0\0\0\0\0\0\0\0\0\0\0\0\0\0";
+
+/// It knows the root, but no stamp of it.
+const RESTARTED: &[u8] = b"\x01\0\0\0\0\0\0\0\0\0\0\0\0\0\0\0\x01\0\0\0\0\0\0\0\0\0\0\0\0\0\0\0\0\
+    \x03\0\0\0\0\0\0\0\0";
+
+/// A journal of two records, each of which says that the root alone is held, and is whole.
+const TWICE: &[u8] = b"\xa5IOTJRNL1\
+    \xa5\0\0\0\0\0\0\0\x12\x01\0\0\0\0\0\0\0\x01\0\0\0\0\0\0\0\0\x01\
+    \xa5\0\0\0\0\0\0\0\x12\x01\0\0\0\0\0\0\0\x01\0\0\0\0\0\0\0\0\x01\0";
+
+/// The far directory `/d`, without the root above it.
+const WITHOUT_ROOT: &[u8] = b"\x01\0\0\0\0\0\0\0\x01\0\0\0\0\0\0\0\x01\0\0\0\0\0\0\0\x01d\x03\
+    \0\0\0\0\0\0\0\0\0\0\0\0\0\0\0\0";
+
+/// A journal of a client whose transaction 1, of script `e`, is in conflict, and is to be run again.
+const CONFLICT: &[u8] = b"\xa5IOTJRNL1\
+    \xa5\0\0\0\0\0\0\0\x13\x02\0\0\0\0\0\0\0\x01\0\0\0\0\0\0\0\x01e\x01\
+    \xa5\0\0\0\0\0\0\0\x01\x05\xa5\0\0\0\0\0\0\0\x01\x07\0";
+
+/// The root with stamp 2, and the far directory `/d`.
+const FAR: &[u8] = b"\x01\0\0\0\0\0\0\0\x02\0\0\0\0\0\0\0\0\x01\0\0\0\0\0\0\0\x02\
+    \0\0\0\0\0\0\0\x01\0\0\0\0\0\0\0\x01d\x03\0\0\0\0\0\0\0\0\
+    \0\0\0\0\0\0\0\0";
+
+/// A server on a new disk.
+fn new_server(alloc: Global) -> Result<Server<MemDisk>, Fail>
+    ensures { IfOk result (λ server. IsSynced in_memory server) }
+{
+    let mut disk = MemDisk::new(alloc);
+    disk.restart();
+    match Server::start(alloc, disk) {
+        Ok(server) => Ok(server),
+        Err((_, fault)) => Err(Fail::from(fault)),
+    }
+}
+
+/// Client 0, started after a restart.
+fn client_on<D: Disk + Drop>(alloc: Global, mut disk: D) -> Result<Client<D>, Fail>
+    ensures tied { IfOk result (λ client. IsTied D.medium client) }
+    ensures place { IfOk result (λ client. place_of client ≤ 7) }
+{
+    disk.restart();
+    match Client::start(alloc, disk, 0) {
+        Ok(client) => Ok(client),
+        Err((_, fault)) => Err(Fail::from(fault)),
+    }
+}
+
+/// The client asks for the root with all below it in these bytes, is answered by those, and holds what they bring.
+fn hoard<S: Disk, C: Disk>(
+    rt: &impl Abort,
+    alloc: Global,
+    server: &mut Server<S>,
+    client: &mut Client<C>,
+    asks: &[u8],
+    brings: &[u8],
+) -> Result<(), Fail>
+    requires synced { IsSynced S.medium server.old }
+    requires tied { IsTied C.medium client.old }
+    requires place { place_of client.old ≤ 7 }
+    ensures synced { OnOk result (IsSynced S.medium server.new) }
+    ensures tied { OnOk result (IsTied C.medium client.new) }
+    ensures place { OnOk result (place_of client.new ≤ 7) }
+{
+    let request = client.ask(alloc, &Want::Below(Path::root(alloc)))?;
+    assert_eq!(rt; request.as_slice(), asks);
+    let reply = server.handle(alloc, &request)?;
+    assert_eq!(rt; reply.as_slice(), brings);
+    client.take_objects(alloc, &reply)?;
+    Ok(())
+}
+
+#[test]
+fn what_is_known_does_not_come_again(rt: HostRuntime) -> Result<(), Fail> {
+    let alloc = rt.alloc();
+    let mut server = new_server(alloc)?;
+    let mut client = client_on(alloc, MemDisk::new(alloc))?;
+    hoard(&rt, alloc, &mut server, &mut client, FIRST, ROOT)?;
+    hoard(&rt, alloc, &mut server, &mut client, AGAIN, NOTHING)?;
+
+    // What is held has not changed, and its record was appended again.
+    assert_eq!(rt; client.held().rows().len(), 1);
+    assert_eq!(rt; client.records(), 2);
+    let disk = client.into_disk();
+    assert_eq!(rt; disk.bytes(), TWICE);
+
+    // After a restart no stamp is known.
+    let mut client = client_on(alloc, disk)?;
+    hoard(&rt, alloc, &mut server, &mut client, RESTARTED, ROOT)?;
+    hoard(&rt, alloc, &mut server, &mut client, AGAIN, NOTHING)?;
+    assert_eq!(rt; client.records(), 4);
+    Ok(())
+}
+
+/// Whether the client refuses the reply as bad from its end on.
+fn is_bad_at_its_end<D: Disk>(
+    alloc: Global,
+    client: &mut Client<D>,
+    reply: &[u8],
+) -> Result<bool, Fail>
+    requires tied { IsTied D.medium client.old }
+    requires place { place_of client.old ≤ 7 }
+    ensures tied { OnOk result (IsTied D.medium client.new) }
+    ensures place { OnOk result (place_of client.new ≤ 7) }
+{
+    match client.take_objects(alloc, reply) {
+        Ok(()) => Ok(false),
+        Err(ClientFault::BadReply { at }) => Ok(at == reply.len() as u64),
+        Err(fault) => Err(Fail::from(fault)),
+    }
+}
+
+#[test]
+fn what_makes_no_tree_is_bad_at_its_end(rt: HostRuntime) -> Result<(), Fail> {
+    let alloc = rt.alloc();
+    let mut server = new_server(alloc)?;
+    let mut client = client_on(alloc, MemDisk::new(alloc))?;
+    assert!(rt; is_bad_at_its_end(alloc, &mut client, WITHOUT_ROOT)?);
+
+    // Nothing has changed: it has no record, and asks as at first. Where the root is known, the same bytes make a tree.
+    assert_eq!(rt; client.records(), 0);
+    hoard(&rt, alloc, &mut server, &mut client, FIRST, ROOT)?;
+    assert!(rt; !is_bad_at_its_end(alloc, &mut client, WITHOUT_ROOT)?);
+    assert_eq!(rt; client.records(), 2);
+    assert_eq!(rt; client.held().rows().len(), 2);
+    Ok(())
+}
+
+/// Whether the first transaction that waits, if one does, is in conflict, and is to be run again.
+fn is_planned<D: Disk>(client: &Client<D>) -> bool
+    ensures { result ≡ true → HeadIsIfAny IsPlanned (state_of client.now).items }
+{
+    match client.queue().head() {
+        None => true,
+        Some(item) => match item.stage {
+            Stage::Conflict => match item.option {
+                OnConflict::Reexec => true,
+                _ => false,
+            },
+            _ => false,
+        },
+    }
+}
+
+#[test]
+fn a_resolution_needs_a_whole_tree(rt: HostRuntime) -> Result<(), Fail> {
+    let alloc = rt.alloc();
+    for (reply, at) in [
+        (FAR, FAR.len() as u64),
+        (WITHOUT_ROOT, WITHOUT_ROOT.len() as u64),
+        (b"\x01", 1),
+    ] {
+        let disk = MemDisk::of(alloc, Vec::from_slice(alloc, CONFLICT)?)?;
+        let mut client = client_on(alloc, disk)?;
+        if !is_planned(&client) {
+            return Err(Fail::new("nothing is to be run again"));
+        }
+        let script = Rc::new(alloc, parse(alloc, b"mkdir /d\n")?)?;
+        let refused = client.resolve(alloc, reply, script);
+        assert!(rt; matches!(refused, Err(ClientFault::BadReply { at: place }) if place == at));
+        assert_eq!(rt; client.records(), 3);
+    }
+    Ok(())
+}
