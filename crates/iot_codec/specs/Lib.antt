@@ -1,3 +1,4 @@
+pub mod Ahead
 pub mod Decoders
 pub mod Decoding
 pub mod Laws

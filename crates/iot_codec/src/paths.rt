@@ -1,5 +1,5 @@
 //! Paths.
-ghost use Rattle.std.specs.Prelude.{◌≡◌, ◌++◌, length, OnOk, OnErr, IfOk, IfSome, None, Ok};
+ghost use Rattle.std.specs.Prelude.{◌≡◌, ◌≤◌, ◌+◌, ◌++◌, length, OnOk, OnErr, IfOk, IfSome, None, Ok};
 ghost use Rattle.iot_text.specs.Names.{IsName};
 ghost use Rattle.iot_text.specs.Paths.{IsPath};
 ghost use Rattle.iot_text.specs.Texts.{AppendsPart};
@@ -7,16 +7,20 @@ ghost use Rattle.iot_codec.specs.Outcomes.{IsOutcome, DecodesWhatIsSpelled};
 ghost use Rattle.iot_codec.specs.Places.{IsSpelledAt, IsAlone};
 ghost use Rattle.iot_codec.specs.Decoders.{items_at};
 ghost use Rattle.iot_codec.specs.Decoding.{name_at, path_at};
-ghost use Rattle.iot_codec.specs.Spelling.{path_spelling};
+ghost use Rattle.iot_codec.specs.Spelling.{name_spelling, path_spelling};
 ghost use Rattle.iot_codec.specs.Laws.Values.{path_laws};
 
 use crate::CodecFault;
 use crate::lists::{put_list, read_list};
 use crate::names::after_name;
 use crate::numbers::number_at;
+use crate::piece::Piece;
 use crate::spelled::{Spelled, read};
 use iot_text::{Name, NoMemory, Path, Text};
 use std::alloc::Global;
+
+/// How many names a path has at most that is spelled in one piece: 8 bytes and then up to 40 for each name.
+const FEW: usize = 3;
 
 impl Spelled for Path {
     ghost has_spelling = { IsPath };
@@ -26,7 +30,11 @@ impl Spelled for Path {
     ghost decoding = { path_at };
 
     fn put(&self, out: &mut Text) -> Result<(), NoMemory> {
-        put_list(self.names(), out)
+        let names = self.names();
+        if names.len() <= FEW {
+            return out.append(few_names(names).as_slice());
+        }
+        put_list(names, out)
     }
 
     fn read(alloc: Global, bytes: &[u8], at: usize) -> Result<(Path, usize), CodecFault> {
@@ -34,6 +42,31 @@ impl Spelled for Path {
     }
 
     ghost laws = { path_laws };
+}
+
+/// The spelling of a path of few names.
+fn few_names(names: &[Name]) -> Piece
+    requires path { IsPath names.now }
+    requires few { length names.now ≤ 3 }
+    ensures { result ≡ path_spelling names.now }
+{
+    let mut piece = Piece::new();
+    piece.put(&(names.len() as u64).to_be_bytes());
+    'names: for name in names {
+        put_few(name, &mut piece);
+    }
+    piece
+}
+
+/// Puts the spelling of a name after what is there.
+fn put_few(name: &Name, piece: &mut Piece)
+    requires { length piece.old ≤ 88 }
+    ensures spelled { piece.new ≡ piece.old ++ name_spelling name.now }
+    ensures room { length piece.new ≤ length piece.old + 40 }
+{
+    let text = name.as_bytes();
+    piece.put(&(text.len() as u64).to_be_bytes());
+    piece.put(text);
 }
 
 /// Reads a path, which shares the names of the one that is given, if it is equal to that.
@@ -55,7 +88,7 @@ pub(crate) fn read_path_on(
 
 /// The offset after the spelling of the path, if that is what lies at the offset.
 #[tactic(auto, unfolding(crate::specs::Decoding::path_at))]
-fn after_path(path: &Path, bytes: &[u8], at: usize) -> Option<usize>
+pub(crate) fn after_path(path: &Path, bytes: &[u8], at: usize) -> Option<usize>
     ensures { IfSome result (λ end. path_at bytes.now at ≡ Ok (path.now, end)) }
 {
     let names = path.names();
@@ -81,7 +114,7 @@ fn after_names(names: &[Name], bytes: &[u8], at: usize) -> Option<usize>
 
 /// Reads a path into a block of its own. Up to three names are read without a list of them.
 #[tactic(auto, unfolding(crate::specs::Decoding::path_at))]
-fn read_new(alloc: Global, bytes: &[u8], at: usize) -> Result<(Path, usize), CodecFault>
+pub(crate) fn read_new(alloc: Global, bytes: &[u8], at: usize) -> Result<(Path, usize), CodecFault>
     ensures { IsOutcome result (path_at bytes.now at) }
 {
     let (count, after) = number_at(bytes, at)?;

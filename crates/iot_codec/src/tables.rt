@@ -41,7 +41,7 @@ pub(crate) fn put_table<K: Spelled, V: Spelled>(
 }
 
 /// Whether the key is greater than that of the pair before it, if there is one.
-fn rises<K: Ord, V>(previous: Option<&(K, V)>, key: &K) -> bool
+pub(crate) fn rises<K: Ord, V>(previous: Option<&(K, V)>, key: &K) -> bool
     ensures { result ≡ rises K.cmp (option_copied previous.entry) key.now }
 {
     match previous {

@@ -21,7 +21,7 @@ use crate::answering::answer;
 use crate::{ServerFault, Traffic};
 use iot_disk::{Disk, Pick, StartFault};
 use iot_store::Store;
-use iot_wire::read_request;
+use iot_wire::read_request_beside;
 use std::alloc::Global;
 
 /// A server: a store, to which it appends what clients commit, and what was received and sent since the start.
@@ -129,7 +129,8 @@ impl<D: Disk> Server<D> {
         // A request that has a reply counts, and no other.
         ensures traffic { traffic_of self.new ≡ traffic_after result (length request.now) (traffic_of self.old) }
     {
-        let asked = read_request(alloc, request)?;
+        let rows = self.store.tree().rows();
+        let asked = read_request_beside(alloc, rows.as_slice(), request)?;
         let reply = answer(alloc, &mut self.store, asked, request)?;
         self.traffic.count(request.len(), reply.len());
         Ok(reply)

@@ -9,4 +9,4 @@ mod replies;
 mod requests;
 
 pub use replies::{Reply, read_reply, write_reply};
-pub use requests::{Request, read_request, write_request};
+pub use requests::{Request, read_request, read_request_beside, write_request};

@@ -1,5 +1,6 @@
 //! What a client asks of the server.
 ghost use Rattle.std.specs.Prelude.{◌≡◌, ◌++◌, IfOk, Ok, OnOk, [], ◌∷◌};
+ghost use Rattle.iot_tree.specs.Rows.{Rising};
 ghost use Rattle.iot_codec.specs.Outcomes.{IsOutcome};
 ghost use Rattle.iot_wire.specs.Decoding.{request_at, refresh_at, commit_at};
 ghost use Rattle.iot_wire.specs.Messages.{IsMessage, ReadsMessage, IsOneMessage, whole};
@@ -8,15 +9,18 @@ ghost use Rattle.iot_wire.specs.Spelling.{request_spelling};
 
 use crate::messages::{ROOM, finished, malformed, read_at_most, tag_of};
 use iot_codec::{
-    CodecFault, put_acts, put_known, put_label, put_number, put_want, read_acts, read_known,
+    CodecFault, put_acts, put_known, put_label, put_number, put_want, read_acts, read_known_beside,
     read_label, read_want,
 };
-use iot_text::{NoMemory, Text};
-use iot_tree::{Acts, Known, Label, Want};
+use iot_text::{NoMemory, Path, Text};
+use iot_tree::{Acts, Known, Label, Node, Want};
 use std::alloc::Global;
 
 /// The greatest number of a client.
 const LAST_CLIENT: u64 = 7;
+
+/// How many bytes each known path has room for at first, which are enough for most of them.
+const ROOM_FOR_KNOWN: usize = 64;
 
 /// What a client asks of the server.
 #[derive(Drop)]
@@ -60,24 +64,43 @@ fn put_request(request: &Request, out: &mut Text) -> Result<(), NoMemory>
     }
 }
 
+/// How many bytes the request has room for at first.
+fn room_for(request: &Request) -> usize {
+    match request {
+        Request::Refresh { known, .. } => {
+            known
+                .len()
+                .saturating_mul(ROOM_FOR_KNOWN)
+                .saturating_add(ROOM)
+        }
+        Request::Commit { .. } => ROOM,
+    }
+}
+
 /// The bytes of the request: its tag, and then its parts. What is written is read back.
 pub fn write_request(alloc: Global, request: &Request) -> Result<Vec<u8>, NoMemory>
     requires { IsRequest request.now }
     ensures spelled { IfOk result (λ bytes. bytes.items ≡ request_spelling request.now) }
     ensures back { IfOk result (λ bytes. whole request_at bytes.items ≡ Ok request.now) }
 {
-    let mut out = Text::with_capacity(alloc, ROOM)?;
+    let mut out = Text::with_capacity(alloc, room_for(request))?;
     put_request(request, &mut out)?;
     Ok(out.into_bytes())
 }
 
-/// Reads what follows the tag of a refresh.
+/// Reads what follows the tag of a refresh, beside the rows, which rise.
 #[tactic(auto, unfolding(crate::specs::Decoding::refresh_at))]
-fn read_refresh(alloc: Global, bytes: &[u8], at: usize) -> Result<(Request, usize), CodecFault>
+fn read_refresh(
+    alloc: Global,
+    rows: &[(Path, Node)],
+    bytes: &[u8],
+    at: usize,
+) -> Result<(Request, usize), CodecFault>
+    requires { Rising rows.now }
     ensures { IsOutcome result (refresh_at bytes.now at) }
 {
     let (client, at) = read_at_most(alloc, LAST_CLIENT, bytes, at)?;
-    let (known, at) = read_known(alloc, bytes, at)?;
+    let (known, at) = read_known_beside(alloc, rows, bytes, at)?;
     let (want, end) = read_want(alloc, bytes, at)?;
     let request = Request::Refresh {
         client,
@@ -97,23 +120,29 @@ fn read_commit(alloc: Global, bytes: &[u8], at: usize) -> Result<(Request, usize
     Ok((Request::Commit { label, acts }, end))
 }
 
-/// Reads a request, and gives the offset after it.
+/// Reads a request beside the rows, which rise, and gives the offset after it.
 #[tactic(auto, unfolding(crate::specs::Decoding::request_at))]
-fn read_tagged(alloc: Global, bytes: &[u8]) -> Result<(Request, usize), CodecFault>
+fn read_tagged(
+    alloc: Global,
+    rows: &[(Path, Node)],
+    bytes: &[u8],
+) -> Result<(Request, usize), CodecFault>
+    requires { Rising rows.now }
     ensures { IsOutcome result (request_at bytes.now 0) }
 {
     match tag_of(bytes) {
-        Some(1) => read_refresh(alloc, bytes, 1),
+        Some(1) => read_refresh(alloc, rows, bytes, 1),
         Some(2) => read_commit(alloc, bytes, 1),
         _ => Err(malformed(0)),
     }
 }
 
-/// Reads the bytes as a request.
-fn read_whole(alloc: Global, bytes: &[u8]) -> Result<Request, CodecFault>
+/// Reads the bytes as a request, beside the rows, which rise.
+fn read_whole(alloc: Global, rows: &[(Path, Node)], bytes: &[u8]) -> Result<Request, CodecFault>
+    requires { Rising rows.now }
     ensures { IsOutcome result (whole request_at bytes.now) }
 {
-    let (request, end) = read_tagged(alloc, bytes)?;
+    let (request, end) = read_tagged(alloc, rows, bytes)?;
     finished(request, end, bytes)
 }
 
@@ -129,5 +158,25 @@ pub fn read_request(alloc: Global, bytes: &[u8]) -> Result<Request, CodecFault>
     ensures one { IsOneMessage IsRequest request_spelling bytes.now }
     ensures exact { IsOutcome result (whole request_at bytes.now) }
 {
-    read_whole(alloc, bytes)
+    read_whole(alloc, &[], bytes)
+}
+
+/// The request whose spelling the bytes are, as `read_request` gives it. A known path that is one of these rows, which rise, shares
+/// its names: that costs a comparison of bytes, and no memory.
+///
+/// # Errors
+///
+/// Those of `read_request`.
+pub fn read_request_beside(
+    alloc: Global,
+    rows: &[(Path, Node)],
+    bytes: &[u8],
+) -> Result<Request, CodecFault>
+    requires { Rising rows.now }
+    ensures found { IfOk result (IsMessage IsRequest request_spelling bytes.now) }
+    ensures only { ReadsMessage IsRequest request_spelling bytes.now result }
+    ensures one { IsOneMessage IsRequest request_spelling bytes.now }
+    ensures exact { IsOutcome result (whole request_at bytes.now) }
+{
+    read_whole(alloc, rows, bytes)
 }
