@@ -22,6 +22,9 @@ use iot_tree::{Changes, Tree};
 use std::alloc::Global;
 use thiserror::Error;
 
+/// How many bytes each row of a record has room for at first, which are enough for most of them.
+const ROOM_FOR_ROW: usize = 80;
+
 /// What a reply's changes are brought for.
 #[derive(Clone, Copy, Debug, PartialEq, Eq)]
 pub enum Purpose {
@@ -172,9 +175,9 @@ fn record_for(
     match purpose {
         Purpose::Hold => match held_record.take() {
             Some(text) => Ok(text),
-            None => spelled(Change::Held(held.copy(alloc)?), alloc),
+            None => spelled(Change::Held(held.copy(alloc)?), room_for(held), alloc),
         },
-        Purpose::Fetch => spelled(Change::Fetched(held.copy(alloc)?), alloc),
+        Purpose::Fetch => spelled(Change::Fetched(held.copy(alloc)?), room_for(held), alloc),
     }
 }
 
@@ -196,12 +199,17 @@ fn is_nothing(changes: &Changes) -> bool
     changes.rows.is_empty() && changes.gone.is_empty()
 }
 
-/// The record of the change, in memory of its own.
-fn spelled(change: Change, alloc: Global) -> Result<Text, NoMemory>
+/// How many bytes the record of a tree has room for at first.
+fn room_for(held: &Tree) -> usize {
+    held.rows().len().saturating_mul(ROOM_FOR_ROW)
+}
+
+/// The record of the change, in memory of its own, which has room for so many bytes at first.
+fn spelled(change: Change, room: usize, alloc: Global) -> Result<Text, NoMemory>
     requires { IsChange change }
     ensures { IfOk result (λ text. text ≡ change_spelling change) }
 {
-    let mut out = Text::new(alloc);
+    let mut out = Text::with_capacity(alloc, room)?;
     spell(&change, &mut out)?;
     Ok(out)
 }

@@ -1,5 +1,5 @@
 -- Entries in order, gone through beside rows.
-use Rattle.std.proofs.Common.{◌≡◌, ℕ, ◌+◌, ◌<◌, Bool, true, false, IsTrue, cond, List, [], ◌∷◌, ◌++◌, length, drop, get_or}
+use Rattle.std.proofs.Common.{◌≡◌, ℕ, ◌+◌, ◌<◌, Bool, true, false, IsTrue, cond, List, [], ◌∷◌, ◌++◌, length, drop, get_or, Some, None}
 use Rattle.std.proofs.Common.{refl, sym, ap, subst, ◌∙◌, ◌≤◌, arith, append_assoc, map, take}
 use Rattle.std.proofs.lemmas.List.{append-nil, drop_more, take_more, map-append}
 use Rattle.std.proofs.Math.Seq.{drop-length, take-length}
@@ -62,6 +62,18 @@ module _ {V : Type 0} (p : Path) where
   below_later q less (e ∷ es) all =
       both_true (ap is_lt (path_total.trans p q e.0 less (is_less _ (first_so (is_lt (path_cmp q e.0)) _ all))))
       (below_later q less es (second_so (is_lt (path_cmp q e.0)) _ all))
+
+  -- entries that begin with a key have none before it
+  pub first_here : (es : List (Path × V)) (v : V) → head_at p es ≡ Some v → (from_key p es ≡ es) × (before_key p es ≡ [])
+  first_here [] v first = absurd cc
+  first_here (e ∷ es) v first = by (eq_by_cmp path_cmp p e.0) refl
+    where
+      by : (b : Bool) → eq_by_cmp path_cmp p e.0 ≡ b → (from_key p (e ∷ es) ≡ e ∷ es) × (before_key p (e ∷ es) ≡ [])
+      by true here =
+          let kept : is_lt (path_cmp e.0 p) ≡ false =
+          ap is_lt (ap (path_cmp e.0) (tied p e.0 here) ∙ tied_itself path_total e.0) in
+          (rw kept refl, rw kept refl)
+      by false away = let never : None ≡ Some v = rw away at first in absurd cc
 
   -- a key that is among the rest comes first
   pub head_from : (es : List (Path × V)) → IsTrue (is_sorted path_cmp es) → head_at p (from_key p es) ≡ find path_cmp p es

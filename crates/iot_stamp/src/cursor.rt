@@ -20,7 +20,7 @@ pub(crate) fn push_path(alloc: Global, path: &Path, paths: &mut Paths) -> Result
 }
 
 /// Puts the paths of the entries up to the first that does not come before the path after the others, and gives the rest.
-pub(crate) fn pass_before<'a>(
+fn pass_before<'a>(
     alloc: Global,
     path: &Path,
     entries: &'a [(Path, u64)],
@@ -54,11 +54,28 @@ pub(crate) fn pass_all(
     Ok(())
 }
 
-/// The stamp of the path, if the entries begin with it, and the entries after that.
-pub(crate) fn split_head<'a>(
+/// The stamp of the path's entry, if there is one, and the entries after it. The paths of the entries before it are put after the
+/// others. Costs one comparison if the entries begin with the path's.
+pub(crate) fn pass_to<'a>(
+    alloc: Global,
     path: &Path,
     entries: &'a [(Path, u64)],
-) -> (Option<u64>, &'a [(Path, u64)])
+    passed: &mut Paths,
+) -> Result<(Option<u64>, &'a [(Path, u64)]), NoMemory>
+    ensures stamp { IfOk result (λ found. found.0 ≡ head_at path.now (from_key path.now entries.now)) }
+    ensures rest { IfOk result (λ found. found.1.now ≡ after_head path.now (from_key path.now entries.now)) }
+    ensures passed { OnOk result (passed.new ≡ passed.old ++ map (λ e. e.0) (before_key path.now entries.now)) }
+    ensures each { OnOk result (AllByRecursion IsPath passed.old → AllByRecursion IsPath passed.new) }
+{
+    if let (Some(stamp), rest) = split_head(path, entries) {
+        return Ok((Some(stamp), rest));
+    }
+    let rest = pass_before(alloc, path, entries, passed)?;
+    Ok(split_head(path, rest))
+}
+
+/// The stamp of the path, if the entries begin with it, and the entries after that.
+fn split_head<'a>(path: &Path, entries: &'a [(Path, u64)]) -> (Option<u64>, &'a [(Path, u64)])
     ensures stamp { result.0 ≡ head_at path.now entries.now }
     ensures rest { result.1.now ≡ after_head path.now entries.now }
 {

@@ -28,7 +28,7 @@ fn known_entries(alloc: Global, rows: &[(Path, Node)], stamps: &[u64]) -> Result
     ensures value { IfOk result (λ known. known ≡ filter_map known_stamp (paired rows.now stamps.now)) }
     ensures each { IfOk result (AllByRecursion IsStampedPath) }
 {
-    let mut known = Known::new(alloc);
+    let mut known = Known::from_vec(Vec::with_capacity(alloc, rows.len())?);
     'rows: for at in 0..rows.len() {
         let row = &rows[at];
         if row.1.is_known() {

@@ -10,7 +10,7 @@ ghost use Rattle.iot_stamp.specs.Refresh.{asked, gone_paths, is_stamp, IsStamped
 ghost use Rattle.iot_stamp.specs.Pairing.{stamps_of};
 ghost use Rattle.iot_stamp.specs.Passes.{above_of, wanted, sending};
 
-use crate::cursor::{pass_all, pass_before, push_path, split_head};
+use crate::cursor::{pass_all, pass_to, push_path};
 use crate::nodes::stamp_of;
 use iot_text::{NoMemory, Path};
 use iot_tree::{Changes, Duplicate, Node, Paths, StampedRows, Want};
@@ -45,8 +45,7 @@ pub(crate) fn changes_in(
         let stamp = stamps[at];
         flags.truncate(row.0.names().len());
         let above = above_of(flags.as_slice());
-        let left = pass_before(alloc, &row.0, rest, &mut gone)?;
-        let (known, after) = split_head(&row.0, left);
+        let (known, after) = pass_to(alloc, &row.0, rest, &mut gone)?;
         push_if(alloc, is_hidden(known, above), &row.0, &mut gone)?;
         rest = after;
         let kept = is_kept(&row.0, known, want);

@@ -1,6 +1,6 @@
 use Rattle.std.proofs.Common.{◌∙◌, ap, refl, ◌++◌, ◌∷◌, [], not, cond, Bool}
 use Rattle.iot_stamp.specs.Refresh.{asked, IsStampedRow}
-use Rattle.iot_stamp.specs.Passes.{sending}
+use Rattle.iot_stamp.specs.Passes.{from_key, sending}
 use Rattle.iot_stamp.specs.Pairing.{stamps_of}
 use Rattle.iot_stamp.proofs.EachLaws.{all_push}
 use Rattle.iot_stamp.proofs.PickedLaws.{picked_all}
@@ -22,17 +22,18 @@ rows-preserved c =
     let above_by = rw c.as_slice.ensures.value at c.above_of-above.ensures in
     let stack_by = c.in_ok-push.ensures.items
     ∙ ap (λ (kept : Bool × Bool). c.truncate.new.self.items ++ kept ∷ []) c.for_rows_below.ensures in
-    let gone_each = c.in_ok-push_if.ensures.each (c.in_ok-left.ensures.each c.rows.invariant.1.1) in
+    let gone_each = c.in_ok-push_if.ensures.each (c.in_ok-known.ensures.each c.rows.invariant.1.1) in
     let hidden_by = c.in_ok-push_if.ensures.pushed
-    ∙ ap (λ (b : Bool). c.pass_before.new.passed ++ cond b (c.index-rows-at.result.0 ∷ []) []) c.is_hidden.ensures in
+    ∙ ap (λ (b : Bool). c.pass_to.new.passed ++ cond b (c.index-rows-at.result.0 ∷ []) []) c.is_hidden.ensures in
     elim c.if-is_sent.branch [
       | then-is_sent+in_ok-row_to_send+in_ok-push-2 w ↦ (
         next_sent c.args.rows.now c.args.stamps.now c.args.sent.now c.args.want.now c.rows.rest.now c.rows.flags.items
             c.rows.out c.rows.gone c.rows.at c.index-rows-at.result c.requires.tree c.rows-test.true c.index-rows-at.is c.rows.invariant.0
-            c.truncate.new.self.items c.push.new.self.items c.above_of-above.result c.in_ok-left.left.now c.split_head-known.result.1.now
-            c.split_head-known.result.0 c.is_kept-kept.result _ c.is_sent.result _ c.pass_before.new.passed c.push_if.new.paths cut_by
-            above_by c.in_ok-left.ensures.rest c.in_ok-left.ensures.passed c.split_head-known.ensures.stamp
-            c.split_head-known.ensures.rest hidden_by c.is_kept-kept.ensures (ap not c.is_stamp-fresh.ensures) refl stack_by
+            c.truncate.new.self.items c.push.new.self.items c.above_of-above.result
+            (from_key c.index-rows-at.result.0 c.rows.rest.now) c.in_ok-known.after.now c.in_ok-known.known
+            c.is_kept-kept.result _ c.is_sent.result _ c.pass_to.new.passed c.push_if.new.paths cut_by above_by refl
+            c.in_ok-known.ensures.passed c.in_ok-known.ensures.stamp c.in_ok-known.ensures.rest hidden_by
+            c.is_kept-kept.ensures (ap not c.is_stamp-fresh.ensures) refl stack_by
             c.is_sent.ensures c.if-is_sent.out w.if-is_sent.true
             (w.out-is ∙ w.in_ok-push-2.ensures.ok ∙ ap (λ (e : Entry). c.rows.out ++ e ∷ []) w.in_ok-row_to_send.ensures.row),
         (
@@ -45,10 +46,10 @@ rows-preserved c =
           rw w.out-is (
             next_unsent c.args.rows.now c.args.stamps.now c.args.sent.now c.args.want.now c.rows.rest.now c.rows.flags.items
                 c.rows.out c.rows.gone c.rows.at c.index-rows-at.result c.requires.tree c.rows-test.true c.index-rows-at.is
-                c.rows.invariant.0 c.truncate.new.self.items c.push.new.self.items c.above_of-above.result c.in_ok-left.left.now
-                c.split_head-known.result.1.now c.split_head-known.result.0 c.is_kept-kept.result _ c.is_sent.result _
-                c.pass_before.new.passed c.push_if.new.paths cut_by above_by c.in_ok-left.ensures.rest c.in_ok-left.ensures.passed
-                c.split_head-known.ensures.stamp c.split_head-known.ensures.rest hidden_by c.is_kept-kept.ensures
+                c.rows.invariant.0 c.truncate.new.self.items c.push.new.self.items c.above_of-above.result
+                (from_key c.index-rows-at.result.0 c.rows.rest.now) c.in_ok-known.after.now c.in_ok-known.known
+                c.is_kept-kept.result _ c.is_sent.result _ c.pass_to.new.passed c.push_if.new.paths cut_by above_by refl
+                c.in_ok-known.ensures.passed c.in_ok-known.ensures.stamp c.in_ok-known.ensures.rest hidden_by c.is_kept-kept.ensures
                 (ap not c.is_stamp-fresh.ensures) refl stack_by c.is_sent.ensures w.if-is_sent.false,
             (c.rows.invariant.1.0, gone_each),
           )
