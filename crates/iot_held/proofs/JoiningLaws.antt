@@ -3,9 +3,9 @@ use Rattle.std.proofs.Common.{◌≡◌, ℕ, zero, suc, ◌+◌, ◌-◌, ◌<�
 use Rattle.std.proofs.Common.{◌++◌, map, Option, is_some, length, take, drop, get_or, slice_get, bytes_eq}
 use Rattle.std.proofs.Common.{append_assoc, refl, sym, ap, subst, ◌∙◌, arith}
 use Rattle.std.proofs.lemmas.List.{append-nil, take_more, drop_more, take-append-drop, map-append}
-use Rattle.std.proofs.Math.Seq.{take-length, drop-length}
+use Rattle.std.proofs.Math.Seq.{drop-length}
 use Rattle.std.specs.List.{starts_with}
-use Rattle.std.specs.Ordering.{is_lt, eq_by_cmp}
+use Rattle.std.specs.Ordering.{eq_by_cmp}
 use Rattle.std.specs.FinMap.{find, is_sorted}
 use Rattle.iot_text.specs.Paths.{path_cmp, parent_of}
 use Rattle.iot_tree.specs.Ancestors.{proper_prefixes}
@@ -28,45 +28,6 @@ use Rattle.iot_stamp.proofs.PassesLaws.{find_from, sorted_from, head_from}
 use Rattle.iot_stamp.proofs.StackLaws.{above_push, prefixes_end, Stacked, cut_is, next_is, stacked_none}
 use Rattle.iot_stamp.proofs.SendingLaws.{before_left, before_at, last_of_end}
 use Rattle.iot_stamp.proofs.StartsLaws.{starts_push, starts_root}
-
--- ---- entries taken one by one
-
-module _ {X : Type 0} (before : List X) (xs : List X) where
-  pub one_taken : (i : ℕ) (x y : X) (out new : List X) → i < length xs → x ≡ get_or xs i x → y ≡ x → out ≡ before ++ take i xs
-      → new ≡ out ++ y ∷ [] → new ≡ before ++ take (i + 1) xs
-  one_taken i x y out new lt is same so_far pushed =
-      pushed ∙ (λ j. so_far j ++ same j ∷ []) ∙ append_assoc before (take i xs) (x ∷ [])
-      ∙ ap (λ (rest : List X). before ++ rest) (sym (take_more xs i x lt ∙ ap (λ (e : X). take i xs ++ e ∷ []) (sym is)))
-
-  pub all_taken : (i : ℕ) (out : List X) → length xs ≤ i → i ≤ length xs → out ≡ before ++ take i xs → out ≡ before ++ xs
-  all_taken i out long short so_far =
-      let end : i ≡ length xs = omega (arith, long, short) in
-      so_far ∙ ap (λ (rest : List X). before ++ rest) (ap (λ (n : ℕ). take n xs) end ∙ take-length xs)
-
-module _ {V : Type 0} (p : Path) (es : List (Path × V)) where
-  read : (i : ℕ) (e : Path × V) → i < length es → e ≡ get_or es i e → drop i es ≡ e ∷ drop (i + 1) es
-  read i e lt is = drop_more es i e lt ∙ ap (λ (x : Path × V). x ∷ drop (i + 1) es) (sym is)
-
-  pub before_skip : (i : ℕ) (e f : Path × V) (start out new : List (Path × V)) → i < length es → e ≡ get_or es i e
-      → is_lt (path_cmp e.0 p) ≡ true → f ≡ e → start ++ before_key p es ≡ out ++ before_key p (drop i es) → new ≡ out ++ f ∷ []
-      → start ++ before_key p es ≡ new ++ before_key p (drop (i + 1) es)
-  before_skip i e f start out new lt is less same so_far pushed =
-      let one : before_key p (drop i es) ≡ e ∷ before_key p (drop (i + 1) es) = ap (before_key p) (read i e lt is) ∙ rw less refl in
-      so_far ∙ ap (λ (rest : List (Path × V)). out ++ rest) one ∙ sym (append_assoc out (e ∷ []) (before_key p (drop (i + 1) es)))
-      ∙ ap (λ (x : List (Path × V)). x ++ before_key p (drop (i + 1) es)) (ap (λ (x : Path × V). out ++ x ∷ []) (sym same) ∙ sym pushed)
-
-  pub before_stop : (i : ℕ) (e : Path × V) (start out : List (Path × V)) → i < length es → e ≡ get_or es i e
-      → is_lt (path_cmp e.0 p) ≡ false → start ++ before_key p es ≡ out ++ before_key p (drop i es) → out ≡ start ++ before_key p es
-  before_stop i e start out lt is less so_far =
-      let none : before_key p (drop i es) ≡ [] = ap (before_key p) (read i e lt is) ∙ rw less refl in
-      sym (so_far ∙ ap (λ (rest : List (Path × V)). out ++ rest) none ∙ append-nil out)
-
-  pub before_end : (start out : List (Path × V)) (i : ℕ) → length es ≤ i → i ≤ length es
-      → start ++ before_key p es ≡ out ++ before_key p (drop i es) → out ≡ start ++ before_key p es
-  before_end start out i long short so_far =
-      let end : i ≡ length es = omega (arith, long, short) in
-      let none : before_key p (drop i es) ≡ [] = ap (before_key p) (ap (λ (n : ℕ). drop n es) end ∙ drop-length es) in
-      sym (so_far ∙ ap (λ (rest : List (Path × V)). out ++ rest) none ∙ append-nil out)
 
 -- ---- what is gone
 

@@ -2,6 +2,7 @@
 use Rattle.iot_tree.specs.Tree.{Path}
 use Rattle.std.specs.Prelude.{Bool, false, not, ◌&&◌, ◌++◌, cond, List, [], ◌∷◌, is_some, Option, Some, None}
 use Rattle.std.specs.FinMap.{find}
+use Rattle.std.specs.Ordering.{is_lt}
 use Rattle.iot_stamp.specs.Stamps.{Entry}
 use Rattle.iot_stamp.specs.Refresh.{is_gone}
 use Rattle.iot_text.specs.Paths.{path_cmp}
@@ -15,6 +16,11 @@ own kept h es = cond (kept && not (is_some (head_at h.0 es))) (h ∷ []) []
 abbrev pub woven : {V : Type 0} → (Path × V → Bool) → List (Path × V) → List (Path × V) → List (Path × V)
 woven keep [] es = es
 woven keep (h ∷ hs) es = before_key h.0 es ++ (own (keep h) h (from_key h.0 es) ++ woven keep hs (from_key h.0 es))
+
+-- the first entry comes before p
+abbrev pub begins_before : {V : Type 0} → Path → List (Path × V) → Bool
+begins_before p [] = false
+begins_before p (e ∷ es) = is_lt (path_cmp e.0 p)
 
 -- what is kept of a path for the rows below it: whether it has a row among these, and whether it is gone
 abbrev pub merge_flags : List Entry → List Path → Path → Bool × Bool

@@ -54,12 +54,13 @@ pub(crate) fn merge_changes(
     if is_nothing(&changes) {
         return Ok(());
     }
+    let Changes { rows, gone } = changes;
     let entries = joined_rows(
         alloc,
         tree.rows().as_slice(),
         held.stamps(),
-        changes.rows.as_slice(),
-        changes.gone.as_slice(),
+        rows,
+        gone.as_slice(),
     )?;
     match stamped(alloc, entries) {
         Ok(new) => {
@@ -107,8 +108,8 @@ fn split(alloc: Global, entries: StampedRows) -> Result<(Rows, Vec<u64>), NoMemo
     ensures { IfOk result
         (λ both. (both.0 ≡ map (λ e. (e.0, e.1.0)) entries) × (both.1.items ≡ map (λ e. cond (is_known e.1.0) e.1.1 0) entries)) }
 {
-    let mut rows = Rows::new(alloc);
-    let mut stamps: Vec<u64> = Vec::new(alloc);
+    let mut rows = Rows::from_vec(Vec::with_capacity(alloc, entries.len())?);
+    let mut stamps: Vec<u64> = Vec::with_capacity(alloc, entries.len())?;
     'entries: for (path, (node, stamp)) in entries.into_vec() {
         stamps.push(stamp_of(&node, stamp))?;
         rows.push((path, node))?;

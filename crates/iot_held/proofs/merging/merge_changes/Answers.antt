@@ -14,14 +14,14 @@ joined_rows-requires-clause-count c =
 
 pub stamped-requires : goal.stamped-requires
 stamped-requires c =
-    let out = rw (c.as_slice-2.ensures, c.as_slice-3.ensures) at c.in_ok-entries.ensures in
+    let out = rw c.as_slice-2.ensures at c.in_ok-entries.ensures in
     out_rising c.args.held.now c.as_slice.result.now c.stamps.result.now
     (c.as_slice.ensures ∙ c.rows.ensures.rows ∙ ap (λ (t : Nodes). entries t) c.tree-tree.ensures.value) c.stamps.ensures
     c.args.changes.rows c.args.changes.gone c.in_ok-entries.entries c.requires.rows out
 
 pub returns-in-Ok-clause-ok : goal.returns-in-Ok-clause-ok
 returns-in-Ok-clause-ok c =
-    let out = rw (c.as_slice-2.ensures, c.as_slice-3.ensures) at c.in_ok-entries.ensures in
+    let out = rw c.as_slice-2.ensures at c.in_ok-entries.ensures in
     c.in-Ok.ensures.ok
     ∙ out_map c.args.held.now c.as_slice.result.now c.stamps.result.now
     (c.as_slice.ensures ∙ c.rows.ensures.rows ∙ ap (λ (t : Nodes). entries t) c.tree-tree.ensures.value) c.stamps.ensures
@@ -36,7 +36,7 @@ returns-then-is_nothing-clause-ok c =
 
 pub returns-clause-no_tree : goal.returns-clause-no_tree
 returns-clause-no_tree c =
-    let out = rw (c.as_slice-2.ensures, c.as_slice-3.ensures) at c.in_ok-entries.ensures in
+    let out = rw c.as_slice-2.ensures at c.in_ok-entries.ensures in
     let same =
     out_map c.args.held.now c.as_slice.result.now c.stamps.result.now
     (c.as_slice.ensures ∙ c.rows.ensures.rows ∙ ap (λ (t : Nodes). entries t) c.tree-tree.ensures.value) c.stamps.ensures
