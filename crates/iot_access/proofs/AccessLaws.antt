@@ -12,7 +12,7 @@ use Rattle.iot_access.specs.Sources.{source}
 use Rattle.iot_access.specs.BaseReads.{Base, path_of, base_of, cons_base, based_reads, based, done_more}
 use Rattle.iot_acts.specs.Turns.{turns, Answers, AllAnswer, FirstDiffers}
 use Rattle.iot_access.proofs.BaseReadsLaws.{BasesHold, reads_beside, Based, asks, holds, based_read}
-use Rattle.iot_access.specs.Access.{FirstFails, cons_update, updates_of, after_updates, IsAccess}
+use Rattle.iot_access.specs.Access.{FirstFails, FitInTurn, cons_update, updates_of, after_updates, IsAccess}
 use Rattle.iot_acts.specs.Guards.{AllGuarded}
 use Rattle.iot_access.proofs.TiedLaws.{Tied, tied_first}
 use Rattle.iot_acts.proofs.TraceLaws.{tree_after}
@@ -130,6 +130,16 @@ after_same (act ∷ acts) t = by act.update (after_same acts)
     by None same = same t
     by (Some update) same = same (after_update t (Some update))
 
+-- the updates of acts that hold fit in turn
+pub fit_in_turn : (acts : List Act) (t : Nodes) → ActsHold t acts → FitInTurn t (updates_of acts)
+fit_in_turn [] t hold = tt
+fit_in_turn (act ∷ acts) t hold = by act.update hold.1 (fit_in_turn acts (after_update t act.update) hold.2)
+  where
+    by : (update : Option Update) → FitsIfAny t update → FitInTurn (after_update t update) (updates_of acts)
+        → FitInTurn t (cons_update update (updates_of acts))
+    by None fits later = later
+    by (Some update) fits later = (fits, later)
+
 -- base reads and updates of guarded acts that hold on a tree may take their place on every whole tree
 pub access_is : (acts list : List Act) (before : Nodes) (reads : List Read) (places : List ℕ) (updates : List Update) → IsTree before
     → AllGuarded acts → ActsHold before acts → list ≡ acts → length places ≡ length reads → zip places reads ≡ based list before [] 1
@@ -146,6 +156,7 @@ access_is acts list before reads places updates tree guarded hold same even is a
         (λ base. guarded_hold acts guarded t tree_t (back t (turns t acts) 1 bases chain (subst (ReadsHold t) (sym beside) base))),
         (λ acts_are. subst (ReadsHold t) beside (forth t (turns t acts) 1 bases chain (answers_of acts t acts_are))),
       );
+      fit = λ acts_are. subst (FitInTurn t) (sym (are ∙ ap updates_of same)) (fit_in_turn acts t acts_are);
       after = λ _. ap (after_updates t) (are ∙ ap updates_of same) ∙ after_same acts t;
       first = λ place. (fails t (turns t acts) 1 bases chain place, differs t (turns t acts) 1 bases chain place);
     }

@@ -2,7 +2,7 @@
 use Rattle.std.specs.Prelude.{◌≡◌, ◌↔◌, ◌⊎◌, ◌≤◌, ℕ, suc, List, [], ◌∷◌, Option, Some, None}
 use Rattle.std.specs.List.{zip}
 use Rattle.iot_tree.specs.Tree.{Nodes, IsTree, IsWhole}
-use Rattle.iot_tree.specs.Updates.{updated}
+use Rattle.iot_tree.specs.Updates.{Fits, updated}
 use Rattle.iot_tree.specs.declared.updates.Update.{Update}
 use Rattle.iot_tree.specs.declared.acts.Act.{Act}
 use Rattle.iot_tree.specs.declared.acts.Read.{Read}
@@ -25,15 +25,21 @@ abbrev pub after_updates : Nodes → List Update → Nodes
 after_updates t [] = t
 after_updates t (update ∷ updates) = after_updates (updated t update) updates
 
+-- each of these updates fits in its turn
+abbrev pub FitInTurn : Nodes → List Update → Type 0
+FitInTurn t [] = Unit {0}
+FitInTurn t (update ∷ updates) = Fits t update × FitInTurn (updated t update) updates
+
 -- the first of these base reads that is not the tree's answer has this place
 abbrev pub FirstFails : Nodes → List Base → ℕ → Type 0
 FirstFails t [] place = ⊥
 FirstFails t (base ∷ bases) place = ((¬ Answers t base.1) × (place ≡ base.0)) ⊎ (Answers t base.1 × FirstFails t bases place)
 
--- on t the base reads hold exactly if the acts do, and then the updates make of t what the acts make of it; and the first base read
--- that fails has the place of the first read that differs
+-- on t the base reads hold exactly if the acts do; then the updates fit in turn, and make of t what the acts make of it; and the first
+-- base read that fails has the place of the first read that differs
 pub record TakesPlace (reads : List Read) (places : List ℕ) (updates : List Update) (acts : List Act) (t : Nodes) : Type 0 where
   pub exactly : ReadsHold t reads ↔ ActsHold t acts
+  pub fit : ActsHold t acts → FitInTurn t updates
   pub after : ActsHold t acts → after_updates t updates ≡ after_acts t acts
   pub first : (place : ℕ) → FirstFails t (zip places reads) place ↔ FirstDiffers (turns t acts) 1 place
 

@@ -8,7 +8,7 @@ ghost use Rattle.iot_access.specs.BaseReads.{Base, based, based_reads, base_of, 
 ghost use Rattle.iot_access.specs.Entries.{Tells, IsApartIfAny};
 ghost use Rattle.iot_access.specs.Origins.{entries};
 ghost use Rattle.iot_access.specs.Sources.{source};
-ghost use Rattle.iot_access.specs.Access.{IsAccess, Rise, cons_update, updates_of};
+ghost use Rattle.iot_access.specs.Access.{FitInTurn, IsAccess, Rise, cons_update, updates_of};
 
 use crate::base_reads::base_of;
 use crate::origins::{Origins, follow};
@@ -133,8 +133,12 @@ pub fn of(alloc: Global, acts: &Acts, before: &Tree) -> Result<Access, NoMemory>
     // On every whole tree it may take the acts' place.
     ensures access { IfOk result (λ access. IsAccess access.reads access.places access.updates acts.now) }
 
-    // The tree before gives each base read its answer.
+    // The tree before gives each base read its answer, and each update fits it in turn.
     ensures before { IfOk result (λ access. ReadsHold before.now access.reads) }
+    ensures fit { IfOk result (λ access. FitInTurn before.now access.updates) }
+
+    // No update is left out, and none is made up.
+    ensures updates { IfOk result (λ access. access.updates ≡ updates_of acts.now) }
 
     ensures places { IfOk result (λ access. Rise 1 access.places) }
     ensures even { IfOk result (λ access. length access.places ≡ length access.reads) }

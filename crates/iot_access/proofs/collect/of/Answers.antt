@@ -1,6 +1,8 @@
-use Rattle.iot_access.proofs.AccessLaws.{access_is}
+use Rattle.std.proofs.Common.{◌∙◌, ap, subst, sym}
+use Rattle.iot_access.proofs.AccessLaws.{access_is, fit_in_turn}
 use Rattle.iot_access.proofs.CollectLaws.{places_of}
 use Rattle.iot_access.proofs.BeforeLaws.{held_before}
+use Rattle.iot_access.specs.Access.{FitInTurn, updates_of}
 use Rattle.iot_access.proofs.collect.of.Goals as goal
 
 pub returns-clause-access : goal.returns-clause-access
@@ -18,3 +20,8 @@ pub returns-clause-before : goal.returns-clause-before
 returns-clause-before c =
     held_before c.args.acts.now c.as_slice.result.now c.args.before.now c.in_ok-access.access.reads c.in_ok-access.access.places
     c.rows-tree.ensures.tree c.requires.guarded c.requires.hold c.as_slice.ensures c.in_ok-access.ensures.even c.in_ok-access.ensures.bases
+
+pub returns-clause-fit : goal.returns-clause-fit
+returns-clause-fit c =
+    subst (FitInTurn c.args.before.now) (sym (c.in_ok-access.ensures.updates ∙ ap updates_of c.as_slice.ensures))
+    (fit_in_turn c.args.acts.now c.args.before.now c.requires.hold)
