@@ -1,0 +1,2 @@
+pub mod UndoLaws
+pub mod FittingLaws

@@ -1,0 +1,224 @@
+-- What undoes an update that fits a whole tree: it fits after the update, and brings the tree back.
+use Rattle.std.proofs.Common.{◌≡◌, ◌≢◌, ℕ, List, [], ◌∷◌, ◌++◌, Option, Some, None, IsSome, refl, sym, ap, subst, ◌∙◌, cond, false}
+use Rattle.std.proofs.Common.{inl, inr, option_and_then}
+use Rattle.std.proofs.lemmas.List.{append-nil}
+use Rattle.std.specs.Prelude.{unwrap_or}
+use Rattle.std.specs.FinMap.{get, insert, remove, get-remove, same_map}
+use Rattle.std.specs.Ordering.{eq_by_cmp}
+use Rattle.iot_text.specs.Paths.{path_cmp}
+use Rattle.iot_text.proofs.PathsLaws.{parent_of-push, path_same, path_total}
+use Rattle.iot_tree.specs.Tree.{Path, Nodes, parent_node, IsTree, IsWhole}
+use Rattle.iot_tree.specs.Updates.{IsLeaf, FitsPut, FitsMakeDir, FitsRemove, FitsMove, Fits, moved, updated}
+use Rattle.iot_tree.specs.declared.nodes.Node.{Node}
+use Rattle.iot_tree.specs.declared.nodes.Node.TheVariants.{Dir, File, FarDir, FarFile}
+use Rattle.iot_tree.specs.declared.updates.Update.{Update}
+use Rattle.iot_tree.specs.declared.updates.Update.TheVariants.{Put, MakeDir, Remove, Move}
+use Rattle.iot_tree.proofs.AncestorLaws.{ends, at_root, in_name}
+use Rattle.iot_tree.proofs.FitsLaws.{fits_here}
+use Rattle.iot_tree.proofs.TreeLaws.{apart, same_or_apart, get-insert_other, none_not_some, ancestors, tree_insert}
+use Rattle.iot_tree.proofs.UpdateLaws.{longer, longer_front, other_stays, is_gone, front_outside, tree_moved}
+use Rattle.iot_tree.proofs.UpdateLaws.{to_outside, from_outside, moved_at, moved_gone, moved_else}
+use Rattle.iot_tree.proofs.WithinLaws.{IsOutside, side, inside, outside}
+use Rattle.iot_access.specs.Access.{FitInTurn, cons_update, after_updates}
+use Rattle.iot_access.proofs.StepLaws.{not_at, put_here, removed_inside}
+use Rattle.iot_fitting.specs.Undoing.{restoring, undoing, Undoes}
+
+-- ---- updates after others
+
+fit_join : (first next : List Update) (t : Nodes) → FitInTurn t first → FitInTurn (after_updates t first) next → FitInTurn t (first ++ next)
+fit_join [] next t fit more = more
+fit_join (update ∷ first) next t fit more = (fit.0, fit_join first next (updated t update) fit.1 more)
+
+after_join : (first next : List Update) (t : Nodes) → after_updates t (first ++ next) ≡ after_updates (after_updates t first) next
+after_join [] next t = refl
+after_join (update ∷ first) next t = after_join first next (updated t update)
+
+-- undone to a tree in the middle, and from there to the start
+pub undoes_join : (first next : List Update) (now mid start : Nodes) → Undoes first now mid → Undoes next mid start
+    → Undoes (first ++ next) now start
+undoes_join first next now mid start one two = record {
+  fit = fit_join first next now one.fit (subst (λ (t : Nodes). FitInTurn t next) (sym one.back) two.fit);
+  back = after_join first next now ∙ ap (λ (t : Nodes). after_updates t next) one.back ∙ two.back;
+}
+
+-- ---- nodes that differ at one path at most
+
+same_but : (u v : Nodes) (p : Path) → get u p ≡ get v p → ((k : Path) → eq_by_cmp path_cmp k p ≡ false → get u k ≡ get v k) → u ≡ v
+same_but u v p here else = same_map path_total path_same u v (λ k. elim (same_or_apart k p) [
+  | inl same ↦ ap (get u) same ∙ here ∙ ap (get v) (sym same)
+  | inr differ ↦ else k differ
+])
+
+removed_else : (t : Nodes) (p k : Path) → eq_by_cmp path_cmp k p ≡ false → get (remove t p) k ≡ get t k
+removed_else t p k differ = get-remove path_total t p k ∙ ap (λ b. cond b None (get t k)) differ
+
+put_removed : (t : Nodes) (p : Path) (node : Node) → get t p ≡ None → remove (insert t p node) p ≡ t
+put_removed t p node none =
+    same_but (remove (insert t p node) p) t p (is_gone (insert t p node) p ∙ sym none)
+    (λ k differ. removed_else (insert t p node) p k differ ∙ get-insert_other t p node k differ)
+
+put_back : (t : Nodes) (p : Path) (new old : Node) → get t p ≡ Some old → insert (insert t p new) p old ≡ t
+put_back t p new old here =
+    same_but (insert (insert t p new) p old) t p (put_here (insert t p new) p old ∙ sym here)
+    (λ k differ. get-insert_other (insert t p new) p old k differ ∙ get-insert_other t p new k differ)
+
+removed_back : (t : Nodes) (p : Path) (old : Node) → get t p ≡ Some old → insert (remove t p) p old ≡ t
+removed_back t p old here =
+    same_but (insert (remove t p) p old) t p (put_here (remove t p) p old ∙ sym here)
+    (λ k differ. get-insert_other (remove t p) p old k differ ∙ removed_else t p k differ)
+
+removed_none : (t : Nodes) (p : Path) → get t p ≡ None → remove t p ≡ t
+removed_none t p none = same_but (remove t p) t p (is_gone t p ∙ sym none) (removed_else t p)
+
+some_is : (t : Nodes) (p : Path) (node : Node) → get t p ≡ Some node → IsSome (get t p)
+some_is t p node is = subst IsSome (sym is) refl
+
+-- the root has no parent
+not_root : (t : Nodes) (p : Path) → parent_node t p ≡ Some Dir → p ≢ []
+not_root t p parent root = none_not_some _ Dir refl (subst (λ (path : Path). parent_node t path ≡ Some Dir) root parent)
+
+-- the path above is not at or below the path
+parent_outside : (p front : Path) (last : List ℕ) → p ≡ front ++ last ∷ [] → IsOutside p front
+parent_outside p front last is rest same = longer_front front last rest (subst (λ (path : Path). front ≡ path ++ rest) is same)
+
+module _ (t : Nodes) (tree : IsTree t) where
+  -- no row lies below what has none
+  none_below : (p : Path) → get t p ≡ None → IsLeaf t p
+  none_below p none k below = by (get t k) refl
+    where
+      by : (o : Option Node) → get t k ≡ o → get t k ≡ None
+      by None is = is
+      by (Some node) is =
+          absurd (none_not_some _ Dir none
+          (ancestors t tree p below.0 below.1 (subst (λ (path : Path). IsSome (get t path)) below.2 (some_is t k node is))))
+
+  -- the parent of a row is still there if the path above it is
+  parent_left : (u : Nodes) (p : Path) → p ≢ [] → IsSome (get t p)
+      → ((front : Path) (last : List ℕ) → p ≡ front ++ last ∷ [] → get u front ≡ get t front) → parent_node u p ≡ Some Dir
+  parent_left u p below_root mapped left = elim (ends p) [
+    | at_root is ↦ absurd (below_root is)
+    | in_name front last is ↦
+        ap (parent_node u) is ∙ ap (option_and_then (get u)) (parent_of-push front last) ∙ left front last is
+        ∙ ancestors t tree front last [] (subst (λ (path : Path). IsSome (get t path)) is mapped)
+  ]
+
+  -- ---- what came to a free path goes
+
+  put_goes : (p : Path) (node : Node) → get t p ≡ None → parent_node t p ≡ Some Dir → Undoes (Remove p ∷ []) (insert t p node) t
+  put_goes p node none parent =
+      let fits : FitsRemove (insert t p node) p = record {
+        mapped = some_is (insert t p node) p node (put_here t p node);
+        below_root = not_root t p parent;
+        leaf = λ k below.
+            get-insert_other t p node k (apart k p (λ is. longer p below.0 below.1 (sym below.2 ∙ is))) ∙ none_below p none k below;
+      } in
+      record { fit = (fits, tt); back = put_removed t p node none }
+
+  -- ---- what was put over goes back
+
+  put_over : (p : Path) (new old : List ℕ) → FitsPut t p → get t p ≡ Some (File old) → Undoes (Put p old ∷ []) (insert t p (File new)) t
+  put_over p new old fits here =
+      let after : IsTree (insert t p (File new)) = tree_insert t tree p (File new) fits.parent fits.no_dir in
+      let again : FitsPut (insert t p (File new)) p = fits_here (insert t p (File new)) after p (File new) (put_here t p (File new)) refl in
+      record { fit = (again, tt); back = put_back t p (File new) (File old) here }
+
+  -- ---- what was removed comes back
+
+  parent_of_removed : (p : Path) → p ≢ [] → IsSome (get t p) → parent_node (remove t p) p ≡ Some Dir
+  parent_of_removed p below_root mapped =
+      parent_left (remove t p) p below_root mapped
+      (λ front last is. other_stays t p front (λ same. longer front last [] (sym is ∙ sym same)))
+
+  file_back : (p : Path) (bytes : List ℕ) → p ≢ [] → get t p ≡ Some (File bytes) → Undoes (Put p bytes ∷ []) (remove t p) t
+  file_back p bytes below_root here =
+      let fits : FitsPut (remove t p) p = record {
+        parent = parent_of_removed p below_root (some_is t p (File bytes) here);
+        no_dir = λ is. none_not_some _ Dir (is_gone t p) is;
+        no_far_dir = λ is. none_not_some _ FarDir (is_gone t p) is;
+      } in
+      record { fit = (fits, tt); back = removed_back t p (File bytes) here }
+
+  dir_back : (p : Path) → p ≢ [] → get t p ≡ Some Dir → Undoes (MakeDir p ∷ []) (remove t p) t
+  dir_back p below_root here =
+      let fits : FitsMakeDir (remove t p) p = record {
+        absent = is_gone t p;
+        parent = parent_of_removed p below_root (some_is t p Dir here);
+      } in
+      record { fit = (fits, tt); back = removed_back t p Dir here }
+
+  module _ (whole : IsWhole t) where
+    -- whatever was there comes back
+    restored : (p : Path) → p ≢ [] → Undoes (cons_update (restoring p (get t p)) []) (remove t p) t
+    restored p below_root =
+        by (get t p) refl
+      where
+        by : (o : Option Node) → get t p ≡ o → Undoes (cons_update (restoring p o) []) (remove t p) t
+        by None is = record { fit = tt; back = removed_none t p is }
+        by (Some Dir) is = dir_back p below_root is
+        by (Some (File bytes)) is = file_back p bytes below_root is
+        by (Some FarDir) is = absurd (whole.no_far_dir p is)
+        by (Some FarFile) is = absurd (whole.no_far_file p is)
+
+    put_undone : (p : Path) (bytes : List ℕ) → FitsPut t p
+        → Undoes (unwrap_or (restoring p (get t p)) (Remove p) ∷ []) (insert t p (File bytes)) t
+    put_undone p bytes fits = by (get t p) refl
+      where
+        by : (o : Option Node) → get t p ≡ o → Undoes (unwrap_or (restoring p o) (Remove p) ∷ []) (insert t p (File bytes)) t
+        by None is = put_goes p (File bytes) is fits.parent
+        by (Some Dir) is = absurd (fits.no_dir is)
+        by (Some (File old)) is = put_over p bytes old fits is
+        by (Some FarDir) is = absurd (whole.no_far_dir p is)
+        by (Some FarFile) is = absurd (whole.no_far_file p is)
+
+  -- ---- what was moved goes back
+
+  module _ (p q : Path) (fits : FitsMove t p q) where
+    abbrev there : Nodes
+    there = moved t p q
+
+    move_back : FitsMove there q p
+    move_back = record {
+      mapped =
+          subst IsSome (sym (ap (get there) (sym (append-nil q)) ∙ moved_at t tree p q fits [] ∙ ap (get t) (append-nil p))) fits.mapped;
+      from_below_root = fits.to_below_root;
+      to_below_root = fits.from_below_root;
+      differ = λ same. fits.differ (sym same);
+      from_apart = fits.to_apart;
+      to_apart = fits.from_apart;
+      parent = parent_left there p fits.from_below_root fits.mapped (λ front last is.
+          moved_else t tree p q fits front (parent_outside p front last is)
+          (front_outside q front last (subst (λ (path : Path). IsOutside q path) is (from_outside t tree p q fits))));
+      leaf = λ k below. ap (get there) below.2 ∙ moved_gone t tree p q fits (below.0 ∷ below.1);
+    }
+
+    after : IsTree there
+    after = tree_moved t tree p q fits
+
+    moved_back : moved there q p ≡ remove t q
+    moved_back = same_map path_total path_same (moved there q p) (remove t q) (λ k. elim (side p k) [
+      | inside rest is test ↦
+          ap (get (moved there q p)) is ∙ moved_at there after q p move_back rest ∙ moved_at t tree p q fits rest
+          ∙ sym (other_stays t q (p ++ rest) (λ same. to_outside t tree p q fits rest (sym same))) ∙ ap (get (remove t q)) (sym is)
+      | outside out_p test ↦ elim (side q k) [
+        | inside rest is test ↦
+            ap (get (moved there q p)) is ∙ moved_gone there after q p move_back rest
+            ∙ sym (removed_inside t q fits.leaf rest) ∙ ap (get (remove t q)) (sym is)
+        | outside out_q test ↦
+            moved_else there after q p move_back k out_q out_p ∙ moved_else t tree p q fits k out_p out_q
+            ∙ sym (other_stays t q k (not_at q k out_q))
+      ]
+    ])
+
+    move_undone : (back : List Update) → Undoes back (remove t q) t → Undoes (Move q p ∷ back) there t
+    move_undone back restored = record {
+      fit = (move_back, subst (λ (u : Nodes). FitInTurn u back) (sym moved_back) restored.fit);
+      back = ap (λ (u : Nodes). after_updates u back) moved_back ∙ restored.back;
+    }
+
+-- an update that fits a whole tree is undone
+pub undone : (t : Nodes) (update : Update) → IsTree t → IsWhole t → Fits t update → Undoes (undoing t update) (updated t update) t
+undone t (Put p bytes) tree whole fits = put_undone t tree whole p bytes fits
+undone t (MakeDir p) tree whole fits = put_goes t tree p Dir fits.absent fits.parent
+undone t (Remove p) tree whole fits = restored t tree whole p fits.below_root
+undone t (Move p q) tree whole fits =
+    move_undone t tree p q fits (cons_update (restoring q (get t q)) []) (restored t tree whole q fits.to_below_root)
