@@ -23,7 +23,8 @@ use Rattle.iot_kept.proofs.BringingLaws.{brought_spelled}
 use Rattle.iot_kept.proofs.SyncedLaws.{synced_spelled}
 use Rattle.iot_tree.specs.declared.changes.Changes.{Changes as RowChanges}
 use Rattle.iot_laptop.specs.Below.{Stamps, nodes_of, stamps_of, brought, nothing_held}
-use Rattle.iot_laptop.specs.Laptops.{stamps_by, stamps_in}
+use Rattle.iot_laptop.specs.Laptops.{stamps_by, stamps_in, NodeStands, LaptopStands, ClientStands, StateStands, state_by, live_by}
+use Rattle.iot_laptop.specs.Laptops.{records_in, records_by, disk_by, state_in, live_in, waits_of, IsFirstOf}
 use Rattle.iot_laptop.proofs.TrailsLaws.{same_changes}
 use Rattle.iot_machine.proofs.PossiblyLaws.{possibly_sure, appends_possibly}
 use Rattle.iot_node.proofs.PostsLaws.{same_counts}
@@ -54,8 +55,6 @@ use Rattle.iot_machine.specs.Clients as clients
 use Rattle.iot_machine.specs.Serving as serving
 use Rattle.iot_tree.specs.declared.want.Want.TheVariants as wants
 use Rattle.iot_client.specs.declared.fault.ClientFault.TheVariants as faults
-use Rattle.iot_laptop.specs.Laptops.{NodeStands, LaptopStands, ClientStands, StateStands, state_by, live_by, records_in, records_by}
-use Rattle.iot_laptop.specs.Laptops.{disk_by, state_in, live_in, waits_of, IsFirstOf}
 use Rattle.iot_laptop.specs.Alone.{NotesAlone}
 use Rattle.iot_laptop.specs.Calls.{appended, done, EndsAlone, GoesOn, Changes, Begins, Repairs, Plans, TakesStep, NextIs, IsDoneIn, IsGone}
 use Rattle.iot_laptop.specs.Calls.{TakesVerdict, head_option, head_reads, acts_in}

@@ -7,9 +7,8 @@ use Rattle.std.proofs.lemmas.List.{append-nil}
 use Rattle.std.proofs.lemmas.Option.{same_Some}
 use Rattle.iot_journal.specs.Decoding.{decoded}
 use Rattle.iot_laptop.specs.Below.{Nodes, IsTree, Transaction, opening, Notes, second_class, state_of, live_of, disk_of, bodies_on, IsTied}
-use Rattle.iot_laptop.specs.Below.{stamps_of}
-use Rattle.iot_laptop.specs.Below.{place_of, records_of, Client, ClientFault, Stopped, Medium, At, Declared, ClientState, base, cut}
-use Rattle.iot_laptop.specs.Below.{new_client, Node, unopened, Refines, Possibly, OpensNode, stopped_line, transaction_name, KeepsDisk}
+use Rattle.iot_laptop.specs.Below.{stamps_of, place_of, records_of, Client, ClientFault, Stopped, Medium, At, Declared, ClientState, base}
+use Rattle.iot_laptop.specs.Below.{cut, new_client, Node, unopened, Refines, Possibly, OpensNode, stopped_line, transaction_name, KeepsDisk}
 use Rattle.iot_laptop.specs.Below.{counts_on, IsEmpty, is_on, PostStands, UpStands, StepsFrom, CameIf, StepsTo, Halt, Over, Post, Up, Down}
 use Rattle.iot_laptop.specs.Below.{no_text, name_of, Laptop, Seated, Passage, FarDir}
 use Rattle.iot_link.specs.Links.{LinkState, after_exchange}
@@ -22,7 +21,7 @@ use Rattle.iot_machine.specs.Nodes.{armed}
 use Rattle.iot_machine.specs.Stops.{ComesBack, Crashes, ArmsDisk}
 use Rattle.iot_machine.specs.Texts.{line, cut_line, disconnect_line}
 use Rattle.iot_machine.proofs.PossiblyLaws.{comes_within, possibly_same, opens_states, crashes_within}
-use Rattle.iot_node.specs.Posts.{IsStanding, Ready}
+use Rattle.iot_node.specs.Posts.{IsStanding}
 use Rattle.iot_machine.specs.Events.{CutsOff, RestartsClient, cuts_off, Disconnects, CrashesClient, ArmsClient}
 use Rattle.iot_link.specs.declared.passages.Passage.TheVariants.{Away, RequestLost, ReplyLost, Both}
 use Rattle.iot_node.proofs.StepsLaws.{does, refines}
@@ -39,7 +38,7 @@ use Rattle.iot_link.specs.Links as links
 use Rattle.iot_laptop.specs.Calls.{GoesOn, ReturnedStands, Returned, Came, running_name}
 use Rattle.iot_laptop.specs.Kept.{RunningKeptIfAny, StateKept}
 use Rattle.iot_laptop.specs.Laptops.{LaptopStands, FallenStands, ClientStands, awake, StandsAnyhow, is_alive, disk_by, state_in, live_by}
-use Rattle.iot_laptop.specs.Laptops.{state_by, stamps_by, fallen, Stands, Relinked, IsSecondNow, IsCutLink, after_passage}
+use Rattle.iot_laptop.specs.Laptops.{state_by, fallen, Stands, Relinked, IsSecondNow, IsCutLink, after_passage}
 use Rattle.iot_laptop.specs.Laptops.{IsUnopened, unopened_laptop}
 use Rattle.iot_laptop.specs.Scripts.{AreNamed}
 use Rattle.iot_laptop.specs.Seats.{seating, Besides, besides, none_besides, IsClientImage}
@@ -112,19 +111,6 @@ module _ {D : Type 0} (medium : Medium D) (laptop : Laptop D) where
         ∙ ap second_class (live_then (state_of was).running (live_of was) m.first m.node.durable.running here.state.running)
         ∙ second_live m.first m.node.durable.running)
         here.named
-
-    pub is_second : laptop.post ≡ Up (record { client = was })
-        → IsSecondNow medium laptop (record laptop { post = Up (record { client = now }) })
-    is_second is = record {
-      place = refl;
-      state = state ∙ sym (ap state_by is);
-      stamps = stamps ∙ sym (ap stamps_by is);
-      link = refl;
-      disk = ap Some disk ∙ sym (ap (λ (p : Post (Seated D) D). disk_by p) is);
-      alive = sym (ap (λ (p : Post (Seated D) D). is_on p) is);
-      stands = λ scripts m here.
-          second_stands scripts m (subst (λ (p : Post (Seated D) D). LaptopStands medium scripts (record laptop { post = p }) m) is here);
-    }
 
   -- ---- an exchange that does not get through
 
@@ -247,9 +233,6 @@ none_runs t None kept = refl
 none_runs t (Some running) kept = absurd kept
 
 module _ {D : Type 0} (medium : Medium D) (laptop : Laptop D) (new : IsUnopened medium laptop) where
-  pub opens_ready : Ready medium laptop.post
-  opens_ready = rw new.down (refl, new.empty.synced)
-
   pub opens_standing : IsStanding (seating medium laptop.place) medium laptop.post
   opens_standing = record {
     says = no_text;

@@ -1,11 +1,10 @@
 -- What a client is as the keeper of a node: how it starts, and what its disk holds.
 use Rattle.std.proofs.Common.{◌≡◌, ℕ, List, length, None, sym, ap, subst, ◌∙◌}
-use Rattle.iot_journal.specs.Decoding.{decoded}
+use Rattle.iot_journal.specs.Decoding.{decoded, Encodes}
 use Rattle.iot_laptop.specs.Below.{Medium, StandFor, State, IsTied, state_of, place_of, disk_of, bodies_on, Client, ClientState, counts_on}
 use Rattle.iot_laptop.specs.Below.{Seated, live_of, stamps_of}
 use Rattle.iot_node.proofs.PostsLaws.{same_counts}
 use Rattle.iot_disk.specs.declared.faults.StartFault.{StartFault}
-use Rattle.iot_journal.specs.Decoding.{Encodes}
 use Rattle.iot_journal.specs.Images.{EachDecodes}
 use Rattle.iot_node.specs.Keeping.{EachIs, Comes, Fails, CountsStart}
 use Rattle.iot_disk.specs.declared.faults.StartFault.TheVariants as faults

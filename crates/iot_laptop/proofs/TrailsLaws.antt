@@ -1,7 +1,6 @@
 -- What a held tree has of a server's stamps through the calls of its client.
-use Rattle.std.proofs.Common.{◌≡◌, ◌≢◌, ◌<◌, ◌⊎◌, ℕ, Bool, true, false, cond, ◌&&◌, nat_eq, List, [], ◌∷◌, map, Option, Some}
-use Rattle.std.proofs.Common.{None, if◌then◌else◌}
-use Rattle.std.proofs.Common.{inl, inr, refl, sym, ap, subst, ◌∙◌, arith, Result, Ok, Err}
+use Rattle.std.proofs.Common.{◌≡◌, ◌≢◌, ◌<◌, ◌⊎◌, ℕ, Bool, true, false, cond, ◌&&◌, nat_eq, List, [], ◌∷◌, map, Option, Some, None}
+use Rattle.std.proofs.Common.{if◌then◌else◌, inl, inr, refl, sym, ap, subst, ◌∙◌, arith, Result, Ok, Err}
 use Rattle.std.proofs.lemmas.Bool.Decides.{eqb_tells}
 use Rattle.std.proofs.lemmas.Option.{same_Some, none-some}
 use Rattle.std.proofs.lemmas.Result.{IfOk-at_ok}
@@ -29,7 +28,7 @@ use Rattle.iot_changes.specs.declared.changes.Change.TheVariants.{Held, Begun, F
 use Rattle.iot_changes.specs.declared.changes.Change.TheVariants.{Repaired, Left}
 use Rattle.iot_kept.specs.Changes.{stage_by}
 use Rattle.iot_kept.specs.Stamps.{StampsBy, stamps_left, stamps_staying, stamps_conflicted}
-use Rattle.iot_kept.specs.States.{EachHold}
+use Rattle.iot_kept.specs.States.{EachHold, Transaction}
 use Rattle.iot_kept.proofs.SyncedLaws.{synced_holds}
 use Rattle.iot_client.specs.Calls.{Notes, Brings, CutsIfAny, StepIsIfAny, verdict_change}
 use Rattle.iot_client.specs.Ties.{Live}
@@ -37,14 +36,12 @@ use Rattle.iot_client.specs.declared.noted.Noted.{Noted}
 use Rattle.iot_client.specs.declared.noted.Noted.TheVariants as notes
 use Rattle.iot_client.specs.declared.steps.Step.{Step}
 use Rattle.iot_client.specs.declared.steps.Step.TheVariants as steps
-use Rattle.iot_kept.specs.States.{Transaction}
 use Rattle.iot_client.specs.Messages.{objects_in, ReadsObjects}
 use Rattle.iot_kept.specs.declared.bringing.Purpose.{Purpose}
 use Rattle.iot_wire.specs.declared.replies.Reply.TheVariants.{Objects}
 use Rattle.iot_node.specs.Posts as posts
-use Rattle.iot_laptop.specs.Below.{Client, ClientFault, Halt, NoMemory, Over, IsTied, Laptop, Medium, Post, Seated, Up}
-use Rattle.iot_laptop.specs.Below.{state_of, stamps_of, is_on}
-use Rattle.iot_laptop.specs.Below.{Changes, Spells, brought, nothing_held}
+use Rattle.iot_laptop.specs.Below.{Client, ClientFault, Halt, NoMemory, Over, IsTied, Laptop, Medium, Post, Seated, Up, state_of, stamps_of}
+use Rattle.iot_laptop.specs.Below.{is_on, Changes, Spells, brought, nothing_held}
 use Rattle.iot_laptop.specs.Calls.{GoesOn, TakesStamps, UnlessNoMemory, done}
 use Rattle.iot_laptop.specs.Laptops.{KeepsTrails, is_alive, stamps_by, stamps_in}
 use Rattle.iot_laptop.specs.Seats.{Besides, besides, none_besides}

@@ -1,8 +1,7 @@
 -- For which state of the machine a client stands as the keeper of a node, and the bytes of a disk.
 use Rattle.std.specs.Prelude.{◌≡◌, ℕ, List, Option, None, length}
 use Rattle.iot_laptop.specs.Below.{Live, state_of, place_of, disk_of, records_of, live_of, stamps_of, Stamps, IsTied, Medium, State}
-use Rattle.iot_laptop.specs.Below.{StandFor, ClientState}
-use Rattle.iot_laptop.specs.Below.{Keeping, Seated}
+use Rattle.iot_laptop.specs.Below.{StandFor, ClientState, Keeping, Seated}
 use Rattle.iot_laptop.specs.Kept.{StateKept}
 use Rattle.iot_laptop.specs.Trails.{lent_stamps}
 
