@@ -1,5 +1,5 @@
 //! Paths.
-ghost use Rattle.std.specs.Prelude.{◌≡◌, ◌≤◌, ◌+◌, ◌++◌, length, OnOk, OnErr, IfOk, IfSome, None, Ok};
+ghost use Rattle.std.specs.Prelude.{◌≡◌, ◌≤◌, ◌+◌, ◌++◌, [], length, OnOk, OnErr, IfOk, IfSome, None, Ok};
 ghost use Rattle.iot_text.specs.Names.{IsName};
 ghost use Rattle.iot_text.specs.Paths.{IsPath};
 ghost use Rattle.iot_text.specs.Texts.{AppendsPart};
@@ -32,7 +32,9 @@ impl Spelled for Path {
     fn put(&self, out: &mut Text) -> Result<(), NoMemory> {
         let names = self.names();
         if names.len() <= FEW {
-            return out.append(few_names(names).as_slice());
+            let mut piece = Piece::new();
+            put_few(names, &mut piece);
+            return out.append(piece.as_slice());
         }
         put_list(names, out)
     }
@@ -44,22 +46,21 @@ impl Spelled for Path {
     ghost laws = { path_laws };
 }
 
-/// The spelling of a path of few names.
-fn few_names(names: &[Name]) -> Piece
+/// Puts the spelling of a path of few names into the piece, which is empty.
+fn put_few(names: &[Name], piece: &mut Piece)
     requires path { IsPath names.now }
     requires few { length names.now ≤ 3 }
-    ensures { result ≡ path_spelling names.now }
+    requires empty { piece.old ≡ [] }
+    ensures { piece.new ≡ path_spelling names.now }
 {
-    let mut piece = Piece::new();
     piece.put(&(names.len() as u64).to_be_bytes());
     'names: for name in names {
-        put_few(name, &mut piece);
+        put_one(name, piece);
     }
-    piece
 }
 
 /// Puts the spelling of a name after what is there.
-fn put_few(name: &Name, piece: &mut Piece)
+fn put_one(name: &Name, piece: &mut Piece)
     requires { length piece.old ≤ 88 }
     ensures spelled { piece.new ≡ piece.old ++ name_spelling name.now }
     ensures room { length piece.new ≤ length piece.old + 40 }

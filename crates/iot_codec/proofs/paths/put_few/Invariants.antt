@@ -1,7 +1,7 @@
 use Rattle.std.proofs.Common.{◌≡◌, ◌+◌, ◌*◌, ◌≤◌, ◌++◌, take, length}
 use Rattle.std.specs.List.{flat_map}
 use Rattle.iot_codec.specs.Spelling.{number_spelling, name_spelling}
-use Rattle.iot_codec.proofs.paths.few_names.Given as goal
+use Rattle.iot_codec.proofs.paths.put_few.Given as goal
 
 abbrev pub invariant-names : goal.invariant-names
 invariant-names l =
