@@ -5,8 +5,9 @@ use Rattle.std.proofs.Common.{append_assoc, refl, sym, ap, subst, ◌∙◌, ari
 use Rattle.std.proofs.lemmas.List.{append-nil, take_more, drop_more, take-append-drop, map-append}
 use Rattle.std.proofs.Math.Seq.{drop-length}
 use Rattle.std.specs.List.{starts_with}
-use Rattle.std.specs.Ordering.{eq_by_cmp}
+use Rattle.std.specs.Ordering.{eq_by_cmp, is_lt, is_eq, ordering_reverse}
 use Rattle.std.specs.FinMap.{find, is_sorted}
+use Rattle.std.specs.declared.cmp.Ordering.TheVariants.{Less}
 use Rattle.iot_text.specs.Paths.{path_cmp, parent_of}
 use Rattle.iot_tree.specs.Ancestors.{proper_prefixes}
 use Rattle.iot_tree.specs.Place.{AllBefore}
@@ -15,19 +16,32 @@ use Rattle.iot_tree.specs.declared.nodes.Node.{Node}
 use Rattle.iot_prune.proofs.WalkLaws.{has_from, rising_from, begins_from}
 use Rattle.iot_prune.specs.Walks.{from, begins}
 use Rattle.iot_stamp.specs.Stamps.{Entry}
-use Rattle.iot_text.proofs.PathsLaws.{parent_of-push}
+use Rattle.iot_text.proofs.PathsLaws.{parent_of-push, path_total}
 use Rattle.iot_tree.proofs.AncestorLaws.{ends, at_root, in_name}
-use Rattle.iot_tree.proofs.PlaceLaws.{front_before}
+use Rattle.iot_tree.proofs.PlaceLaws.{front_before, is_less}
 use Rattle.iot_tree.specs.Snapshots.{is_known, has, ArePathsRising}
 use Rattle.iot_tree.specs.Tree.{Row, Path}
 use Rattle.iot_stamp.specs.Refresh.{stays, is_gone, has_row}
 use Rattle.iot_stamp.specs.Pairing.{paired}
 use Rattle.iot_stamp.specs.Passes.{before_key, from_key, head_at}
-use Rattle.iot_held.specs.Weave.{own, woven, merge_flags, above_or_none}
+use Rattle.iot_held.specs.Weave.{are_ahead, own, woven, merge_flags, above_or_none}
 use Rattle.iot_stamp.proofs.PassesLaws.{find_from, sorted_from, head_from}
 use Rattle.iot_stamp.proofs.StackLaws.{above_push, prefixes_end, Stacked, cut_is, next_is, stacked_none}
 use Rattle.iot_stamp.proofs.SendingLaws.{before_left, before_at, last_of_end}
 use Rattle.iot_stamp.proofs.StartsLaws.{starts_push, starts_root}
+
+-- ---- entries that come after a path
+
+module _ {V : Type 0} (p : Path) where
+  -- none of them is moved, and none is the path's
+  pub nothing_moves : (es : List (Path × V)) → are_ahead p es ≡ true
+      → (from_key p es ≡ es) × (before_key p es ≡ []) × (is_some (head_at p es) ≡ false)
+  nothing_moves [] ahead = (refl, refl, refl)
+  nothing_moves (e ∷ es) ahead =
+      let less : path_cmp p e.0 ≡ Less = is_less (path_cmp p e.0) ahead in
+      let kept : is_lt (path_cmp e.0 p) ≡ false = ap is_lt (path_total.antisymm e.0 p ∙ ap ordering_reverse less) in
+      let away : eq_by_cmp path_cmp p e.0 ≡ false = ap is_eq less in
+      (rw kept refl, rw kept refl, rw away refl)
 
 -- ---- what is gone
 

@@ -1,6 +1,6 @@
 -- Two lists of entries in order, woven into one.
 use Rattle.iot_tree.specs.Tree.{Path}
-use Rattle.std.specs.Prelude.{Bool, false, not, ◌&&◌, ◌++◌, cond, List, [], ◌∷◌, is_some, Option, Some, None}
+use Rattle.std.specs.Prelude.{Bool, true, false, not, ◌&&◌, ◌++◌, cond, List, [], ◌∷◌, is_some, Option, Some, None}
 use Rattle.std.specs.FinMap.{find}
 use Rattle.std.specs.Ordering.{is_lt}
 use Rattle.iot_stamp.specs.Stamps.{Entry}
@@ -21,6 +21,11 @@ woven keep (h ∷ hs) es = before_key h.0 es ++ (own (keep h) h (from_key h.0 es
 abbrev pub begins_before : {V : Type 0} → Path → List (Path × V) → Bool
 begins_before p [] = false
 begins_before p (e ∷ es) = is_lt (path_cmp e.0 p)
+
+-- the first entry comes after p, or there is none
+abbrev pub are_ahead : {V : Type 0} → Path → List (Path × V) → Bool
+are_ahead p [] = true
+are_ahead p (e ∷ es) = is_lt (path_cmp p e.0)
 
 -- what is kept of a path for the rows below it: whether it has a row among these, and whether it is gone
 abbrev pub merge_flags : List Entry → List Path → Path → Bool × Bool

@@ -8,7 +8,7 @@ ghost use Rattle.iot_tree.specs.Snapshots.{ArePathsRising, is_known};
 ghost use Rattle.iot_stamp.specs.Refresh.{stays};
 ghost use Rattle.iot_stamp.specs.Pairing.{paired};
 ghost use Rattle.iot_stamp.specs.Passes.{before_key, from_key, head_at};
-ghost use Rattle.iot_held.specs.Weave.{above_or_none, begins_before, woven};
+ghost use Rattle.iot_held.specs.Weave.{above_or_none, are_ahead, begins_before, woven};
 
 use iot_prune::walking::{begins, from};
 use iot_text::{NoMemory, Path};
@@ -42,9 +42,8 @@ pub(crate) fn joined_rows(
         let stamp = stamps[at];
         flags.truncate(row.0.names().len());
         let above = above_or_none(flags.as_slice());
-        move_before(&row.0, &mut rest, &mut out)?;
+        let set = reach(&row.0, &mut rest, &mut out)?;
         left = from(&row.0, left);
-        let set = begins_entry(&row.0, &rest);
         let goes = either(above.1, begins(&row.0, left));
         flags.push((set, goes))?;
         if is_kept(&row.1, above.0, goes, set) {
@@ -53,6 +52,30 @@ pub(crate) fn joined_rows(
     }
     move_all(rest, &mut out)?;
     Ok(out)
+}
+
+/// Moves the entries that come before the path out of the queue, behind the others, and says whether the path's is the next one.
+/// Costs one comparison if the first of them comes after the path.
+fn reach(path: &Path, entries: &mut Sent, out: &mut StampedRows) -> Result<bool, NoMemory>
+    ensures rest { OnOk result (entries.new.items ≡ from_key path.now entries.old.items) }
+    ensures out { OnOk result (out.new ≡ out.old ++ before_key path.now entries.old.items) }
+    ensures here { IfOk result (λ here. here ≡ is_some (head_at path.now entries.new.items)) }
+{
+    if are_ahead(path, entries) {
+        return Ok(false);
+    }
+    move_before(path, entries, out)?;
+    Ok(begins_entry(path, entries))
+}
+
+/// Whether all entries come after the path, by the first of them.
+fn are_ahead(path: &Path, entries: &Sent) -> bool
+    ensures { result ≡ are_ahead path.now entries.now.items }
+{
+    match entries.front() {
+        Some(first) => path.cmp(&first.0).is_lt(),
+        None => true,
+    }
 }
 
 /// Moves the entries up to the first that does not come before the path out of the queue, behind the others.

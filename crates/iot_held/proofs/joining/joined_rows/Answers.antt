@@ -21,20 +21,20 @@ held-preserved c =
       | then-is_kept+in_ok-copy+in_ok-copy-2+in_ok-push-2 w ↦
           step_kept c.args.held.now c.args.stamps.now c.args.rows c.args.gone.now c.held.rest.items c.held.left.now c.held.flags.items
           c.held.out c.held.at c.index-held-at.result c.requires.tree c.held-test.true c.index-held-at.is c.held.invariant
-          c.truncate.new.self.items c.push.new.self.items c.above_or_none-above.result c.move_before.new.entries.items
-          c.from-left.result.now c.begins_entry-set.result c.either-goes.result c.is_kept.result _ c.move_before.new.out
-          cut_by above_by c.in_ok-move_before.ensures.rest c.in_ok-move_before.ensures.out c.from-left.ensures
-          c.begins_entry-set.ensures goes_by refl c.in_ok-push.ensures.items c.is_kept.ensures
+          c.truncate.new.self.items c.push.new.self.items c.above_or_none-above.result c.reach.new.entries.items
+          c.from-left.result.now c.in_ok-set.set c.either-goes.result c.is_kept.result _ c.reach.new.out
+          cut_by above_by c.in_ok-set.ensures.rest c.in_ok-set.ensures.out c.from-left.ensures
+          c.in_ok-set.ensures.here goes_by refl c.in_ok-push.ensures.items c.is_kept.ensures
           _ c.if-is_kept.out w.if-is_kept.true
           (λ i. (w.in_ok-copy.ensures i, (w.in_ok-copy-2.ensures i, get_or c.args.stamps.now c.held.at 0)))
           (w.out-is ∙ w.in_ok-push-2.ensures.ok)
       | else-is_kept w ↦
           step_left c.args.held.now c.args.stamps.now c.args.rows c.args.gone.now c.held.rest.items c.held.left.now c.held.flags.items
           c.held.out c.held.at c.index-held-at.result c.requires.tree c.held-test.true c.index-held-at.is c.held.invariant
-          c.truncate.new.self.items c.push.new.self.items c.above_or_none-above.result c.move_before.new.entries.items
-          c.from-left.result.now c.begins_entry-set.result c.either-goes.result c.is_kept.result _ c.move_before.new.out
-          cut_by above_by c.in_ok-move_before.ensures.rest c.in_ok-move_before.ensures.out c.from-left.ensures
-          c.begins_entry-set.ensures goes_by refl c.in_ok-push.ensures.items c.is_kept.ensures
+          c.truncate.new.self.items c.push.new.self.items c.above_or_none-above.result c.reach.new.entries.items
+          c.from-left.result.now c.in_ok-set.set c.either-goes.result c.is_kept.result _ c.reach.new.out
+          cut_by above_by c.in_ok-set.ensures.rest c.in_ok-set.ensures.out c.from-left.ensures
+          c.in_ok-set.ensures.here goes_by refl c.in_ok-push.ensures.items c.is_kept.ensures
           c.if-is_kept.out w.if-is_kept.false w.out-is
     ]
 
