@@ -6,16 +6,32 @@ use Rattle.std.proofs.lemmas.Bool.{cases_lt}
 use Rattle.std.proofs.lemmas.Bool.Decides.{nat_tests}
 use Rattle.iot_disk.specs.Disk.{Torn}
 use Rattle.iot_records.proofs.BytesLaws.{byte_torn, number_torn}
-use Rattle.iot_slots.specs.Cells.{next}
+use Rattle.iot_slots.specs.Cells.{next, counting, in_force, has_cells}
 use Rattle.iot_slots.specs.Decoding.{Encodes, State, decoded}
-use Rattle.iot_slots.specs.Layouts.{IsOther, IsLaidOut, next_place, renewed_layout, reaches, MakesRoom}
+use Rattle.iot_slots.specs.Layouts.{IsOther, IsLaidOut, place_by, place_in, next_place, renewed_layout, reaches, MakesRoom}
+use Rattle.iot_slots.specs.declared.cell.Force.{Force}
+use Rattle.iot_slots.specs.declared.cell.Force.TheVariants.{NoCell, Is}
 use Rattle.iot_slots.specs.declared.layout.Layout.{Layout}
+use Rattle.iot_slots.proofs.CellsLaws.{counting_is}
 use Rattle.iot_slots.proofs.PartsLaws.{encodes, shut_torn}
 
 -- what is laid out is decoded as its state
 pub laid_encodes : (header bytes : List ℕ) (state : State) (layout : Layout) → IsLaidOut header bytes state layout →
     decoded header bytes ≡ Encodes state
 laid_encodes header bytes state layout laid = encodes header bytes layout state laid.in_force
+
+-- it is the layout's cell that is in force
+pub laid_place : (header bytes : List ℕ) (state : State) (layout : Layout) → IsLaidOut header bytes state layout →
+    layout.place ≡ place_in bytes
+laid_place header bytes state layout laid =
+    let cell = laid.in_force.cell in
+    let wide = cell.room in
+    let opening = cell.opening in
+    let room : has_cells bytes ≡ true = grind (arith, nat_tests) in
+    let force : in_force bytes ≡ Is layout.cell =
+    ap (λ (b : Bool). cond b (counting bytes) NoCell) room
+    ∙ counting_is bytes layout.cell layout.generation cell.gate cell.generation laid.in_force.outranks in
+    sym (ap (λ (f : Force). place_by f bytes) force ∙ cell.place)
 
 -- a write after the cells leaves what the other cell says
 pub other_torn : (at end : ℕ) (old new : List ℕ) (other generation : ℕ) (named : Option ℕ) → Torn at end old new →

@@ -3,11 +3,13 @@ use Rattle.std.specs.Prelude.{◌≡◌, ◌≢◌, ◌≤◌, ◌<◌, ℕ, ◌
 use Rattle.std.specs.Prelude.{List, [], ◌∷◌, length, slice_index, Option, Some, None}
 use Rattle.iot_records.specs.Bytes.{number_at, is_open}
 use Rattle.iot_records.specs.Records.{records}
-use Rattle.iot_slots.specs.Cells.{cell_at, other_of, next}
+use Rattle.iot_slots.specs.Cells.{cell_at, other_of, next, in_force}
 use Rattle.iot_slots.specs.Decoding.{State}
 use Rattle.iot_slots.specs.Parts.{IsInForce}
 use Rattle.iot_slots.specs.declared.cell.Cell.{Cell}
 use Rattle.iot_slots.specs.declared.cell.Cell.TheVariants.{First}
+use Rattle.iot_slots.specs.declared.cell.Force.{Force}
+use Rattle.iot_slots.specs.declared.cell.Force.TheVariants.{NoCell, Clash, Is}
 use Rattle.iot_slots.specs.declared.layout.Layout.{Layout}
 use Rattle.iot_slots.specs.declared.layout.TheConstants.{MANY, SPARE}
 
@@ -32,6 +34,20 @@ pub record IsLaidOut (header bytes : List ℕ) (state : State) (layout : Layout)
   pub generation_fits : layout.generation < 2 ^ 64
   pub count_fits : layout.count < 2 ^ 64
   pub limit : length bytes ≤ 2 ^ 62
+
+-- the place that the cell in force names
+abbrev pub place_by : Force → List ℕ → ℕ
+place_by NoCell bytes = 0
+place_by Clash bytes = 0
+place_by (Is cell) bytes = number_at bytes (cell_at cell + 9)
+
+-- where the checkpoint in force is
+abbrev pub place_in : List ℕ → ℕ
+place_in bytes = place_by (in_force bytes) bytes
+
+-- after one more record, whose body has so many bytes
+abbrev pub longer_layout : Layout → (size : ℕ) → Layout
+longer_layout old size = record old { gate = old.gate + 9 + size; count = next old.count }
 
 -- ---- where the next checkpoint goes
 

@@ -1,5 +1,5 @@
 -- The start of slots from their disk.
-use Rattle.std.specs.Prelude.{◌≡◌, ℕ, List, [], ◌∷◌, ◌++◌, replicate}
+use Rattle.std.specs.Prelude.{◌≡◌, ℕ, ◌+◌, List, [], ◌∷◌, ◌++◌, length, drop, replicate}
 use Rattle.iot_count.specs.Counts.{Rose, Stayed}
 use Rattle.iot_disk.specs.declared.faults.StartFault.{StartFault}
 use Rattle.iot_disk.specs.declared.faults.StartFault.TheVariants as fault
@@ -26,7 +26,15 @@ IsReason fault.Stopped decoding = ⊥
 IsReason fault.Foreign decoding = decoding ≡ Foreign
 IsReason (fault.Damaged at) decoding = decoding ≡ Damaged at
 
--- what follows byte 0 of a disk that was just started: the header, both cells closed, a checkpoint of this body with
+-- what follows the gate of cell 0 on a disk that was just started: generation 1 and place 43, cell 1 closed, a checkpoint of this body with
 -- no record before it, and a closed gate
+abbrev pub after_gate : (body : List ℕ) → List ℕ
+after_gate body = number 1 ++ (number 43 ++ (replicate 17 0 ++ (spelled body ++ (number 0 ++ 0 ∷ []))))
+
+-- what follows its byte 0 before the gate of cell 0 is opened
 abbrev pub fresh : (header body : List ℕ) → List ℕ
-fresh header body = header ++ (0 ∷ (number 1 ++ (number 43 ++ (replicate 17 0 ++ (spelled body ++ (number 0 ++ 0 ∷ []))))))
+fresh header body = header ++ (0 ∷ after_gate body)
+
+-- all its bytes: both gates are open, and what was there before goes on where they end
+abbrev pub started_over : (header body old : List ℕ) → List ℕ
+started_over header body old = 165 ∷ (header ++ (165 ∷ (after_gate body ++ drop (1 + length (fresh header body)) old)))

@@ -1,11 +1,11 @@
 //! The slots themselves.
-ghost use Rattle.std.specs.Prelude.{◌≡◌, ◌≢◌, [], false, length, IfOk, IfErr, OnOk, IsErrOf, MatchResult};
+ghost use Rattle.std.specs.Prelude.{◌≡◌, ◌≢◌, ◌<◌, ◌+◌, ◌^◌, [], false, length, IfOk, IfErr, OnOk, IsErrOf, MatchResult};
 ghost use Rattle.iot_disk.specs.Disk.{armed_with, Only, SameImages};
 ghost use Rattle.iot_disk.specs.Faults.{CountsJournalFault};
-ghost use Rattle.iot_records.specs.Records.{ChangesNothing};
+ghost use Rattle.iot_records.specs.Records.{ChangesNothing, records};
 ghost use Rattle.iot_slots.specs.Cells.{next};
 ghost use Rattle.iot_slots.specs.Decoding.{Encodes, NotStarted, decoded, opened, state_in};
-ghost use Rattle.iot_slots.specs.Start.{HasCause, EachEncodesAs};
+ghost use Rattle.iot_slots.specs.Start.{HasCause, EachEncodesAs, started_over};
 
 use crate::layout::MANY;
 use crate::spelling::{closing, spell_cell, spell_checkpoint};
@@ -28,7 +28,7 @@ pub struct Slots<D: Disk> {
 }
 
 impl<D: Disk> Slots<D> {
-    ghost use Rattle.iot_slots.specs.Layouts.{renewed_layout, is_due, MakesRoom};
+    ghost use Rattle.iot_slots.specs.Layouts.{longer_layout, renewed_layout, place_in, is_due, MakesRoom};
     ghost use Rattle.iot_slots.specs.Slots.{disk_of, header_of, count_of, layout_of, state_on, IsSynced};
     ghost use Rattle.iot_slots.specs.Slots.{appended, renewed, EachEncodes, EachEncodesEither};
 
@@ -69,6 +69,10 @@ impl<D: Disk> Slots<D> {
         ensures only_read_images { decoded header (D.medium.reads disk) ≢ NotStarted → MatchResult result
             (λ made. SameImages (D.medium.may_leave disk) (D.medium.may_leave (disk_of made.0)))
             (λ refused. SameImages (D.medium.may_leave disk) (D.medium.may_leave refused.0)) }
+
+        // After Ok a disk that was not started has these bytes.
+        ensures fresh { decoded header (D.medium.reads disk) ≡ NotStarted → IfOk result (λ made.
+            D.medium.reads (disk_of made.0) ≡ started_over header [] (D.medium.reads disk)) }
 
         ensures arms { MatchResult result
             (λ made. D.medium.arms (disk_of made.0) ≡ D.medium.arms disk)
@@ -115,6 +119,10 @@ impl<D: Disk> Slots<D> {
             (λ made. SameImages (D.medium.may_leave disk) (D.medium.may_leave (disk_of made.0)))
             (λ refused. SameImages (D.medium.may_leave disk) (D.medium.may_leave refused.0)) }
 
+        // After Ok a disk that was not started has these bytes.
+        ensures fresh { decoded header (D.medium.reads disk) ≡ NotStarted → IfOk result (λ made.
+            D.medium.reads (disk_of made.0) ≡ started_over header body.now (D.medium.reads disk)) }
+
         ensures arms { MatchResult result
             (λ made. D.medium.arms (disk_of made.0) ≡ D.medium.arms disk)
             (λ refused. D.medium.arms refused.0 ≡ D.medium.arms disk) }
@@ -157,6 +165,7 @@ impl<D: Disk> Slots<D> {
             (state_on D.medium self.new ≡ appended (state_on D.medium self.old) body.now) }
         ensures synced { OnOk result (IsSynced D.medium self.new) }
         ensures count { OnOk result (count_of self.new ≡ next (count_of self.old)) }
+        ensures layout { OnOk result (layout_of self.new ≡ longer_layout (layout_of self.old) (length body.now)) }
         ensures header { header_of self.new ≡ header_of self.old }
 
         ensures faults { CountsJournalFault result
@@ -225,6 +234,18 @@ impl<D: Disk> Slots<D> {
         ensures { result ≡ count_of self.now }
     {
         self.layout.count
+    }
+
+    /// Where the parts of the disk are: the checkpoint in force, its first record, and the gate after the last.
+    pub fn layout(&self) -> Layout
+        requires { IsSynced D.medium self.now }
+        ensures layout { result ≡ layout_of self.now }
+        ensures place { result.place ≡ place_in (D.medium.reads (disk_of self.now)) }
+        ensures first { result.first ≡ result.place + 16 + length (state_on D.medium self.now).body }
+        ensures gate { result.gate ≡ result.first + length (records (state_on D.medium self.now).bodies) }
+        ensures limit { result.gate < 2 ^ 62 }
+    {
+        self.layout
     }
 
     /// Makes a later device call of the disk fail, and does nothing else.

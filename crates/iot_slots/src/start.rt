@@ -1,12 +1,12 @@
 //! The start of slots from their disk.
-ghost use Rattle.std.specs.Prelude.{◌≡◌, ◌≢◌, ◌≤◌, ◌^◌, [], true, length, IfOk, IfErr, OnOk};
+ghost use Rattle.std.specs.Prelude.{◌≡◌, ◌≢◌, ◌≤◌, ◌^◌, [], true, drop, length, IfOk, IfErr, OnOk};
 ghost use Rattle.iot_disk.specs.Disk.{CountsFault, Only, SameImages};
 ghost use Rattle.iot_records.specs.Bytes.{is_closed};
 ghost use Rattle.iot_records.specs.Images.{Each};
 ghost use Rattle.iot_records.specs.Records.{ChangesNothing};
 ghost use Rattle.iot_slots.specs.Decoding.{Encodes, NotStarted, decoded, opened, state_in};
 ghost use Rattle.iot_slots.specs.Layouts.{IsLaidOut, fresh_layout};
-ghost use Rattle.iot_slots.specs.Start.{HasCause, EachEncodesAs};
+ghost use Rattle.iot_slots.specs.Start.{HasCause, EachEncodesAs, started_over};
 
 use crate::Layout;
 use crate::decoding::{Opened, decode};
@@ -44,6 +44,10 @@ pub fn open<D: Disk>(
     ensures only_read { decoded header.now (D.medium.reads disk.old) ≢ NotStarted → D.medium.reads disk.new ≡ D.medium.reads disk.old }
     ensures only_read_images { decoded header.now (D.medium.reads disk.old) ≢ NotStarted
         → SameImages (D.medium.may_leave disk.old) (D.medium.may_leave disk.new) }
+
+    // After Ok a disk that was not started has these bytes.
+    ensures fresh { decoded header.now (D.medium.reads disk.old) ≡ NotStarted
+        → OnOk result (D.medium.reads disk.new ≡ started_over header.now body.now (D.medium.reads disk.old)) }
     ensures arms { D.medium.arms disk.new ≡ D.medium.arms disk.old }
 {
     let bytes = read_disk(alloc, disk)?;
@@ -71,6 +75,7 @@ fn begin<D: Disk>(
     requires not_started { decoded header.now (D.medium.reads disk.old) ≡ NotStarted }
     requires limit { length (D.medium.reads disk.old) ≤ 2 ^ 62 }
     requires only { Only (D.medium.reads disk.old) (D.medium.may_leave disk.old) }
+    ensures bytes { OnOk result (D.medium.reads disk.new ≡ started_over header.now body.now (D.medium.reads disk.old)) }
     ensures laid_out { OnOk result (IsLaidOut header.now (D.medium.reads disk.new)
         (state_in body.now [] 0) (fresh_layout (length body.now))) }
     ensures durable { OnOk result (Only (D.medium.reads disk.new) (D.medium.may_leave disk.new)) }
@@ -94,6 +99,7 @@ fn close_first<D: Disk>(disk: &mut D, header: &[u8; 8], bytes: &[u8]) -> Result<
     requires limit { length (D.medium.reads disk.old) ≤ 2 ^ 62 }
     requires only { Only (D.medium.reads disk.old) (D.medium.may_leave disk.old) }
     ensures closed { OnOk result (is_closed (D.medium.reads disk.new) ≡ true) }
+    ensures rest { OnOk result (drop 1 (D.medium.reads disk.new) ≡ drop 1 (D.medium.reads disk.old)) }
     ensures limit { OnOk result (length (D.medium.reads disk.new) ≤ 2 ^ 62) }
     ensures durable { OnOk result (Only (D.medium.reads disk.new) (D.medium.may_leave disk.new)) }
     ensures images { Each (λ image. decoded header.now image ≡ NotStarted) (D.medium.may_leave disk.new) }

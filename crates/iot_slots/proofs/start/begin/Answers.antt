@@ -1,5 +1,7 @@
 use Rattle.std.proofs.Common.{◌≡◌, ◌≢◌, ◌≤◌, ◌<◌, inl, inr, ℕ, ◌+◌, ◌^◌, Result, Ok, Err, List, [], ◌∷◌, ◌++◌, length, replicate, get_or}
-use Rattle.std.proofs.Common.{refl, sym, ◌∙◌, ap, subst, arith, true}
+use Rattle.std.proofs.Common.{refl, sym, ◌∙◌, ap, subst, arith, true, take, drop, append_assoc, length-append}
+use Rattle.std.proofs.lemmas.List.{take_at, drop_at, drop-drop}
+use Rattle.std.proofs.lemmas.Result.{on_ok_weaker}
 use Rattle.std.specs.Prelude.{OnOk, OnErr}
 use Rattle.std.proofs.lemmas.Bool.{cases_eq}
 use Rattle.std.proofs.lemmas.Bool.Decides.{nat_tests}
@@ -15,7 +17,7 @@ use Rattle.iot_records.proofs.RecordsLaws.{length-spelled}
 use Rattle.iot_slots.specs.Decoding.{Encodes, NotStarted, decoded, opened, state_in}
 use Rattle.iot_slots.specs.Layouts.{IsLaidOut, fresh_layout}
 use Rattle.iot_slots.specs.Parts.{IsInForce}
-use Rattle.iot_slots.specs.Start.{fresh}
+use Rattle.iot_slots.specs.Start.{fresh, after_gate, started_over}
 use Rattle.iot_slots.proofs.DecodingLaws.{shut_first}
 use Rattle.iot_slots.proofs.LayoutsLaws.{laid_encodes}
 use Rattle.iot_slots.proofs.PartsLaws.{encodes}
@@ -174,6 +176,48 @@ module _ (header body first second third buffer : List ℕ) (eight : length head
       OnOk result (IsLaidOut header now (state_in body [] 0) (fresh_layout (length body)))
   final_laid now (Ok u) written = fresh_laid now written
   final_laid now (Err e) written = tt
+
+-- ---- the bytes after all writes
+
+-- byte 0 alone
+front_one : (bytes : List ℕ) → is_closed bytes ≡ true → length (take 1 bytes) ≡ 1
+front_one [] closed = absurd (grind (arith, nat_tests))
+front_one (b ∷ bytes) closed = refl
+
+-- the four writes, one over the other
+ends_over : (header body old first second third now : List ℕ) → length header ≡ 8 → is_closed first ≡ true →
+    drop 1 first ≡ drop 1 old → second ≡ overwritten first 1 (fresh header body) → third ≡ overwritten second 9 (165 ∷ []) →
+    now ≡ overwritten third 0 (165 ∷ []) → now ≡ started_over header body old
+ends_over header body old first second third now eight closed rest second_is third_is now_is =
+    let size = length (fresh header body) in
+    let tail = after_gate body ++ drop (1 + size) old in
+    let front = take 1 first ++ header in
+    let one = front_one first closed in
+    let nine : length front ≡ 9 = omega (arith, length-append (take 1 first) header, one, eight) in
+    let same : drop (1 + size) first ≡ drop (1 + size) old = sym (drop-drop size 1 first) ∙ ap (drop size) rest ∙ drop-drop size 1 old in
+    let second_as : second ≡ front ++ (0 ∷ tail) = second_is
+    ∙ ap (λ (l : List ℕ). take 1 first ++ (fresh header body ++ l)) same
+    ∙ ap (λ (l : List ℕ). take 1 first ++ l) (append_assoc header (0 ∷ after_gate body) (drop (1 + size) old))
+    ∙ sym (append_assoc (take 1 first) header (0 ∷ tail)) in
+    let left : take 9 second ≡ front = ap (take 9) second_as ∙ take_at front (0 ∷ tail) 9 nine in
+    let right : drop 10 second ≡ tail = sym (drop-drop 1 9 second)
+    ∙ ap (drop 1) (ap (drop 9) second_as ∙ drop_at front (0 ∷ tail) 9 nine) in
+    let third_as : third ≡ take 1 first ++ (header ++ (165 ∷ tail)) = third_is
+    ∙ ap (λ (l : List ℕ). l ++ (165 ∷ drop 10 second)) left
+    ∙ ap (λ (l : List ℕ). front ++ (165 ∷ l)) right
+    ∙ append_assoc (take 1 first) header (165 ∷ tail) in
+    now_is ∙ ap (λ (l : List ℕ). 165 ∷ l) (ap (drop 1) third_as ∙ drop_at (take 1 first) (header ++ (165 ∷ tail)) 1 one)
+
+pub returns-clause-bytes : goal.returns-clause-bytes
+returns-clause-bytes g c =
+    let reads = g.D.Disk.medium.reads in
+    let first = c.in_ok-close_first.ensures in
+    let spelled = c.deref.ensures.value ∙ c.in_ok-spell_fresh.ensures in
+    on_ok_weaker c.keep-3.result
+    (ends_over c.args.header.now c.args.body.now (reads c.args.disk.now) (reads c.close_first.new.disk) (reads c.keep.new.disk)
+    (reads c.keep-2.new.disk) (reads c.keep-3.new.disk) c.told-header first.closed first.rest
+    (c.in_ok-keep.ensures.written ∙ ap (overwritten (reads c.close_first.new.disk) 1) spelled) c.in_ok-keep-2.ensures.written)
+    c.keep-3.ensures.written
 
 pub returns-in_err-close_first-clause-images : goal.returns-in_err-close_first-clause-images
 returns-in_err-close_first-clause-images g c =

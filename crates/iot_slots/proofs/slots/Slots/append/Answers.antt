@@ -209,3 +209,18 @@ returns-clause-appended g c =
 
 pub returns-clause-images : goal.returns-clause-images
 returns-clause-images g c = either_after _ _ _ _ (returns-clause-appended g c)
+
+pub returns-clause-layout : goal.returns-clause-layout
+returns-clause-layout g c =
+    let spells = c.deref.ensures.value ∙ c.in_ok-spell_record.ensures in
+    let old = c.args.self.now.layout in
+    let size = length c.args.body.now in
+    let moved : old.gate + c.len.result ≡ old.gate + 9 + size = omega (
+      arith,
+      c.len.ensures,
+      c.deref.ensures.len,
+      ap length spells,
+      length-append (spelled c.args.body.now) (0 ∷ []),
+      length-spelled c.args.body.now,
+    ) in
+    ap (λ (n : ℕ). record old { gate = n; count = next old.count }) moved
