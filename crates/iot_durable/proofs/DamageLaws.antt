@@ -1,0 +1,111 @@
+-- What is damaged is refused for that, and nothing else is.
+use Rattle.std.proofs.Common.{◌≡◌, ◌≢◌, ℕ, List, [], inl, inr, refl, sym, ap, ◌∙◌, subst}
+use Rattle.iot_count.specs.Counts.{Stayed}
+use Rattle.iot_disk.specs.declared.faults.StartFault.{StartFault}
+use Rattle.iot_disk.specs.declared.faults.StartFault.TheVariants as fault
+use Rattle.iot_records.specs.Records.{ChangesNothing}
+use Rattle.iot_slots.specs.Decoding.{Decoded, Encodes, NotStarted, Foreign, Damaged, State, decoded, opened, state_in, state_of}
+use Rattle.iot_slots.specs.Layouts.{place_in}
+use Rattle.iot_slots.specs.Start as on_slots
+use Rattle.iot_durable.specs.Rules.{Rules}
+use Rattle.iot_durable.specs.Standing.{header}
+use Rattle.iot_durable.specs.Damage.{BreaksAt, DamageBy, IsDamagedAt}
+use Rattle.iot_durable.specs.Causes.{HasCause, IsReason, SaysForeign, SaysDamaged}
+use Rattle.iot_durable.proofs.ImagesLaws.{not_both}
+use Rattle.iot_durable.proofs.StandingLaws.{no_split}
+
+module _ {S C : Type 0} (rules : Rules S C) where
+  module _ (first : List ℕ) (spells : rules.IsBody first rules.opening) where
+    -- a disk that is not started is not damaged
+    fresh_whole : (body : List ℕ) (bodies : List (List ℕ)) (count place at : ℕ) →
+        opened first NotStarted ≡ Encodes (state_in body bodies count) →
+        BreaksAt rules body bodies place at → ⊥
+    fresh_whole body bodies count place at is damage =
+        let body_is : first ≡ body = ap (λ (d : Decoded). (state_of d).body) is in
+        let none : [] ≡ bodies = ap (λ (d : Decoded). (state_of d).bodies) is in
+        elim damage [
+          | inl bad ↦ bad.never rules.opening (subst (λ (l : List ℕ). rules.IsBody l rules.opening) body_is spells)
+          | inr bad ↦ no_split bad.damage.front bad.damage.later bad.damage.body (none ∙ bad.damage.split)
+        ]
+
+    pub refused_same : (fault : StartFault) (d : Decoded) (body : List ℕ) (bodies : List (List ℕ)) (count place : ℕ) (P : Type 0) →
+        opened first d ≡ Encodes (state_in body bodies count) → IsReason rules fault body bodies place → (d ≢ NotStarted → P) →
+        ChangesNothing fault P
+    refused_same fault.NoMemory d body bodies count place P is reason kept = tt
+    refused_same fault.Stopped d body bodies count place P is reason kept = tt
+    refused_same fault.Foreign d body bodies count place P is reason kept = absurd reason
+    refused_same (fault.Damaged at) (Encodes state) body bodies count place P is reason kept = kept (λ none. not_both _ state none refl)
+    refused_same (fault.Damaged at) NotStarted body bodies count place P is reason kept =
+        absurd (fresh_whole body bodies count place at is reason)
+    refused_same (fault.Damaged at) Foreign body bodies count place P is reason kept = absurd cc
+    refused_same (fault.Damaged at) (Damaged there) body bodies count place P is reason kept = absurd cc
+
+    damaged : (bytes : List ℕ) (d : Decoded) (body : List ℕ) (bodies : List (List ℕ)) (count place at : ℕ) → decoded header bytes ≡ d →
+        opened first d ≡ Encodes (state_in body bodies count) → (d ≢ NotStarted → place ≡ place_in bytes) →
+        BreaksAt rules body bodies place at → IsDamagedAt rules bytes at
+    damaged bytes (Encodes state) body bodies count place at is opens here damage =
+        let same : state ≡ state_in body bodies count = ap state_of opens in
+        record {
+          decoding = Encodes (state_in body bodies count);
+          is = is ∙ ap Encodes same;
+          damage = subst (λ (p : ℕ). BreaksAt rules body bodies p at)
+              (here (λ none. not_both _ state none refl)) damage;
+        }
+    damaged bytes NotStarted body bodies count place at is opens here damage = absurd (fresh_whole body bodies count place at opens damage)
+    damaged bytes Foreign body bodies count place at is opens here damage = absurd cc
+    damaged bytes (Damaged there) body bodies count place at is opens here damage = absurd cc
+
+    pub cause_of : (fault : StartFault) (bytes : List ℕ) (body : List ℕ) (bodies : List (List ℕ)) (count place before now : ℕ) →
+        opened first (decoded header bytes) ≡ Encodes (state_in body bodies count) →
+        (decoded header bytes ≢ NotStarted → place ≡ place_in bytes) → IsReason rules fault body bodies place → Stayed before now →
+        HasCause rules fault bytes before now
+    cause_of fault.NoMemory bytes body bodies count place before now opens here reason stayed = stayed
+    cause_of fault.Stopped bytes body bodies count place before now opens here reason stayed = absurd reason
+    cause_of fault.Foreign bytes body bodies count place before now opens here reason stayed = absurd reason
+    cause_of (fault.Damaged at) bytes body bodies count place before now opens here reason stayed =
+        (damaged bytes (decoded header bytes) body bodies count place at refl opens here reason, stayed)
+
+    -- what is damaged breaks there
+    breaks_by : (d : Decoded) (body : List ℕ) (bodies : List (List ℕ)) (count place there at : ℕ) →
+        opened first d ≡ Encodes (state_in body bodies count) → (d ≢ NotStarted → place ≡ there) → DamageBy rules d there at →
+        BreaksAt rules body bodies place at
+    breaks_by (Encodes state) body bodies count place there at opens here damage =
+        subst (λ (e : State). BreaksAt rules e.body e.bodies place at) (ap state_of opens)
+        (subst (λ (p : ℕ). BreaksAt rules state.body state.bodies p at) (sym (here (λ none. not_both _ state none refl))) damage)
+    breaks_by NotStarted body bodies count place there at opens here damage = absurd damage
+    breaks_by Foreign body bodies count place there at opens here damage = absurd damage
+    breaks_by (Damaged other) body bodies count place there at opens here damage = absurd cc
+
+    pub breaks_of : (bytes body : List ℕ) (bodies : List (List ℕ)) (count place at : ℕ) →
+        opened first (decoded header bytes) ≡ Encodes (state_in body bodies count) →
+        (decoded header bytes ≢ NotStarted → place ≡ place_in bytes) → IsDamagedAt rules bytes at → BreaksAt rules body bodies place at
+    breaks_of bytes body bodies count place at opens here damaged =
+        breaks_by damaged.decoding body bodies count place (place_in bytes) at (ap (opened first) (sym damaged.is) ∙ opens)
+        (λ started. here (λ none. started (sym damaged.is ∙ none))) damaged.damage
+
+  -- and is refused for that by the slots
+  says_by : (fault : StartFault) (d : Decoded) (before now place at : ℕ) → on_slots.HasCause fault d before now →
+      DamageBy rules d place at → SaysDamaged at fault
+  says_by fault.NoMemory d before now place at cause damage = tt
+  says_by fault.Stopped d before now place at cause damage = tt
+  says_by fault.Foreign d before now place at cause damage =
+      subst (λ (d : Decoded). DamageBy rules d place at) cause.0 damage
+  says_by (fault.Damaged there) d before now place at cause damage =
+      sym (subst (λ (d : Decoded). DamageBy rules d place at) cause.0 damage)
+
+  pub says_damaged : (fault : StartFault) (bytes : List ℕ) (before now at : ℕ) →
+      on_slots.HasCause fault (decoded header bytes) before now → IsDamagedAt rules bytes at → SaysDamaged at fault
+  says_damaged fault bytes before now at cause damaged =
+      says_by fault (decoded header bytes) before now (place_in bytes) at cause
+      (subst (λ (d : Decoded). DamageBy rules d (place_in bytes) at) (sym damaged.is) damaged.damage)
+
+-- what something else wrote is not opened
+pub not_foreign : (first : List ℕ) (d : Decoded) (encoded : State) → opened first d ≡ Encodes encoded → d ≡ Foreign → ⊥
+not_foreign first d encoded opens is = let clash : Foreign ≡ Encodes encoded = ap (opened first) (sym is) ∙ opens in absurd cc
+
+pub says_foreign : (fault : StartFault) (d : Decoded) (before now : ℕ) → on_slots.HasCause fault d before now → d ≡ Foreign →
+    SaysForeign fault
+says_foreign fault.NoMemory d before now cause is = tt
+says_foreign fault.Stopped d before now cause is = tt
+says_foreign fault.Foreign d before now cause is = tt
+says_foreign (fault.Damaged at) d before now cause is = let clash : Foreign ≡ Damaged at = sym is ∙ cause.0 in absurd cc

@@ -1,0 +1,4 @@
+pub mod DamageLaws
+pub mod ImagesLaws
+pub mod ReplayLaws
+pub mod StandingLaws

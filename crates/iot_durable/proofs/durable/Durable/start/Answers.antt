@@ -1,0 +1,88 @@
+use Rattle.std.proofs.Common.{◌≡◌, ◌≢◌, ℕ, List, refl, sym, ap, ◌∙◌, subst}
+use Rattle.iot_disk.specs.Disk.{SameImages}
+use Rattle.iot_slots.specs.Decoding.{Decoded, Encodes, NotStarted, decoded, opened, state_in}
+use Rattle.iot_slots.specs.Layouts.{place_in}
+use Rattle.iot_durable.specs.Standing.{header}
+use Rattle.iot_durable.proofs.DamageLaws.{refused_same, cause_of}
+use Rattle.iot_durable.proofs.ImagesLaws.{stands_made, made_stands, start_count}
+use Rattle.iot_durable.proofs.durable.Durable.start.Goals as goal
+
+-- what was started, by the body as it is lent
+opens_as : (d : Decoded) (first body lent : List ℕ) (records : List (List ℕ)) (count : ℕ) →
+    opened first d ≡ Encodes (state_in body records count) → lent ≡ body → opened first d ≡ Encodes (state_in lent records count)
+opens_as d first body lent records count is same = is ∙ ap (λ (l : List ℕ). Encodes (state_in l records count)) (sym same)
+
+pub returns-in-Ok-replay-clause-stands : goal.returns-in-Ok-replay-clause-stands
+returns-in-Ok-replay-clause-stands g c =
+    let rules = g.R.Recorded.rules in
+    let bytes = g.D.Disk.medium.reads c.args.disk in
+    let first = c.as_bytes.result.now in
+    let spells = subst (λ (l : List ℕ). rules.IsBody l rules.opening) (sym c.as_bytes.ensures) c.in-Ok.ensures in
+    let opens = opens_as (decoded header bytes) first _ c.as_slice.result.now _ _ c.in-Ok-start_with.ensures.state c.as_slice.ensures in
+    let made = c.in-Ok-replay.ensures in
+    record {
+      stands = record {
+        decoding = decoded header bytes;
+        is = refl;
+        makes = made_stands rules first spells (decoded header bytes) _ _ opens made.only made.makes;
+      };
+      counted = start_count first (decoded header bytes) _ opens;
+    }
+
+pub returns-in-Ok-replay-clause-only : goal.returns-in-Ok-replay-clause-only
+returns-in-Ok-replay-clause-only g c = λ state stands.
+    let rules = g.R.Recorded.rules in
+    let bytes = g.D.Disk.medium.reads c.args.disk in
+    let first = c.as_bytes.result.now in
+    let spells = subst (λ (l : List ℕ). rules.IsBody l rules.opening) (sym c.as_bytes.ensures) c.in-Ok.ensures in
+    let opens = opens_as (decoded header bytes) first _ c.as_slice.result.now _ _ c.in-Ok-start_with.ensures.state c.as_slice.ensures in
+    c.in-Ok-replay.ensures.only state
+    (stands_made rules first spells stands.decoding _ state (ap (opened first) (sym stands.is) ∙ opens) stands.makes)
+
+pub returns-clause-never : goal.returns-clause-never
+returns-clause-never g c = λ state stands.
+    let rules = g.R.Recorded.rules in
+    let bytes = g.D.Disk.medium.reads c.args.disk in
+    let first = c.as_bytes.result.now in
+    let spells = subst (λ (l : List ℕ). rules.IsBody l rules.opening) (sym c.as_bytes.ensures) c.in-Ok.ensures in
+    let opens = opens_as (decoded header bytes) first _ c.as_slice.result.now _ _ c.in-Ok-start_with.ensures.state c.as_slice.ensures in
+    c.in-Err-replay.ensures.never state
+    (stands_made rules first spells stands.decoding _ state (ap (opened first) (sym stands.is) ∙ opens) stands.makes)
+
+pub returns-clause-cause : goal.returns-clause-cause
+returns-clause-cause g c =
+    let rules = g.R.Recorded.rules in
+    let bytes = g.D.Disk.medium.reads c.args.disk in
+    let first = c.as_bytes.result.now in
+    let spells = subst (λ (l : List ℕ). rules.IsBody l rules.opening) (sym c.as_bytes.ensures) c.in-Ok.ensures in
+    let opens = opens_as (decoded header bytes) first _ c.as_slice.result.now _ _ c.in-Ok-start_with.ensures.state c.as_slice.ensures in
+    let here = λ (started : decoded header bytes ≢ NotStarted).
+    c.layout-layout.ensures.place ∙ ap place_in (c.in-Ok-start_with.ensures.only_read started) in
+    let stayed = ap g.D.Disk.medium.faults c.into_disk.ensures ∙ c.in-Ok-start_with.ensures.steady in
+    cause_of rules first spells c.in-Err-replay.fault bytes _ _ _ c.layout-layout.result.place _ _ opens here
+    c.in-Err-replay.ensures.err stayed
+
+pub returns-clause-refused_reads : goal.returns-clause-refused_reads
+returns-clause-refused_reads g c =
+    let rules = g.R.Recorded.rules in
+    let bytes = g.D.Disk.medium.reads c.args.disk in
+    let first = c.as_bytes.result.now in
+    let spells = subst (λ (l : List ℕ). rules.IsBody l rules.opening) (sym c.as_bytes.ensures) c.in-Ok.ensures in
+    let opens = opens_as (decoded header bytes) first _ c.as_slice.result.now _ _ c.in-Ok-start_with.ensures.state c.as_slice.ensures in
+    let same = λ (started : decoded header bytes ≢ NotStarted).
+    ap g.D.Disk.medium.reads c.into_disk.ensures ∙ c.in-Ok-start_with.ensures.only_read started in
+    refused_same rules first spells c.in-Err-replay.fault (decoded header bytes) _ _ _ c.layout-layout.result.place _ opens
+    c.in-Err-replay.ensures.err same
+
+pub returns-clause-refused_images : goal.returns-clause-refused_images
+returns-clause-refused_images g c =
+    let rules = g.R.Recorded.rules in
+    let bytes = g.D.Disk.medium.reads c.args.disk in
+    let first = c.as_bytes.result.now in
+    let spells = subst (λ (l : List ℕ). rules.IsBody l rules.opening) (sym c.as_bytes.ensures) c.in-Ok.ensures in
+    let opens = opens_as (decoded header bytes) first _ c.as_slice.result.now _ _ c.in-Ok-start_with.ensures.state c.as_slice.ensures in
+    let same = λ (started : decoded header bytes ≢ NotStarted).
+    subst (λ (disk : g.row.D.Denot). SameImages (g.D.Disk.medium.may_leave c.args.disk) (g.D.Disk.medium.may_leave disk))
+    (sym c.into_disk.ensures) (c.in-Ok-start_with.ensures.only_read_images started) in
+    refused_same rules first spells c.in-Err-replay.fault (decoded header bytes) _ _ _ c.layout-layout.result.place _ opens
+    c.in-Err-replay.ensures.err same

@@ -1,0 +1,6 @@
+pub mod Causes
+pub mod Damage
+pub mod Durable
+pub mod Faults
+pub mod Rules
+pub mod Standing

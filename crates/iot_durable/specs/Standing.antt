@@ -1,0 +1,68 @@
+-- The state for which the bytes of a disk stand.
+use Rattle.std.specs.Prelude.{◌≡◌, ◌⊎◌, ℕ, List, [], ◌∷◌, codes}
+use Rattle.iot_slots.specs.Cells.{next}
+use Rattle.iot_slots.specs.Decoding.{Decoded, Encodes, NotStarted, Foreign, Damaged, State, decoded, state_of}
+use Rattle.iot_slots.specs.Slots.{appended, EachEncodesEither}
+use Rattle.iot_slots.specs.Start.{started_over}
+use Rattle.iot_durable.specs.Rules.{Rules}
+
+-- what follows byte 0 of a disk
+abbrev pub header : List ℕ
+header = codes "IOTSLOT1"
+
+-- how many records were ever appended to what the bytes encode, modulo 2 ^ 64: none, if nothing was started there
+abbrev pub records_in : List ℕ → ℕ
+records_in bytes = (state_of (decoded header bytes)).count
+
+module _ {S C : Type 0} (rules : Rules S C) where
+  -- each body in turn spells a change that can follow, and these lead from one state to the other
+  abbrev pub Leads : List (List ℕ) → S → S → Type 0
+  Leads [] before now = now ≡ before
+  Leads (body ∷ bodies) before now =
+      (change : C) × rules.IsRecord body change × rules.CanFollow before change × Leads bodies (rules.after before change) now
+
+  -- the body of a checkpoint spells a state, and the records after it lead from that one to this one
+  pub record Makes (body : List ℕ) (bodies : List (List ℕ)) (now : S) : Type 0 where
+    pub start : S
+    pub spells : rules.IsBody body start
+    pub leads : Leads bodies start now
+
+  -- what the bytes of a disk encode makes the state; a disk that is not started makes the opening state
+  abbrev pub MakesBy : Decoded → S → Type 0
+  MakesBy (Encodes encoded) now = Makes encoded.body encoded.bodies now
+  MakesBy NotStarted now = now ≡ rules.opening
+  MakesBy Foreign now = ⊥
+  MakesBy (Damaged at) now = ⊥
+
+  -- the bytes of a disk stand for the state
+  pub record StandFor (bytes : List ℕ) (now : S) : Type 0 where
+    pub decoding : Decoded
+    pub is : decoded header bytes ≡ decoding
+    pub makes : MakesBy decoding now
+
+  -- and so many records were ever appended to them, modulo 2 ^ 64
+  pub record StandWith (bytes : List ℕ) (count : ℕ) (now : S) : Type 0 where
+    pub stands : StandFor bytes now
+    pub counted : records_in bytes ≡ count
+
+  -- each image stands for the state, with so many records
+  pub record EachStands (images : List ℕ → Type 0) (count : ℕ) (now : S) : Type 0 where
+    pub each : (image : List ℕ) → images image → StandWith image count now
+
+  -- each image stands for the one state, with so many records, or for the other, with one record more
+  pub record EachStandsEither (images : List ℕ → Type 0) (count : ℕ) (before now : S) : Type 0 where
+    pub each : (image : List ℕ) → images image → StandWith image count before ⊎ StandWith image (next count) now
+
+  -- what was on the disk makes the state, and each image encodes that, or it and one record more, which spells the change
+  pub record IsInDoubt (images : List ℕ → Type 0) (now : S) (change : C) : Type 0 where
+    pub before : State
+    pub body : List ℕ
+    pub makes : Makes before.body before.bodies now
+    pub spells : rules.IsRecord body change
+    pub either : EachEncodesEither header images before (appended before body)
+
+  -- the bytes of a disk that was just started with a checkpoint of the opening state, over those that were there
+  pub record IsFresh (old new : List ℕ) : Type 0 where
+    pub body : List ℕ
+    pub spells : rules.IsBody body rules.opening
+    pub is : new ≡ started_over header body old

@@ -1,0 +1,70 @@
+//! What a durable state needs of that which it keeps.
+ghost use Rattle.std.specs.Prelude.{◌≡◌, List, ℕ, true, Some, IfOk, IfSome, OnOk};
+ghost use Rattle.iot_durable.specs.Rules.{Rules, IsThis, FollowsIf};
+
+use iot_text::{NoMemory, Text};
+use std::alloc::Global;
+
+/// A state in memory that is kept on a disk: the whole of it has a spelling, and so has each change of it.
+///
+/// After an `Err` of `follow` or `apply` nothing is said of it.
+pub trait Recorded: Drop {
+    /// What changes it, by one record on the disk.
+    type Change: Drop;
+
+    /// What is kept of it, for a reader.
+    ghost Kept: { Type 0 };
+
+    /// What is kept of this one.
+    ghost kept: { Self → Kept };
+
+    /// How states and changes are spelled, which change can follow a state, and the state after it.
+    ghost rules: { Rules Kept Self.Change };
+
+    /// What is true of each one in memory.
+    ghost IsSound: { Self → Type 0 };
+
+    /// The one with which a disk begins.
+    fn opening(alloc: Global) -> Result<Self, NoMemory>
+        ensures kept { IfOk result (λ made. kept made ≡ rules.opening) }
+        ensures sound { IfOk result IsSound };
+
+    /// Makes the text the spelling of the whole.
+    fn spell(&self, out: &mut Text) -> Result<(), NoMemory>
+        requires { IsSound self.now }
+        ensures { OnOk result (rules.IsBody out.new (kept self.now)) };
+
+    /// Reads one from the spelling of the whole. Gives none if the bytes are the spelling of none.
+    fn read(alloc: Global, body: &[u8]) -> Result<Option<Self>, NoMemory>
+        ensures found { IfOk result (λ read. IfSome read (λ made. rules.IsBody body.now (kept made))) }
+
+        // The bytes spell no other one, and if they spell one it is given.
+        ensures only { (state : Kept) → rules.IsBody body.now state → IfOk result (IsThis kept state) }
+        ensures sound { IfOk result (λ read. IfSome read IsSound) };
+
+    /// Makes the text the spelling of a change.
+    fn spell_change(change: &Self::Change, out: &mut Text) -> Result<(), NoMemory>
+        requires { rules.IsChange change.now }
+        ensures { OnOk result (rules.IsRecord out.new change.now) };
+
+    /// Reads a change from its spelling. Gives none if the bytes are the spelling of none.
+    fn read_change(alloc: Global, body: &[u8]) -> Result<Option<Self::Change>, NoMemory>
+        ensures found { IfOk result (λ read. IfSome read (rules.IsRecord body.now)) }
+
+        // The bytes spell no other change, and if they spell one it is given.
+        ensures only { (change : Self.Change) → rules.IsRecord body.now change → IfOk result (λ read. read ≡ Some change) };
+
+    /// Makes a change if it can follow, and says whether it can. If it cannot, nothing more is said of this one.
+    fn follow(&mut self, alloc: Global, change: Self::Change) -> Result<bool, NoMemory>
+        requires { IsSound self.old }
+        ensures follows { IfOk result (λ follows. FollowsIf rules follows change (kept self.old) (kept self.new)) }
+        ensures sound { IfOk result (λ follows. follows ≡ true → IsSound self.new) };
+
+    /// Makes a change that can follow.
+    fn apply(&mut self, alloc: Global, change: Self::Change) -> Result<(), NoMemory>
+        requires sound { IsSound self.old }
+        requires change { rules.IsChange change }
+        requires follows { rules.CanFollow (kept self.old) change }
+        ensures kept { OnOk result (kept self.new ≡ rules.after (kept self.old) change) }
+        ensures sound { OnOk result (IsSound self.new) };
+}
