@@ -102,24 +102,37 @@ fn hoard<S: Disk, C: Disk>(
     Ok(())
 }
 
+/// The client of a disk that is restarted asks a new server in these bytes, which bring the root, and then once more.
+fn hoard_twice(
+    rt: &impl Abort,
+    alloc: Global,
+    disk: MemDisk,
+    asks: &[u8],
+) -> Result<Client<MemDisk>, Fail> {
+    let mut server = new_server(alloc)?;
+    let mut client = client_on(alloc, disk)?;
+    hoard(rt, alloc, &mut server, &mut client, asks, ROOT)?;
+    hoard(rt, alloc, &mut server, &mut client, AGAIN, NOTHING)?;
+    Ok(client)
+}
+
 #[test]
 fn what_is_known_does_not_come_again(rt: HostRuntime) -> Result<(), Fail> {
     let alloc = rt.alloc();
-    let mut server = new_server(alloc)?;
-    let mut client = client_on(alloc, MemDisk::new(alloc))?;
-    hoard(&rt, alloc, &mut server, &mut client, FIRST, ROOT)?;
-    hoard(&rt, alloc, &mut server, &mut client, AGAIN, NOTHING)?;
+    let client = hoard_twice(&rt, alloc, MemDisk::new(alloc), FIRST)?;
 
     // What is held has not changed, and its record was appended again.
     assert_eq!(rt; client.held().rows().len(), 1);
     assert_eq!(rt; client.records(), 2);
-    let disk = client.into_disk();
-    assert_eq!(rt; disk.bytes(), TWICE);
+    assert_eq!(rt; client.into_disk().bytes(), TWICE);
+    Ok(())
+}
 
-    // After a restart no stamp is known.
-    let mut client = client_on(alloc, disk)?;
-    hoard(&rt, alloc, &mut server, &mut client, RESTARTED, ROOT)?;
-    hoard(&rt, alloc, &mut server, &mut client, AGAIN, NOTHING)?;
+#[test]
+fn no_stamp_is_known_after_a_restart(rt: HostRuntime) -> Result<(), Fail> {
+    let alloc = rt.alloc();
+    let disk = MemDisk::of(alloc, Vec::from_slice(alloc, TWICE)?)?;
+    let client = hoard_twice(&rt, alloc, disk, RESTARTED)?;
     assert_eq!(rt; client.records(), 4);
     Ok(())
 }
