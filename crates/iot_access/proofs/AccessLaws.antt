@@ -9,10 +9,13 @@ use Rattle.iot_tree.specs.declared.acts.Read.{Read}
 use Rattle.iot_acts.specs.Traces.{ReadsHold, FitsIfAny, ActsHold, after_acts, after_update}
 use Rattle.iot_acts.proofs.GuardLaws.{guarded_fits, guarded_hold}
 use Rattle.iot_access.specs.Sources.{source}
+use Rattle.iot_access.specs.Asked.{first_asked, none_asked}
+use Rattle.iot_access.proofs.AskedLaws.{all_fail, all_hold, first_fails, first_hold, none_known}
+use Rattle.iot_access.proofs.BeforeLaws.{bases_hold_before}
 use Rattle.iot_access.specs.BaseReads.{Base, path_of, base_of, cons_base, based_reads, based, done_more}
 use Rattle.iot_acts.specs.Turns.{turns, Answers, AllAnswer, FirstDiffers}
 use Rattle.iot_access.proofs.BaseReadsLaws.{BasesHold, reads_beside, Based, asks, holds, based_read}
-use Rattle.iot_access.specs.Access.{FirstFails, FitInTurn, cons_update, updates_of, after_updates, IsAccess}
+use Rattle.iot_access.specs.Access.{FirstFails, FitInTurn, access_of, cons_update, updates_of, after_updates, IsAccess}
 use Rattle.iot_acts.specs.Guards.{AllGuarded}
 use Rattle.iot_access.proofs.TiedLaws.{Tied, tied_first}
 use Rattle.iot_acts.proofs.TraceLaws.{tree_after}
@@ -142,21 +145,53 @@ fit_in_turn (act ∷ acts) t hold = by act.update hold.1 (fit_in_turn acts (afte
 
 -- base reads and updates of guarded acts that hold on a tree may take their place on every whole tree
 pub access_is : (acts list : List Act) (before : Nodes) (reads : List Read) (places : List ℕ) (updates : List Update) → IsTree before
-    → AllGuarded acts → ActsHold before acts → list ≡ acts → length places ≡ length reads → zip places reads ≡ based list before [] 1
-    → updates ≡ updates_of list → IsAccess reads places updates acts
+    → AllGuarded acts → ActsHold before acts → list ≡ acts → length places ≡ length reads
+    → zip places reads ≡ first_asked none_asked (based list before [] 1) → updates ≡ updates_of list → IsAccess reads places updates acts
 access_is acts list before reads places updates tree guarded hold same even is are t tree_t whole =
-    let bases : List Base = zip places reads in
-    let first : Chain (turns t acts) t 1 (based acts before [] 1) =
+    let all : List Base = based acts before [] 1 in
+    let chain : Chain (turns t acts) t 1 all =
     of_acts before t whole acts [] before t 1 (tied_first before t) tree tree_t whole guarded hold in
-    let chain : Chain (turns t acts) t 1 bases =
-    subst (Chain (turns t acts) t 1) (sym (is ∙ ap (λ (acts : List Act). based acts before [] 1) same)) first in
-    let beside : map (λ base. base.1) bases ≡ reads = reads_beside places reads even in
+    let held : BasesHold before all = bases_hold_before acts before tree guarded hold in
+    let some : zip places reads ≡ first_asked none_asked all =
+    is ∙ ap (λ (acts : List Act). first_asked none_asked (based acts before [] 1)) same in
+    let beside : map (λ base. base.1) (first_asked none_asked all) ≡ reads =
+    sym (ap (map (λ base. base.1)) some) ∙ reads_beside places reads even in
+    let known = none_known before t in
     record {
       exactly = (
-        (λ base. guarded_hold acts guarded t tree_t (back t (turns t acts) 1 bases chain (subst (ReadsHold t) (sym beside) base))),
-        (λ acts_are. subst (ReadsHold t) beside (forth t (turns t acts) 1 bases chain (answers_of acts t acts_are))),
+        (λ base. guarded_hold acts guarded t tree_t
+            (back t (turns t acts) 1 all chain (all_hold before t all none_asked known held (subst (ReadsHold t) (sym beside) base)))),
+        (λ acts_are. subst (ReadsHold t) beside
+            (first_hold before t all none_asked (forth t (turns t acts) 1 all chain (answers_of acts t acts_are)))),
       );
       fit = λ acts_are. subst (FitInTurn t) (sym (are ∙ ap updates_of same)) (fit_in_turn acts t acts_are);
       after = λ _. ap (after_updates t) (are ∙ ap updates_of same) ∙ after_same acts t;
-      first = λ place. (fails t (turns t acts) 1 bases chain place, differs t (turns t acts) 1 bases chain place);
+      first = λ place. (
+        (λ first. fails t (turns t acts) 1 all chain place
+            (first_fails before t all none_asked known held place (subst (λ (bases : List Base). FirstFails t bases place) some first))),
+        (λ first. subst (λ (bases : List Base). FirstFails t bases place) (sym some)
+            (all_fail before t all none_asked known held place (differs t (turns t acts) 1 all chain place first))),
+      );
     }
+
+-- ---- the access of acts
+
+zip_apart : (bases : List Base) → zip (map (λ base. base.0) bases) (map (λ base. base.1) bases) ≡ bases
+zip_apart [] = refl
+zip_apart (base ∷ bases) = ap (λ (bases : List Base). base ∷ bases) (zip_apart bases)
+
+even_apart : (bases : List Base) → length (map (λ base. base.0) bases) ≡ length (map (λ base. base.1) bases)
+even_apart [] = refl
+even_apart (base ∷ bases) = ap suc (even_apart bases)
+
+-- it may take their place on every whole tree
+pub takes_place : (acts : List Act) (before : Nodes) → IsTree before → AllGuarded acts → ActsHold before acts
+    → IsAccess (access_of acts before).reads (access_of acts before).places (access_of acts before).updates acts
+takes_place acts before tree guarded hold =
+    let bases : List Base = first_asked none_asked (based acts before [] 1) in
+    access_is acts acts before (map (λ base. base.1) bases) (map (λ base. base.0) bases) (updates_of acts) tree guarded hold refl
+    (even_apart bases) (zip_apart bases) refl
+
+-- it has as many places as base reads
+pub as_many_places : (acts : List Act) (before : Nodes) → length (access_of acts before).places ≡ length (access_of acts before).reads
+as_many_places acts before = even_apart (first_asked none_asked (based acts before [] 1))

@@ -24,6 +24,8 @@ use Rattle.iot_acts.specs.Traces.{ReadsHold, ActsHold, FitsIfAny, after_update}
 use Rattle.iot_acts.specs.Guards.{GuardsIfAny, AllGuarded}
 use Rattle.iot_tree.proofs.ReadLaws.{leaf_of}
 use Rattle.iot_access.specs.Sources.{source, hidden, carried}
+use Rattle.iot_access.specs.Asked.{first_asked, none_asked}
+use Rattle.iot_access.proofs.AskedLaws.{first_hold}
 use Rattle.iot_access.specs.BaseReads.{Base, path_of, base_at, settled, base_from, base_of, cons_base, based_reads, based, done_more}
 use Rattle.iot_acts.specs.Turns.{Answers}
 use Rattle.iot_access.proofs.BaseReadsLaws.{BasesHold, reads_beside, other_names, kind_not_away, content_not_away, names_not_away}
@@ -181,7 +183,7 @@ module _ (done : List Update) (t u : Nodes) (tree : IsTree u) (sound : Sound don
 -- ---- what the tree before answers
 
 -- the base read, if there is one, holds
-abbrev HoldsIfAny : Nodes → Option Read → Type 0
+abbrev pub HoldsIfAny : Nodes → Option Read → Type 0
 HoldsIfAny t None = Unit {0}
 HoldsIfAny t (Some read) = Answers t read
 
@@ -257,14 +259,15 @@ acts_held (act ∷ acts) done t u place tree_t tree_u sound guarded hold =
     hold.2)
 
 -- each base answer is what the tree before answers, whole or not
-bases_hold_before : (acts : List Act) (before : Nodes) → IsTree before → AllGuarded acts → ActsHold before acts
+pub bases_hold_before : (acts : List Act) (before : Nodes) → IsTree before → AllGuarded acts → ActsHold before acts
     → BasesHold before (based acts before [] 1)
 bases_hold_before acts before tree guarded hold = acts_held acts [] before before 1 tree tree (sound_first before) guarded hold
 
 -- the same of reads beside their places
 pub held_before : (acts list : List Act) (before : Nodes) (reads : List Read) (places : List ℕ) → IsTree before → AllGuarded acts
-    → ActsHold before acts → list ≡ acts → length places ≡ length reads → zip places reads ≡ based list before [] 1 → ReadsHold before reads
+    → ActsHold before acts → list ≡ acts → length places ≡ length reads
+    → zip places reads ≡ first_asked none_asked (based list before [] 1) → ReadsHold before reads
 held_before acts list before reads places tree guarded hold same even is =
     subst (ReadsHold before) (reads_beside places reads even)
-    (subst (BasesHold before) (sym (is ∙ ap (λ (acts : List Act). based acts before [] 1) same))
-    (bases_hold_before acts before tree guarded hold))
+    (subst (BasesHold before) (sym (is ∙ ap (λ (acts : List Act). first_asked none_asked (based acts before [] 1)) same))
+    (first_hold before before (based acts before [] 1) none_asked (bases_hold_before acts before tree guarded hold)))

@@ -8,3 +8,5 @@ pub mod OriginsLaws
 pub mod CollectLaws
 pub mod FarLaws
 pub mod BeforeLaws
+pub mod AskedLaws
+pub mod SameLaws

@@ -3,3 +3,4 @@ pub mod Entries
 pub mod Origins
 pub mod BaseReads
 pub mod Access
+pub mod Asked

@@ -4,12 +4,14 @@ ghost use Rattle.std.specs.List.{zip};
 ghost use Rattle.iot_tree.specs.declared.updates.Update.{Update as TreeUpdate};
 ghost use Rattle.iot_acts.specs.Guards.{AllGuarded};
 ghost use Rattle.iot_acts.specs.Traces.{ReadsHold, ActsHold};
+ghost use Rattle.iot_access.specs.Asked.{first_asked, is_asked, none_asked};
 ghost use Rattle.iot_access.specs.BaseReads.{Base, based, based_reads, base_of, cons_base, done_more};
 ghost use Rattle.iot_access.specs.Entries.{Tells, IsApartIfAny};
 ghost use Rattle.iot_access.specs.Origins.{entries};
 ghost use Rattle.iot_access.specs.Sources.{source};
-ghost use Rattle.iot_access.specs.Access.{FitInTurn, IsAccess, Rise, cons_update, updates_of};
+ghost use Rattle.iot_access.specs.Access.{AreNumbers, FitInTurn, IsAccess, Rise, access_of, cons_update, no_access, updates_of};
 
+use crate::asked::Asked;
 use crate::base_reads::base_of;
 use crate::origins::{Origins, follow};
 use iot_text::NoMemory;
@@ -26,24 +28,31 @@ fn next_place(place: u64) -> Result<u64, NoMemory>
     }
 }
 
-/// Adds the base read of a read of this place, if it has one.
+/// Adds the base read of a read of this place, if it has one whose question was not asked yet.
 fn add_read(
     alloc: Global,
     before: &Tree,
     origins: &Origins,
     read: &Read,
     place: u64,
+    asked: &mut Asked,
     access: &mut Access,
 ) -> Result<(), NoMemory>
-    requires { length access.old.places ≡ length access.old.reads }
+    requires even { length access.old.places ≡ length access.old.reads }
+    requires numbers { AreNumbers access.old.places }
     ensures even { OnOk result (length access.new.places ≡ length access.new.reads) }
+    ensures numbers { OnOk result (AreNumbers access.new.places) }
     ensures updates { OnOk result (access.new.updates ≡ access.old.updates) }
     ensures bases { OnOk result
         ((done : List TreeUpdate) (rest : List Base) → Tells (entries origins.now) (source done)
-        → zip access.new.places access.new.reads ++ rest
-        ≡ zip access.old.places access.old.reads ++ cons_base place (base_of before.now done read.now) rest) }
+        → zip access.new.places access.new.reads ++ first_asked (is_asked asked.new) rest
+        ≡ zip access.old.places access.old.reads
+        ++ first_asked (is_asked asked.old) (cons_base place (base_of before.now done read.now) rest)) }
 {
-    if let Some(base) = base_of(alloc, before, origins, read)? {
+    let Some(base) = base_of(alloc, before, origins, read)? else {
+        return Ok(());
+    };
+    if asked.note(alloc, &base.question)? {
         access.reads.push(base)?;
         access.places.push(place)?;
     }
@@ -57,20 +66,24 @@ fn add_reads(
     origins: &Origins,
     reads: &[Read],
     first: u64,
+    asked: &mut Asked,
     access: &mut Access,
 ) -> Result<u64, NoMemory>
-    requires { length access.old.places ≡ length access.old.reads }
+    requires even { length access.old.places ≡ length access.old.reads }
+    requires numbers { AreNumbers access.old.places }
     ensures place { IfOk result (λ next. next ≡ length reads.now + first) }
     ensures even { OnOk result (length access.new.places ≡ length access.new.reads) }
+    ensures numbers { OnOk result (AreNumbers access.new.places) }
     ensures updates { OnOk result (access.new.updates ≡ access.old.updates) }
     ensures bases { OnOk result
         ((done : List TreeUpdate) (rest : List Base) → Tells (entries origins.now) (source done)
-        → zip access.new.places access.new.reads ++ rest
-        ≡ zip access.old.places access.old.reads ++ based_reads reads.now before.now done first rest) }
+        → zip access.new.places access.new.reads ++ first_asked (is_asked asked.new) rest
+        ≡ zip access.old.places access.old.reads
+        ++ first_asked (is_asked asked.old) (based_reads reads.now before.now done first rest)) }
 {
     let mut place = first;
     'reads: for read in reads {
-        add_read(alloc, before, origins, read, place, access)?;
+        add_read(alloc, before, origins, read, place, asked, access)?;
         place = next_place(place)?;
     }
     Ok(place)
@@ -97,19 +110,28 @@ fn add_update(
     Ok(())
 }
 
+/// The access of nothing. Does not allocate.
+pub fn of_nothing(alloc: Global) -> Access
+    ensures { result ≡ no_access }
+{
+    Access {
+        reads: Reads::new(alloc),
+        updates: Updates::new(alloc),
+        places: Places::new(alloc),
+    }
+}
+
 /// The base reads and the updates of the acts.
 fn collect(alloc: Global, acts: &[Act], before: &Tree) -> Result<Access, NoMemory>
     requires { ActsHold before.now acts.now }
     ensures even { IfOk result (λ access. length access.places ≡ length access.reads) }
+    ensures numbers { IfOk result (λ access. AreNumbers access.places) }
     ensures updates { IfOk result (λ access. access.updates ≡ updates_of acts.now) }
-    ensures bases { IfOk result (λ access. zip access.places access.reads ≡ based acts.now before.now [] 1) }
+    ensures bases { IfOk result (λ access. zip access.places access.reads ≡ first_asked none_asked (based acts.now before.now [] 1)) }
 {
-    let mut access = Access {
-        reads: Reads::new(alloc),
-        updates: Updates::new(alloc),
-        places: Places::new(alloc),
-    };
+    let mut access = of_nothing(alloc);
     let mut origins = Origins::new(alloc);
+    let mut asked = Asked::new(alloc);
     let mut place = 1;
     'acts: for act in acts {
         place = add_reads(
@@ -118,6 +140,7 @@ fn collect(alloc: Global, acts: &[Act], before: &Tree) -> Result<Access, NoMemor
             &origins,
             act.reads.as_slice(),
             place,
+            &mut asked,
             &mut access,
         )?;
         add_update(alloc, &act.update, &mut origins, &mut access.updates)?;
@@ -125,10 +148,12 @@ fn collect(alloc: Global, acts: &[Act], before: &Tree) -> Result<Access, NoMemor
     Ok(access)
 }
 
-/// The access of guarded acts that hold on the tree before them: what they ask of it, and their updates.
+/// The access of guarded acts that hold on the tree before them: what they ask of it, each question once, and their updates.
 pub fn of(alloc: Global, acts: &Acts, before: &Tree) -> Result<Access, NoMemory>
     requires guarded { AllGuarded acts.now }
     requires hold { ActsHold before.now acts.now }
+
+    ensures is { IfOk result (λ access. access ≡ access_of acts.now before.now) }
 
     // On every whole tree it may take the acts' place.
     ensures access { IfOk result (λ access. IsAccess access.reads access.places access.updates acts.now) }
@@ -141,6 +166,7 @@ pub fn of(alloc: Global, acts: &Acts, before: &Tree) -> Result<Access, NoMemory>
     ensures updates { IfOk result (λ access. access.updates ≡ updates_of acts.now) }
 
     ensures places { IfOk result (λ access. Rise 1 access.places) }
+    ensures numbers { IfOk result (λ access. AreNumbers access.places) }
     ensures even { IfOk result (λ access. length access.places ≡ length access.reads) }
 {
     // What is asked here is the clause that the rows are a tree's.

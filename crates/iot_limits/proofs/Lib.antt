@@ -7,3 +7,4 @@ pub mod UpdateLaws
 pub mod AnswerLaws
 pub mod RunLaws
 pub mod SpelledLaws
+pub mod AccessLaws

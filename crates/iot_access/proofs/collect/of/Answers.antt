@@ -1,9 +1,14 @@
 use Rattle.std.proofs.Common.{◌∙◌, ap, subst, sym}
 use Rattle.iot_access.proofs.AccessLaws.{access_is, fit_in_turn}
-use Rattle.iot_access.proofs.CollectLaws.{places_of}
+use Rattle.iot_access.proofs.CollectLaws.{is_of, places_of}
 use Rattle.iot_access.proofs.BeforeLaws.{held_before}
 use Rattle.iot_access.specs.Access.{FitInTurn, updates_of}
 use Rattle.iot_access.proofs.collect.of.Goals as goal
+
+pub returns-clause-is : goal.returns-clause-is
+returns-clause-is c =
+    is_of c.in_ok-access.access c.args.acts.now c.as_slice.result.now c.args.before.now c.as_slice.ensures c.in_ok-access.ensures.even
+    c.in_ok-access.ensures.bases c.in_ok-access.ensures.updates
 
 pub returns-clause-access : goal.returns-clause-access
 returns-clause-access c =
