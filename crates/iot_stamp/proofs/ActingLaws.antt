@@ -3,10 +3,11 @@ use Rattle.std.proofs.Common.{◌≡◌, ℕ, ◌+◌, ◌<◌, ◌≤◌, List,
 use Rattle.std.proofs.lemmas.List.{drop_more, drop_all}
 use Rattle.iot_acts.specs.Traces.{FitsIfAny, ActsHold, after_update, after_acts}
 use Rattle.iot_tree.specs.Tree.{Nodes}
-use Rattle.iot_tree.specs.Updates.{updated}
+use Rattle.iot_tree.specs.Updates.{Fits, updated}
 use Rattle.iot_tree.specs.declared.acts.Act.{Act}
 use Rattle.iot_tree.specs.declared.updates.Update.{Update}
-use Rattle.iot_stamp.specs.Acting.{stamped_if_any, stamped_acts, UpdatesFit}
+use Rattle.iot_access.specs.Access.{FitInTurn, after_updates, cons_update, updates_of}
+use Rattle.iot_stamp.specs.Acting.{stamped_if_any, stamped_acts, stamped_all, UpdatesFit}
 use Rattle.iot_stamp.specs.Agreement.{Keeps}
 use Rattle.iot_stamp.specs.Stamping.{stamped, stamp_after}
 use Rattle.iot_stamp.specs.Stamps.{Stamps, nodes_of, with_stamps, stamp_at, FarZero}
@@ -83,3 +84,55 @@ module _ (acts : List Act) (stamp i : ℕ) (before now : Stamps) (way : ActsOnWa
 
   pub acts_made : length acts ≤ i → now ≡ stamped_acts before acts stamp
   acts_made past = sym (way.end ∙ ap (λ (l : List Act). stamped_acts now l stamp) (drop_all i acts past))
+
+-- ---- updates without their acts
+
+module _ (stamp : ℕ) where
+  pub nodes_stamped : (t : Stamps) (update : Update) → nodes_of (stamped t update stamp) ≡ updated (nodes_of t) update
+  nodes_stamped t update = nodes_with (stamp_after t update stamp) (updated (nodes_of t) update)
+
+  -- what is stamped is the tree after the updates
+  pub nodes_after_all : (t : Stamps) (updates : List Update) → nodes_of (stamped_all t updates stamp) ≡ after_updates (nodes_of t) updates
+  nodes_after_all t [] = refl
+  nodes_after_all t (update ∷ updates) =
+      nodes_after_all (stamped t update stamp) updates
+      ∙ ap (λ n. after_updates n updates) (nodes_stamped t update)
+
+  -- those of acts are stamped as the acts are
+  pub all_of_acts : (t : Stamps) (acts : List Act) → stamped_all t (updates_of acts) stamp ≡ stamped_acts t acts stamp
+  all_of_acts t [] = refl
+  all_of_acts t (act ∷ acts) = by act.update (λ t. all_of_acts t acts)
+    where
+      by : (update : Option Update) → ((t : Stamps) → stamped_all t (updates_of acts) stamp ≡ stamped_acts t acts stamp)
+          → stamped_all t (cons_update update (updates_of acts)) stamp ≡ stamped_acts (stamped_if_any t update stamp) acts stamp
+      by None same = same t
+      by (Some update) same = same (stamped t update stamp)
+
+-- the updates from a place on fit the tree, and lead to the same tree as all
+pub record AllOnWay (updates : List Update) (stamp i : ℕ) (before now : Stamps) : Type 0 where
+  pub fit : FitInTurn (nodes_of now) (drop i updates)
+  pub end : stamped_all before updates stamp ≡ stamped_all now (drop i updates) stamp
+
+module _ (updates : List Update) (stamp i : ℕ) (before now : Stamps) (way : AllOnWay updates stamp i before now) where
+  module _ (update : Update) (within : i < length updates) (is : update ≡ get_or updates i update) where
+    left_updates : drop i updates ≡ update ∷ drop (i + 1) updates
+    left_updates = drop_more updates i update within ∙ ap (λ (u : Update). u ∷ drop (i + 1) updates) (sym is)
+
+    both_fit : FitInTurn (nodes_of now) (update ∷ drop (i + 1) updates)
+    both_fit = subst (FitInTurn (nodes_of now)) left_updates way.fit
+
+    pub update_fits : Fits (nodes_of now) update
+    update_fits = both_fit.0
+
+    pub update_made : (next : Stamps) → next ≡ stamped now update stamp → AllOnWay updates stamp (i + 1) before next
+    update_made next made = record {
+      fit =
+          let nodes : nodes_of next ≡ updated (nodes_of now) update =
+          ap nodes_of made ∙ nodes_stamped stamp now update in
+          subst (λ t. FitInTurn t (drop (i + 1) updates)) (sym nodes) both_fit.1;
+      end = way.end ∙ ap (λ (l : List Update). stamped_all now l stamp) left_updates
+          ∙ ap (λ t. stamped_all t (drop (i + 1) updates) stamp) (sym made);
+    }
+
+  pub all_made : length updates ≤ i → now ≡ stamped_all before updates stamp
+  all_made past = sym (way.end ∙ ap (λ (l : List Update). stamped_all now l stamp) (drop_all i updates past))

@@ -21,3 +21,8 @@ stamped_acts t (act ∷ acts) stamp = stamped_acts (stamped_if_any t act.update 
 abbrev pub UpdatesFit : Nodes → List Act → Type 0
 UpdatesFit t [] = Unit {0}
 UpdatesFit t (act ∷ acts) = FitsIfAny t act.update × UpdatesFit (after_update t act.update) acts
+
+-- after these updates in turn, all with this stamp
+abbrev pub stamped_all : Stamps → List Update → ℕ → Stamps
+stamped_all t [] stamp = t
+stamped_all t (update ∷ updates) stamp = stamped_all (stamped t update stamp) updates stamp

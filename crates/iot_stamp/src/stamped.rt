@@ -1,7 +1,9 @@
 //! Trees with stamps.
-ghost use Rattle.std.specs.Prelude.{◌≡◌, IfOk, IfErr, OnOk, OnErr, map, not, is_some};
+ghost use Rattle.std.specs.Prelude.{◌≡◌, ◌↔◌, IsTrue, IfOk, IfErr, OnOk, OnErr, map, not, is_some};
 ghost use Rattle.std.specs.FinMap.{entries, get};
+ghost use Rattle.iot_access.specs.Access.{FitInTurn};
 ghost use Rattle.iot_tree.specs.Rows.{AreTreeRows, RefusesRows};
+ghost use Rattle.iot_tree.specs.Tree.{IsWhole};
 ghost use Rattle.iot_tree.specs.Updates.{Fits, FitsRemove, FitsMove, updated};
 ghost use Rattle.iot_stamp.specs.Agreement.{Agrees, IsPositive, Keeps};
 ghost use Rattle.iot_stamp.specs.Carried.{in_either};
@@ -12,10 +14,12 @@ ghost use Rattle.iot_stamp.specs.Stamps.{Stamps, nodes_of, stamp_at, with_stamps
 
 use crate::nodes::stamp_of;
 use crate::stamping::{all_stamps, carry, same_kind};
+use iot_fitting::fit_in_turn;
 use iot_text::{NoMemory, Path};
 use iot_tree::{RowFault, Rows, Tree, Update, count_within, place_of};
 use std::alloc::Global;
 use std::marker::Model;
+use std::mem::replace;
 
 /// A tree whose known rows carry stamps; a far row has stamp 0. Contracts see it as a map from paths to nodes with stamps.
 #[derive(Drop)]
@@ -71,6 +75,20 @@ impl Stamped {
         ensures agrees { IfOk result (λ t. (s : Stamps) → IsPositive s → Agrees t s) }
     {
         Stamped::with_stamp(alloc, tree, 0)
+    }
+
+    /// Whether each of the updates fits in its turn. No copy of the tree is taken: they are made in place and undone. After an error
+    /// nothing is said of the tree.
+    pub fn fit_in_turn(&mut self, alloc: Global, updates: &[Update]) -> Result<bool, NoMemory>
+        requires { IsWhole (nodes_of self.old) }
+        ensures fit { IfOk result (λ fit. IsTrue fit ↔ FitInTurn (nodes_of self.old) updates.now) }
+        ensures same { OnOk result (self.new ≡ self.old) }
+    {
+        let root = Stamped::with_stamp(alloc, Tree::whole_root(alloc)?, 0)?;
+        let Stamped { mut tree, stamps } = replace(self, root);
+        let fit = fit_in_turn(alloc, &mut tree, updates)?;
+        *self = Stamped { tree, stamps };
+        Ok(fit)
     }
 
     /// An equal tree, which shares the rows until one of the two changes.
