@@ -16,15 +16,16 @@ const COMMITTED: &[u8] =
 
 const CRASHED: &[u8] = b"crash server\naway\ndown\nrestart server\nup\ndir /\ndir /d\n";
 
-/// What it leaves on the server's disk: one record, of 174 bytes. It has the label of client 0's transaction 1, of the
-/// script `e`, certified, with nothing kept, and two acts.
-pub(crate) const RECORDED: &[u8] = b"\xa5IOTJRNL1\xa5\0\0\0\0\0\0\0\xae\x01\
+/// What it leaves on the server's disk: one record, of 181 bytes. It has the label of client 0's transaction 1, of the
+/// script `e`, certified, with nothing kept; what it asked of the tree before it, its update and its line.
+pub(crate) const RECORDED: &[u8] = b"\xa5IOTJRNL1\xa5\0\0\0\0\0\0\0\xb5\x02\
     \0\0\0\0\0\0\0\0\0\0\0\0\0\0\0\x01\0\0\0\0\0\0\0\x01e\0\0\0\0\0\0\x10\0\x01\0\0\0\0\0\0\0\0\
-    \0\0\0\0\0\0\0\x02\
-    \0\0\0\0\0\0\0\x02\x01\0\0\0\0\0\0\0\x01\0\0\0\0\0\0\0\x01d\x02\x01\0\0\0\0\0\0\0\0\x03\
-    \x02\0\0\0\0\0\0\0\x01\0\0\0\0\0\0\0\x01d\0\0\0\0\0\0\0\0\
-    \0\0\0\0\0\0\0\x01\x02\0\0\0\0\0\0\0\x01\0\0\0\0\0\0\0\x01x\x02\
-    \0\0\0\0\0\0\0\0\x01\0\0\0\0\0\0\0\x10cat: /x: no file\0";
+    \0\0\0\0\0\0\0\x03\
+    \x01\0\0\0\0\0\0\0\x01\0\0\0\0\0\0\0\x01d\x02\0\0\0\0\0\0\0\x01\
+    \x01\0\0\0\0\0\0\0\0\x03\0\0\0\0\0\0\0\x02\
+    \x02\0\0\0\0\0\0\0\x01\0\0\0\0\0\0\0\x01x\x02\0\0\0\0\0\0\0\x03\
+    \0\0\0\0\0\0\0\x01\x02\0\0\0\0\0\0\0\x01\0\0\0\0\0\0\0\x01d\
+    \0\0\0\0\0\0\0\x01\0\0\0\0\0\0\0\x10cat: /x: no file\0";
 
 /// The same, if the server's disk fails in its start. What the laptop runs knows of no tree.
 const UNSTARTED: &[u8] =

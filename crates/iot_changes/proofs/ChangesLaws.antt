@@ -3,13 +3,14 @@ use Rattle.std.proofs.Common.{◌≡◌, ℕ, ◌<◌, ◌^◌, List, [], ◌++�
 use Rattle.iot_text.specs.Names.{IsName}
 use Rattle.iot_codec.specs.Places.{LiesAt, IsSpelling}
 use Rattle.iot_codec.specs.Decoders.{done, number_at}
-use Rattle.iot_codec.specs.Decoding.{name_at, option_at, act_at, tree_at}
-use Rattle.iot_codec.specs.Rules.{IsNumber, IsOption, IsAct, IsTreeOfRows}
-use Rattle.iot_codec.specs.Spelling.{number_spelling, name_spelling, option_spelling, act_spelling, tree_spelling}
+use Rattle.iot_codec.specs.Decoding.{access_at, name_at, option_at, act_at, tree_at}
+use Rattle.iot_codec.specs.Rules.{IsAccess, IsNumber, IsOption, IsAct, IsTreeOfRows}
+use Rattle.iot_codec.specs.Spelling.{access_spelling, number_spelling, name_spelling, option_spelling, act_spelling, tree_spelling}
+use Rattle.iot_codec.specs.Laws.Bases.{access_laws}
 use Rattle.iot_codec.specs.Laws.Options.{option_laws}
 use Rattle.iot_codec.specs.Laws.Parts.{number_laws}
-use Rattle.iot_codec.specs.Laws.Tags.{IsArm, AreArms, empty_arm, single_arm, triple_arm, tagged_found}
-use Rattle.iot_codec.specs.Laws.Tags.{tagged_again, empty_again, single_again, triple_again}
+use Rattle.iot_codec.specs.Laws.Tags.{IsArm, AreArms, empty_arm, single_arm, double_arm, triple_arm, tagged_found}
+use Rattle.iot_codec.specs.Laws.Tags.{tagged_again, empty_again, single_again, double_again, triple_again}
 use Rattle.iot_codec.specs.Laws.Trees.{tree_laws}
 use Rattle.iot_codec.specs.Laws.Updates.{act_laws}
 use Rattle.iot_codec.specs.Laws.Values.{name_laws}
@@ -58,8 +59,8 @@ conflicted_arm = empty_arm IsChange change_spelling 7 Conflicted tt refl
 resolved_arm : IsArm IsChange change_spelling 8 resolved_at
 unfolding resolved_at change_spelling
 resolved_arm =
-    single_arm IsChange change_spelling 8 IsResolution resolution_spelling resolution_at resolution_laws Resolved
-    (λ resolution has. has) (λ resolution. refl)
+    double_arm IsChange change_spelling 8 IsResolution resolution_spelling resolution_at resolution_laws IsAccess access_spelling access_at
+    access_laws Resolved (λ resolution access r a. (r, a)) (λ resolution access. refl)
 
 repaired_arm : IsArm IsChange change_spelling 9 repaired_at
 unfolding repaired_at change_spelling
@@ -95,9 +96,10 @@ change_again (Acted act) bytes at end short has p =
 change_again Ended bytes at end short has p = tagged_again change_table bytes at end 5 [] p ∙ empty_again Ended bytes at end 5 p
 change_again Cut bytes at end short has p = tagged_again change_table bytes at end 6 [] p ∙ empty_again Cut bytes at end 6 p
 change_again Conflicted bytes at end short has p = tagged_again change_table bytes at end 7 [] p ∙ empty_again Conflicted bytes at end 7 p
-change_again (Resolved resolution) bytes at end short has p =
-    tagged_again change_table bytes at end 8 (resolution_spelling resolution) p
-    ∙ single_again IsResolution resolution_spelling resolution_at resolution_laws Resolved resolution bytes at end 8 short has p
+change_again (Resolved resolution access) bytes at end short has p =
+    tagged_again change_table bytes at end 8 (resolution_spelling resolution ++ access_spelling access) p
+    ∙ double_again IsResolution resolution_spelling resolution_at resolution_laws IsAccess access_spelling access_at access_laws Resolved
+    resolution access bytes at end 8 short has.0 has.1 p
 change_again (Repaired script) bytes at end short has p =
     tagged_again change_table bytes at end 9 (name_spelling script) p
     ∙ single_again IsName name_spelling name_at name_laws Repaired script bytes at end 9 short has p
@@ -112,7 +114,7 @@ change_some (Acted act) = omega arith
 change_some Ended = omega arith
 change_some Cut = omega arith
 change_some Conflicted = omega arith
-change_some (Resolved resolution) = omega arith
+change_some (Resolved resolution access) = omega arith
 change_some (Repaired script) = omega arith
 change_some Left = omega arith
 

@@ -2,7 +2,7 @@
 use Rattle.std.specs.Prelude.{ℕ, List, [], ◌∷◌}
 use Rattle.iot_queue.specs.declared.items.Resolution.{Resolution}
 use Rattle.iot_codec.specs.Decoders.{Decoder, ◌>>=◌, done, number_at, tagged}
-use Rattle.iot_codec.specs.Decoding.{name_at, option_at, budget_at, files_at, acts_at, act_at, tree_at}
+use Rattle.iot_codec.specs.Decoding.{access_at, name_at, option_at, budget_at, files_at, acts_at, act_at, tree_at}
 use Rattle.iot_changes.specs.declared.changes.Change.{Change}
 use Rattle.iot_changes.specs.declared.changes.Change.TheVariants.{Held, Begun, Fetched, Acted, Ended, Cut, Conflicted, Resolved}
 use Rattle.iot_changes.specs.declared.changes.Change.TheVariants.{Repaired, Left}
@@ -40,7 +40,8 @@ acted_at = do
 unfoldable pub resolved_at : Decoder Change
 resolved_at = do
   resolution ← resolution_at
-  done (Resolved resolution)
+  access ← access_at
+  done (Resolved resolution access)
 
 unfoldable pub repaired_at : Decoder Change
 repaired_at = do

@@ -2,7 +2,7 @@
 use Rattle.std.specs.Prelude.{ℕ, List, [], ◌∷◌, ◌++◌}
 use Rattle.iot_queue.specs.declared.items.Resolution.{Resolution}
 use Rattle.iot_codec.specs.Spelling.{number_spelling, name_spelling, option_spelling, files_spelling, act_spelling}
-use Rattle.iot_codec.specs.Spelling.{acts_spelling, tree_spelling}
+use Rattle.iot_codec.specs.Spelling.{access_spelling, acts_spelling, tree_spelling}
 use Rattle.iot_changes.specs.declared.changes.Change.{Change}
 use Rattle.iot_changes.specs.declared.changes.Change.TheVariants.{Held, Begun, Fetched, Acted, Ended, Cut, Conflicted, Resolved}
 use Rattle.iot_changes.specs.declared.changes.Change.TheVariants.{Repaired, Left}
@@ -27,6 +27,6 @@ change_spelling (Acted act) = 4 ∷ act_spelling act
 change_spelling Ended = 5 ∷ []
 change_spelling Cut = 6 ∷ []
 change_spelling Conflicted = 7 ∷ []
-change_spelling (Resolved resolution) = 8 ∷ resolution_spelling resolution
+change_spelling (Resolved resolution access) = 8 ∷ (resolution_spelling resolution ++ access_spelling access)
 change_spelling (Repaired script) = 9 ∷ name_spelling script
 change_spelling Left = 10 ∷ []

@@ -1,7 +1,7 @@
 //! What changes of what is durable of a client.
 use iot_queue::Resolution;
 use iot_text::Name;
-use iot_tree::{Act, OnConflict, Tree};
+use iot_tree::{Access, Act, OnConflict, Tree};
 
 /// One change of what is durable of a client.
 #[derive(Drop)]
@@ -27,8 +27,8 @@ pub enum Change {
     Cut,
     /// The first transaction that waits conflicts: it is to be resolved, or to be decided by hand if that is its option.
     Conflicted,
-    /// Another run was made in the place of the first transaction that waits.
-    Resolved(Resolution),
+    /// Another run was made in the place of the first transaction that waits, which asked this of the server's tree.
+    Resolved(Resolution, Access),
     /// The script of this name is to be run in the place of the first transaction that waits.
     Repaired(Name),
     /// The first transaction that waits was settled or given up.

@@ -9,7 +9,9 @@ ghost use Rattle.iot_wire.specs.Messages.{IsMessage, ReadsMessage, IsOneMessage,
 use crate::Change;
 use crate::parts::{finished, malformed, tag_of};
 use crate::resolutions::read_resolution;
-use iot_codec::{CodecFault, read_act, read_name, read_number, read_option, read_tree};
+use iot_codec::{
+    CodecFault, read_access, read_act, read_name, read_number, read_option, read_tree,
+};
 use std::alloc::Global;
 
 /// Reads what follows the tag of objects that were brought.
@@ -60,8 +62,9 @@ fn read_acted(alloc: Global, bytes: &[u8], at: usize) -> Result<(Change, usize),
 fn read_resolved(alloc: Global, bytes: &[u8], at: usize) -> Result<(Change, usize), CodecFault>
     ensures { IsOutcome result (resolved_at bytes.now at) }
 {
-    let (resolution, end) = read_resolution(alloc, bytes, at)?;
-    Ok((Change::Resolved(resolution), end))
+    let (resolution, at) = read_resolution(alloc, bytes, at)?;
+    let (access, end) = read_access(alloc, bytes, at)?;
+    Ok((Change::Resolved(resolution, access), end))
 }
 
 /// Reads what follows the tag of a repair.

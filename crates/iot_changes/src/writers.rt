@@ -7,7 +7,7 @@ ghost use Rattle.iot_wire.specs.Messages.{whole};
 
 use crate::Change;
 use crate::resolutions::put_resolution;
-use iot_codec::{put_act, put_name, put_number, put_option, put_tree};
+use iot_codec::{put_access, put_act, put_name, put_number, put_option, put_tree};
 use iot_text::{NoMemory, Text};
 use std::alloc::Global;
 
@@ -46,9 +46,10 @@ pub fn put_change(change: &Change, out: &mut Text) -> Result<(), NoMemory>
         Change::Ended => out.push(5),
         Change::Cut => out.push(6),
         Change::Conflicted => out.push(7),
-        Change::Resolved(resolution) => {
+        Change::Resolved(resolution, access) => {
             out.push(8)?;
-            put_resolution(resolution, out)
+            put_resolution(resolution, out)?;
+            put_access(access, out)
         }
         Change::Repaired(script) => {
             out.push(9)?;

@@ -19,7 +19,8 @@ use Rattle.iot_tree.specs.declared.limits.TheConstants.{ACT_LIMIT}
 use Rattle.iot_tree.specs.declared.nodes.Node.{Node}
 use Rattle.iot_tree.specs.declared.nodes.Node.TheVariants.{Dir, File, FarDir, FarFile}
 use Rattle.iot_tree.proofs.EachLaws.{each_entry, found_row}
-use Rattle.iot_acts.specs.Traces.{after_update, after_acts}
+use Rattle.iot_acts.specs.Guards.{AllGuarded}
+use Rattle.iot_acts.specs.Traces.{ActsHold, after_update, after_acts}
 use Rattle.iot_codec.specs.Rules.{IsContents, AreRising, IsNode, IsRow, IsOption, IsAct, IsTreeOfRows}
 use Rattle.iot_lang.specs.Code.{Code}
 use Rattle.iot_lang.specs.Scripts.{IsScript}
@@ -44,7 +45,7 @@ use Rattle.iot_resolve.specs.declared.plan.Plan.{Plan}
 use Rattle.iot_resolve.proofs.FilesLaws.{offers_files}
 use Rattle.iot_changes.specs.Rules.{IsResolution}
 use Rattle.iot_kept.specs.Spelled.{IsSpelledItem, AreSpelledItems, IsSpelledState}
-use Rattle.iot_kept.specs.States.{Transaction, State, after_each, after_items, view, EachHold, AllHold}
+use Rattle.iot_kept.specs.States.{Transaction, State, after_each, after_items, view, EachGuarded, EachHold, AllHold}
 use Rattle.iot_kept.proofs.SpelledLaws.{rows_after_acts}
 use Rattle.iot_stamp.proofs.ActingLaws.{holds_fit}
 use Rattle.iot_stamp.specs.Acting.{UpdatesFit}
@@ -133,6 +134,15 @@ head_fits [] item t is hold = absurd cc
 head_fits (first ∷ items) item t is hold =
     let same : first ≡ item = cc in
     subst (λ (x : Item). UpdatesFit t x.acts) same (holds_fit t first.acts hold.0)
+
+-- they hold there, and are guarded by their reads
+pub head_holds : (items : List Item) (item : Item) (t : Nodes) → Some item ≡ head_of items → EachHold t items → ActsHold t item.acts
+head_holds [] item t is hold = absurd cc
+head_holds (first ∷ items) item t is hold = subst (λ (x : Item). ActsHold t x.acts) (same_Some first item (sym is)) hold.0
+
+pub head_guarded : (items : List Item) (item : Item) → Some item ≡ head_of items → EachGuarded items → AllGuarded item.acts
+head_guarded [] item is guarded = absurd cc
+head_guarded (first ∷ items) item is guarded = subst (λ (x : Item). AllGuarded x.acts) (same_Some first item (sym is)) guarded.0
 
 -- ---- files that rise and have spellings
 

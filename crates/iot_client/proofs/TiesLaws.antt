@@ -4,6 +4,7 @@ use Rattle.std.proofs.Common.{refl, sym, ap, subst, ◌∙◌, length-append}
 use Rattle.std.specs.Prelude.{IsSome, IfOk, Result, Ok, Err}
 use Rattle.std.specs.FinMap.{empty}
 use Rattle.iot_tree.specs.Tree.{Nodes}
+use Rattle.iot_tree.specs.declared.access.Access.{Access}
 use Rattle.iot_tree.specs.declared.acts.Act.{Act}
 use Rattle.iot_tree.specs.declared.labels.OnConflict.{OnConflict}
 use Rattle.iot_tree.specs.declared.limits.TheConstants.{ACT_LIMIT}
@@ -22,6 +23,7 @@ use Rattle.iot_changes.specs.declared.changes.Change.{Change}
 use Rattle.iot_changes.specs.declared.changes.Change.TheVariants.{Held, Begun, Fetched, Acted, Ended, Cut, Conflicted, Resolved}
 use Rattle.iot_changes.specs.declared.changes.Change.TheVariants.{Repaired, Left}
 use Rattle.iot_kept.specs.States.{Transaction, State, acts_of, after_each, after_items, view}
+use Rattle.iot_access.specs.Access.{no_access}
 use Rattle.iot_kept.specs.Changes.{CanFollow, with_acts, left, stage_by, stays_in, conflicted, repaired, after}
 use Rattle.iot_kept.specs.Memory.{transaction_of, class_of, class_after, classed, IsSecond}
 use Rattle.iot_kept.specs.declared.running.Running.{Running}
@@ -210,9 +212,9 @@ same_runs a b class i same runs =
     subst (λ (running : Option Transaction). IsRunIfAny b running class i) (sym same.running)
     (moved a.running a b class i same (same_view a b same) runs)
 
-with_head_same : (change : Item → Item) (state : State) → ((item : Item) → (change item).acts ≡ item.acts)
-    → SameBut state (record state { items = with_head change state.items })
-with_head_same change state keeps = record {
+with_head_same : (change : Item → Item) (state : State) (access : Access) → ((item : Item) → (change item).acts ≡ item.acts)
+    → SameBut state (record state { items = with_head change state.items; access = access })
+with_head_same change state access keeps = record {
   items = head_after change state.items state.held keeps;
   running = refl;
   alone = λ none. ap (with_head change) none;
@@ -227,7 +229,7 @@ left_same (item ∷ items) state is = record {
 }
 
 stays_same : (stage : Option Stage) (state : State) → SameBut state (stays_in stage state)
-stays_same (Some stage) state = with_head_same (staged stage) state (λ item. refl)
+stays_same (Some stage) state = with_head_same (staged stage) state no_access (λ item. refl)
 stays_same None state = left_same state.items state refl
 
 conflicted_same : (items : List Item) (state : State) → SameBut state (conflicted state items)
@@ -242,8 +244,8 @@ head_same (Acted act) state head = absurd head
 head_same Ended state head = absurd head
 head_same Cut state head = absurd head
 head_same Conflicted state head = conflicted_same state.items state
-head_same (Resolved done) state head = with_head_same (staged (stages.Resolved done)) state (λ item. refl)
-head_same (Repaired script) state head = with_head_same (repaired script) state (λ item. refl)
+head_same (Resolved done access) state head = with_head_same (staged (stages.Resolved done)) state access (λ item. refl)
+head_same (Repaired script) state head = with_head_same (repaired script) state no_access (λ item. refl)
 head_same Left state head = left_same state.items state refl
 
 pub runs_on : (change : Change) (state : State) (class : Option Bool) (i : Option Interpreter) → ChangesHead change → RunsIn state class i
@@ -261,7 +263,7 @@ class_stays (Acted act) class head = absurd head
 class_stays Ended class head = absurd head
 class_stays Cut class head = absurd head
 class_stays Conflicted class head = refl
-class_stays (Resolved done) class head = refl
+class_stays (Resolved done access) class head = refl
 class_stays (Repaired script) class head = refl
 class_stays Left class head = refl
 

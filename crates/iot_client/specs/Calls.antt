@@ -1,6 +1,7 @@
 -- What the calls of a client refuse, change and answer.
 use Rattle.std.specs.Prelude.{◌≡◌, ℕ, ◌+◌, ◌<◌, ◌||◌, Bool, true, false, List, [], ◌∷◌, ◌++◌, drop, leb, length, if◌then◌else◌}
 use Rattle.std.specs.Prelude.{⊤, IsOk, IsSome, Option, Some, None, Result, Ok, Err}
+use Rattle.iot_access.specs.Access.{access_of}
 use Rattle.iot_acts.specs.Traces.{after_acts}
 use Rattle.iot_journal.specs.Decoding.{Encodes}
 use Rattle.iot_journal.specs.Images.{EachDecodesEither}
@@ -188,7 +189,7 @@ ChangesHead (changes.Acted act) = ⊥
 ChangesHead changes.Ended = ⊥
 ChangesHead changes.Cut = ⊥
 ChangesHead changes.Conflicted = Unit {0}
-ChangesHead (changes.Resolved done) = Unit {0}
+ChangesHead (changes.Resolved done access) = Unit {0}
 ChangesHead (changes.Repaired script) = Unit {0}
 ChangesHead changes.Left = Unit {0}
 
@@ -219,17 +220,17 @@ abbrev pub IsHeadsRun : Nodes → List Item → Code → Nodes → Resolution �
 IsHeadsRun held [] code server done = ⊥
 IsHeadsRun held (item ∷ items) code server done = IsPlannedRun (plan_of item) code (after_acts held item.acts) server done
 
--- the durable state changes by the run for the first that waits, on this whole tree
+-- the durable state changes by the run for the first that waits, on this whole tree, and by what that run asked of it
 pub record Reruns {D : Type 0} (code : Code) (server : Nodes) (old new : Client D) : Type 0 where
   pub done : Resolution
   pub run : IsHeadsRun (state_of old).held (state_of old).items code server done
-  pub notes : Notes (changes.Resolved done) old new
+  pub notes : Notes (changes.Resolved done (access_of done.acts server)) old new
 
 -- it was stopped while it appended that change
 pub record CutsOffRerun (code : Code) (server : Nodes) (state : State) (bodies : List (List ℕ)) (images : List ℕ → Type 0) : Type 0 where
   pub done : Resolution
   pub run : IsHeadsRun state.held state.items code server done
-  pub cuts_off : CutsOff (changes.Resolved done) state bodies images
+  pub cuts_off : CutsOff (changes.Resolved done (access_of done.acts server)) state bodies images
 
 -- and the tree is the one that the reply makes of nothing
 pub record Resolves {D : Type 0} (reply : List ℕ) (code : Code) (old new : Client D) : Type 0 where

@@ -4,8 +4,10 @@ use Rattle.std.specs.FinMap.{entries}
 use Rattle.std.specs.List.{list_all}
 use Rattle.iot_tree.specs.Snapshots.{is_known}
 use Rattle.iot_tree.specs.Tree.{Row, Nodes, IsTree, IsWhole, root_alone}
+use Rattle.iot_tree.specs.declared.access.Access.{Access}
 use Rattle.iot_tree.specs.declared.changes.Changes.{Changes}
 use Rattle.iot_tree.specs.declared.nodes.Node.TheVariants.{FarDir}
+use Rattle.iot_access.specs.Access.{access_of, lines_of}
 use Rattle.iot_stamp.specs.Stamps.{Stamps, nodes_of, unstamped}
 use Rattle.iot_kept.specs.Bringing.{brought}
 use Rattle.iot_tree.specs.declared.labels.Label.{Label}
@@ -45,9 +47,10 @@ label_in client tid script budget =
 abbrev pub label_of : ℕ → Item → Label
 label_of client item = label_in client item.tid item.script item.budget
 
--- the bytes are the spelling of the request that it be committed with the acts of its run
-abbrev pub IsCommit : ℕ → Item → List ℕ → Type 0
-IsCommit client item bytes = IsMessage IsRequest request_spelling bytes (Commit (label_of client item) item.acts)
+-- the bytes are the spelling of the request that it be committed: with what its acts asked of the held tree, their updates and their lines
+abbrev pub IsCommit : ℕ → Nodes → Item → List ℕ → Type 0
+IsCommit client held item bytes =
+    IsMessage IsRequest request_spelling bytes (Commit (label_of client item) (access_of item.acts held) (lines_of item.acts))
 
 -- how a transaction is committed that was resolved
 abbrev pub way_of : OnConflict → Way
@@ -68,34 +71,34 @@ resolved_label client tid option done =
       kept = done.kept;
     }
 
--- the bytes are the spelling of the request that it be committed with the acts of that run
-abbrev pub IsResolvedCommit : ℕ → ℕ → OnConflict → Resolution → List ℕ → Type 0
-IsResolvedCommit client tid option done bytes =
-    IsMessage IsRequest request_spelling bytes (Commit (resolved_label client tid option done) done.acts)
+-- the bytes are the spelling of the request that it be committed with this access, which is kept beside that run, and the run's lines
+abbrev pub IsResolvedCommit : ℕ → Access → ℕ → OnConflict → Resolution → List ℕ → Type 0
+IsResolvedCommit client access tid option done bytes =
+    IsMessage IsRequest request_spelling bytes (Commit (resolved_label client tid option done) access (lines_of done.acts))
 
 -- the bytes are the spelling of the request for the whole tree, with nothing known
 abbrev pub IsWholeRequest : ℕ → List ℕ → Type 0
 IsWholeRequest client bytes = IsMessage IsRequest request_spelling bytes (Refresh client [] (wants.Below []))
 
 -- what a transaction in this stage needs of the server: that it be committed, the whole tree, or nothing
-abbrev pub IsAsked : ℕ → Item → Stage → Ask → Type 0
-IsAsked client item Waiting (asks.Commit bytes) = IsCommit client item bytes
-IsAsked client item Waiting (asks.Whole bytes) = ⊥
-IsAsked client item Waiting asks.Manual = ⊥
-IsAsked client item stages.Conflict (asks.Commit bytes) = ⊥
-IsAsked client item stages.Conflict (asks.Whole bytes) = IsWholeRequest client bytes
-IsAsked client item stages.Conflict asks.Manual = ⊥
-IsAsked client item Manual (asks.Commit bytes) = ⊥
-IsAsked client item Manual (asks.Whole bytes) = ⊥
-IsAsked client item Manual asks.Manual = Unit {0}
-IsAsked client item (Resolved done) (asks.Commit bytes) = IsResolvedCommit client item.tid item.option done bytes
-IsAsked client item (Resolved done) (asks.Whole bytes) = ⊥
-IsAsked client item (Resolved done) asks.Manual = ⊥
+abbrev pub IsAsked : ℕ → Nodes → Access → Item → Stage → Ask → Type 0
+IsAsked client held access item Waiting (asks.Commit bytes) = IsCommit client held item bytes
+IsAsked client held access item Waiting (asks.Whole bytes) = ⊥
+IsAsked client held access item Waiting asks.Manual = ⊥
+IsAsked client held access item stages.Conflict (asks.Commit bytes) = ⊥
+IsAsked client held access item stages.Conflict (asks.Whole bytes) = IsWholeRequest client bytes
+IsAsked client held access item stages.Conflict asks.Manual = ⊥
+IsAsked client held access item Manual (asks.Commit bytes) = ⊥
+IsAsked client held access item Manual (asks.Whole bytes) = ⊥
+IsAsked client held access item Manual asks.Manual = Unit {0}
+IsAsked client held access item (Resolved done) (asks.Commit bytes) = IsResolvedCommit client access item.tid item.option done bytes
+IsAsked client held access item (Resolved done) (asks.Whole bytes) = ⊥
+IsAsked client held access item (Resolved done) asks.Manual = ⊥
 
 -- what the first that waits needs
-abbrev pub IsSubmission : ℕ → List Item → Ask → Type 0
-IsSubmission client [] ask = ⊥
-IsSubmission client (item ∷ items) ask = IsAsked client item item.stage ask
+abbrev pub IsSubmission : ℕ → Nodes → Access → List Item → Ask → Type 0
+IsSubmission client held access [] ask = ⊥
+IsSubmission client held access (item ∷ items) ask = IsAsked client held access item item.stage ask
 
 -- ---- replies
 

@@ -1,6 +1,7 @@
 //! The calls on the first transaction that waits.
 ghost use Rattle.std.specs.Prelude.{◌≡◌, ◌≤◌, Ok, IfOk, IfErr, OnOk, IsErrOf, true};
-ghost use Rattle.iot_acts.specs.Traces.{after_acts};
+ghost use Rattle.iot_acts.specs.Guards.{AllGuarded};
+ghost use Rattle.iot_acts.specs.Traces.{ActsHold, after_acts};
 ghost use Rattle.iot_changes.specs.Rules.{IsResolution};
 ghost use Rattle.iot_codec.specs.Rules.{IsTreeOfRows};
 ghost use Rattle.iot_stamp.specs.Acting.{UpdatesFit};
@@ -32,7 +33,8 @@ impl<D: Disk> Client<D> {
     ghost use Rattle.iot_client.specs.Ties.{state_of, place_of, disk_of, bodies_on, live_of, IsTied};
 
     /// What the first transaction that waits needs of the server: that it be committed with the acts of its run or of its resolution,
-    /// or the whole tree on which it is to be resolved, or nothing if it is to be decided by hand. Copies the acts once.
+    /// or the whole tree on which it is to be resolved, or nothing if it is to be decided by hand. Of a run it tells what it asked of the
+    /// tree before it, its updates and its lines, which are copied once.
     ///
     /// # Errors
     ///
@@ -40,11 +42,16 @@ impl<D: Disk> Client<D> {
     pub fn submission(&self, alloc: Global) -> Result<Ask, ClientFault>
         requires tied { IsTied D.medium self.now }
         requires place { place_of self.now ≤ 7 }
-        ensures request { IfOk result (IsSubmission (place_of self.now) (state_of self.now).items) }
+        ensures request { IfOk result
+            (IsSubmission (place_of self.now) (state_of self.now).held (state_of self.now).access (state_of self.now).items) }
         ensures refuses { RefusesFor (empty_queue (state_of self.now).items) result }
     {
         match self.kept.queue().head() {
-            Some(item) => Ok(ask_for(alloc, self.me, item)?),
+            Some(item) => {
+                let held = self.kept.held();
+                let access = self.kept.access();
+                Ok(ask_for(alloc, self.me, item, held, access)?)
+            }
             None => Err(ClientFault::Nothing),
         }
     }
@@ -187,7 +194,8 @@ impl<D: Disk> Client<D> {
             (state_of self.old) (bodies_on D.medium self.old) (D.medium.may_leave (disk_of self.new)) }
     {
         let done = self.resolution(alloc, script, server)?;
-        self.change_head(alloc, Change::Resolved(done))
+        let access = iot_access::of(alloc, &done.acts, server)?;
+        self.change_head(alloc, Change::Resolved(done, access))
     }
 
     fn resolution(
@@ -201,6 +209,8 @@ impl<D: Disk> Client<D> {
         requires spelled { IsTreeOfRows server.now }
         ensures run { IfOk result (IsHeadsRun (state_of self.now).held (state_of self.now).items script.value server.now) }
         ensures spelled { IfOk result IsResolution }
+        ensures holds { IfOk result (λ done. ActsHold server.now done.acts) }
+        ensures guarded { IfOk result (λ done. AllGuarded done.acts) }
     {
         let Some(head) = self.kept.queue().head() else {
             unreachable!();

@@ -12,7 +12,12 @@ use Rattle.iot_limits.proofs.SpelledLaws.{no_files_are_spelled}
 use Rattle.iot_wire.proofs.MessagesLaws.{call_one}
 use Rattle.iot_wire.proofs.SpellingLaws.{reply_laws}
 use Rattle.iot_machine.proofs.WholeLaws.{whole_comes}
+use Rattle.iot_access.specs.Access.{access_of}
 use Rattle.iot_laptop.proofs.LaptopsLaws.{HeadStands, head_stands}
+use Rattle.iot_laptop.specs.Calls.{access_in}
+use Rattle.iot_laptop.specs.Kept.{access_by, access_kept}
+use Rattle.iot_tree.specs.declared.access.Access.{Access}
+use Rattle.iot_tree.specs.declared.acts.Act.{Act}
 use Rattle.iot_tree.specs.declared.want.Want.TheVariants as wanted
 use Rattle.iot_tree.specs.declared.labels.OnConflict as labels
 use Rattle.iot_queue.specs.declared.items.Stage.TheVariants as kept_stages
@@ -291,6 +296,11 @@ message_of it = record { request = it.request; handed = Some (record { printed =
 
 -- ---- what is submitted
 
+-- the access of a resolution is that of its acts, on the server's tree of then
+resolved_access : (done : Resolution) (it : clients.Resolution) → ResolutionStands done it → (access : Access)
+    → access ≡ access_by (clients.Resolved it) → access ≡ access_of done.acts it.tree
+resolved_access done it stands access has = has ∙ ap (λ (acts : List Act). access_of acts it.tree) (sym stands.acts)
+
 module _ {D : Type 0} {medium : Medium D} {scripts : List Declared} {names : List (List ℕ)} {c : ℕ} {old : Both D} {pair : Pair}
     (here : UpStands medium scripts names c old pair) {Is : Item → Type 0} {t : Transaction} (first : First Is old.laptop t) where
   abbrev mi : clients.Item
@@ -311,9 +321,10 @@ module _ {D : Type 0} {medium : Medium D} {scripts : List Declared} {names : Lis
 
   -- by its stage
   submission_by : {s : Stage} {ms : clients.Stage} → SameStage s ms → IsSubmittedIn s → IsPlanned mi.option ms
-      → IsSubmission (label_in old.laptop.place first.item s) (acts_in first.item s) transaction
-      (submission_of (record mi { stage = ms }) pair)
-  submission_by waiting is planned =
+      → (state_in old.laptop).access ≡ access_by ms
+      → IsSubmission (label_in old.laptop.place first.item s) (acts_in first.item s) (access_in (state_in old.laptop) first.item s)
+      transaction (submission_of (record mi { stage = ms }) pair)
+  submission_by waiting is planned has =
       let stands = (head here first).stands in
       let placed = here.place ∙ sym here.client.place in
       record {
@@ -329,10 +340,11 @@ module _ {D : Type 0} {medium : Medium D} {scripts : List Declared} {names : Lis
         base = (state_in old.laptop).held;
         tree = here.client.is.state.tree;
         has_acts = stands.acts;
+        has_access = refl;
         reads = ap (λ (t : Nodes). reads_of (local_run t mi).acts) (sym here.client.is.state.held) ∙ ap reads_of (sym stands.acts);
         spelled = record { script = stands.script; kept = no_files_are_spelled };
       }
-  submission_by (resolved done) is planned =
+  submission_by (resolved done) is planned has =
       let stands = (head here first).stands in
       let placed = here.place ∙ sym here.client.place in
       let its_way = ways_are mi.option planned ∙ ap way_of (sym stands.option) in
@@ -349,15 +361,18 @@ module _ {D : Type 0} {medium : Medium D} {scripts : List Declared} {names : Lis
         base = _;
         tree = done.tree;
         has_acts = done.acts;
+        has_access = resolved_access _ _ done _ has;
         reads = ap reads_of (sym done.acts);
         spelled = record { script = done.script; kept = done.files };
       }
-  submission_by same is planned = absurd is
+  submission_by same is planned has = absurd is
 
   module _ {it : Submitted} (hands : HandsIn old.laptop first.item it) where
-    submission : IsSubmission (label_in old.laptop.place first.item first.item.stage) (acts_in first.item first.item.stage) transaction
-        (submission_of mi pair)
-    submission = submission_by (stage_there here first) hands.submitted (head here first).stands.planned
+    submission : IsSubmission (label_in old.laptop.place first.item first.item.stage) (acts_in first.item first.item.stage)
+        (access_in (state_in old.laptop) first.item first.item.stage) transaction (submission_of mi pair)
+    submission =
+        submission_by (stage_there here first) hands.submitted (head here first).stands.planned
+        (here.client.is.state.access ∙ ap access_kept (head here first).split)
 
     -- the message asks for a judgment of what the machine submits
     asks_judgment : AsksFor names (message_of it) old.server (Judgment (submission_of mi pair))
@@ -365,6 +380,7 @@ module _ {D : Type 0} {medium : Medium D} {scripts : List Declared} {names : Lis
       record {
         label = label_in old.laptop.place first.item first.item.stage;
         acts = acts_in first.item first.item.stage;
+        access = access_in (state_in old.laptop) first.item first.item.stage;
         asked = hands.asked;
         transaction = transaction;
         handed = (λ i. Some (record {

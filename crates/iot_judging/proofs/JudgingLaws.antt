@@ -3,17 +3,18 @@ use Rattle.std.proofs.Common.{◌≡◌, ◌<◌, ◌≤◌, ℕ, zero, suc, ◌
 use Rattle.std.proofs.Common.{inl, inr, slice_get, length-append, arith}
 use Rattle.std.proofs.lemmas.Option.{same_Some}
 use Rattle.iot_tree.specs.Tree.{Nodes, IsTree}
+use Rattle.iot_tree.specs.Questions.{answer_of}
 use Rattle.iot_tree.specs.declared.acts.Act.{Act}
 use Rattle.iot_tree.specs.declared.acts.Read.{Read}
 use Rattle.iot_tree.specs.declared.questions.Answer.{Answer}
 use Rattle.iot_lang.specs.Code.{Code}
-use Rattle.iot_acts.specs.Traces.{ActsHold, after_acts, FitsIfAny, after_update}
-use Rattle.iot_acts.specs.Turns.{reads_of, turns, DiffersAt}
+use Rattle.iot_access.specs.Access.{IsAccess, access_of}
+use Rattle.iot_access.proofs.AccessLaws.{takes_place}
+use Rattle.iot_access.proofs.SameLaws.{same_access}
+use Rattle.iot_acts.specs.Traces.{ReadsHold, ActsHold, after_acts, FitsIfAny, after_update}
+use Rattle.iot_acts.specs.Turns.{reads_of, turns, DiffersAt, FirstDiffers}
 use Rattle.iot_acts.specs.Guards.{AllGuarded}
 use Rattle.iot_acts.proofs.TraceLaws.{tree_after as tree_made, tree_after_acts, AreDone}
-use Rattle.iot_certify.specs.Verdicts.{IsVerdictOnActs}
-use Rattle.iot_certify.specs.declared.verdict.Verdict.TheVariants.{Differs}
-use Rattle.iot_certify.proofs.WalkLaws.{guarded_differs}
 use Rattle.iot_exec.specs.Commands.{Kept}
 use Rattle.iot_exec.specs.Runs.{run}
 use Rattle.iot_exec.specs.Plans.{perform, Performed, Effect}
@@ -129,11 +130,22 @@ module _ (here there : List Read) (place : ℕ) (given : Answer) (parts : PartsA
   pub parts_within : (1 ≤ place) × (place - 1 < length here)
   parts_within = place_within here place (parted here there 1 place given parts)
 
+-- if a read differs first in its turn, the tree of that turn gives some answer
+pub differs_some : (turns : List (Nodes × Read)) (from place : ℕ) → FirstDiffers turns from place
+    → (answer : Answer) × DiffersAt turns from place answer
+differs_some [] from place first = absurd first
+differs_some (turn ∷ turns) from place (inl here) = (answer_of turn.0 turn.1.question, inl (here.0, here.1, refl))
+differs_some (turn ∷ turns) from place (inr later) =
+    let rest = differs_some turns (suc from) place later.1 in (rest.0, inr (later.0, rest.1))
+
 -- ---- a script that was run here, on the server's tree
 
 module _ (code : Code) (kept : Kept) (n : ℕ) (t u : Nodes) (acts : List Act) (is : acts ≡ (run code kept t n).acts) where
   pub acts_guarded : IsTree t → AllGuarded acts
   acts_guarded tree = subst AllGuarded (sym is) (own_acts code kept t n tree).guarded
+
+  acts_hold : IsTree t → ActsHold t acts
+  acts_hold tree = subst (ActsHold t) (sym is) (own_acts code kept t n tree).hold
 
   -- if the acts hold there, the script does the same there
   pub same_there : IsTree u → ActsHold u acts
@@ -152,10 +164,16 @@ module _ (code : Code) (kept : Kept) (n : ℕ) (t u : Nodes) (acts : List Act) (
       subst (λ (acts : List Act). PartsAt (reads_of acts) (reads_of (run code kept u n).acts) 1 place answer) (sym is)
       ((run_parts code kept t u n place answer).0 (subst (λ (acts : List Act). DiffersAt (turns u acts) 1 place answer) is differs))
 
-  pub parts_by_verdict : IsTree t → IsTree u → (place : ℕ) (answer : Answer) → IsVerdictOnActs u acts (Differs place answer)
-      → PartsAt (reads_of acts) (reads_of (run code kept u n).acts) 1 place answer
-  parts_by_verdict here there place answer verdict =
-      parts_there place answer (guarded_differs u acts (Differs place answer) there (acts_guarded here) verdict)
+  -- the access of the acts may take their place on every whole tree
+  pub takes_place_of : IsTree t → IsAccess (access_of acts t).reads (access_of acts t).places (access_of acts t).updates acts
+  takes_place_of tree = takes_place acts t tree (acts_guarded tree) (acts_hold tree)
+
+  -- if its base reads hold there, it is that of the script's run there
+  pub access_there : IsTree t → IsTree u → ActsHold u acts → ReadsHold u (access_of acts t).reads
+      → access_of (run code kept u n).acts u ≡ access_of acts t
+  access_there here there hold reads =
+      ap (λ (ran : Ran). access_of ran.acts u) (same_there there hold)
+      ∙ sym (same_access t u acts here (acts_guarded here) (acts_hold here) reads)
 
 -- ---- submissions
 

@@ -4,3 +4,4 @@ pub mod SpelledTreesLaws
 pub mod ReadPlaceLaws
 pub mod NextLaws
 pub mod RunTreesLaws
+pub mod ToldLaws

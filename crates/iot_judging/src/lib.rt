@@ -1,2 +1,6 @@
-//! Laws alone: what certification says of the runs of the plain machine's clients, and which trees have spellings.
+//! What certification says of the runs of the plain machine's clients, and which trees have spellings: definitions and laws.
 #![tactic(auto)]
+
+mod laws;
+
+pub use laws::a_run_is_told_by_its_access;

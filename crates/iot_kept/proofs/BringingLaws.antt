@@ -80,12 +80,12 @@ follows_with state Fetch t u follows = follows
 -- the state after it, if nothing else has changed but that what runs has no acts
 pub brought_state : (purpose : Purpose) (state now : State) (t : Nodes) → CanFollow state (brought_for purpose t) → now.held ≡ t
     → now.items ≡ state.items → now.running ≡ with_acts (λ acts. []) state.running → now.last ≡ state.last
-    → now ≡ after state (brought_for purpose t)
-brought_state Hold state now t follows held items running last =
+    → now.access ≡ state.access → now ≡ after state (brought_for purpose t)
+brought_state Hold state now t follows held items running last access =
     let idle = running ∙ ap (with_acts (λ acts. [])) follows.0 ∙ sym follows.0 in
-    (λ i. record { held = held i; items = items i; running = idle i; last = last i })
-brought_state Fetch state now t follows held items running last =
-    (λ i. record { held = held i; items = items i; running = running i; last = last i })
+    (λ i. record { held = held i; items = items i; running = idle i; last = last i; access = access i })
+brought_state Fetch state now t follows held items running last access =
+    (λ i. record { held = held i; items = items i; running = running i; last = last i; access = access i })
 
 -- ---- what is brought
 

@@ -2,6 +2,8 @@
 use Rattle.std.proofs.Common.{◌≡◌, ◌≤◌, List, [], ◌∷◌, ◌++◌, length, Option, Some, None, refl, sym, ap, subst, arith}
 use Rattle.iot_tree.specs.Tree.{Nodes}
 use Rattle.iot_acts.specs.Traces.{ActsHold, after_acts}
+use Rattle.iot_tree.specs.declared.access.Access.{Access}
+use Rattle.iot_access.specs.Access.{no_access}
 use Rattle.iot_queue.specs.Queues.{with_head, staged}
 use Rattle.iot_queue.specs.declared.items.Item.{Item}
 use Rattle.iot_queue.specs.declared.items.Stage.{Stage}
@@ -64,8 +66,9 @@ cut_one : (running : Option Transaction) → length (cut running) ≤ 1
 cut_one None = omega arith
 cut_one (Some running) = omega arith
 
-changed_continues : (change : Item → Item) (state : State) → KeepsRun change → AllHold state → Continues state (changed change state)
-changed_continues change state keeps hold = all_wait_on (head_waits change state.items state.held keeps hold.items)
+changed_continues : (change : Item → Item) (access : Access) (state : State) → KeepsRun change → AllHold state
+    → Continues state (changed change access state)
+changed_continues change access state keeps hold = all_wait_on (head_waits change state.items state.held keeps hold.items)
 
 left_later : (items : List Item) (state : State) → items ≡ state.items → HeadIs MayLeave items → AllHold state
     → LaterWaitOn state.held (left state items).held items (left state items).items
@@ -78,7 +81,7 @@ left_continues state some hold = first_leaves (left_later state.items state refl
 
 stays_continues : (stage : Option Stage) (state : State) → HeadIs MayLeave state.items → AllHold state
     → Continues state (stays_in stage state)
-stays_continues (Some stage) state some hold = changed_continues (staged stage) state (λ item. (refl, refl, refl, refl)) hold
+stays_continues (Some stage) state some hold = changed_continues (staged stage) no_access state (λ item. (refl, refl, refl, refl)) hold
 stays_continues None state some hold = left_continues state some hold
 
 conflicted_continues : (items : List Item) (state : State) → HeadIs MayLeave state.items → AllHold state
@@ -98,10 +101,10 @@ pending_reads_stay state Cut follows hold =
     all_wait_on (more_wait state.items (cut state.running) state.held (cut_one state.running) hold.items)
 pending_reads_stay state Conflicted follows hold =
     conflicted_continues state.items state (submitted_may_leave state.items follows) hold
-pending_reads_stay state (Resolved done) follows hold =
-    changed_continues (staged (stages.Resolved done)) state (λ item. (refl, refl, refl, refl)) hold
+pending_reads_stay state (Resolved done access) follows hold =
+    changed_continues (staged (stages.Resolved done)) access state (λ item. (refl, refl, refl, refl)) hold
 pending_reads_stay state (Repaired script) follows hold =
-    changed_continues (repaired script) state (λ item. (refl, refl, refl, refl)) hold
+    changed_continues (repaired script) no_access state (λ item. (refl, refl, refl, refl)) hold
 pending_reads_stay state Left follows hold = left_continues state follows hold
 
 -- ---- a cut

@@ -10,6 +10,7 @@ use Rattle.iot_text.specs.Paths.{IsPath, path_cmp}
 use Rattle.iot_text.proofs.PathsLaws.{IsPath-drop, IsPath-append}
 use Rattle.iot_tree.specs.Tree.{Path, Nodes, IsTree, root_alone}
 use Rattle.iot_tree.specs.Updates.{renamed, updated}
+use Rattle.iot_tree.specs.declared.access.Access.{Access}
 use Rattle.iot_tree.specs.declared.acts.Act.{Act}
 use Rattle.iot_tree.specs.declared.labels.OnConflict.{OnConflict}
 use Rattle.iot_tree.specs.declared.labels.OnConflict.TheVariants as options
@@ -20,9 +21,10 @@ use Rattle.iot_tree.specs.declared.updates.Update.{Update}
 use Rattle.iot_tree.specs.declared.updates.Update.TheVariants.{Put, MakeDir, Remove, Move}
 use Rattle.iot_tree.proofs.EachLaws.{EachNode, found_row, each_entry, each_inserted, each_removed, each_moved}
 use Rattle.iot_tree.proofs.RowLaws.{root_rows, root_map}
+use Rattle.iot_access.specs.Access.{no_access}
 use Rattle.iot_acts.specs.Traces.{ActsHold, FitsIfAny, after_update, after_acts}
 use Rattle.iot_acts.proofs.TraceLaws.{tree_after}
-use Rattle.iot_codec.specs.Rules.{IsRow, IsUpdate, IsOptionalUpdate, IsAct, AreActs, IsTreeOfRows, IsBudget}
+use Rattle.iot_codec.specs.Rules.{IsAccess, IsRow, IsUpdate, IsOptionalUpdate, IsAct, AreActs, IsTreeOfRows, IsBudget}
 use Rattle.iot_queue.specs.Queues.{with_head, staged}
 use Rattle.iot_queue.specs.declared.items.Item.{Item}
 use Rattle.iot_queue.specs.declared.items.Stage.{Stage}
@@ -138,6 +140,9 @@ cut_spelled (Some running) is = (waits_spelled (length running.acts) running is.
 
 -- ---- the head
 
+nothing_spelled : IsAccess no_access
+nothing_spelled = record { bases = record { even = refl; reads = tt; places = tt }; updates = tt }
+
 staged_spelled : (stage : Stage) (item : Item) → IsSpelledStage stage → IsSpelledItem item → IsSpelledItem (staged stage item)
 staged_spelled stage item has is = record {
   number = is.number;
@@ -163,13 +168,15 @@ head_spelled : (change : Item → Item) (items : List Item) → ((item : Item) �
 head_spelled change [] each are = tt
 head_spelled change (item ∷ items) each are = (each item are.0, are.1)
 
-changed_spelled : (change : Item → Item) (state : State) → ((item : Item) → IsSpelledItem item → IsSpelledItem (change item))
-    → IsSpelledState state → IsSpelledState (changed change state)
-changed_spelled change state each is = record {
+changed_spelled : (change : Item → Item) (access : Access) (state : State)
+    → ((item : Item) → IsSpelledItem item → IsSpelledItem (change item)) → IsAccess access → IsSpelledState state
+    → IsSpelledState (changed change access state)
+changed_spelled change access state each has is = record {
   held = is.held;
   items = head_spelled change state.items each is.items;
   running = is.running;
   last = is.last;
+  access = has;
 }
 
 left_spelled : (items : List Item) (state : State) → items ≡ state.items → AllHold state → IsSpelledState state
@@ -183,16 +190,18 @@ left_spelled (item ∷ items) state same hold is =
       items = head.1;
       running = is.running;
       last = is.last;
+      access = nothing_spelled;
     }
 
 stays_spelled : (option : OnConflict) (state : State) → AllHold state → IsSpelledState state
     → IsSpelledState (stays_in (stage_by option) state)
 stays_spelled options.Reexec state hold is =
-    changed_spelled (staged stages.Conflict) state (λ item. staged_spelled stages.Conflict item tt) is
+    changed_spelled (staged stages.Conflict) no_access state (λ item. staged_spelled stages.Conflict item tt) nothing_spelled is
 stays_spelled (options.Resolver script) state hold is =
-    changed_spelled (staged stages.Conflict) state (λ item. staged_spelled stages.Conflict item tt) is
+    changed_spelled (staged stages.Conflict) no_access state (λ item. staged_spelled stages.Conflict item tt) nothing_spelled is
 stays_spelled options.Abort state hold is = left_spelled state.items state refl hold is
-stays_spelled options.Manual state hold is = changed_spelled (staged stages.Manual) state (λ item. staged_spelled stages.Manual item tt) is
+stays_spelled options.Manual state hold is =
+    changed_spelled (staged stages.Manual) no_access state (λ item. staged_spelled stages.Manual item tt) nothing_spelled is
 
 conflicted_spelled : (items : List Item) (state : State) → AllHold state → IsSpelledState state → IsSpelledState (conflicted state items)
 conflicted_spelled [] state hold is = is
@@ -208,47 +217,53 @@ keeps_spelled state (Held tree) is follows hold spelled = record {
   items = spelled.items;
   running = spelled.running;
   last = spelled.last;
+  access = spelled.access;
 }
 keeps_spelled state (Begun number script option) is follows hold spelled = record {
   held = spelled.held;
   items = spelled.items;
   running = record { number = is.0; script = is.1.0; option = is.1.1; acts = no_acts };
   last = is.0;
+  access = spelled.access;
 }
 keeps_spelled state (Fetched tree) is follows hold spelled = record {
   held = is;
   items = spelled.items;
   running = again_spelled state.running spelled.running;
   last = spelled.last;
+  access = spelled.access;
 }
 keeps_spelled state (Acted act) is follows hold spelled = record {
   held = spelled.held;
   items = spelled.items;
   running = acted_spelled state.running act follows.1 is spelled.running;
   last = spelled.last;
+  access = spelled.access;
 }
 keeps_spelled state Ended is follows hold spelled = record {
   held = spelled.held;
   items = all_joined IsSpelledItem state.items (ended state.running) spelled.items (ended_spelled state.running spelled.running);
   running = tt;
   last = spelled.last;
+  access = spelled.access;
 }
 keeps_spelled state Cut is follows hold spelled = record {
   held = spelled.held;
   items = all_joined IsSpelledItem state.items (cut state.running) spelled.items (cut_spelled state.running spelled.running);
   running = tt;
   last = spelled.last;
+  access = spelled.access;
 }
 keeps_spelled state Conflicted is follows hold spelled = conflicted_spelled state.items state hold spelled
-keeps_spelled state (Resolved done) is follows hold spelled =
-    changed_spelled (staged (stages.Resolved done)) state (λ item. staged_spelled (stages.Resolved done) item is) spelled
+keeps_spelled state (Resolved done access) is follows hold spelled =
+    changed_spelled (staged (stages.Resolved done)) access state (λ item. staged_spelled (stages.Resolved done) item is.0) is.1 spelled
 keeps_spelled state (Repaired script) is follows hold spelled =
-    changed_spelled (repaired script) state (λ item. repaired_spelled script item is) spelled
+    changed_spelled (repaired script) no_access state (λ item. repaired_spelled script item is) nothing_spelled spelled
 keeps_spelled state Left is follows hold spelled = left_spelled state.items state refl hold spelled
 
 -- before the first change
 pub opening_spelled : IsSpelledState opening
-opening_spelled = record { held = far_root_rows; items = tt; running = tt; last = lit< tt }
+opening_spelled = record { held = far_root_rows; items = tt; running = tt; last = lit< tt; access = nothing_spelled }
 
 leads_spell : (bodies : List (List ℕ)) (before now : State) → Leads bodies before now → AllHold before → IsSpelledState before
     → IsSpelledState now

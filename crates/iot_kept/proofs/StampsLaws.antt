@@ -73,7 +73,7 @@ zero_change state Conflicted = by state.items refl
         (conflicted state items).held
     by [] is = refl
     by (item ∷ items) is = in_stage (stage_by item.option) item items is
-zero_change state (Resolved done) = refl
+zero_change state (Resolved done access) = refl
 zero_change state (Repaired script) = refl
 zero_change state Left = by state.items
   where

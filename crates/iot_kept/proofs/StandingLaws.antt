@@ -131,7 +131,7 @@ second_after (Held tree) before now is second = subst IsSecond (sym is) second
 second_after (Fetched tree) before now is second = subst IsSecond (sym is) second
 second_after (Acted act) before now is second = subst IsSecond (sym is) second
 second_after Conflicted before now is second = subst IsSecond (sym is) second
-second_after (Resolved done) before now is second = subst IsSecond (sym is) second
+second_after (Resolved done access) before now is second = subst IsSecond (sym is) second
 second_after (Repaired script) before now is second = subst IsSecond (sym is) second
 second_after Left before now is second = subst IsSecond (sym is) second
 

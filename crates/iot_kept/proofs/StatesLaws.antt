@@ -3,7 +3,9 @@ use Rattle.std.proofs.Common.{◌≡◌, ℕ, List, [], ◌∷◌, ◌++◌, Opt
 use Rattle.std.specs.Prelude.{IsSome}
 use Rattle.std.specs.declared.alloc.AllocError.{AllocError as NoMemory}
 use Rattle.iot_tree.specs.Tree.{Nodes}
+use Rattle.iot_tree.specs.declared.access.Access.{Access}
 use Rattle.iot_tree.specs.declared.acts.Act.{Act}
+use Rattle.iot_access.specs.Access.{no_access}
 use Rattle.iot_acts.specs.Traces.{ActsHold, after_update, after_acts}
 use Rattle.iot_acts.specs.Guards.{IsGuarded, AllGuarded}
 use Rattle.iot_stamp.specs.Acting.{UpdatesFit, stamped_acts}
@@ -38,14 +40,14 @@ pub head_fits : (item : Item) (items queue : List Item) (t : Nodes) → queue �
 head_fits item items queue t is hold = holds_fit t item.acts (subst (EachHold t) is hold).0
 
 -- what the head leaves behind
-pub left_made : (held new : Stamps) (items rest : List Item) (running : Option Transaction) (last : ℕ) (head : Item) → items ≡ head ∷ rest
-    → new ≡ stamped_acts held head.acts 0
-    → record { held = nodes_of new; items = rest; running = running; last = last }
-    ≡ left (record { held = nodes_of held; items = items; running = running; last = last }) items
-left_made held new items rest running last head is made =
-    ap (λ (t : Nodes). record { held = t; items = rest; running = running; last = last })
-    (ap nodes_of made ∙ nodes_after_acts 0 held head.acts)
-    ∙ sym (ap (λ queue. left (record { held = nodes_of held; items = items; running = running; last = last }) queue) is)
+pub left_made : (held new : Stamps) (items rest : List Item) (running : Option Transaction) (last : ℕ) (access now : Access) (head : Item)
+    → items ≡ head ∷ rest → new ≡ stamped_acts held head.acts 0 → now ≡ no_access
+    → record { held = nodes_of new; items = rest; running = running; last = last; access = now }
+    ≡ left (record { held = nodes_of held; items = items; running = running; last = last; access = access }) items
+left_made held new items rest running last access now head is made none =
+    let tree : nodes_of new ≡ after_acts (nodes_of held) head.acts = ap nodes_of made ∙ nodes_after_acts 0 held head.acts in
+    (λ i. record { held = tree i; items = rest; running = running; last = last; access = none i })
+    ∙ sym (ap (λ queue. left (record { held = nodes_of held; items = items; running = running; last = last; access = access }) queue) is)
 
 pub stamps_made : (held new : Stamps) (items rest : List Item) (head : Item) → items ≡ head ∷ rest → new ≡ stamped_acts held head.acts 0
     → new ≡ stamps_left held items
@@ -111,8 +113,8 @@ left_view (item ∷ items) state is = ap (λ (l : List Item). after_acts (after_
 abbrev pub Keeps : (Item → Item) → Type 0
 Keeps change = (item : Item) → (change item).acts ≡ item.acts
 
-abbrev pub changed : (Item → Item) → State → State
-changed change state = record state { items = with_head change state.items }
+abbrev pub changed : (Item → Item) → Access → State → State
+changed change access state = record state { items = with_head change state.items; access = access }
 
 pub head_after : (change : Item → Item) (items : List Item) (t : Nodes) → Keeps change
     → after_each t (with_head change items) ≡ after_each t items
@@ -131,26 +133,29 @@ head_guarded : (change : Item → Item) (items : List Item) → Keeps change →
 head_guarded change [] same guarded = guarded
 head_guarded change (item ∷ items) same guarded = (subst AllGuarded (sym (same item)) guarded.0, guarded.1)
 
-pub changed_holds : (change : Item → Item) (state : State) → Keeps change → AllHold state → AllHold (changed change state)
-changed_holds change state same hold = record {
+pub changed_holds : (change : Item → Item) (access : Access) (state : State) → Keeps change → AllHold state
+    → AllHold (changed change access state)
+changed_holds change access state same hold = record {
   items = head_holds change state.items state.held same hold.items;
   running = subst (λ (t : Nodes). ActsHold t (acts_of state.running)) (sym (head_after change state.items state.held same)) hold.running;
 }
 
-pub changed_guarded : (change : Item → Item) (state : State) → Keeps change → AreGuarded state → AreGuarded (changed change state)
-changed_guarded change state same guarded = record {
+pub changed_guarded : (change : Item → Item) (access : Access) (state : State) → Keeps change → AreGuarded state
+    → AreGuarded (changed change access state)
+changed_guarded change access state same guarded = record {
   items = head_guarded change state.items same guarded.items;
   running = guarded.running;
 }
 
-pub changed_view : (change : Item → Item) (state : State) → Keeps change → view (changed change state) ≡ view state
-changed_view change state same =
+pub changed_view : (change : Item → Item) (access : Access) (state : State) → Keeps change
+    → view (changed change access state) ≡ view state
+changed_view change access state same =
     ap (λ (t : Nodes). after_acts t (acts_of state.running)) (head_after change state.items state.held same)
 
 -- ---- the head conflicts
 
 stays_holds : (stage : Option Stage) (state : State) → AllHold state → AllHold (stays_in stage state)
-stays_holds (Some stage) state hold = changed_holds (staged stage) state (λ item. refl) hold
+stays_holds (Some stage) state hold = changed_holds (staged stage) no_access state (λ item. refl) hold
 stays_holds None state hold = left_holds state.items state refl hold
 
 conflicted_holds : (items : List Item) (state : State) → AllHold state → AllHold (conflicted state items)
@@ -158,7 +163,7 @@ conflicted_holds [] state hold = hold
 conflicted_holds (item ∷ items) state hold = stays_holds (stage_by item.option) state hold
 
 stays_view : (stage : Option Stage) (state : State) → view (stays_in stage state) ≡ view state
-stays_view (Some stage) state = changed_view (staged stage) state (λ item. refl)
+stays_view (Some stage) state = changed_view (staged stage) no_access state (λ item. refl)
 stays_view None state = left_view state.items state refl
 
 conflicted_view : (items : List Item) (state : State) → view (conflicted state items) ≡ view state
@@ -202,8 +207,8 @@ keeps state Cut follows hold = record {
 }
 keeps state Left follows hold = left_holds state.items state refl hold
 keeps state Conflicted follows hold = conflicted_holds state.items state hold
-keeps state (Resolved done) follows hold = changed_holds (staged (stages.Resolved done)) state (λ item. refl) hold
-keeps state (Repaired script) follows hold = changed_holds (repaired script) state (λ item. refl) hold
+keeps state (Resolved done access) follows hold = changed_holds (staged (stages.Resolved done)) access state (λ item. refl) hold
+keeps state (Repaired script) follows hold = changed_holds (repaired script) no_access state (λ item. refl) hold
 
 -- before the first change all acts hold, since there are none
 pub opening_holds : AllHold opening
@@ -232,8 +237,8 @@ view_after state Ended follows =
 view_after state Cut follows =
     after_each_more state.items (cut state.running) state.held ∙ cut_makes state.running (after_items state)
 view_after state Conflicted follows = conflicted_view state.items state
-view_after state (Resolved done) follows = changed_view (staged (stages.Resolved done)) state (λ item. refl)
-view_after state (Repaired script) follows = changed_view (repaired script) state (λ item. refl)
+view_after state (Resolved done access) follows = changed_view (staged (stages.Resolved done)) access state (λ item. refl)
+view_after state (Repaired script) follows = changed_view (repaired script) no_access state (λ item. refl)
 view_after state Left follows = left_view state.items state refl
 
 pub fits_view : (state : State) (change : Change) → CanFollow state change → FitsView (view state) change
@@ -244,7 +249,7 @@ fits_view state (Acted act) follows = follows.3
 fits_view state Ended follows = tt
 fits_view state Cut follows = tt
 fits_view state Conflicted follows = tt
-fits_view state (Resolved done) follows = tt
+fits_view state (Resolved done access) follows = tt
 fits_view state (Repaired script) follows = tt
 fits_view state Left follows = tt
 
@@ -286,7 +291,7 @@ left_guarded (item ∷ items) state is guarded = record {
 }
 
 stays_guarded : (stage : Option Stage) (state : State) → AreGuarded state → AreGuarded (stays_in stage state)
-stays_guarded (Some stage) state guarded = changed_guarded (staged stage) state (λ item. refl) guarded
+stays_guarded (Some stage) state guarded = changed_guarded (staged stage) no_access state (λ item. refl) guarded
 stays_guarded None state guarded = left_guarded state.items state refl guarded
 
 conflicted_guarded : (items : List Item) (state : State) → AreGuarded state → AreGuarded (conflicted state items)
@@ -314,8 +319,9 @@ keeps_guarded state Cut follows guarded = record {
 }
 keeps_guarded state Left follows guarded = left_guarded state.items state refl guarded
 keeps_guarded state Conflicted follows guarded = conflicted_guarded state.items state guarded
-keeps_guarded state (Resolved done) follows guarded = changed_guarded (staged (stages.Resolved done)) state (λ item. refl) guarded
-keeps_guarded state (Repaired script) follows guarded = changed_guarded (repaired script) state (λ item. refl) guarded
+keeps_guarded state (Resolved done access) follows guarded =
+    changed_guarded (staged (stages.Resolved done)) access state (λ item. refl) guarded
+keeps_guarded state (Repaired script) follows guarded = changed_guarded (repaired script) no_access state (λ item. refl) guarded
 
 pub opening_guarded : AreGuarded opening
 opening_guarded = record { items = tt; running = tt }

@@ -7,6 +7,7 @@ use Rattle.iot_tree.specs.declared.labels.OnConflict.{OnConflict}
 use Rattle.iot_tree.specs.declared.labels.OnConflict.TheVariants as options
 use Rattle.iot_acts.specs.Traces.{ReadsHold, FitsIfAny, after_update, after_acts}
 use Rattle.iot_acts.specs.Guards.{IsGuarded}
+use Rattle.iot_access.specs.Access.{no_access}
 use Rattle.iot_queue.specs.declared.items.Item.{Item}
 use Rattle.iot_queue.specs.declared.items.Stage.{Stage}
 use Rattle.iot_queue.specs.declared.items.Stage.TheVariants as stages
@@ -70,7 +71,7 @@ CanFollow state Cut = IsSome state.running
 -- the head is Waiting or Resolved
 CanFollow state Conflicted = HeadIs IsSubmitted state.items
 -- the head is Conflict
-CanFollow state (Resolved done) = HeadIs IsInConflict state.items
+CanFollow state (Resolved done access) = HeadIs IsInConflict state.items
 -- the head is Manual
 CanFollow state (Repaired script) = HeadIs IsByHand state.items
 -- the head is Waiting, Resolved or Manual
@@ -105,10 +106,10 @@ abbrev pub cut : Option Transaction → List Item
 cut None = []
 cut (Some running) = waiting (length running.acts) running ∷ []
 
--- the head's updates are made on the held tree, and it is no item any more
+-- the head's updates are made on the held tree, and it is no item any more; so it has no access
 abbrev pub left : State → List Item → State
 left state [] = state
-left state (item ∷ items) = record state { held = after_acts state.held item.acts; items = items }
+left state (item ∷ items) = record state { held = after_acts state.held item.acts; items = items; access = no_access }
 
 -- the stage in which a head with this option stays if it conflicts: Manual or Conflict; with abort it stays in none, and leaves
 abbrev pub stage_by : OnConflict → Option Stage
@@ -118,7 +119,7 @@ stage_by options.Abort = None
 stage_by options.Manual = Some stages.Manual
 
 abbrev pub stays_in : Option Stage → State → State
-stays_in (Some stage) state = record state { items = with_head (staged stage) state.items }
+stays_in (Some stage) state = record state { items = with_head (staged stage) state.items; access = no_access }
 stays_in None state = left state state.items
 
 abbrev pub conflicted : State → List Item → State
@@ -145,10 +146,11 @@ after state Ended = record state { items = state.items ++ ended state.running; r
 after state Cut = record state { items = state.items ++ cut state.running; running = None }
 -- the head becomes Manual, leaves, or becomes Conflict, by its option
 after state Conflicted = conflicted state state.items
--- the head becomes Resolved with this run
-after state (Resolved done) = record state { items = with_head (staged (stages.Resolved done)) state.items }
+-- the head becomes Resolved with this run, which has this access
+after state (Resolved done access) =
+    record state { items = with_head (staged (stages.Resolved done)) state.items; access = access }
 -- the head gets this script as its resolver, and becomes Conflict
-after state (Repaired script) = record state { items = with_head (repaired script) state.items }
+after state (Repaired script) = record state { items = with_head (repaired script) state.items; access = no_access }
 -- the head leaves, and its updates stay in the held tree
 after state Left = left state state.items
 
@@ -163,7 +165,7 @@ seen t (Acted act) = after_update t act.update
 seen t Ended = t
 seen t Cut = t
 seen t Conflicted = t
-seen t (Resolved done) = t
+seen t (Resolved done access) = t
 seen t (Repaired script) = t
 seen t Left = t
 
@@ -176,6 +178,6 @@ FitsView t (Acted act) = FitsIfAny t act.update
 FitsView t Ended = Unit {0}
 FitsView t Cut = Unit {0}
 FitsView t Conflicted = Unit {0}
-FitsView t (Resolved done) = Unit {0}
+FitsView t (Resolved done access) = Unit {0}
 FitsView t (Repaired script) = Unit {0}
 FitsView t Left = Unit {0}

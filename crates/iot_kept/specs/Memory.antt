@@ -32,8 +32,13 @@ item_of running budget =
 
 -- the state
 abbrev pub durable_state : Durable → State
-durable_state durable =
-    record { held = nodes_of durable.held; items = durable.queue; running = transaction_of durable.running; last = durable.last }
+durable_state durable = record {
+  held = nodes_of durable.held;
+  items = durable.queue;
+  running = transaction_of durable.running;
+  last = durable.last;
+  access = durable.access;
+}
 
 abbrev pub memory_state : Memory → State
 memory_state memory = durable_state memory.durable

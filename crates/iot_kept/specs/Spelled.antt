@@ -2,7 +2,7 @@
 use Rattle.std.specs.Prelude.{List, Option, Some, None}
 use Rattle.std.specs.List.{AllByRecursion}
 use Rattle.iot_text.specs.Names.{IsName}
-use Rattle.iot_codec.specs.Rules.{IsNumber, IsOption, IsBudget, AreActs, IsTreeOfRows}
+use Rattle.iot_codec.specs.Rules.{IsAccess, IsNumber, IsOption, IsBudget, AreActs, IsTreeOfRows}
 use Rattle.iot_changes.specs.Rules.{IsResolution}
 use Rattle.iot_queue.specs.declared.items.Item.{Item}
 use Rattle.iot_queue.specs.declared.items.Stage.{Stage}
@@ -39,9 +39,10 @@ abbrev pub IsSpelledIfAny : Option Transaction → Type 0
 IsSpelledIfAny None = Unit {0}
 IsSpelledIfAny (Some running) = IsSpelledRunning running
 
--- the held tree is one and has a spelling, and so have the transactions and the last number
+-- the held tree is one and has a spelling, and so have the transactions, the last number and the access
 pub record IsSpelledState (state : State) : Type 0 where
   pub held : IsTreeOfRows state.held
   pub items : AreSpelledItems state.items
   pub running : IsSpelledIfAny state.running
   pub last : IsNumber state.last
+  pub access : IsAccess state.access

@@ -32,7 +32,7 @@ restamped items held (Acted act) = held
 restamped items held Ended = held
 restamped items held Cut = held
 restamped items held Conflicted = stamps_conflicted held items
-restamped items held (Resolved done) = held
+restamped items held (Resolved done access) = held
 restamped items held (Repaired script) = held
 restamped items held Left = stamps_left held items
 

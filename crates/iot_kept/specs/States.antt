@@ -2,8 +2,10 @@
 use Rattle.std.specs.Prelude.{ℕ, List, [], ◌∷◌, Option, Some, None}
 use Rattle.iot_tree.specs.Tree.{Nodes, root_alone}
 use Rattle.iot_tree.specs.declared.nodes.Node.TheVariants.{FarDir}
+use Rattle.iot_tree.specs.declared.access.Access.{Access}
 use Rattle.iot_tree.specs.declared.acts.Act.{Act}
 use Rattle.iot_tree.specs.declared.labels.OnConflict.{OnConflict}
+use Rattle.iot_access.specs.Access.{no_access}
 use Rattle.iot_acts.specs.Traces.{ActsHold, after_acts}
 use Rattle.iot_acts.specs.Guards.{AllGuarded}
 use Rattle.iot_queue.specs.declared.items.Item.{Item}
@@ -15,16 +17,18 @@ pub record Transaction : Type 0 where
   pub option : OnConflict
   pub acts : List Act
 
--- the held tree, the transactions that wait, the one that runs, and the number of the last one
+-- the held tree, the transactions that wait, the one that runs, and the number of the last one; and the access of the run that was made
+-- in the place of the first one that waits, if it was resolved
 pub record State : Type 0 where
   pub held : Nodes
   pub items : List Item
   pub running : Option Transaction
   pub last : ℕ
+  pub access : Access
 
 -- before the first change nothing is known and nothing runs
 abbrev pub opening : State
-opening = record { held = root_alone FarDir; items = []; running = None; last = 0 }
+opening = record { held = root_alone FarDir; items = []; running = None; last = 0; access = no_access }
 
 -- the tree after the updates of each item in turn
 abbrev pub after_each : Nodes → List Item → Nodes

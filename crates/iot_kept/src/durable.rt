@@ -7,11 +7,12 @@ ghost use Rattle.iot_kept.specs.Stamps.{restamped, stamps_left, stamps_conflicte
 ghost use Rattle.iot_stamp.specs.Stamps.{nodes_of};
 
 use crate::running::Running;
+use iot_access::of_nothing;
 use iot_changes::Change;
 use iot_held::Held;
 use iot_queue::{Item, Queue, Resolution, Stage};
 use iot_text::{Name, NoMemory};
-use iot_tree::{ACT_LIMIT, Act, Acts, OnConflict};
+use iot_tree::{ACT_LIMIT, Access, Act, Acts, OnConflict};
 use std::alloc::Global;
 
 /// What is durable of a client, and beside it the class of the running transaction.
@@ -23,6 +24,9 @@ pub(crate) struct Durable {
 
     /// The number of the last transaction, 0 before the first.
     pub(crate) last: u64,
+
+    /// What the resolution of the first one that waits asked of the server's tree, if it was resolved; else nothing.
+    pub(crate) access: Access,
 }
 
 impl Durable {
@@ -57,12 +61,12 @@ impl Durable {
             Change::Ended => self.end(),
             Change::Cut => self.cut(),
             Change::Conflicted => self.conflict(alloc),
-            Change::Resolved(done) => {
-                self.resolve(done);
+            Change::Resolved(done, access) => {
+                self.resolve(done, access);
                 Ok(())
             }
             Change::Repaired(script) => {
-                self.repair(script);
+                self.repair(alloc, script);
                 Ok(())
             }
             Change::Left => self.leave(alloc),
@@ -102,6 +106,7 @@ impl Durable {
         ensures held { self.new.held ≡ self.old.held }
         ensures queue { self.new.queue ≡ self.old.queue }
         ensures last { self.new.last ≡ self.old.last }
+        ensures access { self.new.access ≡ self.old.access }
     {
         if let Some(running) = &mut self.running {
             running.acts = Acts::new(alloc);
@@ -167,22 +172,24 @@ impl Durable {
         match stage_by(head.option) {
             Some(stage) => {
                 self.queue.set_stage(stage);
+                self.access = of_nothing(alloc);
                 Ok(())
             }
             None => self.leave(alloc),
         }
     }
 
-    fn resolve(&mut self, done: Resolution)
-        requires waits { CanFollow (durable_state self.old) (Change.Resolved done) }
+    fn resolve(&mut self, done: Resolution, access: Access)
+        requires waits { CanFollow (durable_state self.old) (Change.Resolved done access) }
         ensures held { self.new.held ≡ self.old.held }
-        ensures state { durable_state self.new ≡ after (durable_state self.old) (Change.Resolved done) }
+        ensures state { durable_state self.new ≡ after (durable_state self.old) (Change.Resolved done access) }
         ensures class { class_of self.new.running ≡ class_of self.old.running }
     {
         self.queue.set_stage(Stage::Resolved(done));
+        self.access = access;
     }
 
-    fn repair(&mut self, script: Name)
+    fn repair(&mut self, alloc: Global, script: Name)
         requires waits { CanFollow (durable_state self.old) (Change.Repaired script) }
         ensures held { self.new.held ≡ self.old.held }
         ensures state { durable_state self.new ≡ after (durable_state self.old) (Change.Repaired script) }
@@ -190,6 +197,7 @@ impl Durable {
     {
         self.queue.set_option(OnConflict::Resolver(script));
         self.queue.set_stage(Stage::Conflict);
+        self.access = of_nothing(alloc);
     }
 
     /// Lets the first one leave. Its updates stay in the held tree, as the client's own.
@@ -204,6 +212,7 @@ impl Durable {
             unreachable!();
         };
         self.held.pass_in_place(alloc, &head.acts)?;
+        self.access = of_nothing(alloc);
         Ok(())
     }
 }

@@ -28,7 +28,7 @@ impl Durable {
             Change::Ended => runs(&self.running),
             Change::Cut => runs(&self.running),
             Change::Conflicted => head_is_submitted(&self.queue),
-            Change::Resolved(_) => head_is_in_conflict(&self.queue),
+            Change::Resolved(..) => head_is_in_conflict(&self.queue),
             Change::Repaired(_) => head_is_by_hand(&self.queue),
             Change::Left => head_may_leave(&self.queue),
         }

@@ -31,7 +31,7 @@ use iot_disk::{Disk, JournalFault, Pick, StartFault};
 use iot_journal::Journal;
 use iot_queue::Queue;
 use iot_text::{NoMemory, Text};
-use iot_tree::{Known, Tree};
+use iot_tree::{Access, Known, Tree};
 use std::alloc::Global;
 
 /// What is durable of a client, on a disk to which each change is appended as one record; and in memory besides, with the class of
@@ -213,6 +213,13 @@ impl<D: Disk> Kept<D> {
         &self.memory.durable.queue
     }
 
+    /// What the resolution of the first one that waits asked of the server's tree, if it was resolved; else nothing.
+    pub fn access(&self) -> &Access
+        ensures { result.now ≡ (state_of self.now).access }
+    {
+        &self.memory.durable.access
+    }
+
     /// The transaction that runs, if one does.
     pub fn running(&self) -> Option<&Running>
         ensures running { transaction_of (option_copied result) ≡ (state_of self.now).running }
@@ -282,7 +289,7 @@ fn touches_held(change: &Change) -> bool
         Change::Acted(_) => false,
         Change::Ended => false,
         Change::Cut => false,
-        Change::Resolved(_) => false,
+        Change::Resolved(..) => false,
         Change::Repaired(_) => false,
     }
 }

@@ -10,6 +10,7 @@ ghost use Rattle.iot_kept.specs.Stamps.{restamped};
 ghost use Rattle.iot_kept.specs.Memory.{memory_state, transaction_of, class_of, class_after, Sees, TakesIf};
 
 use crate::durable::Durable;
+use iot_access::of_nothing;
 use iot_changes::Change;
 use iot_held::Held;
 use iot_queue::Queue;
@@ -39,6 +40,7 @@ impl Memory {
             queue: Queue::new(alloc),
             running: None,
             last: 0,
+            access: of_nothing(alloc),
         };
         let view = Tree::far_root(alloc)?;
         Ok(Memory { durable, view })
@@ -67,6 +69,7 @@ impl Memory {
         ensures held { OnOk result (self.new.durable.held ≡ self.old.durable.held) }
         ensures queue { OnOk result (self.new.durable.queue ≡ self.old.durable.queue) }
         ensures last { OnOk result (self.new.durable.last ≡ self.old.durable.last) }
+        ensures access { OnOk result (self.new.durable.access ≡ self.old.durable.access) }
         ensures running { OnOk result (transaction_of self.new.durable.running
             ≡ with_acts (λ acts. []) (transaction_of self.old.durable.running)) }
         ensures class { OnOk result (class_of self.new.durable.running ≡ class_of self.old.durable.running) }
@@ -104,7 +107,7 @@ fn see(alloc: Global, view: &mut Tree, change: &Change) -> Result<(), NoMemory>
         Change::Ended => Ok(()),
         Change::Cut => Ok(()),
         Change::Conflicted => Ok(()),
-        Change::Resolved(_) => Ok(()),
+        Change::Resolved(..) => Ok(()),
         Change::Repaired(_) => Ok(()),
         Change::Left => Ok(()),
     }

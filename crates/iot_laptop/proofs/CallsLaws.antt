@@ -8,6 +8,7 @@ use Rattle.std.proofs.lemmas.List.{append-nil}
 use Rattle.std.specs.FinMap.{get, entries}
 use Rattle.std.specs.List.{AllByRecursion, list_all}
 use Rattle.std.proofs.lemmas.Option.{slice_get_within, same_Some}
+use Rattle.iot_access.specs.Access.{access_of}
 use Rattle.iot_laptop.specs.Below.{Try, Nodes, IsTree, IsSpelledTree, IsScript, Resolved, State, opening, acts_of, CanFollow, after, Notes}
 use Rattle.iot_laptop.specs.Below.{IsRefresh, Live, IsTied, state_of, live_of, disk_of, bodies_on, IsOwnRunIfAny, place_of, Client}
 use Rattle.iot_laptop.specs.Below.{ClientFault, Stopped, Medium, Declared, ClientState, leave, repair, begin, Node, Appends, Writes}
@@ -455,18 +456,18 @@ module _ {D T : Type 0} {medium : Medium D} {laptop : Laptop D} {was now : Clien
       let stage : clients.Stage = clients.Resolved (resolution_of plan t) in
       ends_alone scripts (reach stage) (λ b. b) (λ m here known.
       let live : (done : Resolution) → IsHeadsRun s.held s.items code t done
-      → KeptLive scripts (after s (Resolved done)) (live_of was) m.first (reach stage m.node.durable) =
+      → KeptLive scripts (after s (Resolved done (access_of done.acts t))) (live_of was) m.first (reach stage m.node.durable) =
       resolved_live known plan (plans m here) code same script t spells.tree in
       record {
         live = live_of was;
         ok = if_two answer ran lives (λ u it lives.
             let reruns = subst (λ (u : Nodes). Reruns code u was now) (spelled_changes it.changes only it.read spells) it.reruns in
-            (Resolved reruns.done, reruns.notes, rw lives (live reruns.done reruns.run)));
+            (Resolved reruns.done (access_of reruns.done.acts t), reruns.notes, rw lives (live reruns.done reruns.run)));
         cut = λ stopped.
             let it = stops stopped in
             let rerun = subst (λ (u : Nodes). CutsOffRerun code u s (bodies_on medium was) (medium.may_leave (disk_of now)))
             (spelled_changes it.changes only it.read spells) it.reruns in
-            (Resolved rerun.done, rerun.cuts_off, live rerun.done rerun.run);
+            (Resolved rerun.done (access_of rerun.done.acts t), rerun.cuts_off, live rerun.done rerun.run);
       })
       (λ steps. steps) (λ steps. steps)
 

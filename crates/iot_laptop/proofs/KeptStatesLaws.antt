@@ -52,7 +52,9 @@ use Rattle.iot_machine.specs.Serving as serving
 use Rattle.iot_resolve.specs.declared.plan.Plan as plans
 use Rattle.iot_laptop.specs.Calls.{head_option, head_plan}
 use Rattle.iot_laptop.specs.Laptops.{ItemStands, ItemsStand, StageStands, RunningStandsIfAny, StateStands, RunningKept, RunningKeptIfAny}
-use Rattle.iot_laptop.specs.Laptops.{StateKept, waits_of, ResolutionStands}
+use Rattle.iot_laptop.specs.Laptops.{StateKept, waits_of, ResolutionStands, AreWaiting, OthersWait, access_by, access_kept}
+use Rattle.iot_access.specs.Access.{access_of, no_access}
+use Rattle.iot_tree.specs.declared.access.Access.{Access}
 use Rattle.iot_laptop.specs.Messages.{told_change}
 use Rattle.iot_laptop.specs.Scripts.{ItemIsNamed, RunIsNamedIfAny, AreNamed, IsNamed, HasNamed, option_named}
 use Rattle.iot_laptop.proofs.LaptopsLaws.{base_of, counted, own_ends, own_next, over_waits}
@@ -125,6 +127,34 @@ more_stand items t ms item m all it = absurd all
 pub joined_waits : (items : List Item) (r : Option Transaction) → IsSome r → waits_of (items ++ ended r) ≡ true
 joined_waits [] None some = absurd cc
 joined_waits items r some = refl
+
+-- ---- the access beside those that wait
+
+-- those that ended have none
+waiting_access : (ms : List clients.Item) → AreWaiting ms → access_kept ms ≡ no_access
+waiting_access [] are = refl
+waiting_access (m ∷ ms) are = ap access_by are.0
+
+later_wait : (ms : List clients.Item) → AreWaiting ms → OthersWait ms
+later_wait [] are = tt
+later_wait (m ∷ ms) are = are.1
+
+joined_access : (ms : List clients.Item) (m : clients.Item) → m.stage ≡ clients.Waiting → access_kept (ms ++ m ∷ []) ≡ access_kept ms
+joined_access [] m waits = ap access_by waits
+joined_access (first ∷ ms) m waits = refl
+
+joined_others : (ms : List clients.Item) (m : clients.Item) → m.stage ≡ clients.Waiting → OthersWait ms → OthersWait (ms ++ m ∷ [])
+joined_others [] m waits are = tt
+joined_others (first ∷ ms) m waits are = all_push (λ m. m.stage ≡ clients.Waiting) ms m waits are
+
+queued_access : (ms : List clients.Item) (o : Option clients.Running)
+    → (access_kept (joined ms o) ≡ access_kept ms) × (access_kept (cut_by ms o) ≡ access_kept ms)
+queued_access ms None = (refl, refl)
+queued_access ms (Some it) = (joined_access ms (item_of it) refl, joined_access ms (clients.waiting it.acts it) refl)
+
+queued_others : (ms : List clients.Item) (o : Option clients.Running) → OthersWait ms → OthersWait (joined ms o) × OthersWait (cut_by ms o)
+queued_others ms None are = (are, are)
+queued_others ms (Some it) are = (joined_others ms (item_of it) refl are, joined_others ms (clients.waiting it.acts it) refl are)
 
 -- ---- the first that waits
 
@@ -200,10 +230,19 @@ more_kept t running it act kept within on next =
 
 module _ (s : State) (m : ClientState) (here : StateKept s m) where
   -- the same tree is held, with other transactions
-  with_queue : (items : List Item) (ms : List clients.Item) (r : Option Transaction) (o : Option clients.Running)
-      → ItemsStand items s.held ms → RunningKeptIfAny (clients.after_items m.held ms) r o
-      → StateKept (record s { items = items; running = r }) (record m { items = ms; running = o })
-  with_queue items ms r o stand runs = search rules
+  with_queue : (items : List Item) (ms : List clients.Item) (r : Option Transaction) (o : Option clients.Running) (a : Access)
+      → ItemsStand items s.held ms → RunningKeptIfAny (clients.after_items m.held ms) r o → a ≡ access_kept ms → OthersWait ms
+      → StateKept (record s { items = items; running = r; access = a }) (record m { items = ms; running = o })
+  with_queue items ms r o a stand runs is others = record {
+    held = here.held;
+    items = stand;
+    running = runs;
+    last = here.last;
+    tree = here.tree;
+    spelled = here.spelled;
+    access = is;
+    others = others;
+  }
 
   -- another tree is held, and none waits
   with_tree : (t : Nodes) (r : Option Transaction) (o : Option clients.Running) → s.items ≡ [] → IsTree t → IsSpelledTree t
@@ -243,7 +282,9 @@ module _ (s : State) (m : ClientState) (here : StateKept s m) where
   pub cut_live : (scripts : List Declared) (first : Bool) → AreNamed scripts m
       → KeptLive scripts (after s changes.Cut) None first (cut m)
   cut_live scripts first named = record {
-    kept = with_queue _ _ None None (cut_items s.running m.running here.running) tt;
+    kept =
+        with_queue _ _ None None s.access (cut_items s.running m.running here.running) tt
+        (here.access ∙ sym (queued_access m.items m.running).1) (queued_others m.items m.running here.others).1;
     runs = refl;
     named = record { items = (queued_named scripts m.items m.running named.items named.running).1; running = tt };
   }
@@ -354,7 +395,9 @@ module _ {scripts : List Declared} {s : State} {live : Option Live} {first : Boo
   pub acted_live : (own : Live) → live ≡ Some own → (act : Act) → CanAct s own → next_acts s own.code ≡ act ∷ []
       → KeptLive scripts (after s (changes.Acted act)) live first (act_once m)
   acted_live own lives act can next = record {
-    kept = with_queue s m here.kept s.items m.items _ _ here.kept.items (by s.running m.running refl here.kept.running);
+    kept =
+        with_queue s m here.kept s.items m.items _ _ s.access here.kept.items (by s.running m.running refl here.kept.running)
+        here.kept.access here.kept.others;
     runs = here.runs ∙ same_live (λ acts. acts + 1) first m.running;
     named = record { items = here.named.items; running = acts_named scripts (λ acts. acts + 1) m.running here.named.running };
   }
@@ -372,64 +415,75 @@ module _ {scripts : List Declared} {s : State} {live : Option Live} {first : Boo
   pub ended_live : may_end s live ≡ true → KeptLive scripts (after s changes.Ended) None first (end m)
   ended_live may = record {
     kept =
-        with_queue s m here.kept _ _ None None
+        with_queue s m here.kept _ _ None None s.access
         (ended_items s m here.kept s.running m.running here.kept.running
-        (λ it runs. over_waits s live first m stands_so it runs may)) tt;
+        (λ it runs. over_waits s live first m stands_so it runs may)) tt
+        (here.kept.access ∙ sym (queued_access m.items m.running).0) (queued_others m.items m.running here.kept.others).0;
     runs = refl;
     named = record { items = (queued_named scripts m.items m.running here.named.items here.named.running).0; running = tt };
   }
 
-  -- the first is at this stage, with this option
+  -- the first is at this stage, with this option and this access
   changed_live : (option : OnConflictNamed → OnConflictNamed) (o : OnConflict Declared → OnConflict Declared)
-      (stage : Stage) (other : clients.Stage) → ((it : OnConflict Declared) → HasNamed scripts it → HasNamed scripts (o it))
+      (stage : Stage) (other : clients.Stage) (a : Access)
+      → ((it : OnConflict Declared) → HasNamed scripts it → HasNamed scripts (o it)) → (m.items ≡ [] → a ≡ no_access)
       → ((item : Item) (later : List Item) (it : clients.Item) (after : List clients.Item) → s.items ≡ item ∷ later
       → m.items ≡ it ∷ after → ItemStands s.held item it
-      → (option item.option ≡ option_named (o it.option)) × StageStands stage other × IsPlanned (o it.option) other)
-      → KeptLive scripts (record s { items = with_head (λ item. record item { option = option item.option; stage = stage }) s.items }) live
-      first (change_first (λ it. record it { option = o it.option; stage = other }) m)
-  changed_live option o stage other keeps each = by s.items m.items refl refl here.kept.items here.kept.running here.named.items
+      → (option item.option ≡ option_named (o it.option)) × StageStands stage other × IsPlanned (o it.option) other
+      × (a ≡ access_by other))
+      → KeptLive scripts
+      (record s { items = with_head (λ item. record item { option = option item.option; stage = stage }) s.items; access = a }) live first
+      (change_first (λ it. record it { option = o it.option; stage = other }) m)
+  changed_live option o stage other a keeps none each = by s.items m.items refl refl here.kept.items here.kept.running here.named.items
     where
       by : (items : List Item) (ms : List clients.Item) → s.items ≡ items → m.items ≡ ms → ItemsStand items s.held ms
           → RunningKeptIfAny (clients.after_items m.held ms) s.running m.running → AllNamed scripts ms
-          → KeptLive scripts (record s { items = with_head (λ item. record item { option = option item.option; stage = stage }) items })
-          live first (record m { items = with_first (λ it. record it { option = o it.option; stage = other }) ms })
-      by [] [] some all stand runs named =
-          record { kept = with_queue s m here.kept [] [] s.running m.running tt runs; runs = here.runs; named = search rules }
+          → KeptLive scripts
+          (record s { items = with_head (λ item. record item { option = option item.option; stage = stage }) items; access = a }) live first
+          (record m { items = with_first (λ it. record it { option = o it.option; stage = other }) ms })
+      by [] [] some all stand runs named = record {
+        kept = with_queue s m here.kept [] [] s.running m.running a tt runs (none all) tt;
+        runs = here.runs;
+        named = search rules;
+      }
       by (item ∷ items) (it ∷ ms) some all stand runs named =
-          let is : (option item.option ≡ option_named (o it.option)) × StageStands stage other × IsPlanned (o it.option) other =
+          let is : (option item.option ≡ option_named (o it.option)) × StageStands stage other × IsPlanned (o it.option) other
+          × (a ≡ access_by other) =
           each item items it ms some all stand.0 in
           let here_stands : ItemStands s.held item it = stand.0 in
           let stands : ItemStands s.held (record item { option = option item.option; stage = stage })
           (record it { option = o it.option; stage = other }) = search rules in
+          let others : AreWaiting ms = subst OthersWait all here.kept.others in
           let resolver : HasNamed scripts (o it.option) = keeps it.option named.0.resolver in
           record {
-            kept = with_queue s m here.kept _ _ s.running m.running (stands, stand.1) runs;
+            kept = with_queue s m here.kept _ _ s.running m.running a (stands, stand.1) runs is.3 others;
             runs = here.runs;
             named = record { items = (record { script = named.0.script; resolver = resolver }, named.1); running = here.named.running };
           }
       by items ms some all stand runs named = absurd stand
 
-  -- the first is at this stage
-  pub reached_live : (stage : Stage) (other : clients.Stage)
+  -- the first is at this stage, with this access
+  pub reached_live : (stage : Stage) (other : clients.Stage) (a : Access) → (m.items ≡ [] → a ≡ no_access)
       → ((item : Item) (later : List Item) (it : clients.Item) (after : List clients.Item) → s.items ≡ item ∷ later
-      → m.items ≡ it ∷ after → ItemStands s.held item it → StageStands stage other × IsPlanned it.option other)
-      → KeptLive scripts (record s { items = with_head (staged stage) s.items }) live first (reach other m)
-  reached_live stage other each =
-      changed_live (λ o. o) (λ o. o) stage other (λ o has. has)
-      (λ item later it after some all stands. let is = each item later it after some all stands in (stands.option, is.0, is.1))
+      → m.items ≡ it ∷ after → ItemStands s.held item it
+      → StageStands stage other × IsPlanned it.option other × (a ≡ access_by other))
+      → KeptLive scripts (record s { items = with_head (staged stage) s.items; access = a }) live first (reach other m)
+  reached_live stage other a none each =
+      changed_live (λ o. o) (λ o. o) stage other a (λ o has. has) none
+      (λ item later it after some all stands. let is = each item later it after some all stands in (stands.option, is.0, is.1, is.2))
 
   -- the first is to be resolved by this script
   pub repaired_live : (name : List ℕ) (script : Declared) → script.name ≡ name → IsNamed scripts script
       → KeptLive scripts (after s (changes.Repaired name)) live first (repair script m)
   repaired_live name script is named =
-      changed_live (λ _. on.Resolver name) (λ _. options.Resolver script) stages.Conflict clients.Conflict (λ o has. named)
-      (λ item later it after some all stands. (ap (λ (n : List ℕ). on.Resolver n) (sym is), tt, tt))
+      changed_live (λ _. on.Resolver name) (λ _. options.Resolver script) stages.Conflict clients.Conflict no_access (λ o has. named)
+      (λ none. refl) (λ item later it after some all stands. (ap (λ (n : List ℕ). on.Resolver n) (sym is), tt, tt, refl))
 
-  left_by : (queue : List Item) (ms : List clients.Item) → (queue ≡ [] → ⊥) → ItemsStand queue s.held ms
+  left_by : (queue : List Item) (ms : List clients.Item) → (queue ≡ [] → ⊥) → ItemsStand queue s.held ms → OthersWait ms
       → RunningKeptIfAny (base (leave_by ms m)) s.running m.running → AllNamed scripts ms
       → KeptLive scripts (left s queue) live first (leave_by ms m)
-  left_by [] ms some stand runs named = absurd (some refl)
-  left_by (item ∷ items) (it ∷ ms) some stand runs named = record {
+  left_by [] ms some stand others runs named = absurd (some refl)
+  left_by (item ∷ items) (it ∷ ms) some stand others runs named = record {
     kept = record {
       held = stand.0.tree ∙ ap (λ (t : Nodes). (local_run t it).tree) here.kept.held;
       items = stand.1;
@@ -437,15 +491,17 @@ module _ {scripts : List Declared} {s : State} {live : Option Live} {first : Boo
       last = here.kept.last;
       tree = subst IsTree (sym stand.0.tree) (run_tree it.script.code empty s.held it.budget here.kept.tree);
       spelled = subst IsSpelledTree (sym stand.0.tree) (run_spelled it.script.code s.held it.budget stand.0.script here.kept.spelled);
+      access = sym (waiting_access ms others);
+      others = later_wait ms others;
     };
     runs = here.runs;
     named = record { items = named.1; running = here.named.running };
   }
-  left_by queue ms some stand runs named = absurd stand
+  left_by queue ms some stand others runs named = absurd stand
 
   left_so : (s.items ≡ [] → ⊥) → KeptLive scripts (left s s.items) live first (leave m)
   left_so some =
-      left_by s.items m.items some here.kept.items
+      left_by s.items m.items some here.kept.items here.kept.others
       (subst (λ (t : Nodes). RunningKeptIfAny t s.running m.running) (sym (base_stays m)) here.kept.running) here.named.items
 
   pub left_live : CanFollow s changes.Left → KeptLive scripts (after s changes.Left) live first (leave m)
@@ -455,12 +511,15 @@ module _ {scripts : List Declared} {s : State} {live : Option Live} {first : Boo
 
   -- one that conflicts with such an option is to be resolved
   in_conflict : (option : OnConflictNamed) → stage_by option ≡ Some stages.Conflict → head_option s.items ≡ Some option
-      → KeptLive scripts (record s { items = with_head (staged stages.Conflict) s.items }) live first (reach clients.Conflict m)
-  in_conflict option resolves is = reached_live stages.Conflict clients.Conflict (λ item later it after some all stands. (
-    tt,
-    can_resolve it.option
-        (ap stage_by (sym stands.option ∙ same_Some item.option option (sym (ap head_option some) ∙ is)) ∙ resolves),
-  ))
+      → KeptLive scripts (record s { items = with_head (staged stages.Conflict) s.items; access = no_access }) live first
+      (reach clients.Conflict m)
+  in_conflict option resolves is =
+      reached_live stages.Conflict clients.Conflict no_access (λ none. refl) (λ item later it after some all stands. (
+        tt,
+        can_resolve it.option
+            (ap stage_by (sym stands.option ∙ same_Some item.option option (sym (ap head_option some) ∙ is)) ∙ resolves),
+        refl,
+      ))
 
   conflicted_by : (read : ℕ) (question : Question) (option : OnConflictNamed) → head_option s.items ≡ Some option
       → KeptLive scripts (stays_in (stage_by option) s) live first (told_change (serving.Conflict read question) option m)
@@ -469,7 +528,7 @@ module _ {scripts : List Declared} {s : State} {live : Option Live} {first : Boo
   conflicted_by read question on.Abort is =
       left_so (λ none. let e : None ≡ Some on.Abort = sym (ap head_option none) ∙ is in cc)
   conflicted_by read question on.Manual is =
-      reached_live stages.Manual clients.Manual (λ item later it after some all stands. (tt, tt))
+      reached_live stages.Manual clients.Manual no_access (λ none. refl) (λ item later it after some all stands. (tt, tt, refl))
 
   conflicted_as : (queue : List Item) (option : OnConflictNamed) → head_option queue ≡ Some option
       → conflicted s queue ≡ stays_in (stage_by option) s
@@ -488,10 +547,14 @@ module _ {scripts : List Declared} {s : State} {live : Option Live} {first : Boo
   -- it is resolved as the machine resolves it
   pub resolved_live : (plan : Plan) → head_plan m.held m.items ≡ Some plan → (code : Code) → plan.script.code ≡ code → IsScript code
       → (t : Nodes) → IsTree t → (done : Resolution) → IsHeadsRun s.held s.items code t done
-      → KeptLive scripts (after s (Resolved done)) live first (reach (clients.Resolved (resolution_of plan t)) m)
+      → KeptLive scripts (after s (Resolved done (access_of done.acts t))) live first
+      (reach (clients.Resolved (resolution_of plan t)) m)
   resolved_live plan planned code same script t tree done ran =
-      reached_live (stages.Resolved done) (clients.Resolved (resolution_of plan t))
+      reached_live (stages.Resolved done) (clients.Resolved (resolution_of plan t)) (access_of done.acts t)
+      (λ none. let clash : None ≡ Some plan = sym (ap (head_plan m.held) none) ∙ planned in absurd cc)
       (λ item later it others some all stands.
+      let is =
       planned_by s.held item it plan code t done stands here.kept.spelled script tree (sym same) it.option
       (ap (λ (held : Nodes). clients.plan_of held it) here.kept.held ∙ ap (head_plan m.held) (sym all) ∙ planned)
-      (rw stands.option at (subst (λ (items : List Item). IsHeadsRun s.held items code t done) some ran)))
+      (rw stands.option at (subst (λ (items : List Item). IsHeadsRun s.held items code t done) some ran)) in
+      (is.0, is.1, ap (λ (acts : List Act). access_of acts t) is.0.acts))

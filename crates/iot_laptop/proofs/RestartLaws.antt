@@ -197,6 +197,8 @@ empty_image bytes none = record {
     last = refl;
     tree = subst IsTree (root_map FarDir) (root_rows FarDir refl).tree;
     spelled = far_root_spelled;
+    access = refl;
+    others = tt;
   };
 }
 

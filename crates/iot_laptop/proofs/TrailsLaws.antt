@@ -158,7 +158,7 @@ own_change Conflicted items old new own hold is = subst (KeepsTrail old) (sym is
     by : (items : List Item) → EachHold (nodes_of old) items → KeepsTrail old (stamps_conflicted old items)
     by [] hold = λ server bound positive it. it
     by (item ∷ items) hold = in_stage (stage_by item.option) (item ∷ items) hold
-own_change (Resolved ran) items old new own hold is = same_stamps old new is
+own_change (Resolved ran access) items old new own hold is = same_stamps old new is
 own_change (Repaired script) items old new own hold is = same_stamps old new is
 own_change Left items old new own hold is = subst (KeepsTrail old) (sym is) (head_leaves items old hold)
 

@@ -1,7 +1,10 @@
 -- What the calls of a laptop answer, and what they make of the client of the machine.
 use Rattle.std.specs.Prelude.{◌≡◌, ℕ, Bool, true, false, List, [], ◌∷◌, ◌++◌, Option, Some, None, Result, Ok, Err, codes, IfOk, OnOk}
 use Rattle.std.specs.Prelude.{IsErrOf}
-use Rattle.iot_laptop.specs.Below.{reads_of, Nodes, Act, Read, Item, Stage, Transaction, IsRefresh, records_of, ClientFault, Step, Medium}
+use Rattle.iot_access.specs.Access.{access_of, lines_of}
+use Rattle.iot_tree.specs.declared.access.Access.{Access}
+use Rattle.iot_laptop.specs.Below.{reads_of, Nodes, State, Act, Read, Item, Stage, Transaction, IsRefresh, records_of, ClientFault, Step}
+use Rattle.iot_laptop.specs.Below.{Medium}
 use Rattle.iot_laptop.specs.Below.{Declared, ClientState, base, so_far, act_once, repair, reach, Plan, resolution_of, Acts, next_step}
 use Rattle.iot_laptop.specs.Below.{transaction_name, acts_output, stopped_line, no_text, Node, Appends, Appended, CameIf, Answered}
 use Rattle.iot_laptop.specs.Below.{StepsFrom, PostStands, UpStands, Up, Halt, NoMemory, Over, Try, name_of, SpellsVerdict, Laptop, Gone}
@@ -169,16 +172,21 @@ abbrev pub label_in : ℕ → Item → Stage → Label
 label_in place item (stages.Resolved done) = resolved_label place item.tid item.option done
 label_in place item other = label_of place item
 
+-- what these asked of the tree before them: it is kept beside a resolution, and another one ran on the held tree
+abbrev pub access_in : State → Item → Stage → Access
+access_in state item (stages.Resolved done) = state.access
+access_in state item other = access_of item.acts state.held
+
 -- what it submits has read
 abbrev pub head_reads : List Item → List Read
 head_reads [] = []
 head_reads (item ∷ items) = reads_of (acts_in item item.stage)
 
--- the transaction is submitted with its way and with what it printed
+-- the transaction is submitted by what its acts asked of the tree before them, with its way and with what it printed
 pub record HandsIn {D : Type 0} (laptop : Laptop D) (item : Item) (it : Submitted) : Type 0 where
   pub submitted : IsSubmitted item
   pub asked : IsMessage IsRequest request_spelling it.request.items
-      (Commit (label_in (laptop.place) item item.stage) (acts_in item item.stage))
+      (Commit (label_in (laptop.place) item item.stage) (access_in (state_in laptop) item item.stage) (lines_of (acts_in item item.stage)))
   pub transaction : it.printed.transaction ≡ record { client = laptop.name; number = item.tid }
   pub output : it.printed.output ≡ acts_output (acts_in item item.stage)
   pub way : it.way ≡ (label_in (laptop.place) item item.stage).way

@@ -1,6 +1,9 @@
 -- What a client keeps, as it is on its disk, beside what a client of the machine keeps.
 use Rattle.std.specs.Prelude.{◌≡◌, ◌≤◌, List, [], ◌∷◌, length, Option, Some, None}
 use Rattle.std.specs.FinMap.{entries}
+use Rattle.std.specs.List.{AllByRecursion}
+use Rattle.iot_access.specs.Access.{access_of, no_access}
+use Rattle.iot_tree.specs.declared.access.Access.{Access}
 use Rattle.iot_laptop.specs.Below.{Nodes, IsTree, ACT_LIMIT, IsScript, after_acts, run, IsSpelledTree, Item, Resolution, Stage, Transaction}
 use Rattle.iot_laptop.specs.Below.{State, ClientState, local_run, base, so_far}
 use Rattle.iot_limits.specs.Spelled.{AreSpelledFiles}
@@ -46,6 +49,23 @@ ItemsStand [] t [] = Unit {0}
 ItemsStand (item ∷ items) t (m ∷ ms) = ItemStands t item m × ItemsStand items (after_acts t item.acts) ms
 ItemsStand items t ms = ⊥
 
+-- what the first that waits asked of the server's tree of then, if it was resolved; else nothing
+abbrev pub access_by : clients.Stage → Access
+access_by (clients.Resolved m) = access_of (run m.script.code m.kept m.tree m.budget).acts m.tree
+access_by other = no_access
+
+abbrev pub access_kept : List clients.Item → Access
+access_kept [] = no_access
+access_kept (m ∷ ms) = access_by m.stage
+
+-- those behind the first are as they ended
+abbrev pub AreWaiting : List clients.Item → Type 0
+AreWaiting ms = AllByRecursion (λ m. m.stage ≡ clients.Waiting) ms
+
+abbrev pub OthersWait : List clients.Item → Type 0
+OthersWait [] = Unit {0}
+OthersWait (m ∷ ms) = AreWaiting ms
+
 -- ---- on a disk
 
 -- the running transaction, as it is on a disk: its acts are those of its script so far, on the tree after those that wait
@@ -72,3 +92,5 @@ pub record StateKept (state : State) (m : ClientState) : Type 0 where
   pub last : state.last ≡ m.last
   pub tree : IsTree state.held
   pub spelled : IsSpelledTree state.held
+  pub access : state.access ≡ access_kept m.items
+  pub others : OthersWait m.items

@@ -13,9 +13,10 @@ use Rattle.iot_link.specs.Links as link
 use Rattle.iot_link.specs.declared.passages.Passage.TheVariants as passages
 use Rattle.iot_machine.specs.Clients as clients
 use Rattle.iot_machine.specs.Machine as machine
-use Rattle.iot_laptop.specs.Kept.{ItemsStand}
+use Rattle.iot_laptop.specs.Kept.{ItemsStand, access_kept}
 use Rattle.iot_laptop.specs.Scripts.{AreNamed, option_named}
 use Rattle.iot_laptop.specs.Seats.{seating}
+pub use Rattle.iot_laptop.specs.Kept.{AreWaiting, OthersWait, access_by, access_kept}
 pub use Rattle.iot_laptop.specs.Kept.{ResolutionStands, StageStands, ItemStands, ItemsStand, RunningKept, RunningKeptIfAny, StateKept}
 
 -- ---- what a laptop has
@@ -96,6 +97,7 @@ pub record StateStands (state : State) (live : Option Live) (first : Bool) (m : 
   pub last : state.last ≡ m.last
   pub tree : IsTree state.held
   pub spelled : IsSpelledTree state.held
+  pub access : state.access ≡ access_kept m.items
 
 -- ---- a laptop
 

@@ -1,35 +1,40 @@
 -- Which bytes answer a request.
-use Rattle.std.proofs.Common.{◌≡◌, ◌++◌, ◌∷◌, ℕ, List, Option, None, Result, Ok, Err, IfOk, refl, sym, ap, subst, ◌∙◌}
-use Rattle.iot_certify.specs.declared.verdict.Verdict.TheVariants.{Differs}
-use Rattle.iot_server.specs.Replies.{IsAnswered, IsJudged, Submits}
-use Rattle.iot_server.proofs.StandingLaws.{verdict_answer}
-use Rattle.iot_acts.specs.Guards.{AllGuarded}
-use Rattle.iot_acts.specs.Turns.{turns, DiffersAt}
-use Rattle.iot_certify.specs.Verdicts.{IsVerdictOnActs, IfDiffers}
+use Rattle.std.proofs.Common.{◌≡◌, ◌+◌, ◌++◌, ◌∷◌, [], ℕ, List, length, Option, None, Ok, Err, Result, inl, refl, sym, ap, subst, ◌∙◌}
+use Rattle.std.specs.Prelude.{IfOk}
+use Rattle.iot_access.specs.Access.{FitInTurn}
+use Rattle.iot_acts.specs.Traces.{ReadsHold}
+use Rattle.iot_certify.specs.Verdicts.{IsVerdictOnAccess}
 use Rattle.iot_certify.specs.declared.verdict.Verdict.{Verdict}
-use Rattle.iot_codec.specs.Rules.{AreActs, IsAnswer}
-use Rattle.iot_codec.specs.Spelling.{label_spelling, acts_spelling}
-use Rattle.iot_limits.specs.Spelled.{IsSpelledTree}
+use Rattle.iot_certify.specs.declared.verdict.Verdict.TheVariants.{Holds, Differs}
+use Rattle.iot_server.specs.Replies.{FollowsVerdict, IsAnswered, Submits}
 use Rattle.iot_stamp.specs.Refresh.{changes_for}
 use Rattle.iot_stamp.specs.Stamps.{Stamps}
 use Rattle.iot_store.specs.Numbers.{number_in}
-use Rattle.iot_store.specs.States.{State}
+use Rattle.iot_store.specs.Records.{IsRecord}
+use Rattle.iot_store.specs.States.{State, after_commit}
 use Rattle.iot_tree.specs.Tree.{Nodes, Path}
-use Rattle.iot_tree.specs.declared.acts.Act.{Act}
+use Rattle.iot_tree.specs.declared.access.Access.{Access}
 use Rattle.iot_tree.specs.declared.changes.Changes.{Changes}
 use Rattle.iot_tree.specs.declared.labels.Label.{Label}
 use Rattle.iot_tree.specs.declared.questions.Answer.{Answer}
 use Rattle.iot_tree.specs.declared.want.Want.{Want}
+use Rattle.iot_wire.specs.Messages.{IsMessage}
 use Rattle.iot_wire.specs.Rules.{IsReply}
-use Rattle.iot_wire.specs.Spelling.{request_spelling, reply_spelling}
-use Rattle.iot_wire.specs.declared.replies.Reply.TheVariants.{Objects, Conflict}
-use Rattle.iot_wire.specs.declared.requests.Request.{Request}
+use Rattle.iot_wire.specs.Spelling.{reply_spelling}
+use Rattle.iot_wire.specs.declared.replies.Reply.TheVariants.{Objects, Committed, Conflict}
 use Rattle.iot_wire.specs.declared.requests.Request.TheVariants.{Refresh, Commit}
 
 -- what follows from a clause about Ok
 pub if_ok : {T E : Type 0} (P Q : T → Type 0) (result : Result T E) → ((x : T) → P x → Q x) → IfOk result P → IfOk result Q
 if_ok P Q (Ok x) follows is = follows x is
 if_ok P Q (Err e) follows is = tt
+
+-- the verdict on the store's tree
+pub judged_so : (here tree : Nodes) (access : Access) (verdict : Verdict) (read : ℕ) (answer : Answer) → here ≡ tree
+    → verdict ≡ Differs read answer → IsVerdictOnAccess here access verdict → IsVerdictOnAccess tree access (Differs read answer)
+judged_so here tree access verdict read answer same is said =
+    subst (λ (t : Nodes). IsVerdictOnAccess t access (Differs read answer)) same
+    (subst (λ (v : Verdict). IsVerdictOnAccess here access v) is said)
 
 module _ (before : State) (bodies : List (List ℕ)) (bytes : List ℕ) where
   pub refreshed : (client : ℕ) (known : List (Path × ℕ)) (want : Want) (changes : Changes) (here : Stamps) → here ≡ before.stamps
@@ -42,36 +47,30 @@ module _ (before : State) (bodies : List (List ℕ)) (bytes : List ℕ) where
     spelled = record { value = has; spelled = sym spelled };
   }
 
-  module _ (label : Label) (acts : List Act) where
-    pub conflicted : (read : ℕ) (answer : Answer) → number_in before.labels label.client label.tid ≡ None
-        → IsJudged before.tree acts (Differs read answer) → IsReply (Conflict read answer) → bytes ≡ reply_spelling (Conflict read answer)
-        → IsAnswered before bodies (Commit label acts) bytes before bodies
-    conflicted read answer none judged is spelled = record {
+  module _ (label : Label) (access : Access) (lines : List (List ℕ)) (new : number_in before.labels label.client label.tid ≡ None) where
+    -- nothing is committed
+    pub conflicted : (verdict : Verdict) (read : ℕ) (answer : Answer) → IsVerdictOnAccess before.tree access verdict
+        → FollowsVerdict verdict before label access (Conflict read answer) before
+        → IsMessage IsReply reply_spelling bytes (Conflict read answer)
+        → IsAnswered before bodies (Commit label access lines) bytes before bodies
+    conflicted verdict read answer judged follows spelled = record {
       reply = Conflict read answer;
       answers =
-          subst (λ (n : Option ℕ). Submits n before label acts (Conflict read answer) before) (sym none)
-          (Differs read answer, judged, (refl, refl));
+          subst (λ (n : Option ℕ). Submits n before label access (Conflict read answer) before) (sym new) (verdict, judged, follows);
       records = refl;
-      spelled = record { value = is; spelled = sym spelled };
+      spelled = spelled;
     }
 
--- a verdict on the store's tree that a read differs
-pub judged_so : (here tree : Nodes) (acts : List Act) (verdict : Verdict) (read : ℕ) (answer : Answer) → here ≡ tree
-    → verdict ≡ Differs read answer → IsVerdictOnActs here acts verdict
-    → (AllGuarded acts → IfDiffers verdict (DiffersAt (turns here acts) 1)) → IsJudged tree acts (Differs read answer)
-judged_so here tree acts verdict read answer same is verdict_is guarded =
-    subst (λ (t : Nodes). IsJudged t acts (Differs read answer)) same
-    (subst (λ (v : Verdict). IsJudged here acts v) is (record { is = verdict_is; guarded = guarded }))
-
--- its answer has a spelling
-pub judged_answer : (tree : Nodes) (acts : List Act) (read : ℕ) (answer : Answer) → AreActs acts → IsSpelledTree tree
-    → IsJudged tree acts (Differs read answer) → IsAnswer answer
-judged_answer tree acts read answer are spelled judged = verdict_answer tree acts read answer are.each spelled judged.is
-
--- what follows the tag of a commit's request
-pub commit_after_tag : (bytes rest : List ℕ) (request : Request) (label : Label) (acts : List Act) → request ≡ Commit label acts
-    → request_spelling request ≡ bytes → ((tag : ℕ) (after : List ℕ) → bytes ≡ tag ∷ after → rest ≡ after)
-    → rest ≡ label_spelling label ++ acts_spelling acts
-unfolding request_spelling
-commit_after_tag bytes rest request label acts is spelled follows =
-    follows 2 (label_spelling label ++ acts_spelling acts) (sym spelled ∙ ap request_spelling is)
+    -- it is committed
+    pub made : (after : State) (now : List (List ℕ)) (record_of : List ℕ) → ReadsHold before.tree access.reads
+        → FitInTurn before.tree access.updates → IsRecord record_of label access lines → after ≡ after_commit before label access
+        → now ≡ bodies ++ record_of ∷ [] → IsMessage IsReply reply_spelling bytes (Committed (length before.labels + 1))
+        → IsAnswered before bodies (Commit label access lines) bytes after now
+    made after now record_of holds fit is state recorded spelled = record {
+      reply = Committed (length before.labels + 1);
+      answers =
+          subst (λ (n : Option ℕ). Submits n before label access (Committed (length before.labels + 1)) after) (sym new)
+          (Holds, holds, inl (fit, refl, state));
+      records = recorded ∙ ap (λ (body : List ℕ). bodies ++ body ∷ []) (sym is.spelled);
+      spelled = spelled;
+    }

@@ -1,12 +1,12 @@
 -- What a store holds has a spelling, and so has each answer of its tree.
-use Rattle.std.proofs.Common.{◌+◌, ℕ, suc, List, [], ◌∷◌, length, inl, inr, sym, subst}
-use Rattle.std.specs.List.{AllByRecursion}
-use Rattle.iot_disk.specs.Disk.{Medium}
-use Rattle.iot_acts.specs.Traces.{after_update, after_acts}
-use Rattle.iot_acts.specs.Turns.{ReadDiffers, ActDiffers}
-use Rattle.iot_certify.specs.Verdicts.{IsVerdictOnActs}
+use Rattle.std.proofs.Common.{ℕ, List, [], ◌∷◌, Some, inl, inr, sym, subst}
+use Rattle.std.specs.List.{AllByRecursion, zip}
+use Rattle.iot_access.specs.Access.{after_updates}
+use Rattle.iot_access.specs.BaseReads.{Base}
+use Rattle.iot_certify.specs.Verdicts.{FailsAt, IsVerdictOnAccess}
 use Rattle.iot_certify.specs.declared.verdict.Verdict.TheVariants.{Differs}
-use Rattle.iot_codec.specs.Rules.{IsAct, IsAnswer}
+use Rattle.iot_codec.specs.Rules.{IsAnswer, IsUpdate}
+use Rattle.iot_disk.specs.Disk.{Medium}
 use Rattle.iot_limits.proofs.AnswerLaws.{tree_answers}
 use Rattle.iot_limits.proofs.UpdateLaws.{tree_after, root_tree}
 use Rattle.iot_limits.specs.Spelled.{IsSpelledTree}
@@ -15,21 +15,23 @@ use Rattle.iot_store.specs.States.{State, opening, after_commit}
 use Rattle.iot_store.specs.Store.{IsSynced, state_of, disk_of}
 use Rattle.iot_store.specs.declared.store.Store.{Store}
 use Rattle.iot_tree.specs.Tree.{Nodes}
-use Rattle.iot_tree.specs.declared.acts.Act.{Act}
-use Rattle.iot_tree.specs.declared.acts.Read.{Read}
+use Rattle.iot_tree.specs.Updates.{updated}
+use Rattle.iot_tree.specs.declared.access.Access.{Access}
 use Rattle.iot_tree.specs.declared.questions.Answer.{Answer}
+use Rattle.iot_tree.specs.declared.updates.Update.{Update}
 
-acts_spelled : (acts : List Act) (t : Nodes) → AllByRecursion IsAct acts → IsSpelledTree t → IsSpelledTree (after_acts t acts)
-acts_spelled [] t are spelled = spelled
-acts_spelled (act ∷ acts) t are spelled =
-    acts_spelled acts (after_update t act.update) are.1 (tree_after t act.update are.0.update spelled)
+updates_spelled : (updates : List Update) (t : Nodes) → AllByRecursion IsUpdate updates → IsSpelledTree t
+    → IsSpelledTree (after_updates t updates)
+updates_spelled [] t are spelled = spelled
+updates_spelled (update ∷ updates) t are spelled =
+    updates_spelled updates (updated t update) are.1 (tree_after t (Some update) are.0 spelled)
 
 leads_spelled : (bodies : List (List ℕ)) (before after : State) → Leads bodies before after → IsSpelledTree before.tree
     → IsSpelledTree after.tree
 leads_spelled [] before after leads spelled = subst (λ (s : State). IsSpelledTree s.tree) (sym leads) spelled
 leads_spelled (body ∷ bodies) before after leads spelled =
-    leads_spelled bodies (after_commit before leads.0 leads.1) after leads.4
-    (acts_spelled leads.1 before.tree leads.2.has_acts.each spelled)
+    leads_spelled bodies (after_commit before leads.0 leads.1) after leads.5
+    (updates_spelled leads.1.updates before.tree leads.3.value.1.0.updates spelled)
 
 module _ {D : Type 0} (medium : Medium D) (store : Store D)
     (synced : IsSynced medium store) where
@@ -45,21 +47,12 @@ module _ {D : Type 0} (medium : Medium D) (store : Store D)
 
 -- ---- answers
 
-read_answer : (reads : List Read) (t : Nodes) (from place : ℕ) (answer : Answer) → IsSpelledTree t → ReadDiffers t reads from place answer
+fails_answer : (bases : List Base) (t : Nodes) (place : ℕ) (answer : Answer) → IsSpelledTree t → FailsAt t bases place answer
     → IsAnswer answer
-read_answer [] t from place answer spelled differs = absurd differs
-read_answer (read ∷ reads) t from place answer spelled (inl here) = subst IsAnswer (sym here.2) (tree_answers t spelled read.question)
-read_answer (read ∷ reads) t from place answer spelled (inr later) = read_answer reads t (suc from) place answer spelled later.1
+fails_answer [] t place answer spelled fails = absurd fails
+fails_answer (base ∷ bases) t place answer spelled (inl here) = subst IsAnswer (sym here.2) (tree_answers t spelled base.1.question)
+fails_answer (base ∷ bases) t place answer spelled (inr later) = fails_answer bases t place answer spelled later.1
 
-act_answer : (acts : List Act) (t : Nodes) (from place : ℕ) (answer : Answer) → AllByRecursion IsAct acts → IsSpelledTree t
-    → ActDiffers t acts from place answer → IsAnswer answer
-act_answer [] t from place answer are spelled differs = absurd differs
-act_answer (act ∷ acts) t from place answer are spelled (inl here) = read_answer act.reads t from place answer spelled here
-act_answer (act ∷ acts) t from place answer are spelled (inr later) =
-    act_answer acts (after_update t act.update) (length act.reads + from) place answer are.1
-    (tree_after t act.update are.0.update spelled) later.2
-
-pub verdict_answer : (t : Nodes) (acts : List Act) (place : ℕ) (answer : Answer) → AllByRecursion IsAct acts → IsSpelledTree t
-    → IsVerdictOnActs t acts (Differs place answer) → IsAnswer answer
-verdict_answer t acts place answer are spelled (inl differs) = act_answer acts t 1 place answer are spelled differs
-verdict_answer t acts place answer are spelled (inr misfits) = subst IsAnswer (sym misfits.2) tt
+pub verdict_answer : (t : Nodes) (access : Access) (place : ℕ) (answer : Answer) → IsSpelledTree t
+    → IsVerdictOnAccess t access (Differs place answer) → IsAnswer answer
+verdict_answer t access place answer spelled fails = fails_answer (zip access.places access.reads) t place answer spelled fails

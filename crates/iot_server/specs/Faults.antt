@@ -10,7 +10,7 @@ use Rattle.iot_journal.specs.Images.{EachDecodesEither}
 use Rattle.iot_store.specs.Records.{record_spelling}
 use Rattle.iot_store.specs.Standing.{EachStandsEither}
 use Rattle.iot_store.specs.States.{State, CanFollow, after_commit}
-use Rattle.iot_tree.specs.declared.acts.Act.{Act}
+use Rattle.iot_tree.specs.declared.access.Access.{Access}
 use Rattle.iot_tree.specs.declared.labels.Label.{Label}
 use Rattle.iot_wire.specs.declared.requests.Request.{Request}
 use Rattle.iot_wire.specs.declared.requests.Request.TheVariants.{Commit}
@@ -49,8 +49,9 @@ CountsServerFault (Err Stopped) before now = Rose before now
 -- the records before, or those and the record of the commit
 pub record CutsOff (Asks : Request → Type 0) (state : State) (bodies : List (List ℕ)) (images : List ℕ → Type 0) : Type 0 where
   pub label : Label
-  pub acts : List Act
-  pub asked : Asks (Commit label acts)
-  pub follows : CanFollow state label acts
-  pub either : EachStandsEither images state (after_commit state label acts)
-  pub one_record : EachDecodesEither images (Encodes bodies) (Encodes (bodies ++ record_spelling label acts ∷ []))
+  pub access : Access
+  pub lines : List (List ℕ)
+  pub asked : Asks (Commit label access lines)
+  pub follows : CanFollow state label access
+  pub either : EachStandsEither images state (after_commit state label access)
+  pub one_record : EachDecodesEither images (Encodes bodies) (Encodes (bodies ++ record_spelling label access lines ∷ []))

@@ -1,17 +1,16 @@
 -- What the server answers.
-use Rattle.std.specs.Prelude.{◌≡◌, ℕ, ◌+◌, List, [], ◌∷◌, ◌++◌, length, Option, Some, None}
-use Rattle.iot_acts.specs.Guards.{AllGuarded}
-use Rattle.iot_acts.specs.Turns.{turns, DiffersAt}
-use Rattle.iot_certify.specs.Verdicts.{IsVerdictOnActs, IfDiffers}
+use Rattle.std.specs.Prelude.{◌≡◌, ◌⊎◌, ℕ, ◌+◌, List, [], ◌∷◌, ◌++◌, length, Option, Some, None}
+use Rattle.iot_access.specs.Access.{FitInTurn}
+use Rattle.iot_certify.specs.Verdicts.{IsVerdictOnAccess}
 use Rattle.iot_certify.specs.declared.verdict.Verdict.{Verdict}
 use Rattle.iot_certify.specs.declared.verdict.Verdict.TheVariants.{Holds, Differs}
 use Rattle.iot_stamp.specs.Refresh.{changes_for}
 use Rattle.iot_store.specs.Numbers.{number_in}
 use Rattle.iot_store.specs.Records.{record_spelling}
 use Rattle.iot_store.specs.States.{State, after_commit}
-use Rattle.iot_tree.specs.Tree.{Nodes}
-use Rattle.iot_tree.specs.declared.acts.Act.{Act}
+use Rattle.iot_tree.specs.declared.access.Access.{Access}
 use Rattle.iot_tree.specs.declared.labels.Label.{Label}
+use Rattle.iot_tree.specs.declared.questions.Answer.TheVariants.{Away}
 use Rattle.iot_wire.specs.Messages.{IsMessage}
 use Rattle.iot_wire.specs.Rules.{IsRequest, IsReply}
 use Rattle.iot_wire.specs.Spelling.{request_spelling, reply_spelling}
@@ -20,36 +19,38 @@ use Rattle.iot_wire.specs.declared.requests.Request.TheVariants.{Refresh, Commit
 use Rattle.iot_wire.specs.declared.replies.Reply.{Reply}
 use Rattle.iot_wire.specs.declared.replies.Reply.TheVariants.{Objects, Committed, Already, Conflict}
 
--- the verdict on a transaction's acts; for guarded acts it is the first read that differs in its turn
-pub record IsJudged (tree : Nodes) (acts : List Act) (verdict : Verdict) : Type 0 where
-  pub is : IsVerdictOnActs tree acts verdict
-  pub guarded : AllGuarded acts → IfDiffers verdict (DiffersAt (turns tree acts) 1)
+-- one whose updates fit in turn is committed, under the next number; no client asks for one whose updates do not, which is told as a
+-- read after all the base reads, whose answer is away
+abbrev pub CommitsIfFit : State → Label → Access → Reply → State → Type 0
+CommitsIfFit before label access reply after =
+    (FitInTurn before.tree access.updates × (reply ≡ Committed (length before.labels + 1)) × (after ≡ after_commit before label access))
+    ⊎ ((¬ FitInTurn before.tree access.updates) × (reply ≡ Conflict (length access.reads + 1) Away) × (after ≡ before))
 
--- by the verdict: one that holds is committed, under the next number; else the read that differs is told, and its answer now
-abbrev pub FollowsVerdict : Verdict → State → Label → List Act → Reply → State → Type 0
-FollowsVerdict Holds before label acts reply after =
-    (reply ≡ Committed (length before.labels + 1)) × (after ≡ after_commit before label acts)
-FollowsVerdict (Differs read answer) before label acts reply after = (reply ≡ Conflict read answer) × (after ≡ before)
+-- by the verdict: one whose base reads hold is committed if it fits; else the first that does not hold is told, and its answer now
+abbrev pub FollowsVerdict : Verdict → State → Label → Access → Reply → State → Type 0
+FollowsVerdict Holds before label access reply after = CommitsIfFit before label access reply after
+FollowsVerdict (Differs read answer) before label access reply after = (reply ≡ Conflict read answer) × (after ≡ before)
 
 -- by the number of the transaction among the labels: one that has a number gets it again; one that has none is judged
-abbrev pub Submits : Option ℕ → State → Label → List Act → Reply → State → Type 0
-Submits (Some number) before label acts reply after = (reply ≡ Already number) × (after ≡ before)
-Submits None before label acts reply after =
-    (verdict : Verdict) × IsJudged before.tree acts verdict × FollowsVerdict verdict before label acts reply after
+abbrev pub Submits : Option ℕ → State → Label → Access → Reply → State → Type 0
+Submits (Some number) before label access reply after = (reply ≡ Already number) × (after ≡ before)
+Submits None before label access reply after =
+    (verdict : Verdict) × IsVerdictOnAccess before.tree access verdict × FollowsVerdict verdict before label access reply after
 
 -- the reply to a request, by the state before, and the state after it
 abbrev pub Answers : State → Request → Reply → State → Type 0
 Answers before (Refresh client known want) reply after =
     (reply ≡ Objects (changes_for before.stamps known want)) × (after ≡ before)
-Answers before (Commit label acts) reply after = Submits (number_in before.labels label.client label.tid) before label acts reply after
+Answers before (Commit label access lines) reply after =
+    Submits (number_in before.labels label.client label.tid) before label access reply after
 
 -- the bodies of the records after it: a commit that was made has one more, its own
 abbrev pub records_after : Request → Reply → List (List ℕ) → List (List ℕ)
 records_after (Refresh client known want) reply bodies = bodies
-records_after (Commit label acts) (Objects changes) bodies = bodies
-records_after (Commit label acts) (Committed number) bodies = bodies ++ record_spelling label acts ∷ []
-records_after (Commit label acts) (Already number) bodies = bodies
-records_after (Commit label acts) (Conflict read answer) bodies = bodies
+records_after (Commit label access lines) (Objects changes) bodies = bodies
+records_after (Commit label access lines) (Committed number) bodies = bodies ++ record_spelling label access lines ∷ []
+records_after (Commit label access lines) (Already number) bodies = bodies
+records_after (Commit label access lines) (Conflict read answer) bodies = bodies
 
 -- the bytes are the spelling of the reply to the request
 pub record IsAnswered (before : State) (bodies : List (List ℕ)) (request : Request) (bytes : List ℕ) (after : State)

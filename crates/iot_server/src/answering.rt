@@ -1,27 +1,30 @@
 //! The reply to a request.
-ghost use Rattle.std.specs.Prelude.{◌≡◌, ◌+◌, ◌++◌, ◌∷◌, ℕ, List, IfOk, OnOk, IsErrOf, None};
-ghost use Rattle.iot_codec.specs.Rules.{AreKnown, IsLabel, AreActs};
-ghost use Rattle.iot_codec.specs.Spelling.{label_spelling, acts_spelling};
+ghost use Rattle.std.specs.Prelude.{◌≡◌, ◌+◌, IfOk, OnOk, IsErrOf, None, length};
+ghost use Rattle.iot_access.specs.Access.{FitInTurn};
+ghost use Rattle.iot_acts.specs.Traces.{ReadsHold};
+ghost use Rattle.iot_codec.specs.Rules.{AreKnown};
 ghost use Rattle.iot_disk.specs.Faults.{CountsJournalFault};
 ghost use Rattle.iot_journal.specs.Decoding.{Encodes};
 ghost use Rattle.iot_journal.specs.Images.{EachDecodes};
 ghost use Rattle.iot_server.specs.Faults.{CutsOff};
-ghost use Rattle.iot_server.specs.Replies.{IsAnswered, IsJudged};
+ghost use Rattle.iot_server.specs.Replies.{IsAnswered};
 ghost use Rattle.iot_store.specs.Numbers.{number_in};
+ghost use Rattle.iot_store.specs.Records.{IsRecord};
 ghost use Rattle.iot_store.specs.Standing.{EachStands};
 ghost use Rattle.iot_store.specs.Store.{state_of, disk_of, bodies_on, IsSynced};
+ghost use Rattle.iot_tree.specs.declared.questions.Answer.TheVariants.{Away};
 ghost use Rattle.iot_wire.specs.Messages.{IsMessage};
 ghost use Rattle.iot_wire.specs.Rules.{IsRequest, IsReply};
 ghost use Rattle.iot_wire.specs.Spelling.{request_spelling, reply_spelling};
 ghost use Rattle.iot_wire.specs.declared.requests.Request.{Request as Asked};
 ghost use Rattle.iot_wire.specs.declared.requests.Request.TheVariants.{Refresh, Commit};
-ghost use Rattle.iot_wire.specs.declared.replies.Reply.TheVariants.{Committed};
+ghost use Rattle.iot_wire.specs.declared.replies.Reply.TheVariants.{Committed, Conflict};
 
-use iot_certify::{Verdict, certify_acts};
+use iot_certify::{Verdict, certify};
 use iot_disk::{Disk, JournalFault};
 use iot_store::Store;
 use iot_text::NoMemory;
-use iot_tree::{Acts, Known, Label, Want};
+use iot_tree::{Access, Answer, Known, Label, Lines, Want};
 use iot_wire::{Reply, Request, write_reply};
 use std::alloc::Global;
 
@@ -33,8 +36,7 @@ pub(crate) fn answer<D: Disk>(
     bytes: &[u8],
 ) -> Result<Vec<u8>, JournalFault>
     requires synced { IsSynced D.medium store.old }
-    requires request { IsRequest request }
-    requires bytes { request_spelling request ≡ bytes.now }
+    requires asked { IsMessage IsRequest request_spelling bytes.now request }
     ensures answered { IfOk result (λ bytes. IsAnswered (state_of store.old) (bodies_on D.medium store.old) request bytes.items
         (state_of store.new) (bodies_on D.medium store.new)) }
     ensures synced { OnOk result (IsSynced D.medium store.new) }
@@ -52,17 +54,11 @@ pub(crate) fn answer<D: Disk>(
             known,
             want,
         } => Ok(lend(alloc, store, &known, &want)?),
-        Request::Commit { label, acts } => submit(alloc, store, label, &acts, after_tag(bytes)),
-    }
-}
-
-/// The bytes after the tag of a message.
-fn after_tag(bytes: &[u8]) -> &[u8]
-    ensures { (tag : ℕ) (rest : List ℕ) → bytes.now ≡ tag ∷ rest → result.now ≡ rest }
-{
-    match bytes.split_first() {
-        Some((_, rest)) => rest,
-        None => bytes,
+        Request::Commit {
+            label,
+            access,
+            lines,
+        } => submit(alloc, store, label, &access, &lines, bytes),
     }
 }
 
@@ -89,18 +85,16 @@ fn submit<D: Disk>(
     alloc: Global,
     store: &mut Store<D>,
     label: Label,
-    acts: &Acts,
-    spelling: &[u8],
+    access: &Access,
+    lines: &Lines,
+    body: &[u8],
 ) -> Result<Vec<u8>, JournalFault>
     requires synced { IsSynced D.medium store.old }
-    requires label { IsLabel label }
-    requires acts { AreActs acts.now }
-    requires spelled { spelling.now ≡ label_spelling label ++ acts_spelling acts.now }
-    ensures answered { IfOk result (λ bytes.
-        IsAnswered (state_of store.old) (bodies_on D.medium store.old) (Commit label acts.now) bytes.items
-        (state_of store.new) (bodies_on D.medium store.new)) }
+    requires recorded { IsRecord body.now label access.now lines.now }
+    ensures answered { IfOk result (λ bytes. IsAnswered (state_of store.old) (bodies_on D.medium store.old)
+        (Commit label access.now lines.now) bytes.items (state_of store.new) (bodies_on D.medium store.new)) }
     ensures synced { OnOk result (IsSynced D.medium store.new) }
-    ensures stopped { IsErrOf result JournalFault.Stopped → CutsOff (λ (asked : Asked). asked ≡ Commit label acts.now)
+    ensures stopped { IsErrOf result JournalFault.Stopped → CutsOff (λ (asked : Asked). asked ≡ Commit label access.now lines.now)
         (state_of store.old) (bodies_on D.medium store.old) (D.medium.may_leave (disk_of store.new)) }
     ensures no_memory { IsErrOf result JournalFault.NoMemory → EachStands (D.medium.may_leave (disk_of store.new)) (state_of store.old) }
     ensures no_record { IsErrOf result JournalFault.NoMemory
@@ -110,28 +104,26 @@ fn submit<D: Disk>(
 {
     match store.number_of(label.client, label.tid) {
         Some(number) => Ok(write_reply(alloc, &Reply::Already { number })?),
-        None => judge(alloc, store, label, acts, spelling),
+        None => judge(alloc, store, label, access, lines, body),
     }
 }
 
-/// Commits a new transaction if its acts hold; else tells the read that differs.
+/// Commits a new transaction if what it asked of the tree before it is so of the store's tree; else tells the first read that is not.
 fn judge<D: Disk>(
     alloc: Global,
     store: &mut Store<D>,
     label: Label,
-    acts: &Acts,
-    spelling: &[u8],
+    access: &Access,
+    lines: &Lines,
+    body: &[u8],
 ) -> Result<Vec<u8>, JournalFault>
     requires synced { IsSynced D.medium store.old }
-    requires label { IsLabel label }
-    requires acts { AreActs acts.now }
-    requires spelled { spelling.now ≡ label_spelling label ++ acts_spelling acts.now }
+    requires recorded { IsRecord body.now label access.now lines.now }
     requires new { number_in (state_of store.old).labels label.client label.tid ≡ None }
-    ensures answered { IfOk result (λ bytes.
-        IsAnswered (state_of store.old) (bodies_on D.medium store.old) (Commit label acts.now) bytes.items
-        (state_of store.new) (bodies_on D.medium store.new)) }
+    ensures answered { IfOk result (λ bytes. IsAnswered (state_of store.old) (bodies_on D.medium store.old)
+        (Commit label access.now lines.now) bytes.items (state_of store.new) (bodies_on D.medium store.new)) }
     ensures synced { OnOk result (IsSynced D.medium store.new) }
-    ensures stopped { IsErrOf result JournalFault.Stopped → CutsOff (λ (asked : Asked). asked ≡ Commit label acts.now)
+    ensures stopped { IsErrOf result JournalFault.Stopped → CutsOff (λ (asked : Asked). asked ≡ Commit label access.now lines.now)
         (state_of store.old) (bodies_on D.medium store.old) (D.medium.may_leave (disk_of store.new)) }
     ensures no_memory { IsErrOf result JournalFault.NoMemory → EachStands (D.medium.may_leave (disk_of store.new)) (state_of store.old) }
     ensures no_record { IsErrOf result JournalFault.NoMemory
@@ -139,33 +131,76 @@ fn judge<D: Disk>(
     ensures faults { CountsJournalFault result (D.medium.faults (disk_of store.old)) (D.medium.faults (disk_of store.new)) }
     ensures arms { D.medium.arms (disk_of store.new) ≡ D.medium.arms (disk_of store.old) }
 {
-    match certify_acts(alloc, store.tree(), acts)? {
-        Verdict::Holds => commit(alloc, store, label, acts, spelling),
+    match certify(alloc, store.tree(), access)? {
+        Verdict::Holds => commit_if_fit(alloc, store, label, access, lines, body),
         Verdict::Differs { read, answer } => {
             Ok(write_reply(alloc, &Reply::Conflict { read, answer })?)
         }
     }
 }
 
-/// Commits a new transaction whose acts hold. Its reply is spelled first, so that want of memory comes before the commit.
+/// Commits a new transaction whose base reads hold, if its updates fit in turn.
+fn commit_if_fit<D: Disk>(
+    alloc: Global,
+    store: &mut Store<D>,
+    label: Label,
+    access: &Access,
+    lines: &Lines,
+    body: &[u8],
+) -> Result<Vec<u8>, JournalFault>
+    requires synced { IsSynced D.medium store.old }
+    requires recorded { IsRecord body.now label access.now lines.now }
+    requires new { number_in (state_of store.old).labels label.client label.tid ≡ None }
+    requires holds { ReadsHold (state_of store.old).tree access.now.reads }
+    ensures answered { IfOk result (λ bytes. IsAnswered (state_of store.old) (bodies_on D.medium store.old)
+        (Commit label access.now lines.now) bytes.items (state_of store.new) (bodies_on D.medium store.new)) }
+    ensures synced { OnOk result (IsSynced D.medium store.new) }
+    ensures stopped { IsErrOf result JournalFault.Stopped → CutsOff (λ (asked : Asked). asked ≡ Commit label access.now lines.now)
+        (state_of store.old) (bodies_on D.medium store.old) (D.medium.may_leave (disk_of store.new)) }
+    ensures no_memory { IsErrOf result JournalFault.NoMemory → EachStands (D.medium.may_leave (disk_of store.new)) (state_of store.old) }
+    ensures no_record { IsErrOf result JournalFault.NoMemory
+        → EachDecodes (D.medium.may_leave (disk_of store.new)) (Encodes (bodies_on D.medium store.old)) }
+    ensures faults { CountsJournalFault result (D.medium.faults (disk_of store.old)) (D.medium.faults (disk_of store.new)) }
+    ensures arms { D.medium.arms (disk_of store.new) ≡ D.medium.arms (disk_of store.old) }
+{
+    if !store.fit_in_turn(alloc, &access.updates)? {
+        return Ok(misfit(alloc, access)?);
+    }
+    commit(alloc, store, label, access, lines, body)
+}
+
+/// The reply that the updates of an access do not fit, which no client of this system sends. Places end at 64 bits; no list in memory is
+/// that long.
+fn misfit(alloc: Global, access: &Access) -> Result<Vec<u8>, NoMemory>
+    ensures { IfOk result (λ bytes. IsMessage IsReply reply_spelling bytes.items (Conflict (length access.now.reads + 1) Away)) }
+{
+    match (access.reads.len() as u64).checked_add(1) {
+        Some(read) => {
+            let answer = Answer::Away;
+            write_reply(alloc, &Reply::Conflict { read, answer })
+        }
+        None => Err(NoMemory),
+    }
+}
+
+/// Commits a new transaction that can follow. Its reply is spelled first, so that want of memory comes before the commit.
 fn commit<D: Disk>(
     alloc: Global,
     store: &mut Store<D>,
     label: Label,
-    acts: &Acts,
-    spelling: &[u8],
+    access: &Access,
+    lines: &Lines,
+    body: &[u8],
 ) -> Result<Vec<u8>, JournalFault>
     requires synced { IsSynced D.medium store.old }
-    requires label { IsLabel label }
-    requires acts { AreActs acts.now }
-    requires spelled { spelling.now ≡ label_spelling label ++ acts_spelling acts.now }
+    requires recorded { IsRecord body.now label access.now lines.now }
     requires new { number_in (state_of store.old).labels label.client label.tid ≡ None }
-    requires holds { IsJudged (state_of store.old).tree acts.now Verdict.Holds }
-    ensures answered { IfOk result (λ bytes.
-        IsAnswered (state_of store.old) (bodies_on D.medium store.old) (Commit label acts.now) bytes.items
-        (state_of store.new) (bodies_on D.medium store.new)) }
+    requires holds { ReadsHold (state_of store.old).tree access.now.reads }
+    requires fit { FitInTurn (state_of store.old).tree access.now.updates }
+    ensures answered { IfOk result (λ bytes. IsAnswered (state_of store.old) (bodies_on D.medium store.old)
+        (Commit label access.now lines.now) bytes.items (state_of store.new) (bodies_on D.medium store.new)) }
     ensures synced { OnOk result (IsSynced D.medium store.new) }
-    ensures stopped { IsErrOf result JournalFault.Stopped → CutsOff (λ (asked : Asked). asked ≡ Commit label acts.now)
+    ensures stopped { IsErrOf result JournalFault.Stopped → CutsOff (λ (asked : Asked). asked ≡ Commit label access.now lines.now)
         (state_of store.old) (bodies_on D.medium store.old) (D.medium.may_leave (disk_of store.new)) }
     ensures no_memory { IsErrOf result JournalFault.NoMemory → EachStands (D.medium.may_leave (disk_of store.new)) (state_of store.old) }
     ensures no_record { IsErrOf result JournalFault.NoMemory
@@ -174,7 +209,7 @@ fn commit<D: Disk>(
     ensures arms { D.medium.arms (disk_of store.new) ≡ D.medium.arms (disk_of store.old) }
 {
     let bytes = committed(alloc, store.number())?;
-    store.commit_spelled(alloc, label, acts, spelling)?;
+    store.commit_recorded(alloc, label, access, lines, body)?;
     Ok(bytes)
 }
 

@@ -94,10 +94,10 @@ module _ {D : Type 0} (medium : Medium D) where
 added : (request : Request) (reply : Reply) (bodies : List (List ℕ))
     → (more : List (List ℕ)) × (records_after request reply bodies ≡ bodies ++ more)
 added (requests.Refresh client known want) reply bodies = ([], sym (append-nil bodies))
-added (requests.Commit label acts) (replies.Objects tree) bodies = ([], sym (append-nil bodies))
-added (requests.Commit label acts) (replies.Committed number) bodies = (record_spelling label acts ∷ [], refl)
-added (requests.Commit label acts) (replies.Already number) bodies = ([], sym (append-nil bodies))
-added (requests.Commit label acts) (replies.Conflict read answer) bodies = ([], sym (append-nil bodies))
+added (requests.Commit label access lines) (replies.Objects tree) bodies = ([], sym (append-nil bodies))
+added (requests.Commit label access lines) (replies.Committed number) bodies = (record_spelling label access lines ∷ [], refl)
+added (requests.Commit label access lines) (replies.Already number) bodies = ([], sym (append-nil bodies))
+added (requests.Commit label access lines) (replies.Conflict read answer) bodies = ([], sym (append-nil bodies))
 
 module _ {D : Type 0} (medium : Medium D) (is_image : (disk : D) → medium.may_leave disk (medium.reads disk)) where
   -- a server on whose disk nothing is under way
@@ -137,11 +137,11 @@ module _ {D : Type 0} (medium : Medium D) (is_image : (disk : D) → medium.may_
           let standing : (state : State) × StandFor image state =
           elim (stops.0.either.each image there) [
             | inl is ↦ (servers.state_of was, is)
-            | inr is ↦ (after_commit (servers.state_of was) stops.0.label stops.0.acts, is)
+            | inr is ↦ (after_commit (servers.state_of was) stops.0.label stops.0.access, is)
           ] in
           elim (stops.0.one_record.each image there) [
             | inl same ↦ same_begin same standing.1
-            | inr same ↦ more_begin (record_spelling stops.0.label stops.0.acts ∷ []) same standing.1
+            | inr same ↦ more_begin (record_spelling stops.0.label stops.0.access stops.0.lines ∷ []) same standing.1
           ];
     }
 

@@ -1,16 +1,20 @@
 -- A server keeps the list of commits on its disk, a record for each, as a keeper is to.
 use Rattle.std.specs.Prelude.{IfOk, IfErr}
-use Rattle.iot_server_node.proofs.Common.{◌≡◌, ◌<◌, ◌+◌, ◌^◌, ℕ, List, [], ◌∷◌, ◌++◌, length, map, refl, ap, subst, ◌∙◌, arith, Result, Ok}
+use Rattle.iot_server_node.proofs.Common.{◌≡◌, ◌<◌, ◌+◌, ◌^◌, ℕ, List, [], ◌∷◌, ◌++◌, length, map, refl, ap, ◌∙◌, arith, Result, Ok}
 use Rattle.iot_server_node.proofs.Common.{Err, sym, map-append, length-append, length-map, label_of, records_from, records_of, state_of}
 use Rattle.iot_server_node.proofs.Common.{IsImage, AreOf, same_counts, KeepsList}
-use Rattle.iot_server_node.specs.Prelude.{Nodes, root_alone, Dir, Label, Entry, run_entry, tree_from, Server, Stamps, State, CanFollow}
-use Rattle.iot_server_node.specs.Prelude.{opening, after_commit, IsRecord, record_spelling, Leads, StandFor, Medium, Commit, entries_of}
-use Rattle.iot_server_node.specs.Prelude.{tree_after, Act, Encodes, decoded, EachDecodes, counts_on, EachIs, CountsStart}
+use Rattle.iot_server_node.specs.Prelude.{Nodes, root_alone, Dir, Label, Entry, run_entry, tree_from, Server, Stamps, State}
+use Rattle.iot_server_node.specs.Prelude.{opening, after_commit, record_spelling, Leads, StandFor, Medium, Commit, entries_of}
+use Rattle.iot_server_node.specs.Prelude.{tree_after, Encodes, decoded, EachDecodes, counts_on, EachIs, CountsStart}
 use Rattle.iot_tree.specs.declared.labels.Way.{Way}
 use Rattle.iot_journal.proofs.DecodingLaws.{length-bodies-le}
 use Rattle.iot_journal.proofs.ImagesLaws.{records_fit}
 use Rattle.iot_server.specs.Servers as servers
-use Rattle.iot_store.specs.Stamps.{opening_stamps, next_stamp, stamped_acts}
+use Rattle.iot_access.specs.Access.{access_of, lines_of}
+use Rattle.iot_stamp.specs.Acting.{stamped_acts, stamped_all}
+use Rattle.iot_stamp.proofs.ActingLaws.{all_of_acts}
+use Rattle.iot_store.specs.Stamps.{opening_stamps, next_stamp}
+use Rattle.iot_tree.specs.declared.access.Access.{Access}
 use Rattle.iot_server_node.proofs.StampsLaws.{stamps_split}
 use Rattle.iot_disk.specs.declared.faults.StartFault.{StartFault}
 use Rattle.iot_disk.specs.declared.faults.StartFault.TheVariants as start
@@ -35,36 +39,34 @@ pub records_more : (commits later : List Commit) (t : Nodes)
     → records_from (commits ++ later) t ≡ records_from commits t ++ records_from later (tree_from (entries_of commits) t)
 records_more [] later t = refl
 records_more (commit ∷ commits) later t =
-    ap (λ (rs : List (List ℕ)). record_spelling (label_of commit) (run_entry commit.entry t).acts ∷ rs)
+    ap
+    (λ (rs : List (List ℕ)).
+    record_spelling (label_of commit) (access_of (run_entry commit.entry t).acts t) (lines_of (run_entry commit.entry t).acts) ∷ rs)
     (records_more commits later (run_entry commit.entry t).tree)
 
--- the record and the state after a commit with this label and these acts
-module _ (commits : List Commit) {commit : Commit} {label : Label} {acts : List Act}
-    (are : AreOf commit (tree_after commits) label acts) where
-  pub record_is : records_of (commits ++ commit ∷ []) ≡ records_of commits ++ record_spelling label acts ∷ []
+-- the record and the state after a commit with this label, this access and these lines
+module _ (commits : List Commit) {commit : Commit} {label : Label} {access : Access} {lines : List (List ℕ)}
+    (are : AreOf commit (tree_after commits) label access lines) where
+  pub record_is : records_of (commits ++ commit ∷ []) ≡ records_of commits ++ record_spelling label access lines ∷ []
   record_is =
       records_more commits (commit ∷ []) (root_alone Dir)
-      ∙ (λ i. records_of commits ++ record_spelling (are.has_label i) (are.has_acts i) ∷ [])
+      ∙ (λ i. records_of commits ++ record_spelling (are.has_label i) (are.has_access i) (are.has_lines i) ∷ [])
 
-  pub state_is : state_of (commits ++ commit ∷ []) ≡ after_commit (state_of commits) label acts
+  pub state_is : state_of (commits ++ commit ∷ []) ≡ after_commit (state_of commits) label access
   state_is =
       let number : 0 + length commits ≡ length (map label_of commits) = omega (arith, length-map commits label_of) in
       let stamps =
       stamps_split commits (commit ∷ []) (root_alone Dir) opening_stamps 0
-      ∙ (λ i. stamped_acts (state_of commits).stamps (are.has_acts i) (next_stamp (number i))) in
+      ∙ (λ i. stamped_acts (state_of commits).stamps (run_entry commit.entry (tree_after commits)).acts (next_stamp (number i)))
+      ∙ sym (all_of_acts (next_stamp (length (map label_of commits))) (state_of commits).stamps
+      (run_entry commit.entry (tree_after commits)).acts)
+      ∙ ap (λ (a : Access). stamped_all (state_of commits).stamps a.updates (next_stamp (length (map label_of commits)))) are.has_access
+      in
       λ i. record {
         tree = (tree_after-append commits commit ∙ are.made) i;
         labels = (map-append label_of commits (commit ∷ []) ∙ ap (λ (l : Label). map label_of commits ++ l ∷ []) are.has_label) i;
         stamps = stamps i;
       }
-
--- one record more leads to the state after its commit
-pub leads_more : (front : List (List ℕ)) (before mid : State) (body : List ℕ) (label : Label) (acts : List Act) → Leads front before mid
-    → IsRecord body label acts → CanFollow mid label acts → Leads (front ++ body ∷ []) before (after_commit mid label acts)
-leads_more [] before mid body label acts leads is follows =
-    (label, acts, is, subst (λ (s : State). CanFollow s label acts) leads follows, ap (λ (s : State). after_commit s label acts) leads)
-leads_more (first ∷ front) before mid body label acts leads is follows =
-    (leads.0, leads.1, leads.2, leads.3, leads_more front (after_commit before leads.0 leads.1) mid body label acts leads.4 is follows)
 
 -- and the state has one label more for each record
 leads_count : (bodies : List (List ℕ)) (before after : State) → Leads bodies before after
@@ -72,7 +74,7 @@ leads_count : (bodies : List (List ℕ)) (before after : State) → Leads bodies
 leads_count [] before after leads = omega (arith, ap (λ (s : State). length s.labels) leads)
 leads_count (body ∷ bodies) before after leads =
     omega
-    (arith, leads_count bodies (after_commit before leads.0 leads.1) after leads.4, length-append before.labels (leads.0 ∷ []))
+    (arith, leads_count bodies (after_commit before leads.0 leads.1) after leads.5, length-append before.labels (leads.0 ∷ []))
 
 -- a server whose disk is within its limit has not as many commits as can be counted
 pub few_commits : {D : Type 0} (medium : Medium D) (it : Server D) → servers.IsSynced medium it

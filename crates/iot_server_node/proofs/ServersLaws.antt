@@ -3,13 +3,14 @@ use Rattle.std.proofs.Math.Nat.{mod-add-mod}
 use Rattle.iot_server_node.proofs.Common.{◌≡◌, ℕ, suc, zero, ◌+◌, ◌%◌, ◌^◌, Bool, true, false, if◌then◌else◌, List, [], ◌∷◌, ◌++◌, length}
 use Rattle.iot_server_node.proofs.Common.{drop, Option, Some, None, IsSome, codes, refl, sym, ap, subst, ◌∙◌, arith, inl, inr}
 use Rattle.iot_server_node.proofs.Common.{slice_index_or, length-append, lists, Handles, KeepsList, ServerStands, AreOf, bind, asks}
-use Rattle.iot_server_node.specs.Prelude.{Medium, Encodes, record_spelling, State, after_commit, Server, Act, Label, Call, Says, Nothing}
+use Rattle.iot_server_node.specs.Prelude.{Medium, Encodes, record_spelling, State, after_commit, Server, Label, Call, Says, Nothing}
 use Rattle.iot_server_node.specs.Prelude.{Then, either, Commit, add_commit, tree_after, Node, fallen, changed, back, unopened, Refines}
 use Rattle.iot_server_node.specs.Prelude.{server_name, kept_text, OpensNode, Appends, ComesBack, ComesBackWith, Crashes, Restarts, ArmsDisk}
 use Rattle.iot_server_node.specs.Prelude.{line, transaction_name, IsEmpty, KeepsDisk, counts_on, is_on, live_of, PostStands, HoldsBy}
 use Rattle.iot_server_node.specs.Prelude.{IsStanding, Lasts, StepsTo, Doubt, Post, Up, Down, Between, ServerKeeper, ServerNode}
 use Rattle.iot_journal.specs.Decoding.{decoded}
 use Rattle.iot_disk.specs.declared.disk.Pick.{Pick}
+use Rattle.iot_tree.specs.declared.access.Access.{Access}
 use Rattle.iot_server.specs.Servers as servers
 use Rattle.iot_server.specs.Traffic.{no_traffic}
 use Rattle.iot_machine.specs.Serving.{added_text, commit_text}
@@ -241,18 +242,19 @@ module _ {D : Type 0} (medium : Medium D) (names : List (List ℕ)) where
         here.known
 
     -- one that has one record more, of this commit, and the state after it, stands for a list with this commit
-    pub stands_longer : {commit : Commit} {label : Label} {acts : List Act} → AreOf commit (tree_after node.durable) label acts
-        → servers.bodies_on medium now ≡ servers.bodies_on medium was ++ record_spelling label acts ∷ []
-        → servers.state_of now ≡ after_commit (servers.state_of was) label acts → IsKnown names commit
+    pub stands_longer : {commit : Commit} {label : Label} {access : Access} {lines : List (List ℕ)}
+        → AreOf commit (tree_after node.durable) label access lines
+        → servers.bodies_on medium now ≡ servers.bodies_on medium was ++ record_spelling label access lines ∷ []
+        → servers.state_of now ≡ after_commit (servers.state_of was) label access → IsKnown names commit
         → ServerStands medium names (live now) (changed (add_commit commit) node) (n + 1)
-    stands_longer {commit} {label} {acts} are recorded made known =
+    stands_longer {commit} {label} {access} {lines} are recorded made known =
         stands_on (add_commit commit) (here.post.count + 1) (record {
           synced = it.synced;
           has_records =
-              recorded ∙ ap (λ (bodies : List (List ℕ)). bodies ++ record_spelling label acts ∷ []) here.post.stands.has_records
+              recorded ∙ ap (λ (bodies : List (List ℕ)). bodies ++ record_spelling label access lines ∷ []) here.post.stands.has_records
               ∙ sym (record_is node.durable are);
           has_state =
-              made ∙ ap (λ (s : State). after_commit s label acts) here.post.stands.has_state ∙ sym (state_is node.durable are);
+              made ∙ ap (λ (s : State). after_commit s label access) here.post.stands.has_state ∙ sym (state_is node.durable are);
           counted = ap (λ (k : ℕ). k + 1) here.post.stands.counted ∙ sym (length-append node.durable (commit ∷ []));
         })
         (record {

@@ -11,6 +11,7 @@ use Rattle.iot_server_node.proofs.Common.{Handles, Refuses, KeepsList, committed
 use Rattle.iot_server_node.proofs.Common.{ServerStands, AreOf, IsImage, label_of, records_of, state_of, bind, asks, says_this, answers}
 use Rattle.iot_server_node.specs.Prelude.{Medium, JournalFault, Nodes, IsTree, IsWhole, Want, IsAnswered, Submits, records_after, Server}
 use Rattle.iot_server_node.specs.Prelude.{State, CanFollow, opening, after_commit, Encodes, IsMessage, IsRequest, request_spelling, Request}
+use Rattle.iot_server_node.specs.Prelude.{run_entry}
 use Rattle.iot_server_node.specs.Prelude.{snapshot, Commit, add_commit, tree_after, Call, Then, Node, changed, doubting, server_name, Lasts}
 use Rattle.iot_server_node.specs.Prelude.{HoldsEither, IsRefresh, Spells, Handed, Message, Served, ServerNode, ActsHold, reads_of, turns}
 use Rattle.iot_server_node.specs.Prelude.{DiffersAt, Appends, commit_line, acts_output, EachIs, StepsTo, record_spelling, Act, Label, Reply}
@@ -20,7 +21,7 @@ use Rattle.iot_wire.specs.Messages.{IsOneMessage}
 use Rattle.iot_wire.proofs.MessagesLaws.{call_one}
 use Rattle.iot_wire.proofs.SpellingLaws.{request_laws}
 use Rattle.iot_machine.specs.Serving.{Lends, Submission, Judges, committed, Settled, Conflict, number_of, commit_text}
-use Rattle.iot_judging.proofs.RunTreesLaws.{list_tree}
+use Rattle.iot_judging.proofs.RunTreesLaws.{list_tree, list_whole}
 use Rattle.iot_stamp.specs.Refresh.{changes_for, known_with_stamps}
 use Rattle.iot_stamp.specs.Stamps.{Stamps, nodes_of}
 use Rattle.iot_wire.specs.declared.replies.Reply.TheVariants as replies
@@ -28,14 +29,22 @@ use Rattle.iot_server_node.proofs.StampsLaws.{list_stamped}
 use Rattle.iot_server_node.specs.Servers.{count_of, stamps_of, Handled, Refused, ServesBy, ServerIsSound, live, IsKnown}
 use Rattle.iot_server_node.specs.Servers.{HavingAnswered, IsSubmission}
 use Rattle.iot_server_node.specs.Servers.{IsHanded, IsNamedIn, HasAnsweredIn, GivesUp}
-use Rattle.iot_server_node.proofs.KeepersLaws.{leads_list, as_many, record_is, state_is, leads_more}
+use Rattle.iot_server_node.proofs.KeepersLaws.{leads_list, as_many, record_is, state_is}
 use Rattle.iot_server_node.proofs.ServersLaws.{stands_still, stands_longer, with_known, known_stopped}
+use Rattle.iot_access.specs.Access.{FitInTurn, IsAccess, TakesPlace, lines_of}
+use Rattle.iot_acts.specs.Traces.{ReadsHold, after_acts}
+use Rattle.iot_certify.specs.Verdicts.{IsVerdictOnAccess}
 use Rattle.iot_certify.specs.declared.verdict.Verdict.TheVariants.{Holds, Differs}
+use Rattle.iot_certify.proofs.AccessLaws.{judges as judges_acts}
 use Rattle.iot_exec.specs.declared.ran.Ran.{Ran}
-use Rattle.iot_judging.proofs.JudgingLaws.{same_there, acts_guarded, parts_there, parts_within, certified, refused}
+use Rattle.iot_judging.proofs.JudgingLaws.{access_there, certified, differs_some, parts_there, parts_within, refused, same_there}
+use Rattle.iot_judging.proofs.JudgingLaws.{takes_place_of}
 use Rattle.iot_machine.specs.Serving as serving
 use Rattle.iot_machine.proofs.KeptLaws.{kept_added}
 use Rattle.iot_store.specs.Numbers.{number_in}
+use Rattle.iot_store.proofs.StandingLaws.{leads_push}
+use Rattle.iot_tree.specs.declared.access.Access.{Access}
+use Rattle.iot_tree.specs.declared.questions.Answer.{Answer}
 use Rattle.iot_store.specs.States as store
 use Rattle.iot_tree.specs.declared.acts.Read.{Read}
 use Rattle.iot_wire.specs.declared.requests.Request.TheVariants as requests
@@ -233,8 +242,20 @@ module _ {message : Message} {it : Submission} (hands : IsHanded message it) whe
   abbrev acts : List Act
   acts = hands.acts
 
-  abbrev is : IsSubmission label acts hands.transaction it
+  abbrev access : Access
+  access = hands.access
+
+  abbrev is : IsSubmission label acts access hands.transaction it
   is = hands.submission
+
+  -- on every whole tree the access may take the place of the acts
+  takes : (t : Nodes) → IsTree t → IsWhole t → TakesPlace access.reads access.places access.updates acts t
+  takes =
+      subst (λ (a : Access). IsAccess a.reads a.places a.updates acts) (sym is.has_access)
+      (takes_place_of it.commit.entry.script it.commit.entry.kept it.commit.entry.budget is.base is.base acts is.has_acts is.tree)
+
+  takes_there : (commits : List Commit) → TakesPlace access.reads access.places access.updates acts (tree_after commits)
+  takes_there commits = takes (tree_after commits) (list_tree commits) (list_whole commits)
 
   -- a live server with a list
   module _ {D : Type 0} {medium : Medium D} {was : Server D} {count : ℕ} {commits : List Commit}
@@ -247,38 +268,48 @@ module _ {message : Message} {it : Submission} (hands : IsHanded message it) whe
     counted_there : length (servers.state_of was).labels ≡ length commits
     counted_there = as_many keeps ∙ keeps.counted
 
-    module _ (hold : ActsHold (servers.state_of was).tree acts) where
+    module _ (hold : ReadsHold (servers.state_of was).tree access.reads) where
+      reads_there : ReadsHold (tree_after commits) access.reads
+      reads_there = subst (λ (s : State). ReadsHold s.tree access.reads) keeps.has_state hold
+
       hold_there : ActsHold (tree_after commits) acts
-      hold_there = subst (λ (s : State). ActsHold s.tree acts) keeps.has_state hold
+      hold_there = (takes_there commits).exactly.0 reads_there
 
       -- its script does the same there
-      are : AreOf it.commit (tree_after commits) label acts
-      are =
-          let same =
+      does_same : run_entry it.commit.entry (tree_after commits)
+          ≡ record { acts = acts; tree = after_acts (tree_after commits) acts; ended = (run_entry it.commit.entry is.base).ended }
+      does_same =
           same_there it.commit.entry.script it.commit.entry.kept it.commit.entry.budget is.base (tree_after commits) acts is.has_acts
-          (list_tree commits) hold_there in
-          record {
-            has_label = is.has_label;
-            has_acts = ap (λ (ran : Ran). ran.acts) same;
-            made = ap (λ (ran : Ran). ran.tree) same;
-            spelled = is.spelled;
-          }
+          (list_tree commits) hold_there
+
+      are : AreOf it.commit (tree_after commits) label access (lines_of acts)
+      are = record {
+        has_label = is.has_label;
+        has_access =
+            access_there it.commit.entry.script it.commit.entry.kept it.commit.entry.budget is.base (tree_after commits) acts is.has_acts
+            is.tree (list_tree commits) hold_there (subst (λ (a : Access). ReadsHold (tree_after commits) a.reads) is.has_access reads_there)
+            ∙ sym is.has_access;
+        has_lines = ap (λ (ran : Ran). lines_of ran.acts) does_same;
+        made = ap (λ (ran : Ran). ran.tree) does_same ∙ sym ((takes_there commits).after hold_there);
+        spelled = is.spelled;
+      }
 
       -- what is said of it
       says_it : {number : ℕ} → number ≡ length (servers.state_of was).labels
           → printed_under (number + 1) message.handed ≡ commit_text it.name it.commit commits
       says_it {number} counts =
           ap (printed_under (number + 1)) hands.handed
-          ∙ (λ i. commit_line ((counts ∙ counted_there) i + 1) (sym is.name i) (sym is.has_label i).way ++ acts_output (sym are.has_acts i))
+          ∙ (λ i. commit_line ((counts ∙ counted_there) i + 1) (sym is.name i) (sym is.has_label i).way
+          ++ acts_output (sym does_same i).acts)
 
   -- the server stopped as it was to append its record
   module _ {D : Type 0} (medium : Medium D) (was now : Server D) (stops : Refuses medium message.request.items append.Stopped was now) where
-    its_own : (stops.0.label ≡ label) × (stops.0.acts ≡ acts)
+    its_own : (stops.0.label ≡ label) × (stops.0.access ≡ access) × (stops.0.lines ≡ lines_of acts)
     its_own =
         let same = one_request message _ _ stops.0.asked hands.asked in
-        (cc, cc)
+        (cc, cc, cc)
 
-    follows : CanFollow (servers.state_of was) label acts
+    follows : CanFollow (servers.state_of was) label access
     follows =
         let cut = stops.0.follows in
         rw (its_own.0, its_own.1) at cut
@@ -298,19 +329,19 @@ module _ {message : Message} {it : Submission} (hands : IsHanded message it) whe
         | inr same ↦
             inr (record {
               has_records =
-                  same ∙ (λ i. Encodes (keeps.has_records i ++ record_spelling (its_own.0 i) (its_own.1 i) ∷ []))
+                  same ∙ (λ i. Encodes (keeps.has_records i ++ record_spelling (its_own.0 i) (its_own.1 i) (its_own.2 i) ∷ []))
                   ∙ ap Encodes (sym (record_is commits there_are));
               leads =
                   rw (record_is commits there_are, state_is commits there_are)
-                  (leads_more (records_of commits) opening (state_of commits) (record_spelling label acts) label acts (leads_list keeps)
-                  (record { has_label = hands.asked.value.0; has_acts = hands.asked.value.1; spelled = refl })
-                  (subst (λ (s : State). CanFollow s label acts) keeps.has_state follows));
+                  (leads_push (records_of commits) opening (state_of commits) (record_spelling label access (lines_of acts)) label access
+                  (lines_of acts) (leads_list keeps) (record { value = hands.asked.value; spelled = refl })
+                  (subst (λ (s : State). CanFollow s label access) keeps.has_state follows));
               counted = ap (λ (k : ℕ). k + 1) keeps.counted ∙ sym (length-append commits (it.commit ∷ []));
             })
       ];
     }
       where
-        there_are : AreOf it.commit (tree_after commits) label acts
+        there_are : AreOf it.commit (tree_after commits) label access (lines_of acts)
         there_are = are keeps follows.holds
 
   module _ {D : Type 0} (medium : Medium D) (names : List (List ℕ)) (named : IsNamedIn names it) where
@@ -331,7 +362,7 @@ module _ {message : Message} {it : Submission} (hands : IsHanded message it) whe
 
       -- one that holds is certified: it is to be appended, and says so
       judged_well : {n k : ℕ} {new : ServerNode D} {x y : List ℕ} {verdict : Option serving.Verdict} {number : ℕ}
-          → number_in (servers.state_of was).labels label.client label.tid ≡ None → ActsHold (servers.state_of was).tree acts
+          → number_in (servers.state_of was).labels label.client label.tid ≡ None → ReadsHold (servers.state_of was).tree access.reads
           → number ≡ length (servers.state_of was).labels
           → Steps n k
           (Then (Appends server_name (add_commit it.commit)) (committed (printed_under (number + 1) message.handed))) new x y verdict
@@ -354,22 +385,41 @@ module _ {message : Message} {it : Submission} (hands : IsHanded message it) whe
 
     -- it is judged
     module _ (served : Served) (y : List ℕ) {was now : Server D} (done : Handles medium message.request.items served.reply.items was now)
-        (counted : served.committed ≡ committed_since (count_of (live was)) (count_of (live now))) where
+        (counted : served.committed ≡ committed_since (count_of (live was)) (count_of (live now)))
+        (sound : ServerIsSound medium (live was)) where
+      takes_here : TakesPlace access.reads access.places access.updates acts (servers.state_of was).tree
+      takes_here =
+          subst (λ (s : State). TakesPlace access.reads access.places access.updates acts s.tree) (sym sound.stands.post.stands.has_state)
+          (takes_there sound.node.durable)
+
+      -- if its base reads hold, its updates fit
+      fits_there : ReadsHold (servers.state_of was).tree access.reads → FitInTurn (servers.state_of was).tree access.updates
+      fits_there holds = takes_here.fit (takes_here.exactly.0 holds)
+
+      -- if one does not, the read of its place differs in its turn
+      differs_there : (place : ℕ) (answer : Answer) → IsVerdictOnAccess (servers.state_of was).tree access (Differs place answer)
+          → (given : Answer) × DiffersAt (turns (servers.state_of was).tree acts) 1 place given
+      differs_there place answer judged =
+          differs_some (turns (servers.state_of was).tree acts) 1 place
+          (judges_acts (servers.state_of was).tree access acts (Differs place answer) takes_here judged)
+
       abbrev Serves : Type 0
       Serves = ServesBy medium names (Judges it) (SpellsVerdict it.reads) message.handed (Some served) (live was) (live now) y y
 
-      told : IsAnswered (servers.state_of was) (servers.bodies_on medium was) (requests.Commit label acts) served.reply.items
-          (servers.state_of now) (servers.bodies_on medium now)
+      told : IsAnswered (servers.state_of was) (servers.bodies_on medium was) (requests.Commit label access (lines_of acts))
+          served.reply.items (servers.state_of now) (servers.bodies_on medium now)
       told = answers_it message served done hands.asked
 
       module _ {reply : Reply} (replied : told.reply ≡ reply) where
         spelled : Spells served.reply.items reply
         spelled = subst (Spells served.reply.items) replied told.spelled
 
-        recorded : servers.bodies_on medium now ≡ records_after (requests.Commit label acts) reply (servers.bodies_on medium was)
+        recorded : servers.bodies_on medium now
+            ≡ records_after (requests.Commit label access (lines_of acts)) reply (servers.bodies_on medium was)
         recorded =
             told.records
-            ∙ ap (λ (reply : Reply). records_after (requests.Commit label acts) reply (servers.bodies_on medium was)) replied
+            ∙ ap (λ (reply : Reply). records_after (requests.Commit label access (lines_of acts)) reply (servers.bodies_on medium was))
+            replied
 
       -- this is the verdict, and this is to be said
       serves : (verdict : serving.Verdict) {said : List ℕ} → SpellsVerdict it.reads served.reply.items verdict
@@ -378,22 +428,22 @@ module _ {message : Message} {it : Submission} (hands : IsHanded message it) whe
       serves verdict spells said steps = (refl, (verdict, spells, λ n x. rw said (steps n x)))
 
       by_found : (found : Option ℕ) → number_in (servers.state_of was).labels label.client label.tid ≡ found
-          → Submits found (servers.state_of was) label acts told.reply (servers.state_of now) → Serves
+          → Submits found (servers.state_of was) label access told.reply (servers.state_of now) → Serves
       by_found (Some number) listed (replied, made) =
           serves (Settled number) (inr (spelled replied)) (still_silent message served done counted made) (λ n x.
           by_number was (Some number) listed (record {
             step = λ node here.
                 ([], node, refl, (refl, refl, refl), stands_still medium names done here (recorded replied) made);
           }))
-      by_found None none (Holds, judged, (replied, made)) =
+      by_found None none (Holds, holds, inl (fit, replied, made)) =
           let number : ℕ = length (servers.state_of was).labels in
-          let more : length (after_commit (servers.state_of was) label acts).labels ≡ number + 1 =
+          let more : length (after_commit (servers.state_of was) label access).labels ≡ number + 1 =
           length-append (servers.state_of was).labels (label ∷ []) in
           serves (Settled (number + 1)) (inl (spelled replied))
           (said_by message served done counted made
           ∙ ap (λ (n : ℕ). said_of (committed_since number n) message.handed) more ∙ commit_is_said number message.handed)
           (λ n x.
-          judged_well was none judged.is refl
+          judged_well was none holds refl
           (bind _ (live now) _ _ x _ true _
           (record {
             step = λ node here. (
@@ -401,21 +451,20 @@ module _ {message : Message} {it : Submission} (hands : IsHanded message it) whe
               changed (add_commit it.commit) node,
               sym (append-nil x),
               inl (refl, refl, refl),
-              stands_longer medium names done here (are here.post.stands judged.is) (recorded replied) made is_known,
+              stands_longer medium names done here (are here.post.stands holds) (recorded replied) made is_known,
             );
           })
           (bind _ _ _ _ _ _ tt _ (says_this _ (live now) _ _ refl)
           (asks (live now) _ _ (λ node here.
           ap (λ (k : ℕ). Some (Settled k))
           (sym more ∙ ap (λ (s : State). length s.labels) (sym made) ∙ counted_there here.post.stands))))))
+      by_found None none (Holds, holds, inr (misfit, replied, made)) = absurd (misfit (fits_there holds))
       by_found None none (Differs place answer, judged, (replied, made)) =
-          let differs : DiffersAt (turns (servers.state_of was).tree acts) 1 place answer =
-          judged.guarded
-          (acts_guarded it.commit.entry.script it.commit.entry.kept it.commit.entry.budget is.base is.base acts is.has_acts is.tree) in
+          let differs = differs_there place answer judged in
           let within =
-          parts_within (reads_of acts) _ place answer
+          parts_within (reads_of acts) _ place differs.0
           (parts_there it.commit.entry.script it.commit.entry.kept it.commit.entry.budget is.base (servers.state_of was).tree acts
-          is.has_acts place answer differs) in
+          is.has_acts place differs.0 differs.1) in
           let found : (read : Read) × (slice_get it.reads (place - 1) ≡ Some read) =
           elim (slice_get_cases it.reads (place - 1)).1 [
             | inl there ↦ (there.0, there.2)
@@ -429,8 +478,8 @@ module _ {message : Message} {it : Submission} (hands : IsHanded message it) whe
               [],
               node,
               refl,
-              refused it node is.base acts is.has_acts is.reads (list_tree node.durable) place answer found.0
-                  (subst (λ (s : State). DiffersAt (turns s.tree acts) 1 place answer) here.post.stands.has_state differs) found.1,
+              refused it node is.base acts is.has_acts is.reads (list_tree node.durable) place differs.0 found.0
+                  (subst (λ (s : State). DiffersAt (turns s.tree acts) 1 place differs.0) here.post.stands.has_state differs.1) found.1,
               stands_still medium names done here (recorded replied) made,
             );
           }))
@@ -441,7 +490,7 @@ module _ {message : Message} {it : Submission} (hands : IsHanded message it) whe
         → ServesBy medium names (Judges it) (SpellsVerdict it.reads) message.handed (Some served) old new y y
     judges served {y = y} sound handled counted =
         by_servers (SpellsVerdict it.reads) message served sound handled counted (λ was now is done sound counted.
-        by_found served y done counted _ refl (told served y done counted).answers)
+        by_found served y done counted sound _ refl (told served y done counted sound).answers)
 
     -- the server stops as it commits it
     pub judges_stopped : {fault : JournalFault} {old mid new : ServerNode D} {number : ℕ} {x y : List ℕ} → fault ≡ append.Stopped

@@ -2,14 +2,17 @@
 use Rattle.std.specs.Prelude.{◌≡◌, ℕ, List, [], ◌∷◌, ◌++◌, ◌+◌, length, map, Option, None, Some}
 use Rattle.iot_server_node.specs.Prelude.{Medium, Nodes, root_alone, Dir, run_entry, Encodes, decoded, Stamps, State, opening}
 use Rattle.iot_server_node.specs.Prelude.{record_spelling, Leads, Commit, tree_after}
-use Rattle.iot_store.specs.Stamps.{opening_stamps, next_stamp, stamped_acts}
+use Rattle.iot_access.specs.Access.{access_of, lines_of}
+use Rattle.iot_stamp.specs.Acting.{stamped_acts}
+use Rattle.iot_store.specs.Stamps.{opening_stamps, next_stamp}
 pub use Rattle.iot_machine.specs.Recorded.{label_of}
 
--- the records of commits from a tree on: of each its label, and the acts of its script's run
+-- the records of commits from a tree on: of each its label, the access of its script's run there, and the lines of that
 abbrev pub records_from : List Commit → Nodes → List (List ℕ)
 records_from [] t = []
 records_from (commit ∷ commits) t =
-    record_spelling (label_of commit) (run_entry commit.entry t).acts ∷ records_from commits (run_entry commit.entry t).tree
+    record_spelling (label_of commit) (access_of (run_entry commit.entry t).acts t) (lines_of (run_entry commit.entry t).acts)
+    ∷ records_from commits (run_entry commit.entry t).tree
 
 abbrev pub records_of : List Commit → List (List ℕ)
 records_of commits = records_from commits (root_alone Dir)

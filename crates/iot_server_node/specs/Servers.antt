@@ -2,7 +2,9 @@
 use Rattle.std.specs.Prelude.{◌≡◌, ℕ, ◌+◌, ◌<◌, ◌%◌, ◌^◌, Bool, true, false, List, [], ◌∷◌, ◌++◌, length, map, Option, Some, None, IsSome}
 use Rattle.std.specs.Prelude.{slice_index_or, option_map, Err}
 use Rattle.std.specs.List.{AllByRecursion}
-use Rattle.iot_server_node.specs.Prelude.{Nodes, IsTree, Act, Label, after_acts, reads_of, Medium, JournalFault, run_entry, Call, Commit}
+use Rattle.iot_access.specs.Access.{access_of, after_updates, lines_of}
+use Rattle.iot_tree.specs.declared.access.Access.{Access}
+use Rattle.iot_server_node.specs.Prelude.{Nodes, IsTree, Act, Label, reads_of, Medium, JournalFault, run_entry, Call, Commit}
 use Rattle.iot_server_node.specs.Prelude.{tree_after, Node, server_name, kept_text, Appends, transaction_name, acts_output, IsEmpty}
 use Rattle.iot_server_node.specs.Prelude.{Appended, Doubts, PostStands, UpStands, StepsFrom, is_on, StepsTo, Doubt, Post, Up, Down, Between}
 use Rattle.iot_server_node.specs.Prelude.{Server, IsMessage, IsRequest, request_spelling, ServerKeeper, Handed, Message, Served, ServerNode}
@@ -156,21 +158,23 @@ answered_since false n = 0
 
 -- ---- submissions
 
--- this label and these acts are those of a commit, whose script is run on this tree
-pub record AreOf (commit : Commit) (tree : Nodes) (label : Label) (acts : List Act) : Type 0 where
+-- this label, this access and these lines are those of a commit, whose script is run on this tree
+pub record AreOf (commit : Commit) (tree : Nodes) (label : Label) (access : Access) (lines : List (List ℕ)) : Type 0 where
   pub has_label : label_of commit ≡ label
-  pub has_acts : (run_entry commit.entry tree).acts ≡ acts
-  pub made : (run_entry commit.entry tree).tree ≡ after_acts tree acts
+  pub has_access : access_of (run_entry commit.entry tree).acts tree ≡ access
+  pub has_lines : lines_of (run_entry commit.entry tree).acts ≡ lines
+  pub made : (run_entry commit.entry tree).tree ≡ after_updates tree access.updates
   -- so that the tree that it makes has a spelling
   pub spelled : IsSpelledEntry commit.entry
 
--- this label, these acts and this name are those of a submission, whose script was run on some tree
-pub record IsSubmission (label : Label) (acts : List Act) (transaction : Transaction) (it : Submission) : Type 0 where
+-- this label, these acts, their access and this name are those of a submission, whose script was run on some tree
+pub record IsSubmission (label : Label) (acts : List Act) (access : Access) (transaction : Transaction) (it : Submission) : Type 0 where
   pub name : it.name ≡ transaction_name transaction.client transaction.number
   pub has_label : label_of it.commit ≡ label
   pub base : Nodes
   pub tree : IsTree base
   pub has_acts : acts ≡ (run_entry it.commit.entry base).acts
+  pub has_access : access ≡ access_of acts base
   pub reads : it.reads ≡ reads_of acts
   pub spelled : IsSpelledEntry it.commit.entry
 
@@ -178,11 +182,12 @@ pub record IsSubmission (label : Label) (acts : List Act) (transaction : Transac
 pub record IsHanded (message : Message) (it : Submission) : Type 0 where
   pub label : Label
   pub acts : List Act
-  pub asked : IsMessage IsRequest request_spelling message.request.items (requests.Commit label acts)
+  pub access : Access
+  pub asked : IsMessage IsRequest request_spelling message.request.items (requests.Commit label access (lines_of acts))
   pub transaction : Transaction
   pub handed : message.handed
       ≡ Some (record { printed = record { transaction = transaction; output = acts_output acts }; way = label.way })
-  pub submission : IsSubmission label acts transaction it
+  pub submission : IsSubmission label acts access transaction it
 
 -- the client of a submission has its name among these
 pub record IsNamedIn (names : List (List ℕ)) (it : Submission) : Type 0 where

@@ -1,56 +1,56 @@
--- Acts that are made one after the other, as a loop does.
+-- Updates that are made one after the other, as a loop does.
 use Rattle.std.proofs.Common.{◌≡◌, ℕ, ◌+◌, ◌<◌, ◌≤◌, List, [], ◌∷◌, length, get_or, drop, refl, sym, ap, ◌∙◌, subst}
 use Rattle.std.proofs.lemmas.List.{drop_more, drop_all}
 use Rattle.iot_tree.specs.Tree.{Nodes}
 use Rattle.iot_tree.specs.Questions.{answer_of}
-use Rattle.iot_tree.specs.declared.acts.Act.{Act}
 use Rattle.iot_tree.specs.declared.acts.Read.{Read}
-use Rattle.iot_acts.specs.Traces.{ReadsHold, FitsIfAny, after_update, ActsHold, after_acts}
+use Rattle.iot_access.specs.Access.{FitInTurn}
+use Rattle.iot_acts.specs.Traces.{ReadsHold}
+use Rattle.iot_tree.specs.Updates.{Fits, updated}
+use Rattle.iot_tree.specs.declared.updates.Update.{Update}
 use Rattle.iot_stamp.specs.Stamps.{Stamps, nodes_of}
-use Rattle.iot_stamp.proofs.ActingLaws.{nodes_after_update}
-use Rattle.iot_store.specs.Stamps.{stamped_if_any, stamped_acts}
+use Rattle.iot_stamp.specs.Stamping.{stamped}
+use Rattle.iot_stamp.proofs.ActingLaws.{nodes_stamped}
+use Rattle.iot_store.specs.Stamps.{stamped_all}
 
 -- what is left at a turn of a loop
 pub left_is : {X : Type 0} (xs : List X) (i : ℕ) (x : X) → i < length xs → x ≡ get_or xs i x → drop i xs ≡ x ∷ drop (i + 1) xs
 left_is xs i x within is = drop_more xs i x within ∙ ap (λ y. y ∷ drop (i + 1) xs) (sym is)
 
--- ---- acts
+-- ---- updates
 
--- the acts from a place on hold on the tree exactly if all hold on the one before them, and lead to the same tree
-pub record ActsOnWay (acts : List Act) (stamp i : ℕ) (before now : Stamps) : Type 0 where
-  pub rest : ActsHold (nodes_of before) acts → ActsHold (nodes_of now) (drop i acts)
-  pub whole : ActsHold (nodes_of now) (drop i acts) → ActsHold (nodes_of before) acts
-  pub end : stamped_acts before acts stamp ≡ stamped_acts now (drop i acts) stamp
+-- the updates from a place on fit in turn exactly if all do, and lead to the same tree
+pub record AllOnWay (updates : List Update) (stamp i : ℕ) (before now : Stamps) : Type 0 where
+  pub rest : FitInTurn (nodes_of before) updates → FitInTurn (nodes_of now) (drop i updates)
+  pub whole : FitInTurn (nodes_of now) (drop i updates) → FitInTurn (nodes_of before) updates
+  pub end : stamped_all before updates stamp ≡ stamped_all now (drop i updates) stamp
 
-module _ (acts : List Act) (stamp i : ℕ) (before now : Stamps) (way : ActsOnWay acts stamp i before now) where
-  module _ (act : Act) (within : i < length acts) (is : act ≡ get_or acts i act) where
-    left_acts : drop i acts ≡ act ∷ drop (i + 1) acts
-    left_acts = left_is acts i act within is
+module _ (updates : List Update) (stamp i : ℕ) (before now : Stamps) (way : AllOnWay updates stamp i before now) where
+  module _ (update : Update) (within : i < length updates) (is : update ≡ get_or updates i update) where
+    left_updates : drop i updates ≡ update ∷ drop (i + 1) updates
+    left_updates = left_is updates i update within is
 
-    pub act_next : ActsHold (nodes_of before) acts → ReadsHold (nodes_of now) act.reads × FitsIfAny (nodes_of now) act.update
-    act_next hold = let here = subst (ActsHold (nodes_of now)) left_acts (way.rest hold) in (here.0, here.1)
-
-    pub act_made : (next : Stamps) → ReadsHold (nodes_of now) act.reads → FitsIfAny (nodes_of now) act.update
-        → next ≡ stamped_if_any now act.update stamp → ActsOnWay acts stamp (i + 1) before next
-    act_made next reads fits made =
-        let nodes : nodes_of next ≡ after_update (nodes_of now) act.update = ap nodes_of made ∙ nodes_after_update stamp now act.update in
+    pub update_made : (next : Stamps) → Fits (nodes_of now) update → next ≡ stamped now update stamp
+        → AllOnWay updates stamp (i + 1) before next
+    update_made next fits made =
+        let nodes : nodes_of next ≡ updated (nodes_of now) update = ap nodes_of made ∙ nodes_stamped stamp now update in
         record {
-          rest = λ hold. subst (λ t. ActsHold t (drop (i + 1) acts)) (sym nodes)
-              (subst (ActsHold (nodes_of now)) left_acts (way.rest hold)).2;
-          whole = λ hold. way.whole
-              (subst (ActsHold (nodes_of now)) (sym left_acts) (reads, fits, subst (λ t. ActsHold t (drop (i + 1) acts)) nodes hold));
-          end = way.end ∙ ap (λ (l : List Act). stamped_acts now l stamp) left_acts
-              ∙ ap (λ t. stamped_acts t (drop (i + 1) acts) stamp) (sym made);
+          rest = λ fit. subst (λ t. FitInTurn t (drop (i + 1) updates)) (sym nodes)
+              (subst (FitInTurn (nodes_of now)) left_updates (way.rest fit)).1;
+          whole = λ fit. way.whole
+              (subst (FitInTurn (nodes_of now)) (sym left_updates) (fits, subst (λ t. FitInTurn t (drop (i + 1) updates)) nodes fit));
+          end = way.end ∙ ap (λ (l : List Update). stamped_all now l stamp) left_updates
+              ∙ ap (λ t. stamped_all t (drop (i + 1) updates) stamp) (sym made);
         }
 
-    pub act_stops : (ReadsHold (nodes_of now) act.reads → FitsIfAny (nodes_of now) act.update → ⊥) → ActsHold (nodes_of before) acts → ⊥
-    act_stops not hold = let next = act_next hold in not next.0 next.1
+    pub update_stops : (Fits (nodes_of now) update → ⊥) → FitInTurn (nodes_of before) updates → ⊥
+    update_stops not fit = not (subst (FitInTurn (nodes_of now)) left_updates (way.rest fit)).0
 
-  pub acts_made : length acts ≤ i → ActsHold (nodes_of before) acts × (now ≡ stamped_acts before acts stamp)
-  acts_made past =
-      let none : drop i acts ≡ [] = drop_all i acts past in (
-        way.whole (subst (ActsHold (nodes_of now)) (sym none) tt),
-        sym (way.end ∙ ap (λ (l : List Act). stamped_acts now l stamp) none),
+  pub all_made : length updates ≤ i → FitInTurn (nodes_of before) updates × (now ≡ stamped_all before updates stamp)
+  all_made past =
+      let none : drop i updates ≡ [] = drop_all i updates past in (
+        way.whole (subst (FitInTurn (nodes_of now)) (sym none) tt),
+        sym (way.end ∙ ap (λ (l : List Update). stamped_all now l stamp) none),
       )
 
 -- ---- reads

@@ -1,4 +1,4 @@
 mod CommitsLaws
 mod NumbersLaws
 mod RecordsLaws
-mod StandingLaws
+pub mod StandingLaws

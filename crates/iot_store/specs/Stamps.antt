@@ -2,7 +2,7 @@
 use Rattle.std.specs.Prelude.{ℕ, ◌+◌}
 use Rattle.iot_tree.specs.Tree.{root_alone}
 use Rattle.iot_tree.specs.declared.nodes.Node.TheVariants.{Dir}
-pub use Rattle.iot_stamp.specs.Acting.{stamped_if_any, stamped_acts}
+pub use Rattle.iot_stamp.specs.Acting.{stamped_all}
 use Rattle.iot_stamp.specs.Stamps.{Stamps, with_stamps}
 
 -- before the first commit

@@ -1,6 +1,6 @@
 -- The state for which bytes on a disk stand.
 use Rattle.std.specs.Prelude.{◌≡◌, ◌⊎◌, ℕ, ◌+◌, List, [], ◌∷◌, ◌++◌, length}
-use Rattle.iot_tree.specs.declared.acts.Act.{Act}
+use Rattle.iot_tree.specs.declared.access.Access.{Access}
 use Rattle.iot_tree.specs.declared.labels.Label.{Label}
 use Rattle.iot_journal.specs.Decoding.{Encodes, decoded, records}
 use Rattle.iot_store.specs.States.{State, opening, CanFollow, after_commit}
@@ -10,8 +10,8 @@ use Rattle.iot_store.specs.Records.{IsRecord}
 abbrev pub Leads : List (List ℕ) → State → State → Type 0
 Leads [] before after = after ≡ before
 Leads (body ∷ bodies) before after =
-    (label : Label) × (acts : List Act) × IsRecord body label acts × CanFollow before label acts
-    × Leads bodies (after_commit before label acts) after
+    (label : Label) × (access : Access) × (lines : List (List ℕ)) × IsRecord body label access lines × CanFollow before label access
+    × Leads bodies (after_commit before label access) after
 
 -- the bytes are a journal whose bodies lead to the state
 pub record StandFor (bytes : List ℕ) (state : State) : Type 0 where
@@ -31,7 +31,8 @@ pub record EachStandsEither (images : List ℕ → Type 0) (before after : State
 
 -- the body is the record of no commit that can follow
 abbrev pub CannotFollow : State → List ℕ → Type 0
-CannotFollow state body = (label : Label) (acts : List Act) → IsRecord body label acts → CanFollow state label acts → ⊥
+CannotFollow state body =
+    (label : Label) (access : Access) (lines : List (List ℕ)) → IsRecord body label access lines → CanFollow state label access → ⊥
 
 -- the first body that cannot follow the ones before it, and the place of its record's gate
 pub record IsDamagedAt (bodies : List (List ℕ)) (at : ℕ) : Type 0 where

@@ -4,14 +4,15 @@ use Rattle.std.specs.List.{list_any}
 use Rattle.std.specs.Coded.{Coded, code_by, coded×, coded_list}
 use Rattle.iot_tree.specs.Tree.{Nodes, root_alone}
 use Rattle.iot_tree.specs.declared.nodes.Node.TheVariants.{Dir}
-use Rattle.iot_tree.specs.declared.acts.Act.{Act}
+use Rattle.iot_tree.specs.declared.access.Access.{Access}
 use Rattle.iot_tree.specs.declared.labels.Label.{Label}
 use Rattle.iot_tree.specs.contracts.labels.Label as label_model
 use Rattle.iot_tree.specs.contracts.tree.Tree as tree_model
-use Rattle.iot_acts.specs.Traces.{ActsHold, after_acts}
+use Rattle.iot_access.specs.Access.{FitInTurn, after_updates}
+use Rattle.iot_acts.specs.Traces.{ReadsHold}
 use Rattle.iot_stamp.specs.Stamps.{Stamps}
 use Rattle.iot_stamp.specs.contracts.stamped.Stamped as stamped_model
-use Rattle.iot_store.specs.Stamps.{opening_stamps, next_stamp, stamped_acts}
+use Rattle.iot_store.specs.Stamps.{opening_stamps, next_stamp, stamped_all}
 
 pub record State : Type 0 where
   pub tree : Nodes
@@ -33,15 +34,16 @@ opening = record { tree = root_alone Dir; labels = []; stamps = opening_stamps }
 abbrev pub is_of : ℕ → ℕ → Label → Bool
 is_of client tid label = label.client == client && label.tid == tid
 
--- the commit can follow: its transaction is not among the labels, and its acts hold on the tree
-pub record CanFollow (state : State) (label : Label) (acts : List Act) : Type 0 where
+-- the commit can follow: its transaction is not among the labels, each base read holds on the tree, and the updates fit in turn
+pub record CanFollow (state : State) (label : Label) (access : Access) : Type 0 where
   pub is_new : list_any (is_of label.client label.tid) state.labels ≡ false
-  pub holds : ActsHold state.tree acts
+  pub holds : ReadsHold state.tree access.reads
+  pub fit : FitInTurn state.tree access.updates
 
 -- the state after it
-abbrev pub after_commit : State → Label → List Act → State
-after_commit state label acts = record {
-  tree = after_acts state.tree acts;
+abbrev pub after_commit : State → Label → Access → State
+after_commit state label access = record {
+  tree = after_updates state.tree access.updates;
   labels = state.labels ++ label ∷ [];
-  stamps = stamped_acts state.stamps acts (next_stamp (length state.labels));
+  stamps = stamped_all state.stamps access.updates (next_stamp (length state.labels));
 }

@@ -1,13 +1,14 @@
 //! The commits in memory: the tree that they make, with its stamps, their labels, and the number of each.
 ghost use Rattle.std.specs.Prelude.{◌≡◌, ◌↔◌, ◌<◌, ◌^◌, length, IsTrue, OnOk, IfOk};
-ghost use Rattle.iot_acts.specs.Traces.{ReadsHold, FitsIfAny, ActsHold};
+ghost use Rattle.iot_access.specs.Access.{FitInTurn};
+ghost use Rattle.iot_acts.specs.Traces.{ReadsHold};
 ghost use Rattle.iot_stamp.specs.Stamps.{nodes_of};
-ghost use Rattle.iot_store.specs.Commits.{UpdatesIf, MakesIf, MakesAllIf};
-ghost use Rattle.iot_store.specs.Stamps.{stamped_if_any, stamped_acts};
+ghost use Rattle.iot_tree.specs.Tree.{IsWhole};
+ghost use Rattle.iot_store.specs.Commits.{MakesAllIf, UpdatesIf};
 
 use iot_stamp::Stamped;
 use iot_text::NoMemory;
-use iot_tree::{Act, Label, Labels, Read, Tree, Update};
+use iot_tree::{Access, Label, Labels, Read, Tree, Update};
 use std::alloc::Global;
 use std::collections::BTreeMap;
 use std::marker::Model;
@@ -92,14 +93,33 @@ impl Commits {
         self.numbers.get(&(client, tid)).copied()
     }
 
+    /// Whether each of the updates fits the tree in its turn. Takes no copy of it.
+    pub(crate) fn fit_in_turn(
+        &mut self,
+        alloc: Global,
+        updates: &[Update],
+    ) -> Result<bool, NoMemory>
+        requires { IsWhole self.old.tree }
+        ensures fit { IfOk result (λ fit. IsTrue fit ↔ FitInTurn self.old.tree updates.now) }
+        ensures same { OnOk result (self.new ≡ self.old) }
+    {
+        self.tree.fit_in_turn(alloc, updates)
+    }
+
     /// Adds a commit that can follow.
-    pub(crate) fn add(&mut self, alloc: Global, label: Label, acts: &[Act]) -> Result<(), NoMemory>
-        requires follows { CanFollow self.old label acts.now }
+    pub(crate) fn add(
+        &mut self,
+        alloc: Global,
+        label: Label,
+        access: &Access,
+    ) -> Result<(), NoMemory>
+        requires follows { CanFollow self.old label access.now }
         requires few { length self.old.labels < 2 ^ 62 }
-        ensures { OnOk result (self.new ≡ after_commit self.old label acts.now) }
+        ensures { OnOk result (self.new ≡ after_commit self.old label access.now) }
     {
         let stamp = self.next_stamp();
-        self.tree.apply_acts(alloc, acts, stamp)?;
+        self.tree
+            .apply_all(alloc, access.updates.as_slice(), stamp)?;
         self.list(label)?;
         Ok(())
     }
@@ -109,16 +129,19 @@ impl Commits {
         &mut self,
         alloc: Global,
         label: Label,
-        acts: &[Act],
+        access: &Access,
     ) -> Result<bool, NoMemory>
         requires { length self.old.labels < 2 ^ 62 }
-        ensures { IfOk result (λ follows. AddsIf follows label acts.now self.old self.new) }
+        ensures { IfOk result (λ follows. AddsIf follows label access.now self.old self.new) }
     {
         if let Some(_) = self.number_of(label.client, label.tid) {
             return Ok(false);
         }
+        if !do_hold(self.tree.tree(), access.reads.as_slice()) {
+            return Ok(false);
+        }
         let stamp = self.next_stamp();
-        if !replay_all(alloc, &mut self.tree, acts, stamp)? {
+        if !make_all(alloc, &mut self.tree, access.updates.as_slice(), stamp)? {
             return Ok(false);
         }
         self.list(label)?;
@@ -145,29 +168,21 @@ impl Commits {
     }
 }
 
-/// Makes the updates of acts as long as they hold, and says whether all do.
-fn replay_all(alloc: Global, tree: &mut Stamped, acts: &[Act], stamp: u64) -> Result<bool, NoMemory>
-    ensures { IfOk result (λ hold. MakesAllIf hold acts.now stamp tree.old tree.new) }
+/// Makes the updates as long as they fit, and says whether all do.
+fn make_all(
+    alloc: Global,
+    tree: &mut Stamped,
+    updates: &[Update],
+    stamp: u64,
+) -> Result<bool, NoMemory>
+    ensures { IfOk result (λ fit. MakesAllIf fit updates.now stamp tree.old tree.new) }
 {
-    'acts: for act in acts {
-        if !replay_act(alloc, tree, act, stamp)? {
+    'updates: for update in updates {
+        if !make(alloc, tree, update, stamp)? {
             return Ok(false);
         }
     }
     Ok(true)
-}
-
-/// Makes an act's update if its reads hold and it fits, and says whether it did.
-fn replay_act(alloc: Global, tree: &mut Stamped, act: &Act, stamp: u64) -> Result<bool, NoMemory>
-    ensures { IfOk result (λ holds. MakesIf holds act.now stamp tree.old tree.new) }
-{
-    if !do_hold(tree.tree(), act.reads.as_slice()) {
-        return Ok(false);
-    }
-    match &act.update {
-        None => Ok(true),
-        Some(update) => make(alloc, tree, update, stamp),
-    }
 }
 
 /// Makes an update if it fits, and says whether it did.

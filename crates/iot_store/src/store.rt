@@ -1,27 +1,29 @@
 //! The store itself.
-ghost use Rattle.std.specs.Prelude.{◌≡◌, ◌<◌, ◌≤◌, ◌+◌, ◌^◌, ◌++◌, [], ◌∷◌, length, IfOk, IfErr, OnOk, IsErrOf, MatchResult, true};
+ghost use Rattle.std.specs.Prelude.{◌≡◌, ◌↔◌, ◌<◌, ◌≤◌, ◌+◌, ◌^◌, ◌++◌, [], ◌∷◌, length, IfOk, IfErr, OnOk, IsErrOf, IsTrue};
+ghost use Rattle.std.specs.Prelude.{MatchResult, true};
 ghost use Rattle.iot_disk.specs.Disk.{armed_with, Only, SameImages};
 ghost use Rattle.iot_disk.specs.Faults.{CountsJournalFault};
 ghost use Rattle.iot_journal.specs.Decoding.{Encodes, decoded, records, is_started};
 ghost use Rattle.iot_journal.specs.Images.{EachDecodes, EachDecodesEither};
 ghost use Rattle.iot_journal.specs.Start.{ChangesNothing};
-ghost use Rattle.iot_codec.specs.Rules.{IsLabel, AreActs};
-ghost use Rattle.iot_codec.specs.Spelling.{label_spelling, acts_spelling};
+ghost use Rattle.iot_access.specs.Access.{FitInTurn};
+ghost use Rattle.iot_codec.specs.Rules.{AreLines, IsAccess, IsLabel};
 ghost use Rattle.iot_stamp.specs.Stamps.{nodes_of};
 ghost use Rattle.iot_store.specs.States.{State, opening, CanFollow, after_commit};
 ghost use Rattle.iot_store.specs.Commits.{ReplaysIf};
-ghost use Rattle.iot_store.specs.Records.{record_spelling};
+ghost use Rattle.iot_store.specs.Records.{IsRecord, record_spelling};
 ghost use Rattle.iot_store.specs.Standing.{Leads, StandFor, EachStands, EachStandsEither};
 ghost use Rattle.iot_store.specs.Numbers.{number_in};
 ghost use Rattle.iot_store.specs.Causes.{HasCause, TakesBytes, IsReason};
 
 use crate::commits::Commits;
-use crate::records::{read, spell, take_spelling};
+use crate::records::read;
 use iot_disk::{Bodies, Disk, JournalFault, Pick, StartFault};
 use iot_journal::{FIRST_GATE, Journal, RECORD};
 use iot_stamp::Stamped;
 use iot_text::{NoMemory, Text};
-use iot_tree::{Acts, Label, Labels, Tree};
+use iot_tree::{Access, Label, Labels, Lines, Tree, Updates};
+use iot_wire::put_commit;
 use std::alloc::Global;
 
 /// A server's tree and the labels of its commits, on a disk to which each commit is appended as one record.
@@ -31,9 +33,6 @@ use std::alloc::Global;
 pub struct Store<D: Disk> {
     pub(crate) journal: Journal<D>,
     pub(crate) commits: Commits,
-
-    /// The last record, whose memory serves the next one.
-    pub(crate) buffer: Text,
 }
 
 impl<D: Disk> Store<D> {
@@ -94,13 +93,19 @@ impl<D: Disk> Store<D> {
             Err(refused) => return Err(refused),
         };
         match replay(alloc, &bodies) {
-            Ok(commits) => Ok(Store {
-                journal,
-                commits,
-                buffer: Text::new(alloc),
-            }),
+            Ok(commits) => Ok(Store { journal, commits }),
             Err(fault) => Err((journal.into_disk(), fault)),
         }
+    }
+
+    /// Whether each of the updates fits the tree in its turn. Takes no copy of the tree: they are made in place and undone.
+    pub fn fit_in_turn(&mut self, alloc: Global, updates: &Updates) -> Result<bool, NoMemory>
+        requires { IsSynced D.medium self.old }
+        ensures fit { IfOk result (λ fit. IsTrue fit ↔ FitInTurn (state_of self.old).tree updates.now) }
+        ensures same { OnOk result (self.new ≡ self.old) }
+        ensures disk { disk_of self.new ≡ disk_of self.old }
+    {
+        self.commits.fit_in_turn(alloc, updates.as_slice())
     }
 
     /// Adds a commit, and gives its number: its record is on the disk when this answers Ok. Costs as much as the record is
@@ -110,29 +115,36 @@ impl<D: Disk> Store<D> {
     ///
     /// `Stopped` if the disk failed in this call: each of its images then stands for the commits before or for those with
     /// the new one. `NoMemory`: each stands for the commits before.
-    pub fn commit(&mut self, alloc: Global, label: Label, acts: &Acts) -> Result<u64, JournalFault>
+    pub fn commit(
+        &mut self,
+        alloc: Global,
+        label: Label,
+        access: &Access,
+        lines: &Lines,
+    ) -> Result<u64, JournalFault>
         requires synced { IsSynced D.medium self.old }
         requires label { IsLabel label }
-        requires acts { AreActs acts.now }
-        requires follows { CanFollow (state_of self.old) label acts.now }
+        requires access { IsAccess access.now }
+        requires lines { AreLines lines.now }
+        requires follows { CanFollow (state_of self.old) label access.now }
 
         // However this returns, every image stands for the commits before or for those with the new one: its records are
         // those before, or those and the record of this commit.
         ensures images { EachStandsEither (D.medium.may_leave (disk_of self.new))
-            (state_of self.old) (after_commit (state_of self.old) label acts.now) }
+            (state_of self.old) (after_commit (state_of self.old) label access.now) }
         ensures one_record { EachDecodesEither (D.medium.may_leave (disk_of self.new))
             (Encodes (bodies_on D.medium self.old))
-            (Encodes (bodies_on D.medium self.old ++ record_spelling label acts.now ∷ [])) }
+            (Encodes (bodies_on D.medium self.old ++ record_spelling label access.now lines.now ∷ [])) }
         ensures no_memory { IsErrOf result JournalFault.NoMemory
             → EachStands (D.medium.may_leave (disk_of self.new)) (state_of self.old) }
         ensures no_record { IsErrOf result JournalFault.NoMemory
             → EachDecodes (D.medium.may_leave (disk_of self.new)) (Encodes (bodies_on D.medium self.old)) }
         ensures committed { OnOk result (EachStands (D.medium.may_leave (disk_of self.new))
-            (after_commit (state_of self.old) label acts.now)) }
+            (after_commit (state_of self.old) label access.now)) }
 
-        ensures state { OnOk result (state_of self.new ≡ after_commit (state_of self.old) label acts.now) }
+        ensures state { OnOk result (state_of self.new ≡ after_commit (state_of self.old) label access.now) }
         ensures recorded { OnOk result (bodies_on D.medium self.new
-            ≡ bodies_on D.medium self.old ++ record_spelling label acts.now ∷ []) }
+            ≡ bodies_on D.medium self.old ++ record_spelling label access.now lines.now ∷ []) }
         ensures synced { OnOk result (IsSynced D.medium self.new) }
         ensures number { IfOk result (λ number. number ≡ length (state_of self.old).labels + 1) }
 
@@ -140,45 +152,44 @@ impl<D: Disk> Store<D> {
             (D.medium.faults (disk_of self.old)) (D.medium.faults (disk_of self.new)) }
         ensures arms { D.medium.arms (disk_of self.new) ≡ D.medium.arms (disk_of self.old) }
     {
-        spell(&mut self.buffer, &label, acts)?;
-        self.commit_buffer(alloc, label, acts)
+        let mut body = Text::new(alloc);
+        put_commit(&label, access, lines, &mut body)?;
+        self.commit_recorded(alloc, label, access, lines, body.as_bytes())
     }
 
-    /// The same, if the spellings of the label and of the acts are at hand, one after the other: these are copied, and not made again.
+    /// The same, if its record is at hand, which has the bytes of the request: they are appended, and not made again.
     ///
     /// # Errors
     ///
     /// As of `commit`.
-    pub fn commit_spelled(
+    pub fn commit_recorded(
         &mut self,
         alloc: Global,
         label: Label,
-        acts: &Acts,
-        spelling: &[u8],
+        access: &Access,
+        lines: &Lines,
+        body: &[u8],
     ) -> Result<u64, JournalFault>
         requires synced { IsSynced D.medium self.old }
-        requires label { IsLabel label }
-        requires acts { AreActs acts.now }
-        requires spelled { spelling.now ≡ label_spelling label ++ acts_spelling acts.now }
-        requires follows { CanFollow (state_of self.old) label acts.now }
+        requires recorded { IsRecord body.now label access.now lines.now }
+        requires follows { CanFollow (state_of self.old) label access.now }
 
         // However this returns, every image stands for the commits before or for those with the new one: its records are
         // those before, or those and the record of this commit.
         ensures images { EachStandsEither (D.medium.may_leave (disk_of self.new))
-            (state_of self.old) (after_commit (state_of self.old) label acts.now) }
+            (state_of self.old) (after_commit (state_of self.old) label access.now) }
         ensures one_record { EachDecodesEither (D.medium.may_leave (disk_of self.new))
             (Encodes (bodies_on D.medium self.old))
-            (Encodes (bodies_on D.medium self.old ++ record_spelling label acts.now ∷ [])) }
+            (Encodes (bodies_on D.medium self.old ++ body.now ∷ [])) }
         ensures no_memory { IsErrOf result JournalFault.NoMemory
             → EachStands (D.medium.may_leave (disk_of self.new)) (state_of self.old) }
         ensures no_record { IsErrOf result JournalFault.NoMemory
             → EachDecodes (D.medium.may_leave (disk_of self.new)) (Encodes (bodies_on D.medium self.old)) }
         ensures committed { OnOk result (EachStands (D.medium.may_leave (disk_of self.new))
-            (after_commit (state_of self.old) label acts.now)) }
+            (after_commit (state_of self.old) label access.now)) }
 
-        ensures state { OnOk result (state_of self.new ≡ after_commit (state_of self.old) label acts.now) }
-        ensures recorded { OnOk result (bodies_on D.medium self.new
-            ≡ bodies_on D.medium self.old ++ record_spelling label acts.now ∷ []) }
+        ensures state { OnOk result (state_of self.new ≡ after_commit (state_of self.old) label access.now) }
+        ensures recorded { OnOk result (bodies_on D.medium self.new ≡ bodies_on D.medium self.old ++ body.now ∷ []) }
         ensures synced { OnOk result (IsSynced D.medium self.new) }
         ensures number { IfOk result (λ number. number ≡ length (state_of self.old).labels + 1) }
 
@@ -186,49 +197,10 @@ impl<D: Disk> Store<D> {
             (D.medium.faults (disk_of self.old)) (D.medium.faults (disk_of self.new)) }
         ensures arms { D.medium.arms (disk_of self.new) ≡ D.medium.arms (disk_of self.old) }
     {
-        take_spelling(&mut self.buffer, spelling)?;
-        self.commit_buffer(alloc, label, acts)
-    }
-
-    /// Adds the commit whose record the buffer is.
-    fn commit_buffer(
-        &mut self,
-        alloc: Global,
-        label: Label,
-        acts: &Acts,
-    ) -> Result<u64, JournalFault>
-        requires synced { IsSynced D.medium self.old }
-        requires label { IsLabel label }
-        requires acts { AreActs acts.now }
-        requires spelled { self.old.buffer ≡ record_spelling label acts.now }
-        requires follows { CanFollow (state_of self.old) label acts.now }
-
-        // However this returns, every image stands for the commits before or for those with the new one: its records are
-        // those before, or those and the record of this commit.
-        ensures images { EachStandsEither (D.medium.may_leave (disk_of self.new))
-            (state_of self.old) (after_commit (state_of self.old) label acts.now) }
-        ensures one_record { EachDecodesEither (D.medium.may_leave (disk_of self.new))
-            (Encodes (bodies_on D.medium self.old))
-            (Encodes (bodies_on D.medium self.old ++ record_spelling label acts.now ∷ [])) }
-        ensures no_memory { IsErrOf result JournalFault.NoMemory
-            → EachStands (D.medium.may_leave (disk_of self.new)) (state_of self.old) }
-        ensures no_record { IsErrOf result JournalFault.NoMemory
-            → EachDecodes (D.medium.may_leave (disk_of self.new)) (Encodes (bodies_on D.medium self.old)) }
-        ensures committed { OnOk result (EachStands (D.medium.may_leave (disk_of self.new))
-            (after_commit (state_of self.old) label acts.now)) }
-
-        ensures state { OnOk result (state_of self.new ≡ after_commit (state_of self.old) label acts.now) }
-        ensures recorded { OnOk result (bodies_on D.medium self.new
-            ≡ bodies_on D.medium self.old ++ record_spelling label acts.now ∷ []) }
-        ensures synced { OnOk result (IsSynced D.medium self.new) }
-        ensures number { IfOk result (λ number. number ≡ length (state_of self.old).labels + 1) }
-
-        ensures faults { CountsJournalFault result
-            (D.medium.faults (disk_of self.old)) (D.medium.faults (disk_of self.new)) }
-        ensures arms { D.medium.arms (disk_of self.new) ≡ D.medium.arms (disk_of self.old) }
-    {
-        self.commits.add(alloc, label, acts.as_slice())?;
-        self.journal.append(self.buffer.as_bytes())?;
+        // They stand in the record: the contract alone speaks of them.
+        let _ = lines;
+        self.commits.add(alloc, label, access)?;
+        self.journal.append(body)?;
         Ok(self.number())
     }
 
@@ -312,7 +284,7 @@ fn replay_body(alloc: Global, commits: &mut Commits, body: &[u8]) -> Result<bool
     ensures { IfOk result (λ follows. ReplaysIf follows body.now commits.old commits.new) }
 {
     match read(alloc, body)? {
-        Some((label, acts)) => commits.replay(alloc, label, acts.as_slice()),
+        Some((label, access, _)) => commits.replay(alloc, label, &access),
         None => Ok(false),
     }
 }

@@ -45,3 +45,16 @@ fn names_are_asked_of_the_tree_before(rt: HostRuntime) -> Result<(), NoMemory> {
     assert_eq!(rt; differing(&verdict), Some((3, b"".as_slice(), 1)));
     Ok(())
 }
+
+#[test]
+fn what_moved_is_judged_by_its_access(rt: HostRuntime) -> Result<(), NoMemory> {
+    let alloc = rt.alloc();
+    let before = tree(&rt, alloc, "mkdir /d\nwrite /d/n 1\n")?;
+    let moves = script(&rt, alloc, "mv /d /e\ncat /e/n\n")?;
+    let ran = iot_exec::run(alloc, moves, Files::new(alloc), &before, ACT_LIMIT)?;
+    let access = iot_access::of(alloc, &ran.acts, &before)?;
+    let now = tree(&rt, alloc, "mkdir /d\nwrite /d/n 2\n")?;
+    let verdict = certify(alloc, &now, &access)?;
+    assert_eq!(rt; differing(&verdict), Some((4, b"2".as_slice(), 0)));
+    Ok(())
+}

@@ -36,9 +36,9 @@ const CUT: &[u8] = b"\x06";
 
 const CONFLICTED: &[u8] = b"\x07";
 
-/// Script `e` was run with a budget of 1, and did nothing.
-const RESOLVED: &[u8] =
-    b"\x08\0\0\0\0\0\0\0\x01e\0\0\0\0\0\0\0\x01\0\0\0\0\0\0\0\0\0\0\0\0\0\0\0\0";
+/// Script `e` was run with a budget of 1, did nothing, and asked nothing of the tree before it.
+const RESOLVED: &[u8] = b"\x08\0\0\0\0\0\0\0\x01e\0\0\0\0\0\0\0\x01\0\0\0\0\0\0\0\0\0\0\0\0\0\0\0\0\
+    \0\0\0\0\0\0\0\0\0\0\0\0\0\0\0\0";
 
 /// Script `e` is to be run.
 const REPAIRED: &[u8] = b"\x09\0\0\0\0\0\0\0\x01e";

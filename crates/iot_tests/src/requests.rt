@@ -1,25 +1,28 @@
 //! Requests and replies, as they were written by hand.
-ghost use Rattle.std.specs.Prelude.{IfOk};
+ghost use Rattle.std.specs.Prelude.{IfOk, OnOk};
 ghost use Rattle.iot_server.specs.Servers.{IsSynced};
 
 use iot_disk::{Disk, MemDisk, Pick};
 use iot_server::{Server, ServerFault, StartFault, Traffic};
 use std::alloc::Global;
+use std::process::Abort;
 use std::test::Fail;
 
-/// Client 0 asks that its transaction 1 be committed, which found nothing at `/d` and made a directory there.
+/// Client 0 asks that its transaction 1 be committed, which found nothing at `/d` and a directory at `/`, and made one at `/d`.
 const COMMIT: &[u8] =
     b"\x02\0\0\0\0\0\0\0\0\0\0\0\0\0\0\0\x01\0\0\0\0\0\0\0\x01e\0\0\0\0\0\0\x10\0\x01\0\0\0\0\0\0\0\0\
-    \0\0\0\0\0\0\0\x01\
-    \0\0\0\0\0\0\0\x02\x01\0\0\0\0\0\0\0\x01\0\0\0\0\0\0\0\x01d\x02\x01\0\0\0\0\0\0\0\0\x03\
-    \x02\0\0\0\0\0\0\0\x01\0\0\0\0\0\0\0\x01d\0\0\0\0\0\0\0\0";
+    \0\0\0\0\0\0\0\x02\
+    \x01\0\0\0\0\0\0\0\x01\0\0\0\0\0\0\0\x01d\x02\0\0\0\0\0\0\0\x01\
+    \x01\0\0\0\0\0\0\0\0\x03\0\0\0\0\0\0\0\x02\
+    \0\0\0\0\0\0\0\x01\x02\0\0\0\0\0\0\0\x01\0\0\0\0\0\0\0\x01d\0\0\0\0\0\0\0\0";
 
 /// The same of its transaction 2.
 const LATE: &[u8] =
     b"\x02\0\0\0\0\0\0\0\0\0\0\0\0\0\0\0\x02\0\0\0\0\0\0\0\x01e\0\0\0\0\0\0\x10\0\x01\0\0\0\0\0\0\0\0\
-    \0\0\0\0\0\0\0\x01\
-    \0\0\0\0\0\0\0\x02\x01\0\0\0\0\0\0\0\x01\0\0\0\0\0\0\0\x01d\x02\x01\0\0\0\0\0\0\0\0\x03\
-    \x02\0\0\0\0\0\0\0\x01\0\0\0\0\0\0\0\x01d\0\0\0\0\0\0\0\0";
+    \0\0\0\0\0\0\0\x02\
+    \x01\0\0\0\0\0\0\0\x01\0\0\0\0\0\0\0\x01d\x02\0\0\0\0\0\0\0\x01\
+    \x01\0\0\0\0\0\0\0\0\x03\0\0\0\0\0\0\0\x02\
+    \0\0\0\0\0\0\0\x01\x02\0\0\0\0\0\0\0\x01\0\0\0\0\0\0\0\x01d\0\0\0\0\0\0\0\0";
 
 /// Client 1 knows `/` with stamp 1, and wants nothing else.
 const REFRESH: &[u8] = b"\x01\0\0\0\0\0\0\0\x01\
@@ -55,28 +58,64 @@ fn started<D: Disk + Drop>(alloc: Global, mut disk: D) -> Result<Server<D>, Star
     }
 }
 
+/// The server answers the request with this reply.
+fn answers<D: Disk>(
+    rt: &impl Abort,
+    alloc: Global,
+    server: &mut Server<D>,
+    request: &[u8],
+    reply: &[u8],
+) -> Result<(), Fail>
+    requires { IsSynced D.medium server.old }
+    ensures { OnOk result (IsSynced D.medium server.new) }
+{
+    assert_eq!(rt; server.handle(alloc, request)?.as_slice(), reply);
+    Ok(())
+}
+
 #[test]
 fn each_request_has_its_reply(rt: HostRuntime) -> Result<(), Fail> {
     let alloc = rt.alloc();
     let mut server = started(alloc, MemDisk::new(alloc))?;
-    assert_eq!(rt; server.handle(alloc, COMMIT)?.as_slice(), COMMITTED);
-    assert_eq!(rt; server.handle(alloc, COMMIT)?.as_slice(), ALREADY);
-    assert_eq!(rt; server.handle(alloc, LATE)?.as_slice(), CONFLICT);
-    assert_eq!(rt; server.handle(alloc, REFRESH)?.as_slice(), OBJECTS);
-    assert_eq!(rt; server.handle(alloc, AGAIN)?.as_slice(), NOTHING);
+    answers(&rt, alloc, &mut server, COMMIT, COMMITTED)?;
+    answers(&rt, alloc, &mut server, COMMIT, ALREADY)?;
+    answers(&rt, alloc, &mut server, LATE, CONFLICT)?;
+    answers(&rt, alloc, &mut server, REFRESH, OBJECTS)?;
+    answers(&rt, alloc, &mut server, AGAIN, NOTHING)?;
     let bad = server.handle(alloc, b"\x03");
     assert!(rt; matches!(bad, Err(ServerFault::Malformed { at: 0 })));
     let traffic = Traffic {
         requests: 5,
-        received: 410,
+        received: 458,
         sent: 105,
     };
     assert_eq!(rt; server.traffic(), traffic);
     assert_eq!(rt; server.store().number(), 1);
+    Ok(())
+}
+
+#[test]
+fn a_restart_counts_requests_anew(rt: HostRuntime) -> Result<(), Fail> {
+    let alloc = rt.alloc();
+    let mut server = started(alloc, MemDisk::new(alloc))?;
+    answers(&rt, alloc, &mut server, COMMIT, COMMITTED)?;
     let server = started(alloc, server.into_disk())?;
     assert_eq!(rt; server.store().number(), 1);
     assert_eq!(rt; server.traffic().requests, 0);
     Ok(())
+}
+
+/// The server's disk fails at this call of the commit. The server starts again, and is asked again.
+fn stops_in_a_commit(rt: &impl Abort, alloc: Global, calls: u64, pick: Pick) -> Result<(), Fail> {
+    let mut server = started(alloc, MemDisk::new(alloc))?;
+    server.arm(calls, pick);
+    let stopped = server.handle(alloc, COMMIT);
+    assert!(rt; matches!(stopped, Err(ServerFault::Stopped)));
+    let kept = calls > 2 && pick != Pick::Old;
+    let mut server = started(alloc, server.into_disk())?;
+    assert_eq!(rt; server.store().number(), u64::from(kept), "call {calls}");
+    let reply = if kept { ALREADY } else { COMMITTED };
+    answers(rt, alloc, &mut server, COMMIT, reply)
 }
 
 #[test]
@@ -84,16 +123,7 @@ fn a_commit_is_kept_or_lost(rt: HostRuntime) -> Result<(), Fail> {
     let alloc = rt.alloc();
     for calls in 1..5 {
         for pick in [Pick::Old, Pick::New, Pick::Fill(165)] {
-            let mut server = started(alloc, MemDisk::new(alloc))?;
-            server.arm(calls, pick);
-            let stopped = server.handle(alloc, COMMIT);
-            assert!(rt; matches!(stopped, Err(ServerFault::Stopped)));
-            let kept = calls > 2 && pick != Pick::Old;
-            let mut server = started(alloc, server.into_disk())?;
-            assert_eq!(rt; server.store().number(), u64::from(kept), "call {calls}");
-            // It is submitted again.
-            let reply = if kept { ALREADY } else { COMMITTED };
-            assert_eq!(rt; server.handle(alloc, COMMIT)?.as_slice(), reply);
+            stops_in_a_commit(&rt, alloc, calls, pick)?;
         }
     }
     Ok(())

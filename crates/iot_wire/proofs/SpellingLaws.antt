@@ -2,10 +2,10 @@
 use Rattle.std.proofs.Common.{◌≡◌, ℕ, ◌+◌, ◌<◌, ◌≤◌, ◌^◌, List, [], ◌∷◌, ◌++◌, length, Ok, refl, ◌∙◌, arith}
 use Rattle.iot_codec.specs.Places.{LiesAt, IsSpelling}
 use Rattle.iot_codec.specs.Decoders.{Decoder, ◌>>=◌, go_on, done, number_at, at_most}
-use Rattle.iot_codec.specs.Decoding.{known_at, want_at, label_at, acts_at, changes_at, answer_at}
-use Rattle.iot_codec.specs.Rules.{IsNumber, AreKnown, IsWant, IsLabel, AreActs, AreChanges, IsAnswer}
-use Rattle.iot_codec.specs.Spelling.{number_spelling, known_spelling, want_spelling, label_spelling, acts_spelling, changes_spelling}
-use Rattle.iot_codec.specs.Spelling.{answer_spelling}
+use Rattle.iot_codec.specs.Decoding.{known_at, want_at, label_at, access_at, lines_at, changes_at, answer_at}
+use Rattle.iot_codec.specs.Rules.{IsNumber, AreKnown, IsWant, IsLabel, IsAccess, AreLines, AreChanges, IsAnswer}
+use Rattle.iot_codec.specs.Spelling.{number_spelling, known_spelling, want_spelling, label_spelling, access_spelling, lines_spelling}
+use Rattle.iot_codec.specs.Spelling.{changes_spelling, answer_spelling}
 use Rattle.iot_codec.specs.Laws.Changes.{known_laws, changes_laws}
 use Rattle.iot_codec.specs.Laws.Labels.{label_laws}
 use Rattle.iot_codec.specs.Laws.Parts.{number_laws, at_most_laws}
@@ -13,7 +13,8 @@ use Rattle.iot_codec.specs.Laws.Places.{lies_then, lies_first, lies_second, lies
 use Rattle.iot_codec.specs.Laws.Questions.{answer_laws}
 use Rattle.iot_codec.specs.Laws.Steps.{step, carried}
 use Rattle.iot_codec.specs.Laws.Tags.{IsAfter, IsArm, single_arm, double_arm, tagged_found, tagged_again, single_again, double_again}
-use Rattle.iot_codec.specs.Laws.Updates.{acts_laws}
+use Rattle.iot_codec.specs.Laws.Bases.{access_laws}
+use Rattle.iot_codec.specs.Laws.Values.{lines_laws}
 use Rattle.iot_codec.specs.Laws.Wants.{want_laws}
 use Rattle.iot_wire.specs.Decoding.{refresh_at, commit_at, request_at, objects_at, committed_at, already_at, conflict_at, reply_at}
 use Rattle.iot_wire.specs.Rules.{IsRequest, IsReply}
@@ -91,8 +92,8 @@ refresh_arm =
 commit_arm : IsArm IsRequest request_spelling 2 commit_at
 unfolding commit_at request_spelling
 commit_arm =
-    double_arm IsRequest request_spelling 2 IsLabel label_spelling label_at label_laws AreActs acts_spelling acts_at acts_laws Commit
-    (λ label acts l a. (l, a)) (λ label acts. refl)
+    triple_arm IsLabel label_spelling label_at label_laws IsAccess access_spelling access_at access_laws AreLines lines_spelling lines_at
+    lines_laws IsRequest request_spelling 2 Commit (λ label access lines l a n. (l, (a, n))) (λ label access lines. refl)
 
 request_again : (r : Request) (bytes : List ℕ) (at end : ℕ) → length bytes < 2 ^ 64 → IsRequest r → LiesAt bytes at (request_spelling r) end
     → request_at bytes at ≡ Ok (r, end)
@@ -101,15 +102,15 @@ request_again (Refresh client known want) bytes at end short has p =
     tagged_again request_table bytes at end 1 (number_spelling client ++ (known_spelling known ++ want_spelling want)) p
     ∙ triple_again (λ n. n ≤ 7) number_spelling (at_most 7) client_laws AreKnown known_spelling known_at known_laws IsWant want_spelling
     want_at want_laws Refresh client known want bytes at end 1 short has.0 has.1.0 has.1.1 p
-request_again (Commit label acts) bytes at end short has p =
-    tagged_again request_table bytes at end 2 (label_spelling label ++ acts_spelling acts) p
-    ∙ double_again IsLabel label_spelling label_at label_laws AreActs acts_spelling acts_at acts_laws Commit label acts bytes at end 2 short
-    has.0 has.1 p
+request_again (Commit label access lines) bytes at end short has p =
+    tagged_again request_table bytes at end 2 (label_spelling label ++ (access_spelling access ++ lines_spelling lines)) p
+    ∙ triple_again IsLabel label_spelling label_at label_laws IsAccess access_spelling access_at access_laws AreLines lines_spelling
+    lines_at lines_laws Commit label access lines bytes at end 2 short has.0 has.1.0 has.1.1 p
 
 request_some : (r : Request) → 0 < length (request_spelling r)
 unfolding request_spelling
 request_some (Refresh client known want) = omega arith
-request_some (Commit label acts) = omega arith
+request_some (Commit label access lines) = omega arith
 
 pub request_laws : IsSpelling IsRequest request_spelling request_at
 unfolding request_at request_table

@@ -1,7 +1,7 @@
 -- Decoding messages, with the first fault from the left.
 use Rattle.std.specs.Prelude.{[], ◌∷◌}
 use Rattle.iot_codec.specs.Decoders.{Decoder, ◌>>=◌, done, number_at, at_most, tagged}
-use Rattle.iot_codec.specs.Decoding.{known_at, want_at, label_at, acts_at, changes_at, answer_at}
+use Rattle.iot_codec.specs.Decoding.{known_at, want_at, label_at, access_at, lines_at, changes_at, answer_at}
 use Rattle.iot_wire.specs.declared.requests.Request.{Request}
 use Rattle.iot_wire.specs.declared.requests.Request.TheVariants.{Refresh, Commit}
 use Rattle.iot_wire.specs.declared.replies.Reply.{Reply}
@@ -17,8 +17,9 @@ refresh_at = do
 unfoldable pub commit_at : Decoder Request
 commit_at = do
   label ← label_at
-  acts ← acts_at
-  done (Commit label acts)
+  access ← access_at
+  lines ← lines_at
+  done (Commit label access lines)
 
 -- a request: what a tag is followed by
 unfoldable pub request_at : Decoder Request

@@ -1,6 +1,6 @@
 -- Which messages have a spelling.
 use Rattle.std.specs.Prelude.{◌≤◌}
-use Rattle.iot_codec.specs.Rules.{IsNumber, AreKnown, IsWant, IsLabel, AreActs, AreChanges, IsAnswer}
+use Rattle.iot_codec.specs.Rules.{IsNumber, AreKnown, IsWant, IsLabel, IsAccess, AreLines, AreChanges, IsAnswer}
 use Rattle.iot_wire.specs.declared.requests.Request.{Request}
 use Rattle.iot_wire.specs.declared.requests.Request.TheVariants.{Refresh, Commit}
 use Rattle.iot_wire.specs.declared.replies.Reply.{Reply}
@@ -9,7 +9,7 @@ use Rattle.iot_wire.specs.declared.replies.Reply.TheVariants.{Objects, Committed
 -- one of 8 clients asks; the paths that it knows rise
 abbrev pub IsRequest : Request → Type 0
 IsRequest (Refresh client known want) = (client ≤ 7) × (AreKnown known × IsWant want)
-IsRequest (Commit label acts) = IsLabel label × AreActs acts
+IsRequest (Commit label access lines) = IsLabel label × (IsAccess access × AreLines lines)
 
 abbrev pub IsReply : Reply → Type 0
 IsReply (Objects changes) = AreChanges changes

@@ -1,7 +1,7 @@
 -- The one spelling of each message.
 use Rattle.std.specs.Prelude.{ℕ, List, ◌∷◌, ◌++◌}
-use Rattle.iot_codec.specs.Spelling.{number_spelling, known_spelling, want_spelling, label_spelling, acts_spelling, changes_spelling}
-use Rattle.iot_codec.specs.Spelling.{answer_spelling}
+use Rattle.iot_codec.specs.Spelling.{number_spelling, known_spelling, want_spelling, label_spelling, access_spelling, lines_spelling}
+use Rattle.iot_codec.specs.Spelling.{changes_spelling, answer_spelling}
 use Rattle.iot_wire.specs.declared.requests.Request.{Request}
 use Rattle.iot_wire.specs.declared.requests.Request.TheVariants.{Refresh, Commit}
 use Rattle.iot_wire.specs.declared.replies.Reply.{Reply}
@@ -10,7 +10,7 @@ use Rattle.iot_wire.specs.declared.replies.Reply.TheVariants.{Objects, Committed
 -- a request: its tag, and then its parts
 unfoldable pub request_spelling : Request → List ℕ
 request_spelling (Refresh client known want) = 1 ∷ (number_spelling client ++ (known_spelling known ++ want_spelling want))
-request_spelling (Commit label acts) = 2 ∷ (label_spelling label ++ acts_spelling acts)
+request_spelling (Commit label access lines) = 2 ∷ (label_spelling label ++ (access_spelling access ++ lines_spelling lines))
 
 -- a reply: its tag, and then its parts
 unfoldable pub reply_spelling : Reply → List ℕ

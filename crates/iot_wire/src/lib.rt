@@ -9,4 +9,4 @@ mod replies;
 mod requests;
 
 pub use replies::{Reply, read_reply, write_reply};
-pub use requests::{Request, read_request, read_request_beside, write_request};
+pub use requests::{Request, put_commit, read_request, read_request_beside, write_request};

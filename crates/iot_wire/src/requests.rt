@@ -2,18 +2,20 @@
 ghost use Rattle.std.specs.Prelude.{◌≡◌, ◌++◌, IfOk, Ok, OnOk, [], ◌∷◌};
 ghost use Rattle.iot_tree.specs.Rows.{Rising};
 ghost use Rattle.iot_codec.specs.Outcomes.{IsOutcome};
+ghost use Rattle.iot_codec.specs.Rules.{AreLines, IsAccess, IsLabel};
 ghost use Rattle.iot_wire.specs.Decoding.{request_at, refresh_at, commit_at};
 ghost use Rattle.iot_wire.specs.Messages.{IsMessage, ReadsMessage, IsOneMessage, whole};
 ghost use Rattle.iot_wire.specs.Rules.{IsRequest};
 ghost use Rattle.iot_wire.specs.Spelling.{request_spelling};
+ghost use Rattle.iot_wire.specs.declared.requests.Request.TheVariants.{Commit};
 
 use crate::messages::{ROOM, finished, malformed, read_at_most, tag_of};
 use iot_codec::{
-    CodecFault, put_acts, put_known, put_label, put_number, put_want, read_acts, read_known_beside,
-    read_label, read_want,
+    CodecFault, put_access, put_known, put_label, put_lines, put_number, put_want, read_access,
+    read_known_beside, read_label, read_lines, read_want,
 };
 use iot_text::{NoMemory, Path, Text};
-use iot_tree::{Acts, Known, Label, Node, Want};
+use iot_tree::{Access, Known, Label, Lines, Node, Want};
 use std::alloc::Global;
 
 /// The greatest number of a client.
@@ -32,10 +34,11 @@ pub enum Request {
         known: Known,
         want: Want,
     },
-    /// That a transaction be committed.
+    /// That a transaction be committed: what it asked of the tree before it, its updates, and its lines.
     Commit {
         label: Label,
-        acts: Acts,
+        access: Access,
+        lines: Lines,
     },
 }
 
@@ -56,12 +59,31 @@ fn put_request(request: &Request, out: &mut Text) -> Result<(), NoMemory>
             put_known(known, out)?;
             put_want(want, out)
         }
-        Request::Commit { label, acts } => {
-            out.push(2)?;
-            put_label(label, out)?;
-            put_acts(acts, out)
-        }
+        Request::Commit {
+            label,
+            access,
+            lines,
+        } => put_commit(label, access, lines, out),
     }
+}
+
+/// Appends the spelling of the request that a transaction with this label, this access and these lines be committed.
+#[tactic(auto, unfolding(crate::specs::Spelling::request_spelling))]
+pub fn put_commit(
+    label: &Label,
+    access: &Access,
+    lines: &Lines,
+    out: &mut Text,
+) -> Result<(), NoMemory>
+    requires label { IsLabel label.now }
+    requires access { IsAccess access.now }
+    requires lines { AreLines lines.now }
+    ensures { OnOk result (out.new ≡ out.old ++ request_spelling (Commit label.now access.now lines.now)) }
+{
+    out.push(2)?;
+    put_label(label, out)?;
+    put_access(access, out)?;
+    put_lines(lines, out)
 }
 
 /// How many bytes the request has room for at first.
@@ -116,8 +138,14 @@ fn read_commit(alloc: Global, bytes: &[u8], at: usize) -> Result<(Request, usize
     ensures { IsOutcome result (commit_at bytes.now at) }
 {
     let (label, at) = read_label(alloc, bytes, at)?;
-    let (acts, end) = read_acts(alloc, bytes, at)?;
-    Ok((Request::Commit { label, acts }, end))
+    let (access, at) = read_access(alloc, bytes, at)?;
+    let (lines, end) = read_lines(alloc, bytes, at)?;
+    let request = Request::Commit {
+        label,
+        access,
+        lines,
+    };
+    Ok((request, end))
 }
 
 /// Reads a request beside the rows, which rise, and gives the offset after it.

@@ -76,6 +76,7 @@ state_is s m it = λ i. record {
   items = queue_are s.items s.held m it.held it.items i;
   running = running_is m s.running m.running it.running i;
   last = it.last i;
+  access = it.access i;
 }
 
 -- ---- a disk

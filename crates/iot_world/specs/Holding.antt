@@ -3,6 +3,7 @@ use Rattle.std.specs.Prelude.{◌≡◌, ◌⊎◌, ◌∷◌, ◌++◌}
 use Rattle.iot_world.specs.Prelude.{ℕ, List, length, map, Option, Some, None, Transaction, State, StandFor, Medium, ClientState, Running}
 use Rattle.iot_world.specs.Prelude.{base, so_far, Machine, Client, Commit, Counts, IsImage, IsOneMoreIfAny}
 use Rattle.iot_machine.specs.Recorded.{option_named, queue_kept}
+use Rattle.iot_laptop.specs.Kept.{access_kept}
 use Rattle.iot_world.specs.World.{Each}
 
 -- an image has this list, a record for each commit
@@ -25,7 +26,13 @@ running_kept m (Some it) =
     Some (record { number = it.number; script = it.script.name; option = option_named it.option; acts = (so_far (base m) it).acts })
 
 abbrev pub state_kept : ClientState → State
-state_kept m = record { held = m.held; items = queue_kept m; running = running_kept m m.running; last = m.last }
+state_kept m = record {
+  held = m.held;
+  items = queue_kept m;
+  running = running_kept m m.running;
+  last = m.last;
+  access = access_kept m.items;
+}
 
 -- an image is what a client keeps
 abbrev pub IsKept : ClientState → (image : List ℕ) → Type 0

@@ -11,8 +11,8 @@ pass_in_place-requires c =
 pub returns-clause-state : goal.returns-clause-state
 returns-clause-state c =
     let old = c.args.self.now in
-    left_made old.held c.pass_in_place.new.self old.queue c.leave_head.new.self (transaction_of old.running) old.last c.in-Some.head
-    c.in-Some.ensures.rest c.in_ok-pass_in_place.ensures
+    left_made old.held c.pass_in_place.new.self old.queue c.leave_head.new.self (transaction_of old.running) old.last old.access
+    c.of_nothing.result c.in-Some.head c.in-Some.ensures.rest c.in_ok-pass_in_place.ensures c.of_nothing.ensures
 
 pub returns-clause-stamps : goal.returns-clause-stamps
 returns-clause-stamps c =

@@ -30,7 +30,7 @@ returns-in_err-append-clause-images g c =
     c.tree-held.ensures.value)
     in
     either_stands _ _ _ c.as_bytes.result.now (bringing c.args.purpose c.args.self.now.memory.durable.held c.args.changes)
-    given.synced.leads is (follows_with _ c.args.purpose _ _ given.follows) c.in_err-append.ensures.images
+    given.synced.leads is (follows_with (state_of c.args.self.now) c.args.purpose _ _ given.follows) c.in_err-append.ensures.images
 
 pub returns-in_err-show_held-clause-images : goal.returns-in_err-show_held-clause-images
 returns-in_err-show_held-clause-images g c =
@@ -43,7 +43,7 @@ returns-in_err-show_held-clause-images g c =
     c.tree-held.ensures.value)
     in
     either_stands _ _ _ c.as_bytes.result.now (bringing c.args.purpose c.args.self.now.memory.durable.held c.args.changes)
-    given.synced.leads is (follows_with _ c.args.purpose _ _ given.follows) c.in_ok-append.ensures.images
+    given.synced.leads is (follows_with (state_of c.args.self.now) c.args.purpose _ _ given.follows) c.in_ok-append.ensures.images
 
 pub returns-clause-images : goal.returns-clause-images
 returns-clause-images g c =
@@ -56,7 +56,7 @@ returns-clause-images g c =
     c.tree-held.ensures.value)
     in
     either_stands _ _ _ c.as_bytes.result.now (bringing c.args.purpose c.args.self.now.memory.durable.held c.args.changes)
-    given.synced.leads is (follows_with _ c.args.purpose _ _ given.follows) c.in_ok-append.ensures.images
+    given.synced.leads is (follows_with (state_of c.args.self.now) c.args.purpose _ _ given.follows) c.in_ok-append.ensures.images
 
 pub returns-clause-synced : goal.returns-clause-synced
 returns-clause-synced g c =
@@ -74,7 +74,7 @@ returns-clause-synced g c =
     let follows = follows_with (state_of c.args.self.now) c.args.purpose _ (nodes_of (brought held c.args.changes)) given.follows in
     let state =
     brought_state c.args.purpose (state_of c.args.self.now) (memory_state c.show_held.new.self) (nodes_of (brought held c.args.changes))
-    follows (ap nodes_of (shown.held ∙ merged.stamps)) shown.queue shown.running shown.last in
+    follows (ap nodes_of (shown.held ∙ merged.stamps)) shown.queue shown.running shown.last shown.access in
     record {
       journal = c.in_ok-append.ensures.synced;
       leads =
