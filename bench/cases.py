@@ -167,6 +167,14 @@ def looking(size):
     return Work(lines + ['queue laptop'] + [f'reads laptop {i + 1}' for i in range(items)], 'transactions', items, len(lines))
 
 
+def rereads(size):
+    """The submission of one transaction that has read one file more and more times."""
+    reads = 250 * size
+    lines = ['client laptop', *script('init', ['write /f x']), *script('work', ['read v /f'] * reads), run('init')]
+    lines += ['disconnect laptop', 'begin laptop work abort', f'step laptop {reads}', 'end laptop', 'connect laptop']
+    return Work(lines + ['sync laptop'], 'reads', reads, len(lines))
+
+
 # The cases in the order of the table, and those that need no more than `mkdir`, `write` and `cat`.
-CASES = [transactions, tree, loops, moves, text, journal, clients, steps, acts, queue, looking, restarts]
+CASES = [transactions, tree, loops, moves, text, journal, clients, steps, acts, queue, looking, restarts, rereads]
 FIRST = [transactions, tree]

@@ -70,7 +70,7 @@ def counted(program, source):
 
 
 def check(transcript, runs):
-    """Each `run` of the input has to have settled."""
+    """Each `run` and each `sync` of the input has to have settled a transaction."""
     settled = sum(line.startswith(b'settled ') for line in transcript.read_bytes().split(b'\n'))
     if settled != runs:
         sys.exit(f'bench/run: {settled} of {runs} transactions settled in {transcript.name}')
@@ -96,7 +96,7 @@ def ran(directory, name, program, count, lines):
     source.write_text(''.join(f'{line}\n' for line in lines))
     transcript = source.with_suffix('.out')
     measured = measure(program, count, source, transcript)
-    check(transcript, sum(line.startswith('run ') for line in lines))
+    check(transcript, sum(line.startswith(('run ', 'sync ')) for line in lines))
     return measured
 
 
