@@ -5,3 +5,4 @@ pub mod StepsLaws
 pub mod DoingLaws
 pub mod SpelledLaws
 mod LocalLaws
+pub mod TrailsLaws

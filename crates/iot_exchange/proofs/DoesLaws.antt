@@ -5,7 +5,7 @@ use Rattle.std.proofs.Common.{Result, Ok, Err, IsErrAnd, arith, is_some, ◌*◌
 use Rattle.iot_server_node.proofs.BeginningLaws.{records_same, records_then}
 use Rattle.std.proofs.lemmas.List.{append-nil}
 use Rattle.iot_laptop.proofs.NodesLaws.{is_awake, is_down, awake_stands}
-use Rattle.iot_laptop.proofs.LaptopsLaws.{runs_is, waits_is}
+use Rattle.iot_standing.proofs.StatesLaws.{runs_is, waits_is}
 use Rattle.iot_machine.specs.Clients as clients
 use Rattle.iot_node.proofs.StepsToLaws as calls
 use Rattle.iot_server_node.proofs.ServersLaws as servers
@@ -17,8 +17,8 @@ use Rattle.iot_exchange.specs.Words.{Pair, OnConflict, unless_stopped, Notes, Ke
 use Rattle.iot_exchange.specs.Words.{ServerStands, ServerNode, KeepsRecords, Stands, awake, disk_in, SamePlace, Laptop, NotesAlone, Whole}
 use Rattle.iot_exchange.specs.Words.{is_alive, fallen, Nodes, after_acts, Item, is_drained, IfUp, line, pends, runs, SyncsAll, ItemsStand}
 use Rattle.iot_exchange.specs.Words.{KeepsTrails, UnlessNoMemory, state_in, stamps_in, waits_of, ClientStands}
-use Rattle.iot_exchange.specs.Following.{Follows}
-use Rattle.iot_exchange.proofs.FollowingLaws.{follows_kept}
+use Rattle.iot_judging.specs.Lists.{Follows}
+use Rattle.iot_judging.proofs.FollowingLaws.{follows_kept}
 use Rattle.iot_exchange.specs.Pairs.{Both, two, IsAt, UpStands, AnyStands, IsReadyWith, IsStandingWith, KeepsDisks, PairStands, Does}
 use Rattle.iot_exchange.specs.Queues.{SyncsNext}
 use Rattle.iot_exchange.proofs.StepsLaws.{From, Steps, at_each, at_one, joined}

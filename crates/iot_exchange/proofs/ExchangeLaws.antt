@@ -1,21 +1,22 @@
 -- An exchange of a client with the server; what a client asks for, and holds if it comes; and what it knows of its transactions.
 use Rattle.std.proofs.Common.{◌≡◌, ℕ, ◌+◌, List, ◌++◌, Option, Some, None, Result, Ok, Err, Bool, false, Vec, refl, sym, ap, subst, ◌∙◌, []}
-use Rattle.std.proofs.Common.{◌∷◌, is_some}
+use Rattle.std.proofs.Common.{◌∷◌, is_some, ◌<◌, ◌^◌, length, map, arith}
 use Rattle.std.specs.Prelude.{IfErr}
 use Rattle.std.specs.declared.alloc.Global.{Global}
 use Rattle.iot_server_node.proofs.ServersLaws.{up_is}
-use Rattle.iot_laptop.proofs.LaptopsLaws.{runs_is, waits_is}
+use Rattle.iot_standing.proofs.StatesLaws.{runs_is, waits_is}
 use Rattle.iot_exchange.specs.Words.{IsFree, passage, Passage, Away, RequestLost, ReplyLost, Both as Reaches, At, its_server, break}
 use Rattle.iot_exchange.specs.Words.{Handles, exchange_by, Brings, holds, HavingAnswered, ServesBy, Served, Relinked, after_passage, Nodes}
 use Rattle.iot_exchange.specs.Words.{Want, Item, State, Medium, Call, Declared, ClientState, Client, Commit, Pair, Node, Submission, Lends}
 use Rattle.iot_exchange.specs.Words.{Judges, Exchange, Holds, runs, pends, StepsTo, Halt, IsRefresh, SpellsVerdict, SpellsCut, said_of}
 use Rattle.iot_exchange.specs.Words.{ServerStands, IsHanded, IsNamedIn, is_up, Message, ServerNode, LaptopStands, state_in, waits_of}
-use Rattle.iot_exchange.specs.Words.{Laptop, SpellsTree, BringsTree}
+use Rattle.iot_exchange.specs.Words.{Laptop, SpellsTree, BringsTree, AsksAll, FarDir, IsOneMessage, IsReply, IsWhole, Over, NoMemory, Row}
+use Rattle.iot_exchange.specs.Words.{Stamps, TakesStamps, new_client, nodes_of, nothing_held, reply_spelling, root_alone, stamps_in}
+use Rattle.iot_exchange.specs.Words.{stamps_of}
 use Rattle.iot_exchange.specs.Pairs.{Both, two, IsAt, UpStands, Query, Objects, Judgment, AsksFor, Spells, request_of, Serves, Exchanges}
-use Rattle.iot_exchange.specs.Pairs.{Asked, IsReady, KeepsDisks, Does}
-use Rattle.iot_exchange.proofs.DoesLaws.{StepsOn, at_as, OfEach, then_does, answers}
+use Rattle.iot_exchange.specs.Pairs.{Asked, IsReady, KeepsDisks, Does, IfReplied, StaysUp}
+use Rattle.iot_exchange.proofs.DoesLaws.{StepsOn, at_as, OfEach, then_does, answers, FollowsNow}
 use Rattle.iot_exchange.proofs.StepsLaws.{bind, gets, asks, then_ends}
-use Rattle.std.proofs.Common.{◌<◌, ◌^◌, length, map, arith}
 use Rattle.std.specs.FinMap.{entries}
 use Rattle.std.specs.List.{filter_map}
 use Rattle.iot_kept.specs.Bringing.{brought}
@@ -31,13 +32,9 @@ use Rattle.iot_tree.specs.declared.want.Want.TheVariants as wanted
 use Rattle.iot_tree.proofs.RowLaws.{entries_rows, root_map, root_rows}
 use Rattle.iot_wire.proofs.MessagesLaws.{call_one}
 use Rattle.iot_wire.proofs.SpellingLaws.{reply_laws}
-use Rattle.iot_exchange.specs.Words.{AsksAll, FarDir, IsOneMessage, IsReply, IsWhole, Over, NoMemory, Row, Stamps, TakesStamps, new_client}
-use Rattle.iot_exchange.specs.Words.{nodes_of, nothing_held, reply_spelling, root_alone, stamps_in, stamps_of}
-use Rattle.iot_exchange.specs.Following.{Follows}
-use Rattle.iot_exchange.specs.Pairs.{IfReplied, LendsIfReplied, StaysUp}
-use Rattle.iot_exchange.proofs.DoesLaws.{FollowsNow}
-use Rattle.iot_exchange.proofs.FollowingLaws.{Grows, follows_nothing, follows_on, follows_refreshed, held_is, makes_cut}
-use Rattle.iot_exchange.proofs.FollowingLaws.{nodes_none, up_stamps}
+use Rattle.iot_judging.specs.Lists.{Follows}
+use Rattle.iot_judging.proofs.FollowingLaws.{Grows, follows_on}
+use Rattle.iot_exchange.proofs.FollowingLaws.{follows_nothing, follows_refreshed, held_is, makes_cut, nodes_none, up_stamps}
 
 -- what is so anyhow
 pub on_err : {T E P : Type 0} (r : Result T E) → P → IfErr r (λ _. P)

@@ -2,20 +2,16 @@
 -- resolved. What a client is told of one is what the machine says, and one that conflicts is resolved by the script that is planned for
 -- it, on the server's whole tree.
 use Rattle.std.proofs.Common.{◌≡◌, ℕ, true, false, List, [], ◌∷◌, ◌++◌, Some, None, Result, Ok, Err, refl, sym, ap, subst, ◌∙◌, codes, ◌<◌}
-use Rattle.std.proofs.Common.{length, Vec, Global, IsErrAnd, slice_get, slice_index_or, ◌^◌, IsSome, if◌then◌else◌}
+use Rattle.std.proofs.Common.{length, Vec, Global, IsErrAnd, slice_get, slice_index_or, IsSome, if◌then◌else◌}
 use Rattle.std.proofs.lemmas.Option.{same_Some, slice_get-get_or, slice_get_within}
 use Rattle.std.proofs.lemmas.List.{nil_from_length}
 use Rattle.std.specs.List.{AllByRecursion}
 use Rattle.std.specs.FinMap.{empty, entries, len-entries, len-empty}
-use Rattle.iot_tree.proofs.RowLaws.{root_map, entries_rows}
 use Rattle.iot_limits.proofs.SpelledLaws.{no_files_are_spelled}
-use Rattle.iot_wire.proofs.MessagesLaws.{call_one}
-use Rattle.iot_wire.proofs.SpellingLaws.{reply_laws}
-use Rattle.iot_machine.proofs.WholeLaws.{whole_comes}
 use Rattle.iot_access.specs.Access.{access_of}
-use Rattle.iot_laptop.proofs.LaptopsLaws.{HeadStands, head_stands}
+use Rattle.iot_standing.proofs.StatesLaws.{HeadStands, head_stands}
 use Rattle.iot_laptop.specs.Calls.{access_in}
-use Rattle.iot_laptop.specs.Kept.{access_by, access_kept}
+use Rattle.iot_standing.specs.Kept.{access_by, access_kept}
 use Rattle.iot_tree.specs.declared.access.Access.{Access}
 use Rattle.iot_tree.specs.declared.acts.Act.{Act}
 use Rattle.iot_tree.specs.declared.want.Want.TheVariants as wanted
@@ -26,25 +22,25 @@ use Rattle.iot_resolve.specs.declared.plan.Plan as plans
 use Rattle.iot_machine.specs.Clients as clients
 use Rattle.iot_machine.specs.Options as options
 use Rattle.iot_laptop.specs.declared.needs.Undecided.TheVariants as why
-use Rattle.iot_exchange.specs.Words.{Client, path_cmp, Row, root_alone, IsWhole, Read, Certified, known, is_known, paths_where, FarDir}
-use Rattle.iot_exchange.specs.Words.{reads_of, files_of, Resolution, IsSubmittedIn, way_of, IsOneMessage, IsReply, reply_spelling, Plan}
+use Rattle.iot_exchange.specs.Words.{Client, path_cmp, Read, Certified, reads_of, files_of, Resolution, IsSubmittedIn, way_of, Plan}
 use Rattle.iot_exchange.specs.Words.{new_client, plan_of, plan_by, local_run, CanResolve, IsPlanned, Synced, Stays, Unanswered, Submits}
 use Rattle.iot_exchange.specs.Words.{submits, resolves, sync_head, sync_at, IfManual, if_manual, is_manual, item_name, submission_of}
 use Rattle.iot_exchange.specs.Words.{NotesAloud, told, Moved, IsSubmission, decision, decision_on, undecided_word, acts_in, label_in}
 use Rattle.iot_exchange.specs.Words.{head_reads, head_option, IsHeadPlan, head_plan, Plans, ResolutionStands, StageStands, ItemStands}
 use Rattle.iot_exchange.specs.Words.{IsVerdict, ItemIsNamed, Undecided, Submitted, Nodes, ACT_LIMIT, Code, after_acts, Item, Stage, HeadIs}
-use Rattle.iot_exchange.specs.Words.{IsByHand, IsRefresh, Medium, Try, Asks, Then, Declared, reach, resolution_of, Pair, kept, OnConflict}
-use Rattle.iot_exchange.specs.Words.{line, transaction_name, manual_line, resolve_line, Syncs, Verdict, Conflict, Halt, Over, Transaction}
+use Rattle.iot_exchange.specs.Words.{IsByHand, Medium, Try, Asks, Then, Declared, reach, resolution_of, Pair, kept, OnConflict, line}
+use Rattle.iot_exchange.specs.Words.{transaction_name, manual_line, resolve_line, Syncs, Verdict, Conflict, Halt, Over, Transaction}
 use Rattle.iot_exchange.specs.Words.{Message, waits_of, head_name, HandsIn, AsksAll, ItemsStand, state_in, LaptopStands, name_of}
-use Rattle.iot_exchange.specs.Words.{SpellsVerdict, told_change, SpellsTree, BringsTree, option_named, script_named, HasNamed, Laptop}
-use Rattle.iot_exchange.specs.Words.{ServerNode, nothing_held}
+use Rattle.iot_exchange.specs.Words.{SpellsVerdict, told_change, SpellsTree, option_named, script_named, HasNamed, Laptop, ServerNode}
+use Rattle.iot_exchange.specs.Words.{nothing_held}
 use Rattle.iot_exchange.proofs.ExchangeLaws.{Replied, asks_whole, spells_whole, whole_query}
 use Rattle.iot_exchange.proofs.FollowingLaws.{nodes_none}
 use Rattle.iot_exchange.specs.Pairs.{Both, two, UpStands, KeepsDisks, Objects, Judgment, MissesAll, Does, AsksFor, Asked, IsReady}
 use Rattle.iot_exchange.specs.Pairs.{IsReadyWith}
 use Rattle.iot_exchange.specs.Saying.{synced_by, told_text, told_synced, resolver_said}
 use Rattle.iot_exchange.specs.declared.synced.Synced.{Synced as Sync}
-use Rattle.iot_exchange.specs.Queues.{First, IsCodeOf}
+use Rattle.iot_exchange.specs.Queues.{First}
+use Rattle.iot_standing.specs.Scripts.{IsCodeOf}
 use Rattle.iot_exchange.proofs.DoesLaws.{DoesFrom, each_from, still}
 use Rattle.iot_exchange.proofs.StepsLaws.{from, asks_from, then_from, says, refuses}
 

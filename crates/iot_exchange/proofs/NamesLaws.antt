@@ -8,8 +8,8 @@ use Rattle.iot_event.specs.declared.event.Choice.TheVariants as choices
 use Rattle.iot_tree.specs.declared.labels.OnConflict as named
 use Rattle.iot_exchange.specs.Words.{Choice, no_script, ResolverIsDeclared, Code, chosen, script_at, script_named, IsNamed, HasNamed}
 use Rattle.iot_exchange.specs.Words.{option_named}
-use Rattle.iot_exchange.specs.Queues.{IsCodeOf}
-use Rattle.iot_exchange.specs.Scripts.{script_of, scripts_of, AreApart, IsMeant}
+use Rattle.iot_standing.specs.Scripts.{IsCodeOf, AreApart, IsMeant}
+use Rattle.iot_exchange.specs.Scripts.{script_of, scripts_of}
 use Rattle.iot_exchange.specs.declared.declared.DeclaredScript.{DeclaredScript}
 
 -- looking a name up among scripts

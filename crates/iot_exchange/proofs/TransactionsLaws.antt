@@ -10,20 +10,20 @@ use Rattle.std.proofs.lemmas.List.{append-nil}
 use Rattle.iot_kept.specs.States.{Transaction}
 use Rattle.iot_judging.proofs.NextLaws.{is_at_end, is_at_limit, is_next}
 use Rattle.iot_machine.specs.Events.{said_of}
-use Rattle.iot_laptop.proofs.LaptopsLaws.{runs_is}
+use Rattle.iot_standing.proofs.StatesLaws.{runs_is}
 use Rattle.iot_queue.specs.declared.items.Stage.TheVariants as stages
 use Rattle.iot_machine.specs.Clients as clients
 use Rattle.iot_node.proofs.StepsToLaws as calls
-use Rattle.iot_laptop.proofs.LaptopsLaws as laptops
-use Rattle.iot_exchange.specs.Words.{KeepsTrails, UnlessNoMemory}
-use Rattle.iot_exchange.specs.Words.{ClientState, TakesStep, Path, RunLine, Live, class_by, is_over_if_any, may_end, Next, AtEnd, AtLimit}
-use Rattle.iot_exchange.specs.Words.{base, so_far, next_step, next_by, next_away, says_reads, place_text, stage_kept, items_kept, end_line}
-use Rattle.iot_exchange.specs.Words.{step_by, Ended, ended_of, syncs_or_waits, joins, Ends, Refuses, RunningStands, RunningStandsIfAny}
-use Rattle.iot_exchange.specs.Words.{live_in, NextIs, IsNext, IsOver, IsUnended, IsDoneIn, IsGone, Gone, Nodes, ACT_LIMIT, after_acts, Item}
-use Rattle.iot_exchange.specs.Words.{Stage, Step, Medium, Declared, end, act_once, ReadsOf, running_of, queue_kept, queue_text}
-use Rattle.iot_exchange.specs.Words.{transaction_name, begin_line, step_line, fetch_line, line, Try, Asks, Then, Client, Pair, kept, Notes}
-use Rattle.iot_exchange.specs.Words.{if_runs, fetched, next_of, step_of, Steps, end_by, Halt, KeepsDisk, NoMemory, Over, ServerNode}
-use Rattle.iot_exchange.specs.Words.{ItemsStand, LaptopStands, state_in, SamePlace, disk_in, Laptop, done, name_of}
+use Rattle.iot_standing.proofs.StatesLaws as laptops
+use Rattle.iot_exchange.specs.Words.{KeepsTrails, UnlessNoMemory, ClientState, TakesStep, Path, RunLine, Live, class_by, is_over_if_any}
+use Rattle.iot_exchange.specs.Words.{may_end, Next, AtEnd, AtLimit, base, so_far, next_step, next_by, next_away, says_reads, place_text}
+use Rattle.iot_exchange.specs.Words.{stage_kept, items_kept, end_line, step_by, Ended, ended_of, syncs_or_waits, joins, Ends, Refuses}
+use Rattle.iot_exchange.specs.Words.{RunningStands, RunningStandsIfAny, live_in, NextIs, IsNext, IsOver, IsUnended, IsDoneIn, IsGone, Gone}
+use Rattle.iot_exchange.specs.Words.{Nodes, ACT_LIMIT, after_acts, Item, Stage, Step, Medium, Declared, end, act_once, ReadsOf, running_of}
+use Rattle.iot_exchange.specs.Words.{queue_kept, queue_text, transaction_name, begin_line, step_line, fetch_line, line, Try, Asks, Then}
+use Rattle.iot_exchange.specs.Words.{Client, Pair, kept, Notes, if_runs, fetched, next_of, step_of, Steps, end_by, Halt, KeepsDisk}
+use Rattle.iot_exchange.specs.Words.{NoMemory, Over, ServerNode, ItemsStand, LaptopStands, state_in, SamePlace, disk_in, Laptop, done}
+use Rattle.iot_exchange.specs.Words.{name_of}
 use Rattle.iot_exchange.specs.Pairs.{Both, Does, two, UpStands, KeepsDisks}
 use Rattle.iot_exchange.specs.Saying.{place_said}
 use Rattle.iot_exchange.proofs.DoesLaws.{asks_then, OfEach, DoesFrom, goes_then, hands_on, then_does, each_from, from, refuses, tells}

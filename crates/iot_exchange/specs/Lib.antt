@@ -1,6 +1,5 @@
 pub mod Words
 pub mod Scripts
-pub mod Following
 pub mod Pairs
 pub mod Queues
 pub mod Saying

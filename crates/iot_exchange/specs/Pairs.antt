@@ -6,10 +6,10 @@ use Rattle.std.specs.Prelude.{◌+◌, ◌≡◌, ◌≤◌}
 use Rattle.iot_exchange.specs.Words.{Option, Vec, ℕ, List, None, Some, Result, slice_get, Medium, Nodes, Want, IsRefresh, Call, Try}
 use Rattle.iot_exchange.specs.Words.{Declared, Client, Commit, Pair, Node, Submission, Verdict, Lends, Judges, Exchange, KeepsDisk, StepsTo}
 use Rattle.iot_exchange.specs.Words.{Halt, SpellsVerdict, SpellsCut, KeepsRecords, ServerStands, IsHanded, IsNamedIn, disk_of, Message}
-use Rattle.iot_exchange.specs.Words.{ServerNode, Stands, LaptopStands, ClientStands, state_in, disk_in, Laptop}
-use Rattle.iot_exchange.specs.Words.{Stamps, nodes_of, is_up, stamps_in, stamps_of, true}
-use Rattle.iot_exchange.specs.Following.{Follows}
-use Rattle.iot_exchange.specs.Scripts.{IsMeant}
+use Rattle.iot_exchange.specs.Words.{ServerNode, Stands, LaptopStands, ClientStands, disk_in, Laptop, Stamps, nodes_of, is_up, stamps_in}
+use Rattle.iot_exchange.specs.Words.{stamps_of, true}
+use Rattle.iot_judging.specs.Lists.{Follows}
+use Rattle.iot_standing.specs.Scripts.{IsMeant}
 
 -- ---- a client and the server
 

@@ -1,7 +1,7 @@
 -- How the transactions that wait are synced.
 use Rattle.std.specs.Prelude.{◌≡◌, ◌∷◌}
-use Rattle.iot_exchange.specs.Words.{ℕ, Bool, List, Some, Code, Try, Asks, Answers, Then, Goes, either, Declared, is_drained, Refreshes}
-use Rattle.iot_exchange.specs.Words.{Pair, pends, sync_if, SyncsAll, script_named, Item, Laptop, Transaction, state_in}
+use Rattle.iot_exchange.specs.Words.{Bool, List, Some, Try, Asks, Answers, Then, Goes, either, is_drained, Refreshes, Pair, pends, sync_if}
+use Rattle.iot_exchange.specs.Words.{SyncsAll, Item, Laptop, Transaction, state_in}
 
 -- the first that waits has this name, and this is so of it
 pub record First {D : Type 0} (Is : Item → Type 0) (laptop : Laptop D) (t : Transaction) : Type 0 where
@@ -18,9 +18,3 @@ SyncsNext = Then (Asks pends) sync_if
 -- a drain, but for what it says if it has nothing to say
 abbrev pub DrainsQuietly : Try Pair (Unit {0})
 DrainsQuietly = Goes SyncsAll (λ _. Then (Asks is_drained) (either Refreshes (Answers (Some tt))))
-
--- the script of this name is declared, with this code
-pub record IsCodeOf (name : List ℕ) (scripts : List Declared) (code : Code) : Type 0 where
-  pub script : Declared
-  pub is : script_named name scripts ≡ Some script
-  pub has : script.code ≡ code

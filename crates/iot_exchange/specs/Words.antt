@@ -74,15 +74,20 @@ pub use Rattle.iot_server_node.specs.declared.message.Message.{Message}
 pub use Rattle.iot_server_node.specs.declared.server.Served.{Served}
 pub use Rattle.iot_server_node.specs.declared.server.ServerNode.{ServerNode}
 pub use Rattle.iot_laptop.specs.Alone.{NotesAlone, StartsAlone, set_class}
-pub use Rattle.iot_laptop.specs.Calls.{AsksAll, EndsAlone, HandsIn, IsDoneIn, IsGone, IsHeadPlan, IsNext, IsOver, IsUnended, NextIs, Plans}
-pub use Rattle.iot_laptop.specs.Calls.{TakesStep, acts_in, decision, decision_on, done, head_name, head_option, head_plan, head_reads}
+pub use Rattle.iot_laptop.specs.Calls.{AsksAll, EndsAlone, HandsIn, IsDoneIn, IsGone, IsHeadPlan, IsNext, NextIs, Plans}
+pub use Rattle.iot_standing.specs.States.{IsOver, IsUnended}
+pub use Rattle.iot_laptop.specs.Calls.{TakesStep, acts_in, decision, decision_on, done, head_name, head_reads}
+pub use Rattle.iot_standing.specs.States.{head_option, head_plan}
 pub use Rattle.iot_laptop.specs.Calls.{TakesStamps, UnlessNoMemory, label_in, undecided_word}
-pub use Rattle.iot_laptop.specs.Kept.{ItemStands, ItemsStand, ResolutionStands, StageStands}
-pub use Rattle.iot_laptop.specs.Laptops.{ClientStands, IsFirst, IsFree, LaptopStands, Relinked, RunningStands, RunningStandsIfAny}
+pub use Rattle.iot_standing.specs.Kept.{ItemStands, ItemsStand, ResolutionStands, StageStands}
+pub use Rattle.iot_laptop.specs.Laptops.{ClientStands, IsFirst, LaptopStands, Relinked}
+pub use Rattle.iot_standing.specs.States.{IsFree, RunningStands, RunningStandsIfAny}
 pub use Rattle.iot_laptop.specs.Laptops.{SamePlace, Stands, StandsAnyhow, after_passage, awake, disk_in, fallen, is_alive, live_in}
-pub use Rattle.iot_laptop.specs.Laptops.{KeepsTrails, stamps_in, state_in, waits_of}
-pub use Rattle.iot_laptop.specs.Messages.{BringsTree, IsVerdict, SpellsTree, told_change, verdict_of}
-pub use Rattle.iot_laptop.specs.Scripts.{HasNamed, IsNamed, ItemIsNamed, option_named, script_named}
+pub use Rattle.iot_laptop.specs.Laptops.{KeepsTrails, stamps_in, state_in}
+pub use Rattle.iot_standing.specs.States.{waits_of}
+pub use Rattle.iot_laptop.specs.Messages.{BringsTree, IsVerdict, SpellsTree, verdict_of}
+pub use Rattle.iot_standing.specs.States.{told_change}
+pub use Rattle.iot_standing.specs.Scripts.{HasNamed, IsNamed, ItemIsNamed, option_named, script_named}
 pub use Rattle.iot_laptop.specs.declared.laptop.Laptop.{Laptop}
 pub use Rattle.iot_laptop.specs.declared.needs.Gone.{Gone}
 pub use Rattle.iot_laptop.specs.declared.needs.Submitted.{Submitted}

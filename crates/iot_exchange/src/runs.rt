@@ -1,6 +1,7 @@
 //! A whole run of a script, as a transaction.
 ghost use Rattle.iot_exchange.specs.Words.{Runs, Declared, runs_script, OnConflict as Chosen};
-ghost use Rattle.iot_exchange.specs.Scripts.{script_of, scripts_of, Means, IsMeant};
+ghost use Rattle.iot_exchange.specs.Scripts.{script_of, scripts_of};
+ghost use Rattle.iot_standing.specs.Scripts.{Means, IsMeant};
 ghost use Rattle.iot_exchange.specs.Pairs.{two, IsReadyWith, Does};
 
 use crate::declared::DeclaredScript;

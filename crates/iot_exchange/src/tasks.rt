@@ -1,7 +1,8 @@
 //! What a client is asked to do.
 ghost use Rattle.std.specs.Prelude.{◌≡◌};
 ghost use Rattle.iot_exchange.specs.Words.{task_part, ℕ, List, OnOk, length, ResolverIsDeclared, option_named, chosen, IfUp, StepsTo};
-ghost use Rattle.iot_exchange.specs.Scripts.{scripts_of, AreApart, MayDo};
+ghost use Rattle.iot_exchange.specs.Scripts.{scripts_of, MayDo};
+ghost use Rattle.iot_standing.specs.Scripts.{AreApart};
 ghost use Rattle.iot_exchange.specs.Pairs.{two, AnyStands, IsStandingWith, IsReadyWith, KeepsDisks, Does};
 
 use crate::decisions::{discard, repair};

@@ -4,7 +4,8 @@ ghost use Rattle.std.specs.Prelude.{◌≡◌};
 ghost use Rattle.iot_exchange.specs.Words.{KeepsTrails, UnlessNoMemory};
 ghost use Rattle.iot_exchange.specs.Words.{Begins, BeginsAloud, StepsAloud, Ends, List, None, [], true, Repeats, Declared};
 ghost use Rattle.iot_exchange.specs.Words.{OnConflict as Chosen, Steps, Stands, SamePlace, state_in, disk_in, KeepsDisk};
-ghost use Rattle.iot_exchange.specs.Scripts.{script_of, scripts_of, Means};
+ghost use Rattle.iot_exchange.specs.Scripts.{script_of, scripts_of};
+ghost use Rattle.iot_standing.specs.Scripts.{Means};
 ghost use Rattle.iot_exchange.specs.Pairs.{two, IsReady, IsReadyWith, IsReadyFor, Does};
 
 use crate::declared::DeclaredScript;

@@ -5,3 +5,5 @@ pub mod ReadPlaceLaws
 pub mod NextLaws
 pub mod RunTreesLaws
 pub mod ToldLaws
+pub mod ListsLaws
+pub mod FollowingLaws

@@ -1,3 +1,4 @@
 pub mod Entries
 pub mod Told
 pub mod Verdicts
+pub mod Lists

@@ -1,4 +1,5 @@
-//! What certification says of the runs of the plain machine's clients, and which trees have spellings: definitions and laws.
+//! What certification says of the runs of the plain machine's clients, which trees have spellings, and what lists of commits make:
+//! definitions and laws.
 #![tactic(auto)]
 
 mod laws;

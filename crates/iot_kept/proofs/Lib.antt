@@ -8,3 +8,4 @@ pub mod OneStateLaws
 pub mod SyncedLaws
 pub mod ContinuingLaws
 pub mod BringingLaws
+pub mod TrailsLaws

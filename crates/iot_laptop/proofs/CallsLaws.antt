@@ -2,11 +2,9 @@
 -- change, or a stop in it.
 use Rattle.std.proofs.lemmas.Result.{IfOk-weaker, IfOk-at_ok}
 use Rattle.std.proofs.Common.{◌≡◌, ◌+◌, ℕ, Bool, true, false, List, [], ◌∷◌, ◌++◌, length, Option, Some, None, Result, Ok, Err, inl, inr}
-use Rattle.std.proofs.Common.{refl, sym, ap, subst, ◌∙◌, length-append, rules, if◌then◌else◌, zero, suc, ◌-◌, ◌<◌, slice_get, arith}
+use Rattle.std.proofs.Common.{refl, sym, ap, subst, ◌∙◌, length-append, rules, zero, suc, ◌-◌, ◌<◌, slice_get, arith}
 use Rattle.std.specs.Prelude.{IfOk, OnOk, IsErrOf, IfErr}
 use Rattle.std.proofs.lemmas.List.{append-nil}
-use Rattle.std.specs.FinMap.{get, entries}
-use Rattle.std.specs.List.{AllByRecursion, list_all}
 use Rattle.std.proofs.lemmas.Option.{slice_get_within, same_Some}
 use Rattle.iot_access.specs.Access.{access_of}
 use Rattle.iot_laptop.specs.Below.{Try, Nodes, IsTree, IsSpelledTree, IsScript, Resolved, State, opening, acts_of, CanFollow, after, Notes}
@@ -15,7 +13,8 @@ use Rattle.iot_laptop.specs.Below.{ClientFault, Stopped, Medium, Declared, Clien
 use Rattle.iot_laptop.specs.Below.{KeepsDisk, Appended, UpStands, StepsFrom, Answered, is_on, StepsTo, Halt, NoMemory, Over, Post, Up}
 use Rattle.iot_laptop.specs.Below.{Between, no_text, name_of, SpellsVerdict, Laptop, Seated, Read, Resolution, Code, Ran, IsHeadsRun}
 use Rattle.iot_laptop.specs.Below.{may_end, verdict_change, CanAct, next_acts, StepIs, Plan, act_once, reach, resolution_of}
-use Rattle.iot_laptop.specs.Below.{transaction_name, acts_output, Gone, Act, Step, Path, FarDir, Item, HeadIs, Spells, reads_of, head_of}
+use Rattle.iot_laptop.specs.Below.{transaction_name, acts_output, Gone, Act, Step, Path, Item, Spells, reads_of, head_of, Stamps, nodes_of}
+use Rattle.iot_laptop.specs.Below.{stamps_of, brought, nothing_held}
 use Rattle.iot_client.specs.Messages.{ReadsObjects, ReadsNoted, noted_in, objects_in, Makes, no_tree, no_changes}
 use Rattle.iot_codec.specs.Rules.{IsTreeOfRows}
 use Rattle.iot_kept.specs.Bringing.{brought_for, bringing}
@@ -23,10 +22,10 @@ use Rattle.iot_kept.specs.declared.bringing.Purpose.{Purpose}
 use Rattle.iot_kept.proofs.BringingLaws.{brought_spelled}
 use Rattle.iot_kept.proofs.SyncedLaws.{synced_spelled}
 use Rattle.iot_tree.specs.declared.changes.Changes.{Changes as RowChanges}
-use Rattle.iot_laptop.specs.Below.{Stamps, nodes_of, stamps_of, brought, nothing_held}
-use Rattle.iot_laptop.specs.Laptops.{stamps_by, stamps_in, NodeStands, LaptopStands, ClientStands, StateStands, state_by, live_by}
-use Rattle.iot_laptop.specs.Laptops.{records_in, records_by, disk_by, state_in, live_in, waits_of, IsFirstOf}
-use Rattle.iot_laptop.proofs.TrailsLaws.{same_changes}
+use Rattle.iot_laptop.specs.Laptops.{stamps_by, stamps_in, NodeStands, LaptopStands, ClientStands, live_by, records_in, records_by, disk_by}
+use Rattle.iot_laptop.specs.Laptops.{state_in, live_in, IsFirstOf}
+use Rattle.iot_standing.specs.States.{StateStands, waits_of, head_option, told_change}
+use Rattle.iot_client.proofs.TrailsLaws.{same_changes}
 use Rattle.iot_machine.proofs.PossiblyLaws.{possibly_sure, appends_possibly}
 use Rattle.iot_node.proofs.PostsLaws.{same_counts}
 use Rattle.iot_node.proofs.StepsToLaws.{bind, answers}
@@ -58,15 +57,15 @@ use Rattle.iot_tree.specs.declared.want.Want.TheVariants as wants
 use Rattle.iot_client.specs.declared.fault.ClientFault.TheVariants as faults
 use Rattle.iot_laptop.specs.Alone.{NotesAlone}
 use Rattle.iot_laptop.specs.Calls.{appended, done, EndsAlone, GoesOn, Changes, Begins, Repairs, Plans, TakesStep, NextIs, IsDoneIn, IsGone}
-use Rattle.iot_laptop.specs.Calls.{TakesVerdict, head_option, head_reads, acts_in}
-use Rattle.iot_laptop.specs.Kept.{StateKept}
-use Rattle.iot_laptop.specs.Messages.{SpellsTree, told_change, IsVerdict}
-use Rattle.iot_laptop.specs.Scripts.{AreNamed}
+use Rattle.iot_laptop.specs.Calls.{TakesVerdict, head_reads, acts_in}
+use Rattle.iot_standing.specs.Kept.{StateKept}
+use Rattle.iot_laptop.specs.Messages.{SpellsTree, IsVerdict}
+use Rattle.iot_standing.specs.Scripts.{AreNamed}
 use Rattle.iot_laptop.specs.Seats.{seating}
-use Rattle.iot_laptop.proofs.KeptStatesLaws.{KeptLive, live_then, begun_live, left_live, repaired_live, ended_live, noted_as, told_live}
-use Rattle.iot_laptop.proofs.KeptStatesLaws.{joined_waits, acted_live, resolved_live}
+use Rattle.iot_standing.proofs.KeptLaws.{KeptLive, live_then, begun_live, left_live, repaired_live, ended_live, noted_as, told_live}
+use Rattle.iot_standing.proofs.KeptLaws.{joined_waits, acted_live, resolved_live}
 use Rattle.iot_laptop.proofs.NodesLaws.{Posted, not_both, up_stands, awake_at, fallen_at, at_node, own_in, at_post}
-use Rattle.iot_laptop.proofs.LaptopsLaws.{Running, running_is, so_far_is, may_end_is, next_is, acts_is}
+use Rattle.iot_standing.proofs.StatesLaws.{Running, running_is, so_far_is, may_end_is, next_is, acts_is}
 use Rattle.iot_laptop.specs.Calls as calls
 
 -- ---- trees

@@ -1,7 +1,5 @@
 pub mod CallsLaws
 pub mod TrailsLaws
-pub mod KeptStatesLaws
-pub mod LaptopsLaws
 pub mod NodesLaws
 pub mod RestartLaws
 pub mod SeatsLaws

@@ -9,12 +9,13 @@ use Rattle.iot_node.proofs.PostsLaws.{on_has, on_is}
 use Rattle.iot_client.specs.Ties as client
 use Rattle.iot_machine.specs.Clients as clients
 use Rattle.iot_machine.specs.Machine as machine
-use Rattle.iot_laptop.specs.Kept.{StateKept}
-use Rattle.iot_laptop.specs.Laptops.{LaptopStands, FallenStands, ClientStands, awake, fallen, RunningStandsIfAny, StateStands, Stands}
-use Rattle.iot_laptop.specs.Laptops.{StandsAnyhow, IsLent, state_by, live_by, is_alive, state_in, live_in, NodeStands}
-use Rattle.iot_laptop.specs.Scripts.{AreNamed}
+use Rattle.iot_standing.specs.Kept.{StateKept}
+use Rattle.iot_laptop.specs.Laptops.{LaptopStands, FallenStands, ClientStands, awake, fallen, Stands, StandsAnyhow, IsLent, state_by}
+use Rattle.iot_laptop.specs.Laptops.{live_by, is_alive, state_in, live_in, NodeStands}
+use Rattle.iot_standing.specs.States.{RunningStandsIfAny, StateStands}
+use Rattle.iot_standing.specs.Scripts.{AreNamed}
 use Rattle.iot_laptop.specs.Seats.{seating}
-use Rattle.iot_laptop.proofs.KeptStatesLaws.{live_with, stands_with}
+use Rattle.iot_standing.proofs.KeptLaws.{live_with, stands_with}
 
 pub not_both : true ≡ false → ⊥
 not_both e = cc

@@ -36,14 +36,13 @@ use Rattle.iot_node.specs.Posts as posts
 use Rattle.iot_node.specs.declared.lines.Transaction as names
 use Rattle.iot_link.specs.Links as links
 use Rattle.iot_laptop.specs.Calls.{GoesOn, ReturnedStands, Returned, Came, running_name}
-use Rattle.iot_laptop.specs.Kept.{RunningKeptIfAny, StateKept}
+use Rattle.iot_standing.specs.Kept.{RunningKeptIfAny, StateKept}
 use Rattle.iot_laptop.specs.Laptops.{LaptopStands, FallenStands, ClientStands, awake, StandsAnyhow, is_alive, disk_by, state_in, live_by}
-use Rattle.iot_laptop.specs.Laptops.{state_by, fallen, Stands, Relinked, IsSecondNow, IsCutLink, after_passage}
-use Rattle.iot_laptop.specs.Laptops.{IsUnopened, unopened_laptop}
-use Rattle.iot_laptop.specs.Scripts.{AreNamed}
+use Rattle.iot_laptop.specs.Laptops.{state_by, fallen, Stands, Relinked, IsSecondNow, IsCutLink, after_passage, IsUnopened, unopened_laptop}
+use Rattle.iot_standing.specs.Scripts.{AreNamed}
 use Rattle.iot_laptop.specs.Seats.{seating, Besides, besides, none_besides, IsClientImage}
 use Rattle.iot_laptop.proofs.CallsLaws.{keeps_post, Behaves, Before, Fits, goes_at, halts_at, fits_with}
-use Rattle.iot_laptop.proofs.KeptStatesLaws.{live_with, cut_live, live_then, second_live, idle_is, idle_runs}
+use Rattle.iot_standing.proofs.KeptLaws.{live_with, cut_live, live_then, second_live, idle_is, idle_runs}
 use Rattle.iot_laptop.proofs.NodesLaws.{Posted, not_both, kept_up, node_stands, fallen_stands, awake_stands, awake_at, fallen_at, at_node}
 use Rattle.iot_laptop.proofs.NodesLaws.{same_name, same_link, may_be_named}
 use Rattle.iot_laptop.specs.Alone.{OpensClient}

@@ -9,11 +9,11 @@ use Rattle.iot_journal.specs.Images.{EachDecodes}
 use Rattle.iot_node.specs.Keeping.{EachIs, Comes, Fails, CountsStart}
 use Rattle.iot_disk.specs.declared.faults.StartFault.TheVariants as faults
 use Rattle.iot_kept.specs.Causes as kept_causes
-use Rattle.iot_laptop.specs.Kept.{StateKept}
+use Rattle.iot_standing.specs.Kept.{StateKept}
 use Rattle.iot_stamp.specs.Stamps.{unstamped}
 use Rattle.iot_laptop.specs.Seats.{IsSeated, IsClientImage, seating, besides, none_besides}
-use Rattle.iot_laptop.specs.Trails.{lent_stamps}
-use Rattle.iot_laptop.proofs.TrailsLaws.{none_lent}
+use Rattle.iot_stamp.specs.Trails.{lent_stamps}
+use Rattle.iot_stamp.proofs.TrailsLaws.{none_lent}
 
 -- images that decode as one does which is what the client keeps are that too
 same_images : (images : List ℕ → Type 0) (bytes : List ℕ) (count : ℕ) (m : ClientState) → EachDecodes images (decoded bytes)

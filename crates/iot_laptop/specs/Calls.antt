@@ -4,11 +4,10 @@ use Rattle.std.specs.Prelude.{IsErrOf}
 use Rattle.iot_access.specs.Access.{access_of, lines_of}
 use Rattle.iot_tree.specs.declared.access.Access.{Access}
 use Rattle.iot_laptop.specs.Below.{reads_of, Nodes, State, Act, Read, Item, Stage, Transaction, IsRefresh, records_of, ClientFault, Step}
-use Rattle.iot_laptop.specs.Below.{Medium}
-use Rattle.iot_laptop.specs.Below.{Declared, ClientState, base, so_far, act_once, repair, reach, Plan, resolution_of, Acts, next_step}
-use Rattle.iot_laptop.specs.Below.{transaction_name, acts_output, stopped_line, no_text, Node, Appends, Appended, CameIf, Answered}
-use Rattle.iot_laptop.specs.Below.{StepsFrom, PostStands, UpStands, Up, Halt, NoMemory, Over, Try, name_of, SpellsVerdict, Laptop, Gone}
-use Rattle.iot_laptop.specs.Below.{Seated, Spells, brought, nothing_held}
+use Rattle.iot_laptop.specs.Below.{Medium, Declared, ClientState, base, so_far, act_once, repair, reach, Plan, resolution_of, Acts}
+use Rattle.iot_laptop.specs.Below.{next_step, transaction_name, acts_output, stopped_line, no_text, Node, Appends, Appended, CameIf}
+use Rattle.iot_laptop.specs.Below.{Answered, StepsFrom, PostStands, UpStands, Up, Halt, NoMemory, Over, Try, name_of, SpellsVerdict, Laptop}
+use Rattle.iot_laptop.specs.Below.{Gone, Seated, Spells, brought, nothing_held}
 use Rattle.iot_tree.specs.declared.changes.Changes.{Changes as RowChanges}
 use Rattle.iot_wire.specs.declared.replies.Reply.TheVariants as replies
 use Rattle.iot_tree.specs.declared.labels.Label.{Label}
@@ -20,7 +19,7 @@ use Rattle.iot_wire.specs.declared.requests.Request.TheVariants.{Commit}
 use Rattle.iot_kept.specs.Changes.{IsSubmitted}
 use Rattle.iot_client.specs.Messages.{IsWholeRequest, label_of, resolved_label}
 use Rattle.iot_disk.specs.declared.faults.JournalFault.{JournalFault}
-use Rattle.iot_machine.specs.Clients.{plan_of, Next, AtEnd, AtLimit, Fetches}
+use Rattle.iot_machine.specs.Clients.{plan_of, Next}
 use Rattle.iot_node.specs.Steps.{Ends}
 use Rattle.iot_tree.specs.declared.want.Want.TheVariants as wanted
 use Rattle.iot_queue.specs.declared.items.Stage.TheVariants as stages
@@ -35,9 +34,10 @@ use Rattle.iot_machine.specs.Options as options
 use Rattle.iot_machine.specs.Serving as serving
 use Rattle.iot_node.specs.declared.lines.Transaction as names
 use Rattle.iot_laptop.specs.Alone.{NotesAlone, StartsAlone}
-use Rattle.iot_laptop.specs.Laptops.{LaptopStands, ClientStands, NodeStands, state_in, stamps_in, live_in, waits_of, IsFirst}
-use Rattle.iot_laptop.specs.Messages.{verdict_of, told_change}
-use Rattle.iot_laptop.specs.Scripts.{IsNamed, HasNamed, AreNamed, option_named}
+use Rattle.iot_laptop.specs.Laptops.{LaptopStands, ClientStands, NodeStands, state_in, stamps_in, live_in, IsFirst}
+use Rattle.iot_standing.specs.States.{waits_of, told_change, IsOver, head_option, head_plan, next_as}
+use Rattle.iot_laptop.specs.Messages.{verdict_of}
+use Rattle.iot_standing.specs.Scripts.{IsNamed, HasNamed, AreNamed, option_named}
 use Rattle.iot_laptop.specs.Seats.{seating}
 use Rattle.iot_laptop.specs.declared.needs.Need.{Need}
 use Rattle.iot_laptop.specs.declared.needs.Submitted.{Submitted}
@@ -116,11 +116,6 @@ Repairs medium name old new x y result =
     (scripts : List Declared) (script : Declared) → IsNamed scripts script → script.name ≡ name
     → EndsAlone medium scripts (NotesAlone (repair script)) old new x y result
 
--- what the machine plans for its first that waits
-abbrev pub head_plan : (held : Nodes) → List clients.Item → Option Plan
-head_plan held [] = None
-head_plan held (m ∷ ms) = plan_of held m
-
 -- each client for which it stands plans this for its first that waits
 abbrev pub Plans : {D : Type 0} → Medium D → List Declared → Laptop D → Plan → Type 0
 Plans medium scripts laptop plan =
@@ -139,10 +134,6 @@ Resolves medium scripts plan t old new x y result =
 abbrev pub head_name : {D : Type 0} → Laptop D → List Item → Option names.Transaction
 head_name laptop [] = None
 head_name laptop (item ∷ items) = Some (record { client = laptop.name; number = item.tid })
-
-abbrev pub head_option : List Item → Option OnConflict
-head_option [] = None
-head_option (item ∷ items) = Some item.option
 
 -- the first that waits, if it is to be decided by hand
 abbrev pub decision_on : {D : Type 0} → Laptop D → Item → Stage → Result names.Transaction Undecided
@@ -204,13 +195,6 @@ IsNeed laptop item needs.Decision = item.stage ≡ stages.Manual
 
 -- ---- single steps
 
--- what the machine's next step is if the client's is this one
-abbrev pub next_as : Step → Next
-next_as (steps.Acted acts ended) = Acts
-next_as (steps.Fetch request path) = Fetches path
-next_as (steps.AtEnd acts) = AtEnd
-next_as (steps.AtLimit acts) = AtLimit
-
 -- this is the next step of each client for which it stands
 abbrev pub IsNext : {D : Type 0} → Medium D → Laptop D → Next → Type 0
 IsNext medium laptop next =
@@ -233,16 +217,6 @@ TakesStep medium old new x y (Ok over) = (new ≡ old) × (y ≡ x)
 TakesStep medium old new x y (Err halt) = Changes medium act_once old new x y (Err halt)
 
 -- ---- the end
-
-abbrev pub IsOver : Next → Type 0
-IsOver AtEnd = Unit {0}
-IsOver AtLimit = Unit {0}
-IsOver other = ⊥
-
-abbrev pub IsUnended : Next → Type 0
-IsUnended AtEnd = ⊥
-IsUnended AtLimit = ⊥
-IsUnended other = Unit {0}
 
 -- each client for which it stands has done all that its transaction may do
 abbrev pub IsDoneIn : {D : Type 0} → Medium D → Laptop D → Type 0

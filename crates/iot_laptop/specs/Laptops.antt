@@ -1,9 +1,8 @@
 -- Which client of the machine a laptop stands for.
-use Rattle.std.specs.Prelude.{◌≡◌, ℕ, Bool, true, false, List, [], ◌∷◌, length, Option, Some, None}
-use Rattle.iot_laptop.specs.Below.{Nodes, IsTree, IsScript, IsSpelledTree, Item, Transaction, State, opening, Live, Client, Medium, Passage}
-use Rattle.iot_laptop.specs.Below.{Declared, ClientState, new_client, unopened, Possibly, IsEmpty, is_on, PostStands, Post, Up, Down}
-use Rattle.iot_laptop.specs.Below.{no_text, Laptop, Seated, Stamps, nothing_held}
-use Rattle.iot_laptop.specs.Trails.{KeepsTrail}
+use Rattle.std.specs.Prelude.{◌≡◌, ℕ, Bool, true, false, List, Option, Some, None}
+use Rattle.iot_laptop.specs.Below.{Nodes, State, opening, Live, Client, Medium, Passage, Declared, new_client, unopened, Possibly, IsEmpty}
+use Rattle.iot_laptop.specs.Below.{is_on, PostStands, Post, Up, Down, no_text, Laptop, Seated, Stamps, nothing_held}
+use Rattle.iot_stamp.specs.Trails.{KeepsTrail}
 use Rattle.iot_machine.specs.Machine.{break, cut_off}
 use Rattle.iot_machine.specs.Clients.{view}
 use Rattle.iot_machine.specs.Nodes.{Counts}
@@ -11,13 +10,10 @@ use Rattle.iot_node.specs.Posts.{disk_of}
 use Rattle.iot_client.specs.Ties as client
 use Rattle.iot_link.specs.Links as link
 use Rattle.iot_link.specs.declared.passages.Passage.TheVariants as passages
-use Rattle.iot_machine.specs.Clients as clients
 use Rattle.iot_machine.specs.Machine as machine
-use Rattle.iot_laptop.specs.Kept.{ItemsStand, access_kept}
-use Rattle.iot_laptop.specs.Scripts.{AreNamed, option_named}
+use Rattle.iot_standing.specs.Scripts.{AreNamed}
 use Rattle.iot_laptop.specs.Seats.{seating}
-pub use Rattle.iot_laptop.specs.Kept.{AreWaiting, OthersWait, access_by, access_kept}
-pub use Rattle.iot_laptop.specs.Kept.{ResolutionStands, StageStands, ItemStands, ItemsStand, RunningKept, RunningKeptIfAny, StateKept}
+use Rattle.iot_standing.specs.States.{StateStands}
 
 -- ---- what a laptop has
 
@@ -71,33 +67,6 @@ disk_in laptop = disk_by laptop.post
 -- what it had of a server's stamps, it still has
 abbrev pub KeepsTrails : {D : Type 0} → Laptop D → Laptop D → Type 0
 KeepsTrails old new = KeepsTrail (stamps_in old) (stamps_in new)
-
--- ---- what is live
-
--- the running transaction, its class and its script
-pub record RunningStands (running : Transaction) (live : Live) (first : Bool) (m : clients.Running) : Type 0 where
-  pub number : running.number ≡ m.number
-  pub name : running.script ≡ m.script.name
-  pub code : live.code ≡ m.script.code
-  pub script : IsScript m.script.code
-  pub acts : length running.acts ≡ m.acts
-  pub option : running.option ≡ option_named m.option
-  pub class : live.first ≡ first
-
-abbrev pub RunningStandsIfAny : Option Transaction → Option Live → Bool → Option clients.Running → Type 0
-RunningStandsIfAny None live first None = live ≡ None
-RunningStandsIfAny (Some running) live first None = ⊥
-RunningStandsIfAny (Some running) (Some live) first (Some m) = RunningStands running live first m
-RunningStandsIfAny running live first m = ⊥
-
-pub record StateStands (state : State) (live : Option Live) (first : Bool) (m : ClientState) : Type 0 where
-  pub held : state.held ≡ m.held
-  pub items : ItemsStand state.items state.held m.items
-  pub running : RunningStandsIfAny state.running live first m.running
-  pub last : state.last ≡ m.last
-  pub tree : IsTree state.held
-  pub spelled : IsSpelledTree state.held
-  pub access : state.access ≡ access_kept m.items
 
 -- ---- a laptop
 
@@ -159,16 +128,6 @@ pub record IsUnopened {D : Type 0} (medium : Medium D) (laptop : Laptop D) : Typ
   pub disk : D
   pub down : laptop.post ≡ Down (record { disk = disk; doubt = None })
   pub empty : IsEmpty medium disk
-
--- whether transactions wait
-abbrev pub waits_of : List Item → Bool
-waits_of [] = false
-waits_of (item ∷ items) = true
-
--- no transaction runs or waits
-pub record IsFree (state : State) : Type 0 where
-  pub idle : state.running ≡ None
-  pub none : state.items ≡ []
 
 -- a transaction runs, and it is first class
 abbrev pub IsFirstOf : Option Live → Type 0

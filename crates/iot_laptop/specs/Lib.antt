@@ -1,9 +1,6 @@
 pub mod Alone
 pub mod Below
 pub mod Calls
-pub mod Kept
-pub mod Trails
 pub mod Laptops
 pub mod Messages
-pub mod Scripts
 pub mod Seats

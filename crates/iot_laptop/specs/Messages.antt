@@ -1,11 +1,7 @@
 -- What the server's replies say, and what becomes of a transaction by what its client is told.
 use Rattle.std.specs.Prelude.{◌≡◌, ℕ, List}
-use Rattle.iot_laptop.specs.Below.{Nodes, IsTree, Stamps, nodes_of, brought, Changes, Read, ClientState, leave, reach, Spells}
-use Rattle.iot_laptop.specs.Below.{SpellsVerdict}
-use Rattle.iot_tree.specs.declared.labels.OnConflict.{OnConflict}
-use Rattle.iot_tree.specs.declared.labels.OnConflict.TheVariants.{Reexec, Resolver, Abort, Manual}
+use Rattle.iot_laptop.specs.Below.{Nodes, IsTree, Stamps, nodes_of, brought, Changes, Read, Spells, SpellsVerdict}
 use Rattle.iot_wire.specs.declared.replies.Reply.TheVariants as replies
-use Rattle.iot_machine.specs.Clients as stages
 use Rattle.iot_machine.specs.Serving as serving
 use Rattle.iot_laptop.specs.declared.verdict.Verdict.{Verdict}
 use Rattle.iot_laptop.specs.declared.verdict.Verdict.TheVariants.{Settled, Conflict}
@@ -33,13 +29,3 @@ pub record BringsTree (held : Stamps) (bytes : List ℕ) : Type 0 where
 abbrev pub verdict_of : Verdict → serving.Verdict
 verdict_of (Settled number) = serving.Settled number
 verdict_of (Conflict read question) = serving.Conflict read question
-
--- ---- what a client is told
-
--- what becomes of the transaction, by its option
-abbrev pub told_change : serving.Verdict → OnConflict → ClientState → ClientState
-told_change (serving.Settled number) option = leave
-told_change (serving.Conflict read question) Reexec = reach stages.Conflict
-told_change (serving.Conflict read question) (Resolver script) = reach stages.Conflict
-told_change (serving.Conflict read question) Abort = leave
-told_change (serving.Conflict read question) Manual = reach stages.Manual

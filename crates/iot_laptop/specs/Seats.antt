@@ -2,8 +2,8 @@
 use Rattle.std.specs.Prelude.{◌≡◌, ℕ, List, Option, None, length}
 use Rattle.iot_laptop.specs.Below.{Live, state_of, place_of, disk_of, records_of, live_of, stamps_of, Stamps, IsTied, Medium, State}
 use Rattle.iot_laptop.specs.Below.{StandFor, ClientState, Keeping, Seated}
-use Rattle.iot_laptop.specs.Kept.{StateKept}
-use Rattle.iot_laptop.specs.Trails.{lent_stamps}
+use Rattle.iot_standing.specs.Kept.{StateKept}
+use Rattle.iot_stamp.specs.Trails.{lent_stamps}
 
 -- it knows its place, its state is tied to its disk, which has so many records, and that is what a client of the machine keeps
 pub record IsSeated {D : Type 0} (medium : Medium D) (place : ℕ) (seated : Seated D) (count : ℕ) (m : ClientState) : Type 0 where

@@ -21,7 +21,8 @@ use std::alloc::Global;
 use std::rc::Rc;
 
 impl<D: Disk> Laptop<D> {
-    ghost use Rattle.iot_laptop.specs.Laptops.{Stands, SamePlace, IsFirst, IsFree, KeepsTrails, is_alive, state_in, stamps_in, live_in};
+    ghost use Rattle.iot_laptop.specs.Laptops.{Stands, SamePlace, IsFirst, KeepsTrails, is_alive, state_in, stamps_in, live_in};
+    ghost use Rattle.iot_standing.specs.States.{IsFree};
     ghost use Rattle.iot_laptop.specs.Laptops.{disk_in};
     ghost use Rattle.iot_laptop.specs.Calls.{Changes, Begins, Repairs, Plans, Resolves, NextIs, TakesStep, IsDoneIn, IsGone, waits_after};
     ghost use Rattle.iot_laptop.specs.Calls.{IsTold, TakesVerdict, TakesStamps, UnlessNoMemory, GoesOn, head_reads};

@@ -20,7 +20,8 @@ use iot_tree::{Act, OnConflict, Way};
 use std::alloc::Global;
 
 impl<D: Disk> Laptop<D> {
-    ghost use Rattle.iot_laptop.specs.Laptops.{Stands, state_in, waits_of};
+    ghost use Rattle.iot_laptop.specs.Laptops.{Stands, state_in};
+    ghost use Rattle.iot_standing.specs.States.{waits_of};
     ghost use Rattle.iot_laptop.specs.Calls.{head_name, decision, decision_on, IsNeed, head_reads, IsTold, IsHeadPlan};
 
     /// The name of the first that waits.

@@ -24,7 +24,8 @@ pub struct Laptop<D: Disk> {
 }
 
 impl<D: Disk> Laptop<D> {
-    ghost use Rattle.iot_laptop.specs.Laptops.{is_alive, state_in, stamps_in, live_in, disk_in, lent_by, records_in, waits_of, IsView};
+    ghost use Rattle.iot_laptop.specs.Laptops.{is_alive, state_in, stamps_in, live_in, disk_in, lent_by, records_in, IsView};
+    ghost use Rattle.iot_standing.specs.States.{waits_of};
     ghost use Rattle.iot_laptop.specs.Laptops.{Stands, StandsAnyhow, FallenStands, IsLent, IsUnopened, unopened_laptop};
 
     /// The client of this name at this place, on an empty disk. It was never started.

@@ -10,8 +10,8 @@ use Rattle.iot_server.specs.Servers as servers
 use Rattle.iot_wire.specs.declared.replies.Reply.TheVariants as replies
 use Rattle.iot_wire.specs.declared.requests.Request.TheVariants as requests
 use Rattle.iot_server_node.specs.Records.{BeginsWith, EachBegins, DiskBegins, KeepsRecords}
-use Rattle.iot_server_node.specs.Servers.{IsLonger, IsOneMore, IsOneMoreIfAny, NodeIsKnown, ServerIsSound, KeepsCommits, Lives}
-use Rattle.iot_server_node.specs.Servers.{Handled, Refused}
+use Rattle.iot_server_node.specs.Servers.{IsLonger, IsOneMore, IsOneMoreIfAny, NodeIsKnown, ServerIsSound, KeepsCommits, Lives, Handled}
+use Rattle.iot_server_node.specs.Servers.{Refused}
 use Rattle.iot_server_node.proofs.KeepersLaws.{records_more, same_bodies, image_stands}
 use Rattle.iot_server_node.proofs.ServersLaws.{lasts}
 

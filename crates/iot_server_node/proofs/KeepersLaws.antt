@@ -1,11 +1,11 @@
 -- A server keeps the list of commits on its disk, a record for each, as a keeper is to.
 use Rattle.std.specs.Prelude.{IfOk, IfErr}
-use Rattle.iot_server_node.proofs.Common.{◌≡◌, ◌<◌, ◌+◌, ◌^◌, ℕ, List, [], ◌∷◌, ◌++◌, length, map, refl, ap, ◌∙◌, arith, Result, Ok}
-use Rattle.iot_server_node.proofs.Common.{Err, sym, map-append, length-append, length-map, label_of, records_from, records_of, state_of}
-use Rattle.iot_server_node.proofs.Common.{IsImage, AreOf, same_counts, KeepsList}
-use Rattle.iot_server_node.specs.Prelude.{Nodes, root_alone, Dir, Label, Entry, run_entry, tree_from, Server, Stamps, State}
-use Rattle.iot_server_node.specs.Prelude.{opening, after_commit, record_spelling, Leads, StandFor, Medium, Commit, entries_of}
-use Rattle.iot_server_node.specs.Prelude.{tree_after, Encodes, decoded, EachDecodes, counts_on, EachIs, CountsStart}
+use Rattle.iot_server_node.proofs.Common.{◌≡◌, ◌<◌, ◌+◌, ◌^◌, ℕ, List, [], ◌∷◌, ◌++◌, length, map, refl, ap, ◌∙◌, arith, Result, Ok, Err}
+use Rattle.iot_server_node.proofs.Common.{sym, map-append, length-append, length-map, label_of, records_from, records_of, state_of, IsImage}
+use Rattle.iot_server_node.proofs.Common.{AreOf, same_counts, KeepsList}
+use Rattle.iot_server_node.specs.Prelude.{Nodes, root_alone, Dir, Label, Entry, run_entry, tree_from, Server, State, opening, after_commit}
+use Rattle.iot_server_node.specs.Prelude.{record_spelling, Leads, StandFor, Medium, Commit, entries_of, tree_after, Encodes, decoded}
+use Rattle.iot_server_node.specs.Prelude.{EachDecodes, counts_on, EachIs, CountsStart}
 use Rattle.iot_tree.specs.declared.labels.Way.{Way}
 use Rattle.iot_journal.proofs.DecodingLaws.{length-bodies-le}
 use Rattle.iot_journal.proofs.ImagesLaws.{records_fit}
@@ -15,7 +15,7 @@ use Rattle.iot_stamp.specs.Acting.{stamped_acts, stamped_all}
 use Rattle.iot_stamp.proofs.ActingLaws.{all_of_acts}
 use Rattle.iot_store.specs.Stamps.{opening_stamps, next_stamp}
 use Rattle.iot_tree.specs.declared.access.Access.{Access}
-use Rattle.iot_server_node.proofs.StampsLaws.{stamps_split}
+use Rattle.iot_judging.proofs.ListsLaws.{stamps_split}
 use Rattle.iot_disk.specs.declared.faults.StartFault.{StartFault}
 use Rattle.iot_disk.specs.declared.faults.StartFault.TheVariants as start
 use Rattle.iot_store.specs.Causes.{HasCause, TakesBytes}

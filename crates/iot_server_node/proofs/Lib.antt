@@ -1,5 +1,4 @@
 mod Common
-pub mod StampsLaws
 pub mod KeepersLaws
 pub mod ServersLaws
 mod ServingLaws

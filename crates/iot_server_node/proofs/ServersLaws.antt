@@ -3,8 +3,8 @@ use Rattle.std.proofs.Math.Nat.{mod-add-mod}
 use Rattle.iot_server_node.proofs.Common.{◌≡◌, ℕ, suc, zero, ◌+◌, ◌%◌, ◌^◌, Bool, true, false, if◌then◌else◌, List, [], ◌∷◌, ◌++◌, length}
 use Rattle.iot_server_node.proofs.Common.{drop, Option, Some, None, IsSome, codes, refl, sym, ap, subst, ◌∙◌, arith, inl, inr}
 use Rattle.iot_server_node.proofs.Common.{slice_index_or, length-append, lists, Handles, KeepsList, ServerStands, AreOf, bind, asks}
-use Rattle.iot_server_node.specs.Prelude.{Medium, Encodes, record_spelling, State, after_commit, Server, Label, Call, Says, Nothing}
-use Rattle.iot_server_node.specs.Prelude.{Then, either, Commit, add_commit, tree_after, Node, fallen, changed, back, unopened, Refines}
+use Rattle.iot_server_node.specs.Prelude.{Medium, Encodes, record_spelling, State, after_commit, Server, Label, Call, Says, Nothing, Then}
+use Rattle.iot_server_node.specs.Prelude.{either, Commit, add_commit, tree_after, Node, fallen, changed, back, unopened, Refines}
 use Rattle.iot_server_node.specs.Prelude.{server_name, kept_text, OpensNode, Appends, ComesBack, ComesBackWith, Crashes, Restarts, ArmsDisk}
 use Rattle.iot_server_node.specs.Prelude.{line, transaction_name, IsEmpty, KeepsDisk, counts_on, is_on, live_of, PostStands, HoldsBy}
 use Rattle.iot_server_node.specs.Prelude.{IsStanding, Lasts, StepsTo, Doubt, Post, Up, Down, Between, ServerKeeper, ServerNode}

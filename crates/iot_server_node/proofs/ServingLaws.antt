@@ -11,10 +11,10 @@ use Rattle.iot_server_node.proofs.Common.{Handles, Refuses, KeepsList, committed
 use Rattle.iot_server_node.proofs.Common.{ServerStands, AreOf, IsImage, label_of, records_of, state_of, bind, asks, says_this, answers}
 use Rattle.iot_server_node.specs.Prelude.{Medium, JournalFault, Nodes, IsTree, IsWhole, Want, IsAnswered, Submits, records_after, Server}
 use Rattle.iot_server_node.specs.Prelude.{State, CanFollow, opening, after_commit, Encodes, IsMessage, IsRequest, request_spelling, Request}
-use Rattle.iot_server_node.specs.Prelude.{run_entry}
-use Rattle.iot_server_node.specs.Prelude.{snapshot, Commit, add_commit, tree_after, Call, Then, Node, changed, doubting, server_name, Lasts}
-use Rattle.iot_server_node.specs.Prelude.{HoldsEither, IsRefresh, Spells, Handed, Message, Served, ServerNode, ActsHold, reads_of, turns}
-use Rattle.iot_server_node.specs.Prelude.{DiffersAt, Appends, commit_line, acts_output, EachIs, StepsTo, record_spelling, Act, Label, Reply}
+use Rattle.iot_server_node.specs.Prelude.{run_entry, snapshot, Commit, add_commit, tree_after, Call, Then, Node, changed, doubting}
+use Rattle.iot_server_node.specs.Prelude.{server_name, Lasts, HoldsEither, IsRefresh, Spells, Handed, Message, Served, ServerNode, ActsHold}
+use Rattle.iot_server_node.specs.Prelude.{reads_of, turns, DiffersAt, Appends, commit_line, acts_output, EachIs, StepsTo, record_spelling}
+use Rattle.iot_server_node.specs.Prelude.{Act, Label, Reply}
 use Rattle.iot_disk.specs.declared.faults.JournalFault.TheVariants as append
 use Rattle.iot_server.specs.Servers as servers
 use Rattle.iot_wire.specs.Messages.{IsOneMessage}
@@ -25,10 +25,9 @@ use Rattle.iot_judging.proofs.RunTreesLaws.{list_tree, list_whole}
 use Rattle.iot_stamp.specs.Refresh.{changes_for, known_with_stamps}
 use Rattle.iot_stamp.specs.Stamps.{Stamps, nodes_of}
 use Rattle.iot_wire.specs.declared.replies.Reply.TheVariants as replies
-use Rattle.iot_server_node.proofs.StampsLaws.{list_stamped}
-use Rattle.iot_server_node.specs.Servers.{count_of, stamps_of, Handled, Refused, ServesBy, ServerIsSound, live, IsKnown}
-use Rattle.iot_server_node.specs.Servers.{HavingAnswered, IsSubmission}
-use Rattle.iot_server_node.specs.Servers.{IsHanded, IsNamedIn, HasAnsweredIn, GivesUp}
+use Rattle.iot_judging.proofs.ListsLaws.{list_stamped}
+use Rattle.iot_server_node.specs.Servers.{count_of, stamps_of, Handled, Refused, ServesBy, ServerIsSound, live, IsKnown, HavingAnswered}
+use Rattle.iot_server_node.specs.Servers.{IsSubmission, IsHanded, IsNamedIn, HasAnsweredIn, GivesUp}
 use Rattle.iot_server_node.proofs.KeepersLaws.{leads_list, as_many, record_is, state_is}
 use Rattle.iot_server_node.proofs.ServersLaws.{stands_still, stands_longer, with_known, known_stopped}
 use Rattle.iot_access.specs.Access.{FitInTurn, IsAccess, TakesPlace, lines_of}

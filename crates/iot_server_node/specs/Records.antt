@@ -1,10 +1,9 @@
 -- What the server's disk keeps of the machine's list: one record for each commit.
-use Rattle.std.specs.Prelude.{◌≡◌, ℕ, List, [], ◌∷◌, ◌++◌, ◌+◌, length, map, Option, None, Some}
-use Rattle.iot_server_node.specs.Prelude.{Medium, Nodes, root_alone, Dir, run_entry, Encodes, decoded, Stamps, State, opening}
-use Rattle.iot_server_node.specs.Prelude.{record_spelling, Leads, Commit, tree_after}
+use Rattle.std.specs.Prelude.{◌≡◌, ℕ, List, [], ◌∷◌, ◌++◌, ◌+◌, length, Option, None, Some}
+use Rattle.iot_server_node.specs.Prelude.{Medium, Nodes, root_alone, Dir, run_entry, Encodes, decoded, State, opening, record_spelling}
+use Rattle.iot_server_node.specs.Prelude.{Leads, Commit}
 use Rattle.iot_access.specs.Access.{access_of, lines_of}
-use Rattle.iot_stamp.specs.Acting.{stamped_acts}
-use Rattle.iot_store.specs.Stamps.{opening_stamps, next_stamp}
+pub use Rattle.iot_judging.specs.Lists.{stamps_from, state_of}
 pub use Rattle.iot_machine.specs.Recorded.{label_of}
 
 -- the records of commits from a tree on: of each its label, the access of its script's run there, and the lines of that
@@ -16,21 +15,6 @@ records_from (commit ∷ commits) t =
 
 abbrev pub records_of : List Commit → List (List ℕ)
 records_of commits = records_from commits (root_alone Dir)
-
--- the stamps after commits from a tree on, of which so many came before
-abbrev pub stamps_from : List Commit → Nodes → Stamps → ℕ → Stamps
-stamps_from [] t stamps before = stamps
-stamps_from (commit ∷ commits) t stamps before =
-    stamps_from commits (run_entry commit.entry t).tree (stamped_acts stamps (run_entry commit.entry t).acts (next_stamp before))
-    (before + 1)
-
--- the tree, the labels and the stamps of a list
-abbrev pub state_of : List Commit → State
-state_of commits = record {
-  tree = tree_after commits;
-  labels = map label_of commits;
-  stamps = stamps_from commits (root_alone Dir) opening_stamps 0;
-}
 
 -- the bytes are a journal of the records of this list, which are so many: each can follow the ones before it, and they lead to its state
 pub record IsImage (bytes : List ℕ) (count : ℕ) (commits : List Commit) : Type 0 where

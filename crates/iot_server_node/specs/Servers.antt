@@ -4,10 +4,10 @@ use Rattle.std.specs.Prelude.{slice_index_or, option_map, Err}
 use Rattle.std.specs.List.{AllByRecursion}
 use Rattle.iot_access.specs.Access.{access_of, after_updates, lines_of}
 use Rattle.iot_tree.specs.declared.access.Access.{Access}
-use Rattle.iot_server_node.specs.Prelude.{Nodes, IsTree, Act, Label, reads_of, Medium, JournalFault, run_entry, Call, Commit}
-use Rattle.iot_server_node.specs.Prelude.{tree_after, Node, server_name, kept_text, Appends, transaction_name, acts_output, IsEmpty}
-use Rattle.iot_server_node.specs.Prelude.{Appended, Doubts, PostStands, UpStands, StepsFrom, is_on, StepsTo, Doubt, Post, Up, Down, Between}
-use Rattle.iot_server_node.specs.Prelude.{Server, IsMessage, IsRequest, request_spelling, ServerKeeper, Handed, Message, Served, ServerNode}
+use Rattle.iot_server_node.specs.Prelude.{Nodes, IsTree, Act, Label, reads_of, Medium, JournalFault, run_entry, Call, Commit, tree_after}
+use Rattle.iot_server_node.specs.Prelude.{Node, server_name, kept_text, Appends, transaction_name, acts_output, IsEmpty, Appended, Doubts}
+use Rattle.iot_server_node.specs.Prelude.{PostStands, UpStands, StepsFrom, is_on, StepsTo, Doubt, Post, Up, Down, Between, Server}
+use Rattle.iot_server_node.specs.Prelude.{IsMessage, IsRequest, request_spelling, ServerKeeper, Handed, Message, Served, ServerNode}
 use Rattle.iot_judging.specs.Entries.{IsSpelledEntry}
 use Rattle.iot_machine.specs.Serving.{Submission}
 use Rattle.iot_node.specs.Posts as posts

@@ -18,3 +18,4 @@ pub mod ChangesLaws
 pub mod KnownLaws
 pub mod LiningLaws
 pub mod CarriedLaws
+pub mod TrailsLaws

@@ -8,3 +8,4 @@ pub mod Refresh
 pub mod Agreement
 pub mod Pairing
 pub mod Passes
+pub mod Trails

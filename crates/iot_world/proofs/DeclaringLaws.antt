@@ -1,20 +1,20 @@
 -- A new world is that of a machine that has opened, and what is declared in a world is declared in the machine.
 use Rattle.iot_client.specs.Messages.{nothing_held}
-use Rattle.iot_exchange.specs.Following.{Follows}
-use Rattle.iot_exchange.proofs.FollowingLaws.{follows_kept, follows_nothing}
+use Rattle.iot_judging.specs.Lists.{Follows}
+use Rattle.iot_judging.proofs.FollowingLaws.{follows_kept}
+use Rattle.iot_exchange.proofs.FollowingLaws.{follows_nothing}
 use Rattle.iot_stamp.specs.Stamps.{Stamps}
-use Rattle.iot_world.specs.Prelude.{KeepsTrails, stamps_in}
+use Rattle.iot_world.specs.Prelude.{KeepsTrails, stamps_in, IsSome, Vec, is_some, Result, Ok, Err, OnOk, vec_len, vec_capacity, Medium}
+use Rattle.iot_world.specs.Prelude.{Machine, handed, first_of, client_in, client_at, no_client, Counts, unopened, server_name, OpensNode}
+use Rattle.iot_world.specs.Prelude.{Opening, KeepsDisk, counts_on, IsEmpty, StepsTo, disk_of, ServerStands, HavingAnswered, KeepsCommits}
+use Rattle.iot_world.specs.Prelude.{ServerNode, Laptop, DeclaredScript, World, AllByRecursion, Code, is_declared, Says, goes_on, Declared}
+use Rattle.iot_world.specs.Prelude.{Declares, names_in, client_of, add_client, declare_script, event_part, client_line, ClientStands}
+use Rattle.iot_world.specs.Prelude.{disk_in, script_named, Global}
 use Rattle.iot_world.proofs.Common.{◌≡◌, ℕ, ◌<◌, Bool, List, [], ◌∷◌, length, map, Some, refl, sym, ap, subst, ◌∙◌, arith, suc, ◌+◌, true}
 use Rattle.iot_world.proofs.Common.{false, ◌++◌, drop, append_assoc, get_or-append_seam, set-append_seam, append-nil, length-append}
 use Rattle.iot_world.proofs.Common.{map-append, sound_opening, AreFresh, ArePlaced, AreUnarmed, GivesBack, Opens, with_first, with_clients}
 use Rattle.iot_world.proofs.Common.{StandsFor, MakesStep, KeepsDisks, SameArms, DeclaresClient, Starts, AddsScript, LaptopHasDisk}
 use Rattle.iot_world.proofs.Common.{client_count, script_names, said_of, more_names, commits_same, all_push}
-use Rattle.iot_world.specs.Prelude.{IsSome, Vec, is_some, Result, Ok, Err, OnOk, vec_len, vec_capacity, Medium, Machine, handed, first_of}
-use Rattle.iot_world.specs.Prelude.{client_in, client_at, no_client, Counts, unopened, server_name, OpensNode, Opening, KeepsDisk}
-use Rattle.iot_world.specs.Prelude.{counts_on, IsEmpty, StepsTo, disk_of, ServerStands, HavingAnswered, KeepsCommits, ServerNode, Laptop}
-use Rattle.iot_world.specs.Prelude.{DeclaredScript, World, AllByRecursion, Code, is_declared, Says, goes_on, Declared, Declares, names_in}
-use Rattle.iot_world.specs.Prelude.{client_of, add_client, declare_script, event_part, client_line, ClientStands, disk_in, script_named}
-use Rattle.iot_world.specs.Prelude.{Global}
 use Rattle.iot_exchange.specs.Scripts as exchange
 use Rattle.iot_world.proofs.DisksLaws.{kept_follows, unarmed_same, pushed_with, here_follows, same_clients, clients_follow}
 use Rattle.iot_world.proofs.WorldsLaws.{then_silent, opens_keeps, gets_then}
@@ -229,7 +229,7 @@ module _ {D : Type 0} (medium : Medium D) where
       (refl, refl),
       record {
         server = rw adds.server here.server;
-        clients_ = rw adds.clients (clients_more m.scripts one medium old.clients.items m.clients here.clients_);
+        clients_ = rw adds.clients (clients_more medium m.scripts one old.clients.items m.clients here.clients_);
         follow = rw adds.clients here.follow;
         scripts =
             ap (λ (ss : List Declared). ss ++ one ∷ []) here.scripts

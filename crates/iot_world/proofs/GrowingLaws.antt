@@ -1,8 +1,8 @@
 -- The server's list gets longer in each event, or stays: so what a client holds goes on following it.
-use Rattle.iot_world.proofs.Common.{◌≡◌, ℕ, [], List, Option, Some, None, IfSome, StandsFor, all_as, append-nil, sym}
+use Rattle.iot_world.proofs.Common.{ℕ, [], List, Option, Some, None, IfSome, StandsFor, all_as, append-nil, sym}
 use Rattle.iot_world.specs.Prelude.{Commit, Event, Laptop, Machine, Medium, Node, World, event_part, kept_text, stamps_in}
-use Rattle.iot_exchange.specs.Following.{Follows}
-use Rattle.iot_exchange.proofs.FollowingLaws.{Grows, follows_on}
+use Rattle.iot_judging.specs.Lists.{Follows}
+use Rattle.iot_judging.proofs.FollowingLaws.{Grows, follows_on}
 use Rattle.iot_lasting.specs.Lasting.{AddsOne, IsGrowing}
 use Rattle.iot_lasting.proofs.LastingLaws.{an_event_keeps_commits}
 use Rattle.iot_node.specs.Posts.{PostStands}

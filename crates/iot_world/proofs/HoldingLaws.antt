@@ -20,7 +20,7 @@ use Rattle.iot_laptop.proofs.SeatsLaws.{seat_images}
 use Rattle.iot_world.proofs.ListLaws.{each_length, each_map, each_same_as}
 use Rattle.iot_world.proofs.WorldsLaws.{same_length}
 use Rattle.iot_machine.specs.Clients as clients
-use Rattle.iot_laptop.specs.Kept.{RunningKeptIfAny, StateKept}
+use Rattle.iot_standing.specs.Kept.{RunningKeptIfAny, StateKept}
 use Rattle.iot_exchange.proofs.TransactionsLaws.{queue_are}
 
 -- ---- where the spare disks are, and how many

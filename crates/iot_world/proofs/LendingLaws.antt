@@ -8,8 +8,10 @@ use Rattle.iot_kept.specs.States as kept
 use Rattle.iot_kept.specs.States.{view}
 use Rattle.iot_client.specs.Ties.{Live, disk_of as client_disk}
 use Rattle.iot_client.specs.declared.client.Client.{Client}
-use Rattle.iot_laptop.specs.Laptops.{IsLent, LaptopStands, ItemsStand, RunningStandsIfAny, lent_by, disk_by, state_in, live_in, is_alive}
-use Rattle.iot_laptop.proofs.LaptopsLaws.{view_is}
+use Rattle.iot_laptop.specs.Laptops.{IsLent, LaptopStands, lent_by, disk_by, state_in, live_in, is_alive}
+use Rattle.iot_standing.specs.Kept.{ItemsStand}
+use Rattle.iot_standing.specs.States.{RunningStandsIfAny}
+use Rattle.iot_standing.proofs.StatesLaws.{view_is}
 use Rattle.iot_world.proofs.WorldsLaws.{same_length, inside_here, client_here}
 
 -- the client that is lent is the laptop's

@@ -1,8 +1,8 @@
 -- Lists that are looked up and changed at a place, and lists that go together by place.
 use Rattle.std.proofs.lemmas.Option.{same_Some, slice_get_read}
 use Rattle.iot_world.proofs.Common.{◌≡◌, ◌<◌, ℕ, zero, suc, List, [], ◌∷◌, ◌++◌, length, map, refl, sym, ap, subst, ◌∙◌, slice_get}
-use Rattle.std.specs.List.{AllByRecursion}
 use Rattle.iot_world.proofs.Common.{slice_index_or, slice_set, get_or, Some, Each}
+use Rattle.std.specs.List.{AllByRecursion}
 
 -- ---- one element
 

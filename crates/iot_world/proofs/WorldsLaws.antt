@@ -2,12 +2,13 @@
 use Rattle.std.proofs.lemmas.Option.{same_Some, slice_get-map, slice_get-get_or, slice_get_within}
 use Rattle.iot_world.proofs.Common.{◌≡◌, ℕ, Bool, true, false, List, Option, Some, None, ap, ◌∙◌, ◌<◌, [], length, map, slice_get}
 use Rattle.iot_world.proofs.Common.{slice_index_or, slice_set, refl, sym, subst, arith, ◌++◌, length-set, append-nil, map-set_same, up_is}
-use Rattle.iot_world.proofs.Common.{Each, ArePlaced, StandsFor, StandsForSome, MakesStep, scripts_of}
+use Rattle.iot_world.proofs.Common.{Each, ArePlaced, StandsFor, StandsForSome, MakesStep, scripts_of, all_set}
 use Rattle.iot_world.specs.Prelude.{NodeEvent, Call, At, Gets, Then, Lens, ClientState, Running, Declared, link_part, node_part, comes_back}
 use Rattle.iot_world.specs.Prelude.{cuts_off, names_in, counts_anew, RestartsServer, IfUp, task_part, client_part, Client, node, Machine}
 use Rattle.iot_world.specs.Prelude.{Commit, Pair, no_client, client_in, client_at, pair_at, server, Node, OpensClient, Vec, Global, Medium}
 use Rattle.iot_world.specs.Prelude.{Refines, server_name, kept_text, Restarts, StepsTo, ServerStands, HavingAnswered, answered_since, is_up}
-use Rattle.iot_world.specs.Prelude.{ServerNode, ClientStands, StandsAnyhow, Laptop, DeclaredScript, World, option_map}
+use Rattle.iot_world.specs.Prelude.{ServerNode, ClientStands, StandsAnyhow, Laptop, DeclaredScript, World, option_map, KeepsTrails}
+use Rattle.iot_world.specs.Prelude.{stamps_in}
 use Rattle.iot_event.specs.declared.event.LinkEvent.{LinkEvent}
 use Rattle.iot_event.specs.declared.event.LinkEvent.TheVariants as links
 use Rattle.iot_event.specs.declared.event.NodeEvent.TheVariants as nodes
@@ -17,11 +18,9 @@ use Rattle.iot_event.specs.declared.event.Task.{Task}
 use Rattle.iot_exchange.specs.Pairs.{two, AnyStands, IsStandingWith}
 use Rattle.iot_exchange.specs.Scripts as exchange
 use Rattle.iot_event.specs.declared.event.Event.TheVariants as events
-use Rattle.iot_exchange.specs.Following.{Follows}
-use Rattle.iot_exchange.proofs.FollowingLaws.{Grows, follows_kept}
-use Rattle.iot_world.specs.Prelude.{KeepsTrails, stamps_in}
+use Rattle.iot_judging.specs.Lists.{Follows}
+use Rattle.iot_judging.proofs.FollowingLaws.{Grows, follows_kept}
 use Rattle.iot_world.specs.World.{AllFollow}
-use Rattle.iot_world.proofs.Common.{all_set}
 use Rattle.iot_world.proofs.GrowingLaws.{all_follow, event_grows, same_list}
 use Rattle.iot_world.proofs.ListLaws.{looked_up, all_got, each_get, each_set, each_length, each_place_set}
 

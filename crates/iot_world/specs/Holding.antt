@@ -3,7 +3,7 @@ use Rattle.std.specs.Prelude.{◌≡◌, ◌⊎◌, ◌∷◌, ◌++◌}
 use Rattle.iot_world.specs.Prelude.{ℕ, List, length, map, Option, Some, None, Transaction, State, StandFor, Medium, ClientState, Running}
 use Rattle.iot_world.specs.Prelude.{base, so_far, Machine, Client, Commit, Counts, IsImage, IsOneMoreIfAny}
 use Rattle.iot_machine.specs.Recorded.{option_named, queue_kept}
-use Rattle.iot_laptop.specs.Kept.{access_kept}
+use Rattle.iot_standing.specs.Kept.{access_kept}
 use Rattle.iot_world.specs.World.{Each}
 
 -- an image has this list, a record for each commit

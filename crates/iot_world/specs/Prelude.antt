@@ -12,7 +12,8 @@ pub use Rattle.iot_event.specs.declared.event.ClientEvent.{ClientEvent}
 pub use Rattle.iot_event.specs.declared.event.Event.{Event}
 pub use Rattle.iot_event.specs.declared.event.NodeEvent.{NodeEvent}
 pub use Rattle.iot_event.specs.declared.event.NodeEvent.TheVariants.{Restart, Show, Stop}
-pub use Rattle.iot_exchange.specs.Scripts.{AreApart, MayDo, script_of}
+pub use Rattle.iot_standing.specs.Scripts.{AreApart}
+pub use Rattle.iot_exchange.specs.Scripts.{MayDo, script_of}
 pub use Rattle.iot_exchange.specs.declared.declared.DeclaredScript.{DeclaredScript}
 pub use Rattle.iot_inspect.specs.Shown.{named, shown}
 pub use Rattle.iot_inspect.specs.declared.snapshot.Json.{Json}
@@ -22,7 +23,7 @@ pub use Rattle.iot_lang.specs.Code.{Code}
 pub use Rattle.iot_laptop.specs.Alone.{OpensClient}
 pub use Rattle.iot_laptop.specs.Calls.{Came}
 pub use Rattle.iot_laptop.specs.Laptops.{ClientStands, KeepsTrails, StandsAnyhow, disk_in, stamps_in, IsUnopened, SamePlace}
-pub use Rattle.iot_laptop.specs.Scripts.{AreNamed, HasNamed, IsNamed, ItemIsNamed, RunIsNamedIfAny, script_named}
+pub use Rattle.iot_standing.specs.Scripts.{AreNamed, HasNamed, IsNamed, ItemIsNamed, RunIsNamedIfAny, script_named}
 pub use Rattle.iot_laptop.specs.Seats.{IsClientImage, seating}
 pub use Rattle.iot_laptop.specs.declared.laptop.Laptop.{Laptop}
 pub use Rattle.iot_laptop.specs.declared.seated.Seated.{Seated}

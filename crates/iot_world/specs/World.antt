@@ -12,9 +12,11 @@ use Rattle.iot_event.specs.declared.event.Event.TheVariants as events
 use Rattle.iot_machine.specs.Clients as clients
 use Rattle.iot_machine.specs.Machine as machines
 use Rattle.iot_server_node.specs.Servers as servers
-use Rattle.iot_laptop.specs.Laptops.{ItemsStand, KeepsTrails, RunningStandsIfAny, stamps_in}
+use Rattle.iot_standing.specs.Kept.{ItemsStand}
+use Rattle.iot_laptop.specs.Laptops.{KeepsTrails, stamps_in}
+use Rattle.iot_standing.specs.States.{RunningStandsIfAny}
 use Rattle.iot_machine.specs.Machine.{Commit}
-use Rattle.iot_exchange.specs.Following.{Follows}
+use Rattle.iot_judging.specs.Lists.{Follows}
 use Rattle.iot_exchange.specs.Scripts as exchange
 use Rattle.iot_world.specs.Disks.{IsUnarmed, FirstBegins}
 

@@ -1,7 +1,8 @@
 use Rattle.std.proofs.Common.{Ok, Err, ap, sym, ◌∙◌, rules}
 use Rattle.std.proofs.lemmas.Result.{IfOk-weaker}
 use Rattle.iot_laptop.specs.Below.{state_of}
-use Rattle.iot_laptop.proofs.TrailsLaws.{cut_trails, goes_trails}
+use Rattle.iot_client.proofs.TrailsLaws.{cut_trails}
+use Rattle.iot_laptop.proofs.TrailsLaws.{goes_trails}
 use Rattle.iot_laptop.proofs.RestartLaws.{cuts_nothing, cuts_off_now, cut_halts}
 use Rattle.iot_laptop.proofs.laptop.Laptop.cut_off.Goals as goal
 

@@ -1,7 +1,8 @@
 use Rattle.std.proofs.lemmas.Result.{IfOk-weaker}
 use Rattle.std.proofs.Common.{sym, rules}
 use Rattle.iot_laptop.proofs.NodesLaws.{lent_at}
-use Rattle.iot_laptop.proofs.TrailsLaws.{goes_trails, noted_trails}
+use Rattle.iot_laptop.proofs.TrailsLaws.{goes_trails}
+use Rattle.iot_client.proofs.TrailsLaws.{noted_trails}
 use Rattle.iot_laptop.proofs.CallsLaws.{as_is, leaves}
 use Rattle.iot_laptop.proofs.laptop.Laptop.discard.Goals as goal
 

@@ -1,9 +1,11 @@
 use Rattle.std.proofs.lemmas.Result.{IfOk-at_ok, IfOk-weaker}
 use Rattle.std.proofs.Common.{ap, ◌∙◌, rules}
 use Rattle.iot_laptop.specs.Below.{Laptop}
-use Rattle.iot_laptop.specs.Laptops.{state_in, waits_of}
+use Rattle.iot_laptop.specs.Laptops.{state_in}
+use Rattle.iot_standing.specs.States.{waits_of}
 use Rattle.iot_laptop.proofs.NodesLaws.{lent_at}
-use Rattle.iot_laptop.proofs.TrailsLaws.{goes_trails, noted_trails}
+use Rattle.iot_laptop.proofs.TrailsLaws.{goes_trails}
+use Rattle.iot_client.proofs.TrailsLaws.{noted_trails}
 use Rattle.iot_laptop.proofs.CallsLaws.{ends, is_done, waits_now}
 use Rattle.iot_laptop.proofs.laptop.Laptop.end.Goals as goal
 

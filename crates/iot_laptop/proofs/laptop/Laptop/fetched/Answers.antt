@@ -2,7 +2,7 @@ use Rattle.std.proofs.Common.{sym, rules}
 use Rattle.iot_laptop.proofs.NodesLaws.{lent_at}
 use Rattle.iot_laptop.proofs.TrailsLaws.{takes_stamps}
 use Rattle.iot_laptop.proofs.CallsLaws.{as_is, brings}
-use Rattle.iot_laptop.proofs.KeptStatesLaws.{fetched_live}
+use Rattle.iot_standing.proofs.KeptLaws.{fetched_live}
 use Rattle.iot_laptop.proofs.laptop.Laptop.fetched.Goals as goal
 
 pub returns-clause-does : goal.returns-clause-does

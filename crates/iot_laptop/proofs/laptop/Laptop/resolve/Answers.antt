@@ -5,7 +5,8 @@ use Rattle.iot_client.specs.Calls.{empty_queue}
 use Rattle.iot_kept.specs.Changes.{HeadIs}
 use Rattle.std.proofs.lemmas.Result.{IfOk-weaker}
 use Rattle.iot_laptop.proofs.NodesLaws.{lent_at}
-use Rattle.iot_laptop.proofs.TrailsLaws.{goes_trails, noted_trails}
+use Rattle.iot_laptop.proofs.TrailsLaws.{goes_trails}
+use Rattle.iot_client.proofs.TrailsLaws.{noted_trails}
 use Rattle.iot_laptop.proofs.CallsLaws.{as_is, resolves, none_bad}
 use Rattle.iot_laptop.proofs.laptop.Laptop.resolve.Goals as goal
 

@@ -1,6 +1,7 @@
 use Rattle.std.proofs.Common.{refl, rules}
 use Rattle.std.proofs.lemmas.Result.{IfOk-weaker}
-use Rattle.iot_laptop.proofs.TrailsLaws.{goes_trails, step_trails}
+use Rattle.iot_laptop.proofs.TrailsLaws.{goes_trails}
+use Rattle.iot_client.proofs.TrailsLaws.{step_trails}
 use Rattle.iot_laptop.proofs.NodesLaws.{lent_at}
 use Rattle.iot_laptop.proofs.CallsLaws.{steps_by, next_by}
 use Rattle.iot_laptop.proofs.laptop.Laptop.step.Goals as goal

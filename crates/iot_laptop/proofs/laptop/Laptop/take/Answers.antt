@@ -5,7 +5,7 @@ use Rattle.iot_laptop.specs.Laptops.{state_in}
 use Rattle.iot_laptop.proofs.NodesLaws.{lent_at}
 use Rattle.iot_laptop.proofs.TrailsLaws.{takes_stamps}
 use Rattle.iot_laptop.proofs.CallsLaws.{as_is, brings, if_two}
-use Rattle.iot_laptop.proofs.KeptStatesLaws.{held_live}
+use Rattle.iot_standing.proofs.KeptLaws.{held_live}
 use Rattle.iot_laptop.proofs.laptop.Laptop.take.Goals as goal
 
 pub returns-clause-does : goal.returns-clause-does

@@ -1,7 +1,8 @@
 use Rattle.std.proofs.Common.{rules}
 use Rattle.std.proofs.lemmas.Result.{IfOk-weaker}
 use Rattle.iot_laptop.proofs.NodesLaws.{lent_at}
-use Rattle.iot_laptop.proofs.TrailsLaws.{goes_trails, noted_trails, verdict_own}
+use Rattle.iot_laptop.proofs.TrailsLaws.{goes_trails}
+use Rattle.iot_client.proofs.TrailsLaws.{noted_trails, verdict_own}
 use Rattle.iot_laptop.proofs.CallsLaws.{takes_verdict}
 use Rattle.iot_laptop.proofs.laptop.Laptop.take_verdict.Goals as goal
 

@@ -1,6 +1,6 @@
 use Rattle.std.proofs.Common.{ap, ◌∙◌}
 use Rattle.iot_laptop.specs.Below.{view}
-use Rattle.iot_laptop.proofs.LaptopsLaws.{view_is}
+use Rattle.iot_standing.proofs.StatesLaws.{view_is}
 use Rattle.iot_laptop.proofs.NodesLaws.{own_in}
 use Rattle.iot_laptop.specs.Laptops.{state_in, live_in}
 use Rattle.iot_laptop.proofs.laptop.Laptop.view.Goals as goal

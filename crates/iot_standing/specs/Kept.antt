@@ -4,13 +4,21 @@ use Rattle.std.specs.FinMap.{entries}
 use Rattle.std.specs.List.{AllByRecursion}
 use Rattle.iot_access.specs.Access.{access_of, no_access}
 use Rattle.iot_tree.specs.declared.access.Access.{Access}
-use Rattle.iot_laptop.specs.Below.{Nodes, IsTree, ACT_LIMIT, IsScript, after_acts, run, IsSpelledTree, Item, Resolution, Stage, Transaction}
-use Rattle.iot_laptop.specs.Below.{State, ClientState, local_run, base, so_far}
-use Rattle.iot_limits.specs.Spelled.{AreSpelledFiles}
+use Rattle.iot_tree.specs.Tree.{Nodes, IsTree}
+use Rattle.iot_tree.specs.declared.limits.TheConstants.{ACT_LIMIT}
+use Rattle.iot_lang.specs.Scripts.{IsScript}
+use Rattle.iot_acts.specs.Traces.{after_acts}
+use Rattle.iot_exec.specs.Runs.{run}
+use Rattle.iot_limits.specs.Spelled.{IsSpelledTree, AreSpelledFiles}
+use Rattle.iot_queue.specs.declared.items.Item.{Item}
+use Rattle.iot_queue.specs.declared.items.Resolution.{Resolution}
+use Rattle.iot_queue.specs.declared.items.Stage.{Stage}
+use Rattle.iot_kept.specs.States.{Transaction, State}
+use Rattle.iot_machine.specs.Clients.{ClientState, local_run, base, so_far}
 use Rattle.iot_machine.specs.Sound.{HasPlan}
+use Rattle.iot_standing.specs.Scripts.{option_named}
 use Rattle.iot_queue.specs.declared.items.Stage.TheVariants as stages
 use Rattle.iot_machine.specs.Clients as clients
-use Rattle.iot_laptop.specs.Scripts.{option_named}
 
 -- ---- what is durable
 

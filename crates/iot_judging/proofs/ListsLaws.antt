@@ -1,11 +1,15 @@
 -- The stamps of a list of commits: which they are, and that a held tree which agrees with them agrees with those of a longer list.
-use Rattle.iot_server_node.proofs.Common.{◌≡◌, ◌+◌, ℕ, List, [], ◌∷◌, ◌++◌, length, arith, sym, ap, subst, ◌∙◌, stamps_from, state_of}
-use Rattle.iot_server_node.specs.Prelude.{Nodes, IsTree, IsWhole, root_alone, Dir, run_entry, tree_from, Commit, entries_of}
-use Rattle.iot_server_node.specs.Prelude.{tree_after, Stamps}
-use Rattle.iot_server_node.specs.Prelude.{Act, after_acts}
+use Rattle.std.proofs.Common.{◌≡◌, ◌+◌, ℕ, List, [], ◌∷◌, ◌++◌, length, arith, sym, ap, subst, ◌∙◌}
+use Rattle.iot_judging.specs.Lists.{stamps_from, state_of}
+use Rattle.iot_tree.specs.Tree.{Nodes, IsTree, IsWhole, root_alone}
+use Rattle.iot_tree.specs.declared.nodes.Node.TheVariants.{Dir}
+use Rattle.iot_exec.specs.Serial.{run_entry, tree_from}
+use Rattle.iot_machine.specs.Machine.{Commit, entries_of, tree_after}
+use Rattle.iot_stamp.specs.Stamps.{Stamps, nodes_of}
+use Rattle.iot_tree.specs.declared.acts.Act.{Act}
+use Rattle.iot_acts.specs.Traces.{after_acts}
 use Rattle.iot_stamp.specs.Acting.{UpdatesFit, stamped_acts}
 use Rattle.iot_stamp.specs.Agreement.{Agrees, IsPositive, Keeps, UpTo}
-use Rattle.iot_stamp.specs.Stamps.{nodes_of}
 use Rattle.iot_stamp.proofs.ActingLaws.{holds_fit, keeps_acts, nodes_after_acts}
 use Rattle.iot_stamp.proofs.AgreementLaws.{agrees_commit, positive_commit, positive_with, up_commit, up_with}
 use Rattle.iot_stamp.proofs.StampsLaws.{nodes_with}

@@ -1,24 +1,32 @@
--- What a laptop's state tells of the client of the machine for which it stands.
+-- What the state of a live client tells of the client of the machine for which it stands.
 use Rattle.std.proofs.Common.{◌≡◌, ◌≤◌, ◌||◌, ℕ, Bool, true, false, List, [], ◌∷◌, length, Option, Some, None, refl, sym, ap, subst, ◌∙◌}
 use Rattle.std.proofs.Common.{arith, ◌+◌, ◌<◌, zero, suc, drop, option_and_then, slice_get}
 use Rattle.std.proofs.lemmas.Bool.{leb-true, leb-false}
 use Rattle.std.proofs.lemmas.Option.{same_Some}
 use Rattle.std.specs.Prelude.{is_some, leb}
 use Rattle.std.specs.FinMap.{empty}
-use Rattle.iot_laptop.specs.Below.{Nodes, Path, ACT_LIMIT, Code, after_acts, run, Ran, Item, Transaction, State, acts_of, after_each, view}
-use Rattle.iot_laptop.specs.Below.{Live, IsOwnRunIfAny, may_end, ClientState, base, local_run, item_of, plain_run, so_far, next_step, Act}
-use Rattle.iot_laptop.specs.Below.{state_of, live_of, CanAct, next_acts, StepIs, Client, Step, Acts}
-use Rattle.iot_kept.specs.States.{after_items}
-use Rattle.iot_client.specs.Ties.{count, run_of}
-use Rattle.iot_client.specs.Calls.{has_ended, missed}
-use Rattle.iot_machine.specs.Clients.{view_by, next_away, next_by}
+use Rattle.iot_tree.specs.Tree.{Nodes, Path}
+use Rattle.iot_tree.specs.declared.limits.TheConstants.{ACT_LIMIT}
+use Rattle.iot_lang.specs.Code.{Code}
+use Rattle.iot_acts.specs.Traces.{after_acts}
+use Rattle.iot_exec.specs.Runs.{run}
+use Rattle.iot_exec.specs.declared.ran.Ran.{Ran}
+use Rattle.iot_queue.specs.declared.items.Item.{Item}
+use Rattle.iot_kept.specs.States.{Transaction, State, acts_of, after_each, view, after_items}
+use Rattle.iot_client.specs.Ties.{Live, IsOwnRunIfAny, state_of, live_of, count, run_of}
+use Rattle.iot_client.specs.Calls.{may_end, CanAct, next_acts, StepIs, has_ended, missed}
+use Rattle.iot_machine.specs.Clients.{ClientState, base, local_run, item_of, plain_run, so_far, next_step, Acts, view_by, next_away}
+use Rattle.iot_machine.specs.Clients.{next_by}
+use Rattle.iot_tree.specs.declared.acts.Act.{Act}
+use Rattle.iot_client.specs.declared.client.Client.{Client}
+use Rattle.iot_client.specs.declared.steps.Step.{Step}
 use Rattle.iot_machine.specs.Transactions.{is_queued}
 use Rattle.iot_judging.proofs.NextLaws.{is_at_end, is_at_limit, is_next, ended_waits, full_waits}
 use Rattle.iot_exec.specs.Misses.{first_away}
+use Rattle.iot_standing.specs.Kept.{ItemStands, ItemsStand}
+use Rattle.iot_standing.specs.States.{RunningStands, RunningStandsIfAny, StateStands, waits_of, IsOver, IsUnended, next_as}
 use Rattle.iot_machine.specs.Clients as clients
 use Rattle.iot_client.specs.declared.steps.Step.TheVariants as steps
-use Rattle.iot_laptop.specs.Laptops.{ItemStands, ItemsStand, RunningStands, RunningStandsIfAny, StateStands, waits_of}
-use Rattle.iot_laptop.specs.Calls.{IsOver, IsUnended, next_as}
 
 -- ---- the transactions that wait
 

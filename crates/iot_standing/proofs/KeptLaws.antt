@@ -9,22 +9,34 @@ use Rattle.std.specs.Prelude.{IsSome}
 use Rattle.std.specs.FinMap.{empty, entries, entries_sorted, get-entries, get-from_entries, is_sorted}
 use Rattle.std.specs.List.{AllByRecursion}
 use Rattle.std.specs.FinMap.Entries.{same_entries}
-use Rattle.iot_laptop.specs.Below.{Nodes, IsTree, Path, Act, ACT_LIMIT, IsScript, IsSpelledTree, after_acts, Ran, Item, Stage, Transaction}
-use Rattle.iot_laptop.specs.Below.{State, after_each, CanFollow, HeadIs, after, Live, verdict_change, CanAct, next_acts, may_end}
-use Rattle.iot_laptop.specs.Below.{second_class, IsHeadsRun, Declared, ClientState, base, so_far, plain_run, begin, act_once, cut, leave}
-use Rattle.iot_laptop.specs.Below.{local_run, item_of, reach, repair, Plan, resolution_of, OnConflict, Code, run, Resolution, Resolved}
+use Rattle.iot_tree.specs.Tree.{Nodes, IsTree, Path}
+use Rattle.iot_tree.specs.declared.acts.Act.{Act}
+use Rattle.iot_tree.specs.declared.limits.TheConstants.{ACT_LIMIT}
+use Rattle.iot_lang.specs.Scripts.{IsScript}
+use Rattle.iot_limits.specs.Spelled.{IsSpelledTree}
+use Rattle.iot_acts.specs.Traces.{after_acts, after_update}
+use Rattle.iot_exec.specs.declared.ran.Ran.{Ran}
+use Rattle.iot_queue.specs.declared.items.Item.{Item}
+use Rattle.iot_queue.specs.declared.items.Stage.{Stage}
+use Rattle.iot_kept.specs.States.{Transaction, State, after_each}
+use Rattle.iot_kept.specs.Changes.{CanFollow, HeadIs, after, MayLeave, ended, left, stays_in, stage_by, conflicted, with_acts}
+use Rattle.iot_client.specs.Ties.{Live}
+use Rattle.iot_client.specs.Calls.{verdict_change, CanAct, next_acts, may_end, second_class, IsHeadsRun, IsPlannedRun}
+use Rattle.iot_machine.specs.Clients.{Declared, ClientState, base, so_far, plain_run, begin, act_once, cut, leave, local_run, item_of}
+use Rattle.iot_machine.specs.Clients.{reach, repair, Plan, resolution_of, fetch, hold, anew, one_more, cut_by, leave_by, change_first}
+use Rattle.iot_machine.specs.Clients.{with_first, joined, end, plan_by, found_by}
+use Rattle.iot_machine.specs.Options.{OnConflict}
+use Rattle.iot_lang.specs.Code.{Code}
+use Rattle.iot_exec.specs.Runs.{run}
+use Rattle.iot_queue.specs.declared.items.Resolution.{Resolution}
+use Rattle.iot_changes.specs.declared.changes.Change.TheVariants.{Resolved}
 use Rattle.iot_client.proofs.SpelledLaws.{AreGood, tree_files_good, among_good, kept_spelled}
 use Rattle.iot_machine.proofs.FollowsLaws.{all_push}
-use Rattle.iot_machine.specs.Clients.{fetch, hold, anew, one_more, cut_by, leave_by, change_first, with_first, joined, end, plan_by}
-use Rattle.iot_machine.specs.Clients.{found_by}
 use Rattle.iot_tree.specs.declared.labels.OnConflict.{OnConflict as OnConflictNamed}
 use Rattle.iot_tree.specs.declared.questions.Question.{Question}
-use Rattle.iot_acts.specs.Traces.{after_update}
 use Rattle.iot_exec.proofs.PlaceLaws.{exec_from_start}
 use Rattle.iot_queue.specs.Queues.{with_head, staged}
-use Rattle.iot_kept.specs.Changes.{MayLeave, ended, left, stays_in, stage_by, conflicted, with_acts}
 use Rattle.iot_client.specs.declared.noted.Noted.{Noted as NotedIn}
-use Rattle.iot_client.specs.Calls.{IsPlannedRun}
 use Rattle.iot_machine.specs.Sound.{CanResolve, IsPlanned}
 use Rattle.iot_judging.proofs.BudgetLaws.{HasOneMore, has_one_more, nothing_done}
 use Rattle.iot_judging.proofs.JudgingLaws.{run_tree}
@@ -41,6 +53,13 @@ use Rattle.iot_resolve.specs.Files.{offered}
 use Rattle.iot_resolve.specs.Plans.{plan_for}
 use Rattle.iot_resolve.specs.Resolved.{resolved}
 use Rattle.iot_resolve.proofs.FilesLaws.{offers_files}
+use Rattle.iot_standing.specs.States.{head_option, head_plan, RunningStandsIfAny, StateStands, waits_of, told_change}
+use Rattle.iot_standing.specs.Kept.{ItemStands, ItemsStand, StageStands, RunningKept, RunningKeptIfAny, StateKept, ResolutionStands}
+use Rattle.iot_standing.specs.Kept.{AreWaiting, OthersWait, access_by, access_kept}
+use Rattle.iot_access.specs.Access.{access_of, no_access}
+use Rattle.iot_tree.specs.declared.access.Access.{Access}
+use Rattle.iot_standing.specs.Scripts.{ItemIsNamed, RunIsNamedIfAny, AreNamed, IsNamed, HasNamed, option_named}
+use Rattle.iot_standing.proofs.StatesLaws.{base_of, counted, own_ends, own_next, over_waits}
 use Rattle.iot_tree.specs.declared.labels.OnConflict.TheVariants as on
 use Rattle.iot_queue.specs.declared.items.Stage.TheVariants as stages
 use Rattle.iot_changes.specs.declared.changes.Change.TheVariants as changes
@@ -50,14 +69,6 @@ use Rattle.iot_machine.specs.Clients as clients
 use Rattle.iot_machine.specs.Options as options
 use Rattle.iot_machine.specs.Serving as serving
 use Rattle.iot_resolve.specs.declared.plan.Plan as plans
-use Rattle.iot_laptop.specs.Calls.{head_option, head_plan}
-use Rattle.iot_laptop.specs.Laptops.{ItemStands, ItemsStand, StageStands, RunningStandsIfAny, StateStands, RunningKept, RunningKeptIfAny}
-use Rattle.iot_laptop.specs.Laptops.{StateKept, waits_of, ResolutionStands, AreWaiting, OthersWait, access_by, access_kept}
-use Rattle.iot_access.specs.Access.{access_of, no_access}
-use Rattle.iot_tree.specs.declared.access.Access.{Access}
-use Rattle.iot_laptop.specs.Messages.{told_change}
-use Rattle.iot_laptop.specs.Scripts.{ItemIsNamed, RunIsNamedIfAny, AreNamed, IsNamed, HasNamed, option_named}
-use Rattle.iot_laptop.proofs.LaptopsLaws.{base_of, counted, own_ends, own_next, over_waits}
 
 -- ---- what is known besides of what runs
 

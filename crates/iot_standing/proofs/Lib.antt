@@ -1,0 +1,3 @@
+pub mod StatesLaws
+pub mod KeptLaws
+pub mod ScriptsLaws

@@ -1,0 +1,3 @@
+pub mod Kept
+pub mod Scripts
+pub mod States
