@@ -14,8 +14,8 @@ use iot_text::{NoMemory, Text};
 use iot_tree::Sequence;
 use std::alloc::Global;
 
-/// Appends a list.
-pub(crate) fn put_list<T: Spelled>(items: &[T], out: &mut Text) -> Result<(), NoMemory>
+/// Appends the spelling of a list: the number of its elements, and then each element's spelling.
+pub fn put_list<T: Spelled>(items: &[T], out: &mut Text) -> Result<(), NoMemory>
     ensures ok { OnOk result (out.new ≡ out.old ++ list_spelling T.spelling items.now) }
     ensures err { OnErr result (AppendsPart out.old out.new (list_spelling T.spelling items.now)) }
 {
@@ -26,8 +26,12 @@ pub(crate) fn put_list<T: Spelled>(items: &[T], out: &mut Text) -> Result<(), No
     Ok(())
 }
 
-/// Reads a list, whose elements have spellings.
-pub(crate) fn read_list<T: Spelled>(
+/// Reads the list that is spelled at the offset, and gives the offset after it. Each element has a spelling.
+///
+/// # Errors
+///
+/// `Malformed` exactly if no list is spelled there. `NoMemory` if there is none for it.
+pub fn read_list<T: Spelled>(
     alloc: Global,
     bytes: &[u8],
     at: usize,

@@ -9,8 +9,8 @@ use crate::CodecFault;
 use iot_text::{NoMemory, Text};
 use std::alloc::Global;
 
-/// Values of one type, each with its one spelling.
-pub(crate) trait Spelled: Drop {
+/// Values of one type, each with its one spelling. A crate above spells types of its own by it, and lists of them.
+pub trait Spelled: Drop {
     ghost has_spelling: { Self → Type 0 };
 
     ghost spelling: { Self → List ℕ };
@@ -29,12 +29,12 @@ pub(crate) trait Spelled: Drop {
     ghost laws: { IsSpelling has_spelling spelling decoding };
 }
 
-/// Reads a value of any type.
-pub(crate) fn read<T: Spelled>(
-    alloc: Global,
-    bytes: &[u8],
-    at: usize,
-) -> Result<(T, usize), CodecFault>
+/// Reads a value of any type that is spelled at the offset, and gives the offset after it.
+///
+/// # Errors
+///
+/// `Malformed` exactly if no such value is spelled there. `NoMemory` if there is none for it.
+pub fn read<T: Spelled>(alloc: Global, bytes: &[u8], at: usize) -> Result<(T, usize), CodecFault>
     ensures found { IfOk result (IsSpelledAt T.has_spelling T.spelling bytes.now at) }
     ensures only { DecodesWhatIsSpelled T.has_spelling T.spelling bytes.now at result }
     ensures one { IsAlone T.has_spelling T.spelling bytes.now at }
