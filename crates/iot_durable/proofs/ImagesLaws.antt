@@ -6,7 +6,8 @@ use Rattle.iot_slots.specs.Decoding.{Decoded, Encodes, NotStarted, Foreign, Dama
 use Rattle.iot_slots.specs.Slots.{appended, renewed, EachEncodes, EachEncodesEither}
 use Rattle.iot_slots.specs.Start.{EachEncodesAs}
 use Rattle.iot_durable.specs.Rules.{Rules}
-use Rattle.iot_durable.specs.Standing.{Makes, MakesBy, StandFor, StandWith, EachStands, EachStandsEither, header, records_in}
+use Rattle.iot_durable.specs.Standing.{Makes, MakesBy, StandFor, StandWith, EachStands, EachStandsEither, EachStays, header, records_in}
+use Rattle.iot_durable.specs.Standing.{IsAlone, IsRenewed}
 use Rattle.iot_durable.proofs.StandingLaws.{leads_push}
 
 -- a body for a disk that is not started leaves the number of records
@@ -75,6 +76,51 @@ module _ {S C : Type 0} (rules : Rules S C) where
           | inl was ↦ one_makes image encoded count now (head_is ∙ was) counted makes
           | inr after ↦ one_makes image (renewed encoded body) count now (head_is ∙ after) counted (makes_whole body now spells)
         ];
+  }
+
+  -- ---- what stays
+
+  -- nothing was done
+  pub idle_stays : (head bytes : List ℕ) (images : List ℕ → Type 0) (was : State) (count : ℕ) (now : S) → head ≡ header →
+      Only bytes images → decoded head bytes ≡ Encodes was → was.count ≡ count → Makes rules was.body was.bodies now →
+      EachStays rules images count was now
+  idle_stays head bytes images was count now is only encodes counted makes =
+      let each : EachEncodes head images was = record { each = λ image left. ap (decoded head) (only.is image left) ∙ encodes } in
+      record {
+        stands = each_makes head images was count now is each counted makes;
+        encodes = λ image left. (was, ap (λ (h : List ℕ). decoded h image) (sym is) ∙ each.each image left, inl refl);
+      }
+
+  -- a checkpoint of the whole, or none
+  pub both_stay : (head : List ℕ) (images : List ℕ → Type 0) (was : State) (body : List ℕ) (count : ℕ) (now : S) → head ≡ header →
+      EachEncodesEither head images was (renewed was body) → was.count ≡ count → Makes rules was.body was.bodies now →
+      rules.IsBody body now → EachStays rules images count was now
+  both_stay head images was body count now is encodes counted makes spells = record {
+    stands = both_make head images was body count now is encodes counted makes spells;
+    encodes = λ image left.
+        let head_is = ap (λ (h : List ℕ). decoded h image) (sym is) in
+        elim (encodes.each image left) [
+          | inl same ↦ (was, head_is ∙ same, inl refl)
+          | inr after ↦ (renewed was body, head_is ∙ after, inr (record { body = body; spells = spells; is = refl }))
+        ];
+  }
+
+  -- the second of two checkpoints
+  pub renewed_twice : (was mid encoded : State) (now : S) → IsAlone rules was now mid → IsRenewed rules mid now encoded →
+      IsRenewed rules was now encoded
+  renewed_twice was mid encoded now one two = elim two [
+    | inl same ↦ inr (record { body = one.body; spells = one.spells; is = same ∙ one.is })
+    | inr again ↦
+        inr (record { body = again.body; spells = again.spells; is = again.is ∙ ap (λ (s : State). renewed s again.body) one.is })
+  ]
+
+  pub stays_twice : (images : List ℕ → Type 0) (count : ℕ) (was mid : State) (now : S) → IsAlone rules was now mid →
+      EachStays rules images count mid now → EachStays rules images count was now
+  stays_twice images count was mid now one it = record {
+    stands = it.stands;
+    encodes = λ image left.
+        let e = it.encodes image left in
+        (e.0, e.1, renewed_twice was mid e.0 now one e.2);
   }
 
   -- one record more

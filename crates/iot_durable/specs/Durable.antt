@@ -5,7 +5,7 @@ use Rattle.iot_slots.specs.Decoding.{State}
 use Rattle.iot_slots.specs.Layouts.{is_due}
 use Rattle.iot_slots.specs.Slots as on_slots
 use Rattle.iot_durable.specs.Rules.{Rules}
-use Rattle.iot_durable.specs.Standing.{Makes, header}
+use Rattle.iot_durable.specs.Standing.{Makes, IsRenewed, header}
 use Rattle.iot_durable.specs.declared.durable.Durable.{Durable}
 
 -- what is in memory
@@ -36,11 +36,13 @@ pub record IsSynced {R D S C : Type 0} (medium : Medium D) (rules : Rules S C) (
 abbrev pub due_on : {R D : Type 0} → Medium D → Durable R D → (size : ℕ) → Bool
 due_on medium durable size = is_due (encoded_on medium durable).bodies (on_slots.layout_of durable.slots) size
 
--- the last record on the disk spells the change; before it is what was there, or a checkpoint alone if one was due
-pub record IsRecorded {R D S C : Type 0} (medium : Medium D) (rules : Rules S C) (old new : Durable R D) (change : C) : Type 0 where
+-- the last record on the disk spells the change; before it is what was there, or a checkpoint of the state alone if one was due
+pub record IsRecorded {R D S C : Type 0} (medium : Medium D) (rules : Rules S C) (kept : R → S) (old new : Durable R D)
+    (change : C) : Type 0 where
   pub body : List ℕ
   pub spells : rules.IsRecord body change
   pub before : State
+  pub renews : IsRenewed rules (encoded_on medium old) (kept old.state) before
   pub is : encoded_on medium new ≡ on_slots.appended before body
   pub same : due_on medium old (length body) ≡ false → before ≡ encoded_on medium old
   pub renewed : due_on medium old (length body) ≡ true → before.bodies ≡ []

@@ -1,8 +1,8 @@
 -- The state for which the bytes of a disk stand.
 use Rattle.std.specs.Prelude.{◌≡◌, ◌⊎◌, ℕ, List, [], ◌∷◌, codes}
 use Rattle.iot_slots.specs.Cells.{next}
-use Rattle.iot_slots.specs.Decoding.{Decoded, Encodes, NotStarted, Foreign, Damaged, State, decoded, state_of}
-use Rattle.iot_slots.specs.Slots.{appended, EachEncodesEither}
+use Rattle.iot_slots.specs.Decoding.{Decoded, Encodes, NotStarted, Foreign, Damaged, State, decoded, state_in, state_of}
+use Rattle.iot_slots.specs.Slots.{appended, renewed, EachEncodesEither}
 use Rattle.iot_slots.specs.Start.{started_over}
 use Rattle.iot_durable.specs.Rules.{Rules}
 
@@ -53,10 +53,34 @@ module _ {S C : Type 0} (rules : Rules S C) where
   pub record EachStandsEither (images : List ℕ → Type 0) (count : ℕ) (before now : S) : Type 0 where
     pub each : (image : List ℕ) → images image → StandWith image count before ⊎ StandWith image (next count) now
 
-  -- what was on the disk makes the state, and each image encodes that, or it and one record more, which spells the change
-  pub record IsInDoubt (images : List ℕ → Type 0) (now : S) (change : C) : Type 0 where
+  -- ---- by what is encoded
+
+  -- a checkpoint of the state alone in the place of what was encoded
+  pub record IsAlone (was : State) (now : S) (encoded : State) : Type 0 where
+    pub body : List ℕ
+    pub spells : rules.IsBody body now
+    pub is : encoded ≡ renewed was body
+
+  -- what was encoded, or that
+  abbrev pub IsRenewed : (was : State) → S → State → Type 0
+  IsRenewed was now encoded = (encoded ≡ was) ⊎ IsAlone was now encoded
+
+  -- each image stands for the state, with so many records, and encodes what was there, or a checkpoint of the state alone
+  pub record EachStays (images : List ℕ → Type 0) (count : ℕ) (was : State) (now : S) : Type 0 where
+    pub stands : EachStands images count now
+    pub encodes : (image : List ℕ) → images image → (encoded : State) × (decoded header image ≡ Encodes encoded) × IsRenewed was now encoded
+
+  -- each image is of a disk that is not started, or was just started with a checkpoint of the opening state
+  pub record EachOpens (images : List ℕ → Type 0) : Type 0 where
+    pub each : (image : List ℕ) → images image → (decoded header image ≡ NotStarted)
+        ⊎ ((body : List ℕ) × rules.IsBody body rules.opening × (decoded header image ≡ Encodes (state_in body [] 0)))
+
+  -- What was on the disk, or a checkpoint of the state alone in its place, makes the state; and each image encodes that, or it and one
+  -- record more, which spells the change.
+  pub record IsInDoubt (images : List ℕ → Type 0) (was : State) (now : S) (change : C) : Type 0 where
     pub before : State
     pub body : List ℕ
+    pub renews : IsRenewed was now before
     pub makes : Makes before.body before.bodies now
     pub spells : rules.IsRecord body change
     pub either : EachEncodesEither header images before (appended before body)

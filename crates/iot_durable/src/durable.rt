@@ -1,4 +1,5 @@
 //! The durable state itself.
+ghost use Rattle.std.specs.Borrow.{sem};
 ghost use Rattle.std.specs.Prelude.{◌≡◌, ◌≢◌, ℕ, [], true, false, length, IfOk, IfErr, OnOk, IsErrOf, MatchResult};
 ghost use Rattle.iot_disk.specs.Disk.{armed_with, Only, SameImages};
 ghost use Rattle.iot_disk.specs.Faults.{CountsJournalFault};
@@ -7,7 +8,8 @@ ghost use Rattle.iot_slots.specs.Cells.{next};
 ghost use Rattle.iot_slots.specs.Decoding.{Foreign, NotStarted, decoded};
 ghost use Rattle.iot_slots.specs.Layouts.{MakesRoom};
 ghost use Rattle.iot_slots.specs.Slots as on_slots;
-ghost use Rattle.iot_durable.specs.Standing.{StandFor, StandWith, EachStands, EachStandsEither, IsFresh, IsInDoubt, header, records_in};
+ghost use Rattle.iot_durable.specs.Standing.{StandFor, StandWith, EachStands, EachStandsEither, EachStays, EachOpens};
+ghost use Rattle.iot_durable.specs.Standing.{IsAlone, IsRenewed, IsFresh, IsInDoubt, header, records_in};
 ghost use Rattle.iot_durable.specs.Causes.{HasCause, TakesBytes, SaysForeign, SaysDamaged};
 ghost use Rattle.iot_durable.specs.Damage.{IsDamagedAt};
 ghost use Rattle.iot_durable.specs.Faults.{CountsNoteFault};
@@ -19,6 +21,7 @@ use iot_disk::{Disk, JournalFault, Pick, StartFault};
 use iot_slots::Slots;
 use iot_text::{NoMemory, Text};
 use std::alloc::Global;
+use std::mem::replace;
 
 /// What follows byte 0 of a disk.
 const HEADER: [u8; 8] = *b"IOTSLOT1";
@@ -37,6 +40,7 @@ pub struct Durable<R, D: Disk> {
 }
 
 impl<R: Recorded, D: Disk> Durable<R, D> {
+    ghost use Rattle.iot_durable.specs.Lending.{lends_state};
     ghost use Rattle.iot_durable.specs.Durable.{memory_of, disk_of, count_of, encoded_on, due_on, IsSynced, IsRecorded};
 
     /// Starts from a disk, which no one else writes, with the state of its checkpoint after its records. A disk on which nothing was
@@ -56,6 +60,7 @@ impl<R: Recorded, D: Disk> Durable<R, D> {
         ensures only { (state : R.Kept) → StandFor R.rules (D.medium.reads disk) state
             → IfOk result (λ made. R.kept (memory_of made) ≡ state) }
         ensures synced { IfOk result (IsSynced D.medium R.rules R.kept R.IsSound) }
+        ensures in_memory { IfOk result (λ made. R.IsFresh (memory_of made)) }
 
         // However this returns, each image stands for the state for which the disk stood, with as many records; and if it stood for
         // one, its bytes are not refused.
@@ -89,7 +94,10 @@ impl<R: Recorded, D: Disk> Durable<R, D> {
             (λ made. SameImages (D.medium.may_leave disk) (D.medium.may_leave (disk_of made)))
             (λ refused. SameImages (D.medium.may_leave disk) (D.medium.may_leave refused.0)) }
 
-        // After Ok a disk that was not started has these bytes.
+        // However this returns, a disk that was not started is not, or was just started. After Ok it has these bytes.
+        ensures opens { decoded header (D.medium.reads disk) ≡ NotStarted → MatchResult result
+            (λ made. EachOpens R.rules (D.medium.may_leave (disk_of made)))
+            (λ refused. EachOpens R.rules (D.medium.may_leave refused.0)) }
         ensures fresh { decoded header (D.medium.reads disk) ≡ NotStarted → IfOk result (λ made.
             IsFresh R.rules (D.medium.reads disk) (D.medium.reads (disk_of made))) }
 
@@ -140,16 +148,17 @@ impl<R: Recorded, D: Disk> Durable<R, D> {
         // latter, in doubt for either, and else for the former.
         ensures images { EachStandsEither R.rules (D.medium.may_leave (disk_of self.new)) (count_of self.old)
             (R.kept (memory_of self.old)) (R.rules.after (R.kept (memory_of self.old)) change) }
-        ensures no_memory { IsErrOf result NoteFault.NoMemory
-            → EachStands R.rules (D.medium.may_leave (disk_of self.new)) (count_of self.old) (R.kept (memory_of self.old)) }
-        ensures before { IsErrOf result NoteFault.StoppedBefore
-            → EachStands R.rules (D.medium.may_leave (disk_of self.new)) (count_of self.old) (R.kept (memory_of self.old)) }
-        ensures in_doubt { IsErrOf result NoteFault.StoppedInDoubt
-            → IsInDoubt R.rules (D.medium.may_leave (disk_of self.new)) (R.kept (memory_of self.old)) change }
+        ensures no_memory { IsErrOf result NoteFault.NoMemory → EachStays R.rules (D.medium.may_leave (disk_of self.new))
+            (count_of self.old) (encoded_on D.medium self.old) (R.kept (memory_of self.old)) }
+        ensures before { IsErrOf result NoteFault.StoppedBefore → EachStays R.rules (D.medium.may_leave (disk_of self.new))
+            (count_of self.old) (encoded_on D.medium self.old) (R.kept (memory_of self.old)) }
+        ensures in_doubt { IsErrOf result NoteFault.StoppedInDoubt → IsInDoubt R.rules (D.medium.may_leave (disk_of self.new))
+            (encoded_on D.medium self.old) (R.kept (memory_of self.old)) change }
         ensures noted { OnOk result (EachStands R.rules (D.medium.may_leave (disk_of self.new)) (next (count_of self.old))
             (R.rules.after (R.kept (memory_of self.old)) change)) }
 
         ensures state { OnOk result (R.kept (memory_of self.new) ≡ R.rules.after (R.kept (memory_of self.old)) change) }
+        ensures makes { OnOk result (R.Makes (memory_of self.old) change (memory_of self.new)) }
         ensures synced { OnOk result (IsSynced D.medium R.rules R.kept R.IsSound self.new) }
 
         // A stop before the record leaves what is in memory; in doubt the change is made there.
@@ -158,44 +167,97 @@ impl<R: Recorded, D: Disk> Durable<R, D> {
             → R.kept (memory_of self.new) ≡ R.rules.after (R.kept (memory_of self.old)) change }
 
         // The last record on the disk is that of the change. Before it is what was there, or a checkpoint alone if one was due.
-        ensures recorded { OnOk result (IsRecorded D.medium R.rules self.old self.new change) }
+        ensures recorded { OnOk result (IsRecorded D.medium R.rules R.kept self.old self.new change) }
         ensures count { OnOk result (count_of self.new ≡ next (count_of self.old)) }
 
         ensures faults { CountsNoteFault result
             (D.medium.faults (disk_of self.old)) (D.medium.faults (disk_of self.new)) }
         ensures arms { D.medium.arms (disk_of self.new) ≡ D.medium.arms (disk_of self.old) }
     {
-        R::spell_change(&change, &mut self.buffer)?;
-        match self.make_room(alloc) {
+        let mut spelled = replace(&mut self.buffer, Text::new(alloc));
+        R::spell_change(&change, &mut spelled)?;
+        let noted = self.note_spelled(alloc, change, spelled.as_bytes());
+        self.buffer = spelled;
+        noted
+    }
+
+    /// The same, if the record of the change is at hand: its bytes are appended, and not made again.
+    ///
+    /// # Errors
+    ///
+    /// As of `note`.
+    pub fn note_spelled(
+        &mut self,
+        alloc: Global,
+        change: R::Change,
+        body: &[u8],
+    ) -> Result<(), NoteFault>
+        requires synced { IsSynced D.medium R.rules R.kept R.IsSound self.old }
+        requires change { R.rules.IsChange change }
+        requires spelled { R.rules.IsRecord body.now change }
+        requires follows { R.rules.CanFollow (R.kept (memory_of self.old)) change }
+
+        // However this returns, each image stands for the state before, or for the one after with one record more: after Ok for the
+        // latter, in doubt for either, and else for the former.
+        ensures images { EachStandsEither R.rules (D.medium.may_leave (disk_of self.new)) (count_of self.old)
+            (R.kept (memory_of self.old)) (R.rules.after (R.kept (memory_of self.old)) change) }
+        ensures no_memory { IsErrOf result NoteFault.NoMemory → EachStays R.rules (D.medium.may_leave (disk_of self.new))
+            (count_of self.old) (encoded_on D.medium self.old) (R.kept (memory_of self.old)) }
+        ensures before { IsErrOf result NoteFault.StoppedBefore → EachStays R.rules (D.medium.may_leave (disk_of self.new))
+            (count_of self.old) (encoded_on D.medium self.old) (R.kept (memory_of self.old)) }
+        ensures in_doubt { IsErrOf result NoteFault.StoppedInDoubt → IsInDoubt R.rules (D.medium.may_leave (disk_of self.new))
+            (encoded_on D.medium self.old) (R.kept (memory_of self.old)) change }
+        ensures noted { OnOk result (EachStands R.rules (D.medium.may_leave (disk_of self.new)) (next (count_of self.old))
+            (R.rules.after (R.kept (memory_of self.old)) change)) }
+
+        ensures state { OnOk result (R.kept (memory_of self.new) ≡ R.rules.after (R.kept (memory_of self.old)) change) }
+        ensures makes { OnOk result (R.Makes (memory_of self.old) change (memory_of self.new)) }
+        ensures synced { OnOk result (IsSynced D.medium R.rules R.kept R.IsSound self.new) }
+
+        // A stop before the record leaves what is in memory; in doubt the change is made there.
+        ensures before_memory { IsErrOf result NoteFault.StoppedBefore → memory_of self.new ≡ memory_of self.old }
+        ensures doubt_memory { IsErrOf result NoteFault.StoppedInDoubt
+            → R.kept (memory_of self.new) ≡ R.rules.after (R.kept (memory_of self.old)) change }
+
+        // The last record on the disk is that of the change. Before it is what was there, or a checkpoint alone if one was due.
+        ensures recorded { OnOk result (IsRecorded D.medium R.rules R.kept self.old self.new change) }
+        ensures count { OnOk result (count_of self.new ≡ next (count_of self.old)) }
+
+        ensures faults { CountsNoteFault result
+            (D.medium.faults (disk_of self.old)) (D.medium.faults (disk_of self.new)) }
+        ensures arms { D.medium.arms (disk_of self.new) ≡ D.medium.arms (disk_of self.old) }
+    {
+        match self.make_room(alloc, body.len() as u64) {
             Ok(()) => (),
             Err(fault) => return Err(before(fault)),
         }
         self.state.apply(alloc, change)?;
-        match self.slots.append(self.buffer.as_bytes()) {
+        match self.slots.append(body) {
             Ok(()) => Ok(()),
             Err(fault) => Err(in_doubt(fault)),
         }
     }
 
-    /// Makes the checkpoints that are due before the buffer is appended: none, one or two.
-    fn make_room(&mut self, alloc: Global) -> Result<(), JournalFault>
+    /// Makes the checkpoints that are due before a record with a body of this size: none, one or two.
+    fn make_room(&mut self, alloc: Global, size: u64) -> Result<(), JournalFault>
         requires { IsSynced D.medium R.rules R.kept R.IsSound self.old }
-        ensures images { EachStands R.rules (D.medium.may_leave (disk_of self.new)) (count_of self.old) (R.kept (memory_of self.old)) }
+        ensures stays { EachStays R.rules (D.medium.may_leave (disk_of self.new)) (count_of self.old) (encoded_on D.medium self.old)
+            (R.kept (memory_of self.old)) }
         ensures state { memory_of self.new ≡ memory_of self.old }
-        ensures buffer { self.new.buffer ≡ self.old.buffer }
         ensures synced { OnOk result (IsSynced D.medium R.rules R.kept R.IsSound self.new) }
 
         // One is made if one is due, and only then; after Ok none is due.
-        ensures idle { due_on D.medium self.old (length self.old.buffer) ≡ false → self.new.slots ≡ self.old.slots }
-        ensures renewed { due_on D.medium self.old (length self.old.buffer) ≡ true
+        ensures renews { OnOk result (IsRenewed R.rules (encoded_on D.medium self.old) (R.kept (memory_of self.old))
+            (encoded_on D.medium self.new)) }
+        ensures idle { due_on D.medium self.old size ≡ false → self.new.slots ≡ self.old.slots }
+        ensures renewed { due_on D.medium self.old size ≡ true
             → OnOk result ((encoded_on D.medium self.new).bodies ≡ []) }
-        ensures room { OnOk result (due_on D.medium self.new (length self.new.buffer) ≡ false) }
+        ensures room { OnOk result (due_on D.medium self.new size ≡ false) }
         ensures count { OnOk result (count_of self.new ≡ count_of self.old) }
         ensures faults { CountsJournalFault result
             (D.medium.faults (disk_of self.old)) (D.medium.faults (disk_of self.new)) }
         ensures arms { D.medium.arms (disk_of self.new) ≡ D.medium.arms (disk_of self.old) }
     {
-        let size = self.buffer.len() as u64;
         if !self.slots.due(size) {
             return Ok(());
         }
@@ -209,11 +271,13 @@ impl<R: Recorded, D: Disk> Durable<R, D> {
     /// Puts a checkpoint of the whole state in the place of the one in force and its records.
     fn checkpoint(&mut self, alloc: Global) -> Result<(), JournalFault>
         requires { IsSynced D.medium R.rules R.kept R.IsSound self.old }
-        ensures images { EachStands R.rules (D.medium.may_leave (disk_of self.new)) (count_of self.old) (R.kept (memory_of self.old)) }
+        ensures stays { EachStays R.rules (D.medium.may_leave (disk_of self.new)) (count_of self.old) (encoded_on D.medium self.old)
+            (R.kept (memory_of self.old)) }
         ensures state { memory_of self.new ≡ memory_of self.old }
         ensures buffer { self.new.buffer ≡ self.old.buffer }
         ensures synced { OnOk result (IsSynced D.medium R.rules R.kept R.IsSound self.new) }
-        ensures bodies { OnOk result ((encoded_on D.medium self.new).bodies ≡ []) }
+        ensures renews { OnOk result (IsAlone R.rules (encoded_on D.medium self.old) (R.kept (memory_of self.old))
+            (encoded_on D.medium self.new)) }
         ensures room { OnOk result (MakesRoom (on_slots.layout_of self.old.slots) (on_slots.layout_of self.new.slots)) }
         ensures count { OnOk result (count_of self.new ≡ count_of self.old) }
         ensures faults { CountsJournalFault result
@@ -230,6 +294,14 @@ impl<R: Recorded, D: Disk> Durable<R, D> {
         ensures { result.now ≡ memory_of self.now }
     {
         &self.state
+    }
+
+    /// What is in memory, to change what no disk keeps of it. Whoever changes what is kept of it is out of step with the disk.
+    pub fn state_mut(&mut self) -> &mut R
+        ensures* writes_back { sem 𝓛 (lends_state R.row D.row self.entry result) }
+        ensures value { result.now ≡ memory_of self.old }
+    {
+        &mut self.state
     }
 
     /// The number of records ever appended, modulo 2^64.

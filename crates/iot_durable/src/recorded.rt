@@ -24,10 +24,17 @@ pub trait Recorded: Drop {
     /// What is true of each one in memory.
     ghost IsSound: { Self → Type 0 };
 
+    /// What is true besides of one that a start makes, and of which no disk keeps anything.
+    ghost IsFresh: { Self → Type 0 };
+
+    /// What a change makes of that.
+    ghost Makes: { Self → Self.Change → Self → Type 0 };
+
     /// The one with which a disk begins.
     fn opening(alloc: Global) -> Result<Self, NoMemory>
         ensures kept { IfOk result (λ made. kept made ≡ rules.opening) }
-        ensures sound { IfOk result IsSound };
+        ensures sound { IfOk result IsSound }
+        ensures fresh { IfOk result IsFresh };
 
     /// Makes the text the spelling of the whole.
     fn spell(&self, out: &mut Text) -> Result<(), NoMemory>
@@ -40,7 +47,8 @@ pub trait Recorded: Drop {
 
         // The bytes spell no other one, and if they spell one it is given.
         ensures only { (state : Kept) → rules.IsBody body.now state → IfOk result (IsThis kept state) }
-        ensures sound { IfOk result (λ read. IfSome read IsSound) };
+        ensures sound { IfOk result (λ read. IfSome read IsSound) }
+        ensures fresh { IfOk result (λ read. IfSome read IsFresh) };
 
     /// Makes the text the spelling of a change.
     fn spell_change(change: &Self::Change, out: &mut Text) -> Result<(), NoMemory>
@@ -52,13 +60,16 @@ pub trait Recorded: Drop {
         ensures found { IfOk result (λ read. IfSome read (rules.IsRecord body.now)) }
 
         // The bytes spell no other change, and if they spell one it is given.
-        ensures only { (change : Self.Change) → rules.IsRecord body.now change → IfOk result (λ read. read ≡ Some change) };
+        ensures only { (change : Self.Change) → rules.IsRecord body.now change → IfOk result (λ read. read ≡ Some change) }
+        ensures change { IfOk result (λ read. IfSome read rules.IsChange) };
 
     /// Makes a change if it can follow, and says whether it can. If it cannot, nothing more is said of this one.
     fn follow(&mut self, alloc: Global, change: Self::Change) -> Result<bool, NoMemory>
-        requires { IsSound self.old }
+        requires sound { IsSound self.old }
+        requires change { rules.IsChange change }
         ensures follows { IfOk result (λ follows. FollowsIf rules follows change (kept self.old) (kept self.new)) }
-        ensures sound { IfOk result (λ follows. follows ≡ true → IsSound self.new) };
+        ensures sound { IfOk result (λ follows. follows ≡ true → IsSound self.new) }
+        ensures fresh { IfOk result (λ follows. follows ≡ true → IsFresh self.old → IsFresh self.new) };
 
     /// Makes a change that can follow.
     fn apply(&mut self, alloc: Global, change: Self::Change) -> Result<(), NoMemory>
@@ -66,5 +77,6 @@ pub trait Recorded: Drop {
         requires change { rules.IsChange change }
         requires follows { rules.CanFollow (kept self.old) change }
         ensures kept { OnOk result (kept self.new ≡ rules.after (kept self.old) change) }
+        ensures makes { OnOk result (Makes self.old change self.new) }
         ensures sound { OnOk result (IsSound self.new) };
 }

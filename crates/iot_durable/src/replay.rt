@@ -32,6 +32,7 @@ pub(crate) fn replay<R: Recorded>(
     ensures never { (state : R.Kept) → Makes R.rules body.now bodies.now state → IfErr result TakesBytes }
     ensures exact { (at : ℕ) → BreaksAt R.rules body.now bodies.now place at → MatchResult result (λ _. ⊥) (SaysDamaged at) }
     ensures sound { IfOk result R.IsSound }
+    ensures fresh { IfOk result R.IsFresh }
     ensures err { IfErr result (λ fault. IsReason R.rules fault body.now bodies.now place) }
 {
     let Some(mut state) = R::read(alloc, body)? else {
@@ -52,6 +53,7 @@ fn replay_body<R: Recorded>(alloc: Global, state: &mut R, body: &[u8]) -> Result
     requires { R.IsSound state.old }
     ensures replays { IfOk result (λ follows. ReplaysIf R.rules follows body.now (R.kept state.old) (R.kept state.new)) }
     ensures sound { IfOk result (λ follows. follows ≡ true → R.IsSound state.new) }
+    ensures fresh { IfOk result (λ follows. follows ≡ true → R.IsFresh state.old → R.IsFresh state.new) }
 {
     match R::read_change(alloc, body)? {
         Some(change) => state.follow(alloc, change),

@@ -28,6 +28,7 @@ bodies-preserved g c =
           (subst (λ (b : Bool). ReplaysIf rules b entry before after) c.if-not-branch.false c.in_ok-replay_body.ensures.replays)
           (omega arith),
       c.in_ok-replay_body.ensures.sound c.if-not-branch.false,
+      c.in_ok-replay_body.ensures.fresh c.if-not-branch.false c.bodies.invariant.2,
     )
 
 pub returns-then-not-branch-clause-err : goal.returns-then-not-branch-clause-err
