@@ -1,0 +1,3 @@
+pub mod ClientLaws
+pub mod QueuedLaws
+pub mod ServerLaws

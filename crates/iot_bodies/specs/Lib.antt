@@ -1,0 +1,4 @@
+pub mod Decoding
+pub mod Laws
+pub mod Rules
+pub mod Spelling
