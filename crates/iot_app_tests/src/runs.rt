@@ -1,8 +1,10 @@
 //! Runs on sources, sinks and disks that fail, and some on which nothing fails; and what nodes find on their disks after one.
 use crate::fixtures::{Failing, NONE, client_on, lines_in, ran, store_on};
-use iot_disk::Pick;
+use iot_disk::{MemDisk, Pick};
 use iot_text::Path;
 use iot_tree::Kind;
+use std::alloc::Global;
+use std::process::Abort;
 use std::test::Fail;
 
 /// A transaction, and a server that crashes and comes back. What it is asked while it is down is lost.
@@ -110,6 +112,27 @@ const BACK: &[u8] =
     down\nstop server 1 0\nserver stopped\nstop server 1 old\nserver stopped\n\
     restart server kept\ncommit 1 laptop.1 certified\nconnect laptop\nsettled laptop.1 1\ndir /\nfile /n \"1\"\n";
 
+/// The server's disk has the commit, and nothing else.
+fn has_the_commit(rt: &impl Abort, alloc: Global, disk: Option<MemDisk>) -> Result<(), Fail> {
+    let store = store_on(alloc, disk)?;
+    assert!(rt; store.number() == 1 && store.labels().len() == 1);
+    assert_eq!(rt; store.number_of(0, 1), Some(1));
+    assert_eq!(rt; store.number_of(1, 1), None);
+    let made = Path::parse(alloc, b"/d")?;
+    assert!(rt; store.tree().kind(&made) == Kind::IsDir);
+    assert_eq!(rt; store.into_disk().bytes(), RECORDED);
+    Ok(())
+}
+
+/// The client held a tree, began a transaction, fetched, did two acts, ended it, and heard that it is in the list.
+fn has_heard_of_it(rt: &impl Abort, alloc: Global, disk: Option<MemDisk>) -> Result<(), Fail> {
+    let client = client_on(alloc, disk)?;
+    assert_eq!(rt; client.records(), 7);
+    let made = Path::parse(alloc, b"/d")?;
+    assert!(rt; client.held().kind(&made) == Kind::IsDir);
+    Ok(())
+}
+
 #[test]
 fn a_run_keeps_its_commit(rt: HostRuntime) -> Result<(), Fail> {
     let alloc = rt.alloc();
@@ -118,19 +141,8 @@ fn a_run_keeps_its_commit(rt: HostRuntime) -> Result<(), Fail> {
     assert!(rt; written.starts_with(COMMITTED) && written.ends_with(CRASHED));
     assert_eq!(rt; written.len(), COMMITTED.len() + CRASHED.len());
     let mut disks = ended.disks.into_iter();
-    let store = store_on(alloc, disks.next())?;
-    assert!(rt; store.number() == 1 && store.labels().len() == 1);
-    assert_eq!(rt; store.number_of(0, 1), Some(1));
-    assert_eq!(rt; store.number_of(1, 1), None);
-    let made = Path::parse(alloc, b"/d")?;
-    assert!(rt; store.tree().kind(&made) == Kind::IsDir);
-    assert_eq!(rt; store.into_disk().bytes(), RECORDED);
-
-    // It held a tree, began a transaction, fetched, did two acts, ended it, and heard that it is in the list.
-    let client = client_on(alloc, disks.next())?;
-    assert_eq!(rt; client.records(), 7);
-    assert!(rt; client.held().kind(&made) == Kind::IsDir);
-    Ok(())
+    has_the_commit(&rt, alloc, disks.next())?;
+    has_heard_of_it(&rt, alloc, disks.next())
 }
 
 #[test]
@@ -211,6 +223,44 @@ fn a_client_comes_back_from_its_disk(rt: HostRuntime) -> Result<(), Fail> {
     Ok(())
 }
 
+/// The client's disk fails at this call.
+fn at_client(device: u64, pick: Pick) -> Failing {
+    Failing {
+        place: 1,
+        device,
+        pick,
+        ..NONE
+    }
+}
+
+/// A run whose client's disk fails there says this.
+fn stops_and_says(
+    rt: &impl Abort,
+    alloc: Global,
+    device: u64,
+    pick: Pick,
+    says: &[u8],
+) -> Result<(), Fail> {
+    let (ended, written) = ran(alloc, CUT, &[], at_client(device, pick))?;
+    assert_eq!(rt; ended.status, 0, "call {device}");
+    assert_eq!(rt; written.as_slice(), says, "call {device}");
+    Ok(())
+}
+
+/// A client whose disk failed there finds so many records.
+fn stops_and_finds(
+    rt: &impl Abort,
+    alloc: Global,
+    device: u64,
+    pick: Pick,
+    records: u64,
+) -> Result<(), Fail> {
+    let (ended, _) = ran(alloc, CUT, &[], at_client(device, pick))?;
+    let client = client_on(alloc, ended.disks.into_iter().nth(1))?;
+    assert_eq!(rt; client.records(), records, "call {device}");
+    Ok(())
+}
+
 #[test]
 fn a_client_whose_disk_fails_stops(rt: HostRuntime) -> Result<(), Fail> {
     let alloc = rt.alloc();
@@ -262,29 +312,12 @@ fn a_client_whose_disk_fails_stops(rt: HostRuntime) -> Result<(), Fail> {
         ),
     ];
     for (device, pick, says) in cases {
-        let failing = Failing {
-            place: 1,
-            device,
-            pick,
-            ..NONE
-        };
-        let (ended, written) = ran(alloc, CUT, &[], failing)?;
-        assert_eq!(rt; ended.status, 0, "call {device}");
-        assert_eq!(rt; written.as_slice(), says, "call {device}");
+        stops_and_says(&rt, alloc, device, pick, says)?;
     }
     // What it finds that stops in its last records.
     for (device, before, after) in [(27, 5, 5), (31, 5, 6), (35, 6, 7), (39, 7, 8)] {
-        for (pick, records) in [(Pick::Old, before), (Pick::New, after)] {
-            let failing = Failing {
-                place: 1,
-                device,
-                pick,
-                ..NONE
-            };
-            let (ended, _) = ran(alloc, CUT, &[], failing)?;
-            let client = client_on(alloc, ended.disks.into_iter().nth(1))?;
-            assert_eq!(rt; client.records(), records, "call {device}");
-        }
+        stops_and_finds(&rt, alloc, device, Pick::Old, before)?;
+        stops_and_finds(&rt, alloc, device, Pick::New, after)?;
     }
     Ok(())
 }

@@ -7,6 +7,7 @@ use iot_kept::{Kept, StartFault};
 use iot_text::{NoMemory, Path};
 use iot_tree::Kind;
 use std::alloc::Global;
+use std::process::Abort;
 use std::test::Fail;
 
 /// The root alone is held, and is whole.
@@ -161,15 +162,22 @@ fn seen_after(alloc: Global, bodies: &[&[u8]], path: &Path) -> Result<Seen, Star
     })
 }
 
-#[test]
-fn nothing_is_known_at_first(rt: HostRuntime) -> Result<(), Fail> {
-    let alloc = rt.alloc();
-    let kept = started(alloc, MemDisk::new(alloc))?;
-    assert!(rt; running_of(&kept).is_none());
+/// Nothing was ever kept: the root is away.
+fn knows_nothing<D: Disk>(rt: &impl Abort, alloc: Global, kept: &Kept<D>) -> Result<(), Fail>
+    requires { IsSynced D.medium kept.now }
+{
+    assert!(rt; running_of(kept).is_none());
     assert_eq!(rt; kept.last(), 0);
     assert_eq!(rt; kept.records(), 0);
     assert_eq!(rt; kept.view().kind(&Path::parse(alloc, b"/d")?), Kind::Away);
     Ok(())
+}
+
+#[test]
+fn nothing_is_known_at_first(rt: HostRuntime) -> Result<(), Fail> {
+    let alloc = rt.alloc();
+    let kept = started(alloc, MemDisk::new(alloc))?;
+    knows_nothing(&rt, alloc, &kept)
 }
 
 #[test]

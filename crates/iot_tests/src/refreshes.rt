@@ -102,24 +102,26 @@ fn hoard<S: Disk, C: Disk>(
     Ok(())
 }
 
-/// The client of a disk that is restarted asks a new server in these bytes, which bring the root, and then once more.
-fn hoard_twice(
+/// The client asks a new server in these bytes, which bring the root, and then once more.
+fn hoard_twice<D: Disk>(
     rt: &impl Abort,
     alloc: Global,
-    disk: MemDisk,
+    client: &mut Client<D>,
     asks: &[u8],
-) -> Result<Client<MemDisk>, Fail> {
+) -> Result<(), Fail>
+    requires tied { IsTied D.medium client.old }
+    requires place { place_of client.old ≤ 7 }
+{
     let mut server = new_server(alloc)?;
-    let mut client = client_on(alloc, disk)?;
-    hoard(rt, alloc, &mut server, &mut client, asks, ROOT)?;
-    hoard(rt, alloc, &mut server, &mut client, AGAIN, NOTHING)?;
-    Ok(client)
+    hoard(rt, alloc, &mut server, client, asks, ROOT)?;
+    hoard(rt, alloc, &mut server, client, AGAIN, NOTHING)
 }
 
 #[test]
 fn what_is_known_does_not_come_again(rt: HostRuntime) -> Result<(), Fail> {
     let alloc = rt.alloc();
-    let client = hoard_twice(&rt, alloc, MemDisk::new(alloc), FIRST)?;
+    let mut client = client_on(alloc, MemDisk::new(alloc))?;
+    hoard_twice(&rt, alloc, &mut client, FIRST)?;
 
     // What is held has not changed, and its record was appended again.
     assert_eq!(rt; client.held().rows().len(), 1);
@@ -132,7 +134,8 @@ fn what_is_known_does_not_come_again(rt: HostRuntime) -> Result<(), Fail> {
 fn no_stamp_is_known_after_a_restart(rt: HostRuntime) -> Result<(), Fail> {
     let alloc = rt.alloc();
     let disk = MemDisk::of(alloc, Vec::from_slice(alloc, TWICE)?)?;
-    let client = hoard_twice(&rt, alloc, disk, RESTARTED)?;
+    let mut client = client_on(alloc, disk)?;
+    hoard_twice(&rt, alloc, &mut client, RESTARTED)?;
     assert_eq!(rt; client.records(), 4);
     Ok(())
 }
@@ -155,20 +158,34 @@ fn is_bad_at_its_end<D: Disk>(
     }
 }
 
+/// The client, which knows nothing, refuses what makes no tree. Where it knows the root, the same bytes make one.
+fn refuses_what_makes_no_tree<S: Disk, C: Disk>(
+    rt: &impl Abort,
+    alloc: Global,
+    server: &mut Server<S>,
+    client: &mut Client<C>,
+) -> Result<(), Fail>
+    requires synced { IsSynced S.medium server.old }
+    requires tied { IsTied C.medium client.old }
+    requires place { place_of client.old ≤ 7 }
+{
+    assert!(rt; is_bad_at_its_end(alloc, client, WITHOUT_ROOT)?);
+
+    // Nothing has changed: it has no record, and asks as at first.
+    assert_eq!(rt; client.records(), 0);
+    hoard(rt, alloc, server, client, FIRST, ROOT)?;
+    assert!(rt; !is_bad_at_its_end(alloc, client, WITHOUT_ROOT)?);
+    assert_eq!(rt; client.records(), 2);
+    assert_eq!(rt; client.held().rows().len(), 2);
+    Ok(())
+}
+
 #[test]
 fn what_makes_no_tree_is_bad_at_its_end(rt: HostRuntime) -> Result<(), Fail> {
     let alloc = rt.alloc();
     let mut server = new_server(alloc)?;
     let mut client = client_on(alloc, MemDisk::new(alloc))?;
-    assert!(rt; is_bad_at_its_end(alloc, &mut client, WITHOUT_ROOT)?);
-
-    // Nothing has changed: it has no record, and asks as at first. Where the root is known, the same bytes make a tree.
-    assert_eq!(rt; client.records(), 0);
-    hoard(&rt, alloc, &mut server, &mut client, FIRST, ROOT)?;
-    assert!(rt; !is_bad_at_its_end(alloc, &mut client, WITHOUT_ROOT)?);
-    assert_eq!(rt; client.records(), 2);
-    assert_eq!(rt; client.held().rows().len(), 2);
-    Ok(())
+    refuses_what_makes_no_tree(&rt, alloc, &mut server, &mut client)
 }
 
 /// Whether the first transaction that waits, if one does, is in conflict, and is to be run again.
@@ -187,6 +204,26 @@ fn is_planned<D: Disk>(client: &Client<D>) -> bool
     }
 }
 
+/// The client, whose first transaction is to be run again, refuses the reply as bad from this place on, and notes nothing.
+fn refuses_to_resolve<D: Disk>(
+    rt: &impl Abort,
+    alloc: Global,
+    client: &mut Client<D>,
+    reply: &[u8],
+    at: u64,
+) -> Result<(), Fail>
+    requires { IsTied D.medium client.old }
+{
+    if !is_planned(client) {
+        return Err(Fail::new("nothing is to be run again"));
+    }
+    let script = Rc::new(alloc, parse(alloc, b"mkdir /d\n")?)?;
+    let refused = client.resolve(alloc, reply, script);
+    assert!(rt; matches!(refused, Err(ClientFault::BadReply { at: place }) if place == at));
+    assert_eq!(rt; client.records(), 3);
+    Ok(())
+}
+
 #[test]
 fn a_resolution_needs_a_whole_tree(rt: HostRuntime) -> Result<(), Fail> {
     let alloc = rt.alloc();
@@ -197,13 +234,7 @@ fn a_resolution_needs_a_whole_tree(rt: HostRuntime) -> Result<(), Fail> {
     ] {
         let disk = MemDisk::of(alloc, Vec::from_slice(alloc, CONFLICT)?)?;
         let mut client = client_on(alloc, disk)?;
-        if !is_planned(&client) {
-            return Err(Fail::new("nothing is to be run again"));
-        }
-        let script = Rc::new(alloc, parse(alloc, b"mkdir /d\n")?)?;
-        let refused = client.resolve(alloc, reply, script);
-        assert!(rt; matches!(refused, Err(ClientFault::BadReply { at: place }) if place == at));
-        assert_eq!(rt; client.records(), 3);
+        refuses_to_resolve(&rt, alloc, &mut client, reply, at)?;
     }
     Ok(())
 }

@@ -73,15 +73,15 @@ fn answers<D: Disk>(
     Ok(())
 }
 
-#[test]
-fn each_request_has_its_reply(rt: HostRuntime) -> Result<(), Fail> {
-    let alloc = rt.alloc();
-    let mut server = started(alloc, MemDisk::new(alloc))?;
-    answers(&rt, alloc, &mut server, COMMIT, COMMITTED)?;
-    answers(&rt, alloc, &mut server, COMMIT, ALREADY)?;
-    answers(&rt, alloc, &mut server, LATE, CONFLICT)?;
-    answers(&rt, alloc, &mut server, REFRESH, OBJECTS)?;
-    answers(&rt, alloc, &mut server, AGAIN, NOTHING)?;
+/// A new server is asked to commit, and then for what it holds.
+fn answers_each<D: Disk>(rt: &impl Abort, alloc: Global, server: &mut Server<D>) -> Result<(), Fail>
+    requires { IsSynced D.medium server.old }
+{
+    answers(rt, alloc, server, COMMIT, COMMITTED)?;
+    answers(rt, alloc, server, COMMIT, ALREADY)?;
+    answers(rt, alloc, server, LATE, CONFLICT)?;
+    answers(rt, alloc, server, REFRESH, OBJECTS)?;
+    answers(rt, alloc, server, AGAIN, NOTHING)?;
     let bad = server.handle(alloc, b"\x03");
     assert!(rt; matches!(bad, Err(ServerFault::Malformed { at: 0 })));
     let traffic = Traffic {
@@ -92,6 +92,13 @@ fn each_request_has_its_reply(rt: HostRuntime) -> Result<(), Fail> {
     assert_eq!(rt; server.traffic(), traffic);
     assert_eq!(rt; server.store().number(), 1);
     Ok(())
+}
+
+#[test]
+fn each_request_has_its_reply(rt: HostRuntime) -> Result<(), Fail> {
+    let alloc = rt.alloc();
+    let mut server = started(alloc, MemDisk::new(alloc))?;
+    answers_each(&rt, alloc, &mut server)
 }
 
 #[test]

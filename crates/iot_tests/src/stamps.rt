@@ -66,36 +66,54 @@ fn stamps_of(alloc: Global, client: &Held) -> Result<Vec<u64>, NoMemory> {
     Ok(stamps)
 }
 
-#[test]
-fn what_changed_is_sent_once(rt: HostRuntime) -> Result<(), NoMemory> {
-    let alloc = rt.alloc();
-    let (mut server, mut client) = opened(&rt, alloc)?;
+/// All is sent at first, then nothing, and then what has moved.
+fn sends_what_changed(
+    rt: &impl Abort,
+    alloc: Global,
+    server: &mut Stamped,
+    client: &mut Held,
+) -> Result<(), NoMemory> {
     let all = Want::Below(Path::root(alloc));
-    refreshes(&rt, alloc, &server, &mut client, &all, b"d/1d/d1f/d/n1")?;
-    refreshes(&rt, alloc, &server, &mut client, &all, b"")?;
-    move_file(&rt, alloc, &mut server)?;
+    refreshes(rt, alloc, server, client, &all, b"d/1d/d1f/d/n1")?;
+    refreshes(rt, alloc, server, client, &all, b"")?;
+    move_file(rt, alloc, server)?;
     refreshes(
-        &rt,
+        rt,
         alloc,
-        &server,
-        &mut client,
+        server,
+        client,
         &Want::Nothing,
         b"d/2d/d2F/m0 /d/n",
     )?;
     assert_eq!(rt; client.tree().rows().len(), 3);
-    assert_eq!(rt; stamps_of(alloc, &client)?.as_slice(), [2, 2].as_slice());
+    assert_eq!(rt; stamps_of(alloc, client)?.as_slice(), [2, 2].as_slice());
+    Ok(())
+}
 
-    // After a restart no stamp is known, so all that is known comes again.
-    let mut client = Held::unstamped(alloc, client.tree().copy(alloc)?)?;
+/// After a restart the client knows no stamp, so all that it knows comes again.
+fn sends_all_again(
+    rt: &impl Abort,
+    alloc: Global,
+    server: &Stamped,
+    client: &Held,
+) -> Result<(), NoMemory> {
+    let mut restarted = Held::unstamped(alloc, client.tree().copy(alloc)?)?;
     refreshes(
-        &rt,
+        rt,
         alloc,
-        &server,
-        &mut client,
+        server,
+        &mut restarted,
         &Want::Nothing,
         b"d/2d/d2F/m0",
-    )?;
-    Ok(())
+    )
+}
+
+#[test]
+fn what_changed_is_sent_once(rt: HostRuntime) -> Result<(), NoMemory> {
+    let alloc = rt.alloc();
+    let (mut server, mut client) = opened(&rt, alloc)?;
+    sends_what_changed(&rt, alloc, &mut server, &mut client)?;
+    sends_all_again(&rt, alloc, &server, &client)
 }
 
 #[test]
