@@ -67,8 +67,8 @@ pub struct Outcome<D> {
 ///
 /// With status 5 the disks are as they were; or some events were done, and memory ran out in the next one, or after them. No disk was
 /// armed but by those that were done, and each has failed as often as after them, or more often. Whichever of its images a crash leaves,
-/// the first disk holds the commits that the server had after them, each with its record and in their order; behind these may be more. The
-/// disks of the clients that are not declared by them, or by the next one, are as they were.
+/// the first disk holds the commits that the server had after them, in their order; behind these may be more. The disks of the clients that
+/// are not declared by them, or by the next one, are as they were.
 pub fn run<S: Source, K: Sink, D: Disk>(
     alloc: Global,
     words: &[&str],

@@ -1,3 +1,4 @@
 pub mod ClientLaws
 pub mod QueuedLaws
 pub mod ServerLaws
+pub mod TreesLaws

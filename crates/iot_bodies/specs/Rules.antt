@@ -1,8 +1,10 @@
 -- Which bodies of checkpoints have a spelling.
-use Rattle.std.specs.Prelude.{◌≡◌, List, [], ◌∷◌, Option, Some, None}
+use Rattle.std.specs.Prelude.{◌≡◌, ℕ, List, [], ◌∷◌, Option, Some, None}
 use Rattle.std.specs.List.{AllByRecursion}
 use Rattle.iot_text.specs.Names.{IsName}
 use Rattle.iot_tree.specs.declared.access.Access.{Access}
+use Rattle.iot_tree.specs.declared.acts.Act.{Act}
+use Rattle.iot_tree.specs.declared.labels.OnConflict.{OnConflict}
 use Rattle.iot_access.specs.Access.{no_access}
 use Rattle.iot_codec.specs.Rules.{IsAccess, IsNumber, IsLabel, IsOption, IsBudget, AreActs, IsTreeOfRows}
 use Rattle.iot_queue.specs.declared.items.Item.{Item}
@@ -60,3 +62,8 @@ pub record IsClientBody (body : ClientBody) : Type 0 where
 abbrev pub waiting_of : List Item → Access → List Waiting
 waiting_of [] access = []
 waiting_of (item ∷ items) access = record { item = item; access = access } ∷ waiting_of items no_access
+
+-- the one that runs, by its number, its script and its option, with these acts
+abbrev pub running_with : Option (ℕ × List ℕ × OnConflict) → List Act → Option Running
+running_with None acts = None
+running_with (Some it) acts = Some (record { tid = it.0; script = it.1; option = it.2; acts = acts })

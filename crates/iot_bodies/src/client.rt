@@ -1,10 +1,9 @@
 //! What a client keeps.
 ghost use Rattle.std.specs.Prelude.{◌≡◌, ◌++◌, OnOk, IfOk};
-ghost use Rattle.std.specs.Option.{option_copied};
 ghost use Rattle.iot_codec.specs.Outcomes.{IsOutcome};
 ghost use Rattle.iot_wire.specs.Messages.{IsMessage, ReadsMessage, IsOneMessage, whole};
 ghost use Rattle.iot_bodies.specs.Decoding.{client_at};
-ghost use Rattle.iot_bodies.specs.Rules.{IsClientBody, waiting_of};
+ghost use Rattle.iot_bodies.specs.Rules.{IsClientBody, running_with, waiting_of};
 ghost use Rattle.iot_bodies.specs.Spelling.{client_spelling};
 
 use crate::parts::finished;
@@ -13,7 +12,7 @@ use crate::running::{put_running_if_any, read_running_if_any};
 use iot_codec::{CodecFault, Spelled, read_list};
 use iot_queue::Item;
 use iot_text::{Name, NoMemory, Text};
-use iot_tree::{Access, Acts, OnConflict, Sequence, Tree};
+use iot_tree::{Access, Act, Acts, OnConflict, Sequence, Tree};
 use std::alloc::Global;
 
 /// A transaction that waits, with what the run asked that was made in its place, if it is resolved; else with no access.
@@ -54,7 +53,8 @@ pub struct ClientBody {
 }
 
 /// Appends the spelling of a client's body: its held tree, the transactions that wait, the one that runs, and the number of the
-/// last one. `access` is that of the first one that waits, if it is resolved, or else that of nothing. It copies none of them.
+/// last one. `access` is that of the first one that waits, if it is resolved, or else that of nothing. `running` is the number, the
+/// script and the option of the one that runs, if one does, and `acts` what it did so far. It copies none of them.
 ///
 /// # Errors
 ///
@@ -64,20 +64,21 @@ pub fn put_client(
     held: &Tree,
     items: &[Item],
     access: &Access,
-    running: Option<&Running>,
+    running: Option<(u64, Name, OnConflict)>,
+    acts: &[Act],
     last: u64,
     out: &mut Text,
 ) -> Result<(), NoMemory>
     ensures { OnOk result (out.new ≡ out.old ++ client_spelling (record {
       held = held.now;
       items = waiting_of items.now access.now;
-      running = option_copied running.entry;
+      running = running_with running acts.now;
       last = last;
     })) }
 {
     held.put(out)?;
     put_queue(items, access, out)?;
-    put_running_if_any(running, out)?;
+    put_running_if_any(running, acts, out)?;
     last.put(out)
 }
 

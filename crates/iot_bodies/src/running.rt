@@ -1,38 +1,49 @@
 //! The transaction that runs.
 ghost use Rattle.std.specs.Prelude.{◌≡◌, ◌++◌, OnOk};
-ghost use Rattle.std.specs.Option.{option_copied};
 ghost use Rattle.iot_codec.specs.Outcomes.{IsOutcome};
 ghost use Rattle.iot_bodies.specs.Decoding.{running_at, some_running_at, running_if_any_at};
+ghost use Rattle.iot_bodies.specs.Rules.{running_with};
 ghost use Rattle.iot_bodies.specs.Spelling.{running_spelling, running_if_any_spelling};
 
 use crate::Running;
 use crate::parts::{malformed, tag_at};
-use iot_codec::{CodecFault, Spelled};
+use iot_codec::{CodecFault, Spelled, put_list};
 use iot_text::{Name, NoMemory, Text};
-use iot_tree::{Acts, OnConflict};
+use iot_tree::{Act, Acts, OnConflict};
 use std::alloc::Global;
 
 /// Appends the transaction that runs: its number, its script, its option and its acts so far.
 #[tactic(auto, unfolding(crate::specs::Spelling::running_spelling))]
-fn put_running(running: &Running, out: &mut Text) -> Result<(), NoMemory>
-    ensures { OnOk result (out.new ≡ out.old ++ running_spelling running.now) }
+fn put_running(
+    tid: u64,
+    script: Name,
+    option: OnConflict,
+    acts: &[Act],
+    out: &mut Text,
+) -> Result<(), NoMemory>
+    ensures { OnOk result (out.new ≡ out.old
+        ++ running_spelling (record { tid = tid; script = script; option = option; acts = acts.now })) }
 {
-    running.tid.put(out)?;
-    running.script.put(out)?;
-    running.option.put(out)?;
-    running.acts.put(out)
+    tid.put(out)?;
+    script.put(out)?;
+    option.put(out)?;
+    put_list(acts, out)
 }
 
 /// Appends 0 if no transaction runs, or 1 and the one that does.
 #[tactic(auto, unfolding(crate::specs::Spelling::running_if_any_spelling))]
-pub(crate) fn put_running_if_any(running: Option<&Running>, out: &mut Text) -> Result<(), NoMemory>
-    ensures { OnOk result (out.new ≡ out.old ++ running_if_any_spelling (option_copied running.entry)) }
+pub(crate) fn put_running_if_any(
+    running: Option<(u64, Name, OnConflict)>,
+    acts: &[Act],
+    out: &mut Text,
+) -> Result<(), NoMemory>
+    ensures { OnOk result (out.new ≡ out.old ++ running_if_any_spelling (running_with running acts.now)) }
 {
     match running {
         None => out.push(0),
-        Some(running) => {
+        Some((tid, script, option)) => {
             out.push(1)?;
-            put_running(running, out)
+            put_running(tid, script, option, acts, out)
         }
     }
 }

@@ -132,14 +132,14 @@ steps_on old new x y (Some i) (Some j) done runs some can act notes later =
     (facts (state_of old) x i runs some) can notes act.next act.goes_on act.counted act.over over
 
 -- if the record of the act is in doubt, it is that of the next act
-pub next_in_doubt : (state : State) (class : Option Bool) (i j : Option Interpreter) (done : Done) (bodies : List (List ℕ))
+pub next_in_doubt : (state : State) (class : Option Bool) (i j : Option Interpreter) (done : Done) (records : ℕ)
     (images : List ℕ → Type 0) → RunsIn state class i → IsSome state.running → CanActIfAny state (live class i)
-    → DidIfAny i (view state) done j → CutsOff (Acted done.act) state bodies images
-    → CutsOffNextIfAny (live class i) state bodies images
-next_in_doubt state class None j done bodies images runs some can act cuts = absurd act
-next_in_doubt state class (Some i) None done bodies images runs some can act cuts = absurd act
-next_in_doubt state None (Some i) (Some j) done bodies images runs some can act cuts = absurd can
-next_in_doubt state (Some first) (Some i) (Some j) done bodies images runs some can act cuts = record {
+    → DidIfAny i (view state) done j → CutsOff (Acted done.act) state records images
+    → CutsOffNextIfAny (live class i) state records images
+next_in_doubt state class None j done records images runs some can act cuts = absurd act
+next_in_doubt state class (Some i) None done records images runs some can act cuts = absurd act
+next_in_doubt state None (Some i) (Some j) done records images runs some can act cuts = absurd can
+next_in_doubt state (Some first) (Some i) (Some j) done records images runs some can act cuts = record {
   can = can;
   act = done.act;
   next =

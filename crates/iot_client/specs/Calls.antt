@@ -1,10 +1,10 @@
 -- What the calls of a client refuse, change and answer.
-use Rattle.std.specs.Prelude.{◌≡◌, ℕ, ◌+◌, ◌<◌, ◌||◌, Bool, true, false, List, [], ◌∷◌, ◌++◌, drop, leb, length, if◌then◌else◌}
+use Rattle.std.specs.Prelude.{◌≡◌, ℕ, ◌+◌, ◌<◌, ◌||◌, Bool, true, false, List, [], ◌∷◌, drop, leb, length, if◌then◌else◌}
 use Rattle.std.specs.Prelude.{⊤, IsOk, IsSome, Option, Some, None, Result, Ok, Err}
 use Rattle.iot_access.specs.Access.{access_of}
 use Rattle.iot_acts.specs.Traces.{after_acts}
-use Rattle.iot_journal.specs.Decoding.{Encodes}
-use Rattle.iot_journal.specs.Images.{EachDecodesEither}
+use Rattle.iot_disk.specs.Disk.{Medium}
+use Rattle.iot_slots.specs.Cells.{next}
 use Rattle.iot_tree.specs.Tree.{Path, Nodes, IsTree, IsWhole}
 use Rattle.iot_tree.specs.declared.changes.Changes.{Changes}
 use Rattle.iot_stamp.specs.Stamps.{Stamps, nodes_of}
@@ -29,15 +29,14 @@ use Rattle.iot_kept.specs.Changes.{IsInConflict, CanFollow, after}
 use Rattle.iot_kept.specs.Bringing.{brought, bringing}
 use Rattle.iot_kept.specs.Stamps.{StampsBy}
 use Rattle.iot_kept.specs.declared.bringing.Purpose.{Purpose}
-use Rattle.iot_kept.specs.Standing.{EachStandsEither}
+use Rattle.iot_kept.specs.Standing.{EachStands, EachStandsEither}
 use Rattle.iot_changes.specs.Rules.{IsChange}
-use Rattle.iot_changes.specs.Spelling.{change_spelling}
 use Rattle.iot_changes.specs.declared.changes.Change.{Change}
 use Rattle.iot_changes.specs.declared.changes.Change.TheVariants as changes
 use Rattle.iot_client.specs.Faults.{MayFail}
 use Rattle.iot_wire.specs.Meanings.{IsRefresh}
 use Rattle.iot_client.specs.Messages.{IsToldBy, objects_in, nothing_held, noted_in}
-use Rattle.iot_client.specs.Ties.{state_of, stamps_of, place_of, records_of, Live, count, run_of}
+use Rattle.iot_client.specs.Ties.{state_of, stamps_of, place_of, disk_of, records_of, Live, count, run_of}
 use Rattle.iot_client.specs.declared.client.Client.{Client}
 use Rattle.iot_client.specs.declared.fault.ClientFault.{ClientFault}
 use Rattle.iot_client.specs.declared.fault.ClientFault.TheVariants.{NoMemory, Stopped, Busy, Pending, Idle, NotAtEnd, Nothing}
@@ -146,15 +145,18 @@ pub record Notes {D : Type 0} (change : Change) (old new : Client D) : Type 0 wh
   pub state : state_of new ≡ after (state_of old) change
   pub stamps : StampsBy change (state_of old).items (stamps_of old) (stamps_of new)
   pub place : place_of new ≡ place_of old
-  pub records : records_of new ≡ records_of old + 1
+  pub records : records_of new ≡ next (records_of old)
+
+-- each image of the disk stands for the state before, with as many records
+abbrev pub Stays : {D : Type 0} → Medium D → (old new : Client D) → Type 0
+Stays medium old new = EachStands (medium.may_leave (disk_of new)) (records_of old) (state_of old)
 
 -- a call was stopped while it appended the record of this change, which has a spelling and could follow: each image stands for the state
--- before or for the one after it, and has the records before, or those and the record of the change
-pub record CutsOff (change : Change) (state : State) (bodies : List (List ℕ)) (images : List ℕ → Type 0) : Type 0 where
+-- before, with so many records, or for the one after it, with one more
+pub record CutsOff (change : Change) (state : State) (records : ℕ) (images : List ℕ → Type 0) : Type 0 where
   pub spelled : IsChange change
   pub follows : CanFollow state change
-  pub either : EachStandsEither images state (after state change)
-  pub one_record : EachDecodesEither images (Encodes bodies) (Encodes (bodies ++ change_spelling change ∷ []))
+  pub either : EachStandsEither images records state (after state change)
 
 -- the changes that the reply brings were merged into the held tree; the outcome is a tree, and the change of what is durable is the one
 -- that brings it
@@ -167,13 +169,13 @@ pub record Brings {D : Type 0} (purpose : Purpose) (reply : List ℕ) (old new :
   pub notes : Notes (bringing purpose (stamps_of old) changes) old new
 
 -- it was stopped while it appended that change
-pub record CutsOffByTree (purpose : Purpose) (reply : List ℕ) (held : Stamps) (state : State) (bodies : List (List ℕ))
+pub record CutsOffByTree (purpose : Purpose) (reply : List ℕ) (held : Stamps) (state : State) (records : ℕ)
     (images : List ℕ → Type 0) : Type 0 where
   pub changes : Changes
   pub read : objects_in reply ≡ Ok changes
   pub spelled : IsMessage IsReply reply_spelling reply (Objects changes)
   pub tree : IsTree (nodes_of (brought held changes))
-  pub cuts_off : CutsOff (bringing purpose held changes) state bodies images
+  pub cuts_off : CutsOff (bringing purpose held changes) state records images
 
 -- what is so of the first that waits, if there is one
 abbrev pub HeadIsIfAny : (Item → Type 0) → List Item → Type 0
@@ -199,11 +201,11 @@ verdict_change (notes.Settled number) = changes.Left
 verdict_change (notes.Conflict read) = changes.Conflicted
 
 -- a call was stopped while it appended the change by what the reply says
-pub record CutsOffByVerdict (reply : List ℕ) (state : State) (bodies : List (List ℕ)) (images : List ℕ → Type 0) : Type 0 where
+pub record CutsOffByVerdict (reply : List ℕ) (state : State) (records : ℕ) (images : List ℕ → Type 0) : Type 0 where
   pub said : Noted
   pub noted : noted_in reply ≡ Ok said
   pub told : IsToldBy reply said
-  pub cuts_off : CutsOff (verdict_change said) state bodies images
+  pub cuts_off : CutsOff (verdict_change said) state records images
 
 -- what `resolve` needs of the first that waits: it is in conflict, and its option plans a run
 pub record IsPlanned (item : Item) : Type 0 where
@@ -227,10 +229,10 @@ pub record Reruns {D : Type 0} (code : Code) (server : Nodes) (old new : Client 
   pub notes : Notes (changes.Resolved done (access_of done.acts server)) old new
 
 -- it was stopped while it appended that change
-pub record CutsOffRerun (code : Code) (server : Nodes) (state : State) (bodies : List (List ℕ)) (images : List ℕ → Type 0) : Type 0 where
+pub record CutsOffRerun (code : Code) (server : Nodes) (state : State) (records : ℕ) (images : List ℕ → Type 0) : Type 0 where
   pub done : Resolution
   pub run : IsHeadsRun state.held state.items code server done
-  pub cuts_off : CutsOff (changes.Resolved done (access_of done.acts server)) state bodies images
+  pub cuts_off : CutsOff (changes.Resolved done (access_of done.acts server)) state records images
 
 -- and the tree is the one that the reply makes of nothing
 pub record Resolves {D : Type 0} (reply : List ℕ) (code : Code) (old new : Client D) : Type 0 where
@@ -242,13 +244,13 @@ pub record Resolves {D : Type 0} (reply : List ℕ) (code : Code) (old new : Cli
   pub reruns : Reruns code (nodes_of (brought nothing_held changes)) old new
 
 -- so it was if it was stopped while it appended the change
-pub record CutsOffByRun (reply : List ℕ) (code : Code) (state : State) (bodies : List (List ℕ)) (images : List ℕ → Type 0) : Type 0 where
+pub record CutsOffByRun (reply : List ℕ) (code : Code) (state : State) (records : ℕ) (images : List ℕ → Type 0) : Type 0 where
   pub changes : Changes
   pub read : objects_in reply ≡ Ok changes
   pub spelled : IsMessage IsReply reply_spelling reply (Objects changes)
   pub tree : IsTree (nodes_of (brought nothing_held changes))
   pub whole : IsWhole (nodes_of (brought nothing_held changes))
-  pub reruns : CutsOffRerun code (nodes_of (brought nothing_held changes)) state bodies images
+  pub reruns : CutsOffRerun code (nodes_of (brought nothing_held changes)) state records images
 
 -- if a transaction runs that was begun since the start, it is first class
 abbrev pub IsFirstIfAny : Option Live → Type 0
@@ -297,15 +299,15 @@ pub record DoesNext {D : Type 0} (old : Client D) (live : Live) (acts : ℕ) (en
   pub ends : ended ≡ has_ended (state_of new) live.code
 
 -- it was stopped while it appended the record of that act
-pub record CutsOffNext (live : Live) (state : State) (bodies : List (List ℕ)) (images : List ℕ → Type 0) : Type 0 where
+pub record CutsOffNext (live : Live) (state : State) (records : ℕ) (images : List ℕ → Type 0) : Type 0 where
   pub can : CanAct state live
   pub act : Act
   pub next : next_acts state live.code ≡ act ∷ []
-  pub cuts_off : CutsOff (changes.Acted act) state bodies images
+  pub cuts_off : CutsOff (changes.Acted act) state records images
 
-abbrev pub CutsOffNextIfAny : Option Live → State → List (List ℕ) → (List ℕ → Type 0) → Type 0
-CutsOffNextIfAny None state bodies images = ⊥
-CutsOffNextIfAny (Some live) state bodies images = CutsOffNext live state bodies images
+abbrev pub CutsOffNextIfAny : Option Live → State → ℕ → (List ℕ → Type 0) → Type 0
+CutsOffNextIfAny None state records images = ⊥
+CutsOffNextIfAny (Some live) state records images = CutsOffNext live state records images
 
 -- the next act of a first-class transaction asks first about this path of those that are away
 pub record Misses {D : Type 0} (old : Client D) (live : Live) (path : Path) (new : Client D) : Type 0 where

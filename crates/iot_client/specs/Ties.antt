@@ -32,11 +32,7 @@ place_of client = client.me
 abbrev pub disk_of : {D : Type 0} → Client D → D
 disk_of client = kept.disk_of client.kept
 
--- the bodies of the records on its disk
-abbrev pub bodies_on : {D : Type 0} → Medium D → Client D → List (List ℕ)
-bodies_on medium client = kept.bodies_on medium client.kept
-
--- the number of records that were read and appended
+-- the number of records ever appended, modulo 2 ^ 64
 abbrev pub records_of : {D : Type 0} → Client D → ℕ
 records_of client = kept.records_of client.kept
 

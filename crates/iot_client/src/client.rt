@@ -1,13 +1,15 @@
 //! The client itself.
-ghost use Rattle.std.specs.Prelude.{◌≡◌, None, IfOk, IfErr, MatchResult, true};
+ghost use Rattle.std.specs.Prelude.{◌≡◌, ◌≢◌, ℕ, None, IfOk, IfErr, MatchResult};
 ghost use Rattle.std.specs.Option.{option_copied};
 ghost use Rattle.iot_disk.specs.Disk.{armed_with, Only, SameImages};
-ghost use Rattle.iot_journal.specs.Decoding.{Encodes, decoded, is_started};
-ghost use Rattle.iot_journal.specs.Images.{EachDecodes};
-ghost use Rattle.iot_journal.specs.Start.{ChangesNothing};
+ghost use Rattle.iot_durable.specs.Causes.{HasCause, SaysDamaged, SaysForeign, TakesBytes};
+ghost use Rattle.iot_durable.specs.Damage.{IsDamagedAt};
+ghost use Rattle.iot_durable.specs.Standing.{EachOpens, IsFresh, StandWith, header, records_in};
+ghost use Rattle.iot_records.specs.Records.{ChangesNothing};
+ghost use Rattle.iot_slots.specs.Decoding.{Foreign, NotStarted, decoded};
 ghost use Rattle.iot_stamp.specs.Stamps.{unstamped};
-ghost use Rattle.iot_kept.specs.Causes.{HasCause, TakesBytes};
 ghost use Rattle.iot_kept.specs.Memory.{transaction_of, class_of};
+ghost use Rattle.iot_kept.specs.Rules.{rules};
 ghost use Rattle.iot_kept.specs.Spelled.{IsSpelledState};
 ghost use Rattle.iot_kept.specs.Standing.{StandFor, EachStands};
 ghost use Rattle.iot_kept.specs.States.{State, view, AllHold, AreGuarded};
@@ -20,7 +22,8 @@ use iot_queue::Queue;
 use iot_tree::Tree;
 use std::alloc::Global;
 
-/// A client over its disk, to which it appends each of its changes as one record.
+/// A client over its disk, to which it appends each of its changes as one record. A checkpoint of the whole comes before a change if the
+/// records since the last one have grown long.
 ///
 /// After `NoMemory` or `Stopped` of a call that changes it only `into_disk` says anything more: start again from the disk.
 #[derive(Drop)]
@@ -33,7 +36,7 @@ pub struct Client<D: Disk> {
 }
 
 impl<D: Disk> Client<D> {
-    ghost use Rattle.iot_client.specs.Ties.{state_of, stamps_of, place_of, disk_of, bodies_on, records_of, live_of, class_by};
+    ghost use Rattle.iot_client.specs.Ties.{state_of, stamps_of, place_of, disk_of, records_of, live_of, class_by};
     ghost use Rattle.iot_client.specs.Ties.{IsTied, IsBegunIfAny, IsOwnRunIfAny};
 
     /// Starts the client at this place from its disk, which no one else writes; it runs no script. A disk on which nothing was started
@@ -42,12 +45,11 @@ impl<D: Disk> Client<D> {
     ///
     /// # Errors
     ///
-    /// `Foreign` if something else wrote the disk, and `Damaged` with the place of its gate if a record is the spelling of no change
-    /// or cannot follow the ones before it. `Stopped` if the disk failed in this call, and `NoMemory`.
+    /// `Foreign` if something else wrote the disk, and `Damaged` with the place of what is cut short, spells nothing, or cannot follow
+    /// what comes before it. `Stopped` if the disk failed in this call, and `NoMemory`.
     pub fn start(alloc: Global, disk: D, me: u64) -> Result<Client<D>, (D, StartFault)>
         requires { Only (D.medium.reads disk) (D.medium.may_leave disk) }
-        ensures stands { IfOk result (λ client. StandFor (D.medium.reads disk) (state_of client)) }
-        ensures records { IfOk result (λ client. decoded (D.medium.reads disk) ≡ Encodes (bodies_on D.medium client)) }
+        ensures stands { IfOk result (λ client. StandWith rules (D.medium.reads disk) (records_of client) (state_of client)) }
 
         // The disk stands for no other state.
         ensures only { (state : State) → StandFor (D.medium.reads disk) state
@@ -64,20 +66,23 @@ impl<D: Disk> Client<D> {
         ensures guarded { IfOk result (λ client. AreGuarded (state_of client)) }
         ensures spelled { IfOk result (λ client. IsSpelledState (state_of client)) }
 
-        // However this returns, every image encodes what the disk encoded before. So each stands for the state for which
-        // the disk stood; and if it stood for one, its bytes are not refused.
-        ensures bodies { MatchResult result
-            (λ client. EachDecodes (D.medium.may_leave (disk_of client)) (decoded (D.medium.reads disk)))
-            (λ refused. EachDecodes (D.medium.may_leave refused.0) (decoded (D.medium.reads disk))) }
+        // However this returns, each image stands for the state for which the disk stood, with as many records; and if it stood for
+        // one, its bytes are not refused.
         ensures images { (state : State) → StandFor (D.medium.reads disk) state → MatchResult result
-            (λ client. EachStands (D.medium.may_leave (disk_of client)) state)
-            (λ refused. EachStands (D.medium.may_leave refused.0) state) }
+            (λ client. EachStands (D.medium.may_leave (disk_of client)) (records_in (D.medium.reads disk)) state)
+            (λ refused. EachStands (D.medium.may_leave refused.0) (records_in (D.medium.reads disk)) state) }
         ensures never { (state : State) → StandFor (D.medium.reads disk) state
             → IfErr result (λ refused. TakesBytes refused.1) }
 
         ensures steady { IfOk result (λ client. D.medium.faults (disk_of client) ≡ D.medium.faults disk) }
         ensures cause { IfErr result (λ refused.
-            HasCause refused.1 (D.medium.reads disk) (D.medium.faults disk) (D.medium.faults refused.0)) }
+            HasCause rules refused.1 (D.medium.reads disk) (D.medium.faults disk) (D.medium.faults refused.0)) }
+
+        // What something else wrote, and what is damaged, is refused for that, unless memory or the disk fails.
+        ensures foreign { decoded header (D.medium.reads disk) ≡ Foreign
+            → MatchResult result (λ _. ⊥) (λ refused. SaysForeign refused.1) }
+        ensures damaged { (at : ℕ) → IsDamagedAt rules (D.medium.reads disk) at
+            → MatchResult result (λ _. ⊥) (λ refused. SaysDamaged at refused.1) }
 
         // A refusal of the bytes changes nothing.
         ensures refused_reads { IfErr result (λ refused.
@@ -85,13 +90,20 @@ impl<D: Disk> Client<D> {
         ensures refused_images { IfErr result (λ refused.
             ChangesNothing refused.1 (SameImages (D.medium.may_leave disk) (D.medium.may_leave refused.0))) }
 
-        // A disk on which a journal was started is only read, whatever the answer, and so is each whose bytes are refused.
-        ensures only_read { is_started (D.medium.reads disk) ≡ true → MatchResult result
+        // A disk that is started is only read, whatever the answer, and so is each whose bytes are refused.
+        ensures only_read { decoded header (D.medium.reads disk) ≢ NotStarted → MatchResult result
             (λ client. D.medium.reads (disk_of client) ≡ D.medium.reads disk)
             (λ refused. D.medium.reads refused.0 ≡ D.medium.reads disk) }
-        ensures only_read_images { is_started (D.medium.reads disk) ≡ true → MatchResult result
+        ensures only_read_images { decoded header (D.medium.reads disk) ≢ NotStarted → MatchResult result
             (λ client. SameImages (D.medium.may_leave disk) (D.medium.may_leave (disk_of client)))
             (λ refused. SameImages (D.medium.may_leave disk) (D.medium.may_leave refused.0)) }
+
+        // However this returns, a disk that was not started is not, or was just started. After Ok it has these bytes.
+        ensures opens { decoded header (D.medium.reads disk) ≡ NotStarted → MatchResult result
+            (λ client. EachOpens rules (D.medium.may_leave (disk_of client)))
+            (λ refused. EachOpens rules (D.medium.may_leave refused.0)) }
+        ensures fresh { decoded header (D.medium.reads disk) ≡ NotStarted → IfOk result (λ client.
+            IsFresh rules (D.medium.reads disk) (D.medium.reads (disk_of client))) }
 
         ensures arms { MatchResult result
             (λ client. D.medium.arms (disk_of client) ≡ D.medium.arms disk)
@@ -160,7 +172,7 @@ impl<D: Disk> Client<D> {
         }
     }
 
-    /// The number of records that were read and appended.
+    /// The number of records ever appended, modulo 2^64.
     pub fn records(&self) -> u64
         ensures { result ≡ records_of self.now }
     {
@@ -186,7 +198,7 @@ impl<D: Disk> Client<D> {
     /// Gives the disk back. Each image of a tied client's disk stands for its state.
     pub fn into_disk(self) -> D
         ensures disk { result ≡ disk_of self }
-        ensures stands { IsTied D.medium self → EachStands (D.medium.may_leave result) (state_of self) }
+        ensures stands { IsTied D.medium self → EachStands (D.medium.may_leave result) (records_of self) (state_of self) }
     {
         self.kept.into_disk()
     }

@@ -5,7 +5,7 @@ ghost use Rattle.iot_kept.specs.Changes.{CanFollow};
 ghost use Rattle.iot_kept.specs.Kept.{IsSynced};
 ghost use Rattle.iot_kept.specs.Memory.{class_after};
 ghost use Rattle.iot_kept.specs.States.{view};
-ghost use Rattle.iot_client.specs.Calls.{ChangesHead, Notes, CutsOff};
+ghost use Rattle.iot_client.specs.Calls.{Stays, ChangesHead, Notes, CutsOff};
 ghost use Rattle.iot_client.specs.Faults.{CountsFault, MayFail};
 
 use crate::client::Client;
@@ -15,7 +15,7 @@ use iot_kept::Change;
 use std::alloc::Global;
 
 impl<D: Disk> Client<D> {
-    ghost use Rattle.iot_client.specs.Ties.{state_of, disk_of, bodies_on, class_in, live_of, IsTied};
+    ghost use Rattle.iot_client.specs.Ties.{state_of, disk_of, records_of, class_in, live_of, IsTied};
 
     /// Makes a change that can follow: appends its record first.
     pub(crate) fn note(&mut self, alloc: Global, change: Change) -> Result<(), ClientFault>
@@ -30,7 +30,8 @@ impl<D: Disk> Client<D> {
         ensures counts { CountsFault result (D.medium.faults (disk_of self.old)) (D.medium.faults (disk_of self.new)) }
         ensures arms { D.medium.arms (disk_of self.new) ≡ D.medium.arms (disk_of self.old) }
         ensures stopped { IsErrOf result ClientFault.Stopped → CutsOff change
-            (state_of self.old) (bodies_on D.medium self.old) (D.medium.may_leave (disk_of self.new)) }
+            (state_of self.old) (records_of self.old) (D.medium.may_leave (disk_of self.new)) }
+        ensures no_memory { IsErrOf result ClientFault.NoMemory → Stays D.medium self.old self.new }
     {
         self.kept.note(alloc, change)?;
         Ok(())
@@ -50,7 +51,8 @@ impl<D: Disk> Client<D> {
         ensures counts { CountsFault result (D.medium.faults (disk_of self.old)) (D.medium.faults (disk_of self.new)) }
         ensures arms { D.medium.arms (disk_of self.new) ≡ D.medium.arms (disk_of self.old) }
         ensures stopped { IsErrOf result ClientFault.Stopped → CutsOff change
-            (state_of self.old) (bodies_on D.medium self.old) (D.medium.may_leave (disk_of self.new)) }
+            (state_of self.old) (records_of self.old) (D.medium.may_leave (disk_of self.new)) }
+        ensures no_memory { IsErrOf result ClientFault.NoMemory → Stays D.medium self.old self.new }
     {
         self.note(alloc, change)
     }

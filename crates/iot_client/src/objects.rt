@@ -3,7 +3,7 @@ ghost use Rattle.std.specs.Prelude.{◌≡◌, ◌≤◌, None, Ok, IfOk, OnOk, 
 ghost use Rattle.iot_kept.specs.Bringing.{brought_for};
 ghost use Rattle.iot_kept.specs.Changes.{CanFollow};
 ghost use Rattle.iot_kept.specs.Kept.{IsSynced};
-ghost use Rattle.iot_client.specs.Calls.{unready, RefusesFor, RefusesReply, EndsBy, Brings, CutsOffByTree};
+ghost use Rattle.iot_client.specs.Calls.{Stays, unready, RefusesFor, RefusesReply, EndsBy, Brings, CutsOffByTree};
 ghost use Rattle.iot_client.specs.Faults.{CountsFault};
 ghost use Rattle.iot_wire.specs.Meanings.{IsRefresh};
 ghost use Rattle.iot_client.specs.Messages.{objects_in, MakesTree, ReadsObjects};
@@ -23,7 +23,7 @@ use iot_tree::{Changes, Duplicate, Want};
 use std::alloc::Global;
 
 impl<D: Disk> Client<D> {
-    ghost use Rattle.iot_client.specs.Ties.{state_of, stamps_of, place_of, disk_of, bodies_on, class_in, live_of, IsTied};
+    ghost use Rattle.iot_client.specs.Ties.{state_of, stamps_of, place_of, disk_of, records_of, class_in, live_of, IsTied};
 
     /// The request for what is wanted, and for what is known of the held tree. It changes nothing.
     ///
@@ -59,7 +59,8 @@ impl<D: Disk> Client<D> {
         ensures counts { CountsFault result (D.medium.faults (disk_of self.old)) (D.medium.faults (disk_of self.new)) }
         ensures arms { D.medium.arms (disk_of self.new) ≡ D.medium.arms (disk_of self.old) }
         ensures stopped { IsErrOf result ClientFault.Stopped → CutsOffByTree Purpose.Hold reply.now
-            (stamps_of self.old) (state_of self.old) (bodies_on D.medium self.old) (D.medium.may_leave (disk_of self.new)) }
+            (stamps_of self.old) (state_of self.old) (records_of self.old) (D.medium.may_leave (disk_of self.new)) }
+        ensures no_memory { IsErrOf result ClientFault.NoMemory → Stays D.medium self.old self.new }
     {
         match self.unready() {
             Some(refusal) => Err(refusal),
@@ -99,7 +100,8 @@ impl<D: Disk> Client<D> {
         ensures counts { CountsFault result (D.medium.faults (disk_of self.old)) (D.medium.faults (disk_of self.new)) }
         ensures arms { D.medium.arms (disk_of self.new) ≡ D.medium.arms (disk_of self.old) }
         ensures stopped { IsErrOf result ClientFault.Stopped → CutsOffByTree purpose reply.now
-            (stamps_of self.old) (state_of self.old) (bodies_on D.medium self.old) (D.medium.may_leave (disk_of self.new)) }
+            (stamps_of self.old) (state_of self.old) (records_of self.old) (D.medium.may_leave (disk_of self.new)) }
+        ensures no_memory { IsErrOf result ClientFault.NoMemory → Stays D.medium self.old self.new }
     {
         match self.kept.bring(alloc, changes, purpose) {
             Ok(()) => Ok(()),

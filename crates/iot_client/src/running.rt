@@ -4,7 +4,7 @@ ghost use Rattle.iot_codec.specs.Rules.{IsOption};
 ghost use Rattle.iot_text.specs.Names.{IsName};
 ghost use Rattle.iot_kept.specs.Changes.{CanFollow};
 ghost use Rattle.iot_kept.specs.States.{view};
-ghost use Rattle.iot_client.specs.Calls.{busy, idle, may_end, unended, Refuses, RefusesReply, EndsBy, Notes, Brings};
+ghost use Rattle.iot_client.specs.Calls.{Stays, busy, idle, may_end, unended, Refuses, RefusesReply, EndsBy, Notes, Brings};
 ghost use Rattle.iot_client.specs.Calls.{CutsOff, CutsOffByTree, CutsOffNextIfAny};
 ghost use Rattle.iot_client.specs.Calls.{second_class, IsFirstIfAny, StepIsIfAny, EndsIfAny, CutsIfAny};
 ghost use Rattle.iot_client.specs.Doing.{IsAble};
@@ -30,7 +30,7 @@ use std::alloc::Global;
 use std::rc::Rc;
 
 impl<D: Disk> Client<D> {
-    ghost use Rattle.iot_client.specs.Ties.{state_of, stamps_of, place_of, disk_of, bodies_on, records_of, live_of, IsTied, IsBegunIfAny};
+    ghost use Rattle.iot_client.specs.Ties.{state_of, stamps_of, place_of, disk_of, records_of, live_of, IsTied, IsBegunIfAny};
 
     /// Begins a transaction of this script, and gives its number. A first-class one needs that none waits.
     ///
@@ -55,7 +55,8 @@ impl<D: Disk> Client<D> {
         ensures counts { CountsFault result (D.medium.faults (disk_of self.old)) (D.medium.faults (disk_of self.new)) }
         ensures arms { D.medium.arms (disk_of self.new) ≡ D.medium.arms (disk_of self.old) }
         ensures stopped { IsErrOf result ClientFault.Stopped → CutsOff (Change.Begun ((state_of self.old).last + 1) name.now option)
-            (state_of self.old) (bodies_on D.medium self.old) (D.medium.may_leave (disk_of self.new)) }
+            (state_of self.old) (records_of self.old) (D.medium.may_leave (disk_of self.new)) }
+        ensures no_memory { IsErrOf result ClientFault.NoMemory → Stays D.medium self.old self.new }
     {
         match self.busy() {
             Some(fault) => Err(fault),
@@ -81,7 +82,8 @@ impl<D: Disk> Client<D> {
         ensures counts { CountsFault result (D.medium.faults (disk_of self.old)) (D.medium.faults (disk_of self.new)) }
         ensures arms { D.medium.arms (disk_of self.new) ≡ D.medium.arms (disk_of self.old) }
         ensures stopped { IsErrOf result ClientFault.Stopped → CutsOffNextIfAny (live_of self.old)
-            (state_of self.old) (bodies_on D.medium self.old) (D.medium.may_leave (disk_of self.new)) }
+            (state_of self.old) (records_of self.old) (D.medium.may_leave (disk_of self.new)) }
+        ensures no_memory { IsErrOf result ClientFault.NoMemory → Stays D.medium self.old self.new }
     {
         match self.idle() {
             Some(fault) => Err(fault),
@@ -109,7 +111,8 @@ impl<D: Disk> Client<D> {
         ensures counts { CountsFault result (D.medium.faults (disk_of self.old)) (D.medium.faults (disk_of self.new)) }
         ensures arms { D.medium.arms (disk_of self.new) ≡ D.medium.arms (disk_of self.old) }
         ensures stopped { IsErrOf result ClientFault.Stopped → CutsOffByTree Purpose.Fetch reply.now
-            (stamps_of self.old) (state_of self.old) (bodies_on D.medium self.old) (D.medium.may_leave (disk_of self.new)) }
+            (stamps_of self.old) (state_of self.old) (records_of self.old) (D.medium.may_leave (disk_of self.new)) }
+        ensures no_memory { IsErrOf result ClientFault.NoMemory → Stays D.medium self.old self.new }
     {
         match self.idle() {
             Some(fault) => Err(fault),
@@ -152,7 +155,8 @@ impl<D: Disk> Client<D> {
         ensures counts { CountsFault result (D.medium.faults (disk_of self.old)) (D.medium.faults (disk_of self.new)) }
         ensures arms { D.medium.arms (disk_of self.new) ≡ D.medium.arms (disk_of self.old) }
         ensures stopped { IsErrOf result ClientFault.Stopped → CutsOff Change.Ended
-            (state_of self.old) (bodies_on D.medium self.old) (D.medium.may_leave (disk_of self.new)) }
+            (state_of self.old) (records_of self.old) (D.medium.may_leave (disk_of self.new)) }
+        ensures no_memory { IsErrOf result ClientFault.NoMemory → Stays D.medium self.old self.new }
     {
         match self.unended() {
             Some(fault) => Err(fault),
@@ -176,7 +180,8 @@ impl<D: Disk> Client<D> {
         ensures counts { CountsFault result (D.medium.faults (disk_of self.old)) (D.medium.faults (disk_of self.new)) }
         ensures arms { D.medium.arms (disk_of self.new) ≡ D.medium.arms (disk_of self.old) }
         ensures stopped { IsErrOf result ClientFault.Stopped → CutsOff Change.Cut
-            (state_of self.old) (bodies_on D.medium self.old) (D.medium.may_leave (disk_of self.new)) }
+            (state_of self.old) (records_of self.old) (D.medium.may_leave (disk_of self.new)) }
+        ensures no_memory { IsErrOf result ClientFault.NoMemory → Stays D.medium self.old self.new }
     {
         let Some(running) = self.kept.running() else {
             return Ok(None);
@@ -190,7 +195,7 @@ impl<D: Disk> Client<D> {
 
 // What a call does that is not refused.
 impl<D: Disk> Client<D> {
-    ghost use Rattle.iot_client.specs.Ties.{state_of, stamps_of, place_of, disk_of, bodies_on, class_in, live_of, IsTied, IsBegunIfAny};
+    ghost use Rattle.iot_client.specs.Ties.{state_of, stamps_of, place_of, disk_of, records_of, class_in, live_of, IsTied, IsBegunIfAny};
 
     fn run(
         &mut self,
@@ -211,7 +216,8 @@ impl<D: Disk> Client<D> {
         ensures counts { CountsFault result (D.medium.faults (disk_of self.old)) (D.medium.faults (disk_of self.new)) }
         ensures arms { D.medium.arms (disk_of self.new) ≡ D.medium.arms (disk_of self.old) }
         ensures stopped { IsErrOf result ClientFault.Stopped → CutsOff (Change.Begun ((state_of self.old).last + 1) script option)
-            (state_of self.old) (bodies_on D.medium self.old) (D.medium.may_leave (disk_of self.new)) }
+            (state_of self.old) (records_of self.old) (D.medium.may_leave (disk_of self.new)) }
+        ensures no_memory { IsErrOf result ClientFault.NoMemory → Stays D.medium self.old self.new }
     {
         names_are_names(&script, &option);
         let interpreter = Interpreter::start(alloc, code)?;
@@ -246,7 +252,8 @@ impl<D: Disk> Client<D> {
         ensures counts { CountsFault result (D.medium.faults (disk_of self.old)) (D.medium.faults (disk_of self.new)) }
         ensures arms { D.medium.arms (disk_of self.new) ≡ D.medium.arms (disk_of self.old) }
         ensures stopped { IsErrOf result ClientFault.Stopped → CutsOffByTree Purpose.Fetch reply.now
-            (stamps_of self.old) (state_of self.old) (bodies_on D.medium self.old) (D.medium.may_leave (disk_of self.new)) }
+            (stamps_of self.old) (state_of self.old) (records_of self.old) (D.medium.may_leave (disk_of self.new)) }
+        ensures no_memory { IsErrOf result ClientFault.NoMemory → Stays D.medium self.old self.new }
     {
         let again = again_by(&self.interpreter, alloc)?;
         self.bring(alloc, changes, Purpose::Fetch, reply)?;
@@ -266,7 +273,8 @@ impl<D: Disk> Client<D> {
         ensures counts { CountsFault result (D.medium.faults (disk_of self.old)) (D.medium.faults (disk_of self.new)) }
         ensures arms { D.medium.arms (disk_of self.new) ≡ D.medium.arms (disk_of self.old) }
         ensures stopped { IsErrOf result ClientFault.Stopped → CutsOffNextIfAny (live_of self.old)
-            (state_of self.old) (bodies_on D.medium self.old) (D.medium.may_leave (disk_of self.new)) }
+            (state_of self.old) (records_of self.old) (D.medium.may_leave (disk_of self.new)) }
+        ensures no_memory { IsErrOf result ClientFault.NoMemory → Stays D.medium self.old self.new }
     {
         match self.pause() {
             Some(step) => Ok(step),
@@ -317,7 +325,8 @@ impl<D: Disk> Client<D> {
         ensures counts { CountsFault result (D.medium.faults (disk_of self.old)) (D.medium.faults (disk_of self.new)) }
         ensures arms { D.medium.arms (disk_of self.new) ≡ D.medium.arms (disk_of self.old) }
         ensures stopped { IsErrOf result ClientFault.Stopped → CutsOffNextIfAny (live_of self.old)
-            (state_of self.old) (bodies_on D.medium self.old) (D.medium.may_leave (disk_of self.new)) }
+            (state_of self.old) (records_of self.old) (D.medium.may_leave (disk_of self.new)) }
+        ensures no_memory { IsErrOf result ClientFault.NoMemory → Stays D.medium self.old self.new }
     {
         let first = self.is_first();
         let decided = decide_by(&mut self.interpreter, alloc, self.kept.view(), first)?;
@@ -350,7 +359,8 @@ impl<D: Disk> Client<D> {
         ensures counts { CountsFault result (D.medium.faults (disk_of self.old)) (D.medium.faults (disk_of self.new)) }
         ensures arms { D.medium.arms (disk_of self.new) ≡ D.medium.arms (disk_of self.old) }
         ensures stopped { IsErrOf result ClientFault.Stopped → CutsOff Change.Ended
-            (state_of self.old) (bodies_on D.medium self.old) (D.medium.may_leave (disk_of self.new)) }
+            (state_of self.old) (records_of self.old) (D.medium.may_leave (disk_of self.new)) }
+        ensures no_memory { IsErrOf result ClientFault.NoMemory → Stays D.medium self.old self.new }
     {
         let Some(running) = self.kept.running() else {
             unreachable!();

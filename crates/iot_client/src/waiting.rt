@@ -7,7 +7,7 @@ ghost use Rattle.iot_codec.specs.Rules.{IsTreeOfRows};
 ghost use Rattle.iot_stamp.specs.Acting.{UpdatesFit};
 ghost use Rattle.iot_kept.specs.Changes.{HeadIs, IsSubmitted};
 ghost use Rattle.iot_kept.specs.States.{view};
-ghost use Rattle.iot_client.specs.Calls.{empty_queue, not_manual, RefusesFor, Refuses, RefusesReply, Notes, CutsOff, CutsOffByVerdict};
+ghost use Rattle.iot_client.specs.Calls.{Stays, empty_queue, not_manual, RefusesFor, Refuses, RefusesReply, Notes, CutsOff, CutsOffByVerdict};
 ghost use Rattle.iot_client.specs.Calls.{HeadIsIfAny, verdict_change, IsPlanned, IsHeadsRun, Reruns, Resolves, CutsOffRerun, CutsOffByRun};
 ghost use Rattle.iot_client.specs.Faults.{CountsFault, MayFail};
 ghost use Rattle.iot_client.specs.Messages.{IsSubmission, MakesWhole, ReadsObjects, noted_in, ReadsNoted, IsToldBy};
@@ -30,7 +30,7 @@ use std::alloc::Global;
 use std::rc::Rc;
 
 impl<D: Disk> Client<D> {
-    ghost use Rattle.iot_client.specs.Ties.{state_of, place_of, disk_of, bodies_on, live_of, IsTied};
+    ghost use Rattle.iot_client.specs.Ties.{state_of, place_of, disk_of, records_of, live_of, IsTied};
 
     /// What the first transaction that waits needs of the server: that it be committed with the acts of its run or of its resolution,
     /// or the whole tree on which it is to be resolved, or nothing if it is to be decided by hand. Of a run it tells what it asked of the
@@ -78,7 +78,8 @@ impl<D: Disk> Client<D> {
         ensures counts { CountsFault result (D.medium.faults (disk_of self.old)) (D.medium.faults (disk_of self.new)) }
         ensures arms { D.medium.arms (disk_of self.new) ≡ D.medium.arms (disk_of self.old) }
         ensures stopped { IsErrOf result ClientFault.Stopped → CutsOffByVerdict reply.now
-            (state_of self.old) (bodies_on D.medium self.old) (D.medium.may_leave (disk_of self.new)) }
+            (state_of self.old) (records_of self.old) (D.medium.may_leave (disk_of self.new)) }
+        ensures no_memory { IsErrOf result ClientFault.NoMemory → Stays D.medium self.old self.new }
     {
         match self.empty_queue() {
             Some(fault) => Err(fault),
@@ -114,7 +115,8 @@ impl<D: Disk> Client<D> {
         ensures counts { CountsFault result (D.medium.faults (disk_of self.old)) (D.medium.faults (disk_of self.new)) }
         ensures arms { D.medium.arms (disk_of self.new) ≡ D.medium.arms (disk_of self.old) }
         ensures stopped { IsErrOf result ClientFault.Stopped → CutsOffByRun reply.now script.value
-            (state_of self.old) (bodies_on D.medium self.old) (D.medium.may_leave (disk_of self.new)) }
+            (state_of self.old) (records_of self.old) (D.medium.may_leave (disk_of self.new)) }
+        ensures no_memory { IsErrOf result ClientFault.NoMemory → Stays D.medium self.old self.new }
     {
         match self.empty_queue() {
             Some(fault) => Err(fault),
@@ -140,7 +142,8 @@ impl<D: Disk> Client<D> {
         ensures counts { CountsFault result (D.medium.faults (disk_of self.old)) (D.medium.faults (disk_of self.new)) }
         ensures arms { D.medium.arms (disk_of self.new) ≡ D.medium.arms (disk_of self.old) }
         ensures stopped { IsErrOf result ClientFault.Stopped → CutsOff (Change.Repaired script.now)
-            (state_of self.old) (bodies_on D.medium self.old) (D.medium.may_leave (disk_of self.new)) }
+            (state_of self.old) (records_of self.old) (D.medium.may_leave (disk_of self.new)) }
+        ensures no_memory { IsErrOf result ClientFault.NoMemory → Stays D.medium self.old self.new }
     {
         // A `Name` is always one, as its bytes say.
         let _ = script.as_bytes();
@@ -165,7 +168,8 @@ impl<D: Disk> Client<D> {
         ensures counts { CountsFault result (D.medium.faults (disk_of self.old)) (D.medium.faults (disk_of self.new)) }
         ensures arms { D.medium.arms (disk_of self.new) ≡ D.medium.arms (disk_of self.old) }
         ensures stopped { IsErrOf result ClientFault.Stopped → CutsOff Change.Left
-            (state_of self.old) (bodies_on D.medium self.old) (D.medium.may_leave (disk_of self.new)) }
+            (state_of self.old) (records_of self.old) (D.medium.may_leave (disk_of self.new)) }
+        ensures no_memory { IsErrOf result ClientFault.NoMemory → Stays D.medium self.old self.new }
     {
         match self.not_manual() {
             Some(fault) => Err(fault),
@@ -191,7 +195,8 @@ impl<D: Disk> Client<D> {
         ensures counts { CountsFault result (D.medium.faults (disk_of self.old)) (D.medium.faults (disk_of self.new)) }
         ensures arms { D.medium.arms (disk_of self.new) ≡ D.medium.arms (disk_of self.old) }
         ensures stopped { IsErrOf result ClientFault.Stopped → CutsOffRerun script.value server.now
-            (state_of self.old) (bodies_on D.medium self.old) (D.medium.may_leave (disk_of self.new)) }
+            (state_of self.old) (records_of self.old) (D.medium.may_leave (disk_of self.new)) }
+        ensures no_memory { IsErrOf result ClientFault.NoMemory → Stays D.medium self.old self.new }
     {
         let done = self.resolution(alloc, script, server)?;
         let access = iot_access::of(alloc, &done.acts, server)?;

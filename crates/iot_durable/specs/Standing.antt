@@ -70,6 +70,12 @@ module _ {S C : Type 0} (rules : Rules S C) where
     pub stands : EachStands images count now
     pub encodes : (image : List ℕ) → images image → (encoded : State) × (decoded header image ≡ Encodes encoded) × IsRenewed was now encoded
 
+  -- each image encodes what was there, or a checkpoint of the state alone; or such with one record more, which spells the change
+  pub record EachGoes (images : List ℕ → Type 0) (was : State) (now : S) (change : C) : Type 0 where
+    pub encodes : (image : List ℕ) → images image → (encoded : State) × IsRenewed was now encoded
+        × ((decoded header image ≡ Encodes encoded)
+        ⊎ ((body : List ℕ) × rules.IsRecord body change × (decoded header image ≡ Encodes (appended encoded body))))
+
   -- each image is of a disk that is not started, or was just started with a checkpoint of the opening state
   pub record EachOpens (images : List ℕ → Type 0) : Type 0 where
     pub each : (image : List ℕ) → images image → (decoded header image ≡ NotStarted)

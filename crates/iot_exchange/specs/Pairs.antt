@@ -47,7 +47,7 @@ UpStands medium scripts names c = PairStands c (IsAt (LaptopStands medium script
 abbrev pub AnyStands : {D : Type 0} → Medium D → List Declared → (names : List (List ℕ)) → (c : ℕ) → Both D → Pair → Type 0
 AnyStands medium scripts names c = PairStands c (IsAt (ClientStands medium scripts) names c) (ServerStands medium names)
 
--- both have their disks, and neither was armed; the server's has lost no record
+-- both have their disks, and neither was armed; the server's has lost no commit
 pub record KeepsDisks {D : Type 0} (medium : Medium D) (old new : Both D) : Type 0 where
   pub client : KeepsDisk medium (disk_in old.laptop) (disk_in new.laptop)
   pub server : KeepsDisk medium (disk_of old.server) (disk_of new.server)

@@ -55,6 +55,15 @@ impl Held {
         Ok(Held { tree })
     }
 
+    /// An equal tree with equal stamps, which shares the rows.
+    pub fn copy(&self, alloc: Global) -> Result<Held, NoMemory>
+        ensures { IfOk result (λ copy. copy ≡ self.now) }
+    {
+        Ok(Held {
+            tree: self.tree.copy(alloc)?,
+        })
+    }
+
     /// The tree without its stamps.
     pub fn tree(&self) -> &Tree
         ensures value { result.now ≡ nodes_of self.now }

@@ -12,21 +12,19 @@ use Rattle.iot_tree.specs.declared.changes.Changes.{Changes}
 use Rattle.iot_tree.specs.declared.nodes.Node.{Node}
 use Rattle.iot_tree.proofs.EachLaws.{each_entry}
 use Rattle.iot_tree.proofs.PathLaws.{tied}
-use Rattle.iot_codec.specs.Rules.{IsRow, IsStampedNode, AreStampedRows, AreChanges, IsTreeOfRows}
+use Rattle.iot_codec.specs.Rules.{IsRow, IsStampedNode, AreChanges, IsTreeOfRows}
 use Rattle.iot_text.specs.Paths.{IsPath}
 use Rattle.iot_stamp.specs.Refresh.{zeroed, joined, merged, stays}
 use Rattle.iot_stamp.specs.Stamps.{Entry, Stamps, nodes_of}
 use Rattle.iot_stamp.proofs.MappedLaws.{entries_of_mapped, get_mapped}
 use Rattle.iot_stamp.proofs.StampsLaws.{get_nodes}
 use Rattle.iot_changes.specs.Rules.{IsChange}
-use Rattle.iot_changes.specs.Spelling.{change_spelling}
+use Rattle.iot_changes.specs.declared.changes.Change.{Change}
 use Rattle.iot_kept.specs.Bringing.{brought, brought_for, bringing}
-use Rattle.iot_kept.specs.Changes.{CanFollow, after, with_acts}
-use Rattle.iot_kept.specs.Standing.{IsRecord}
+use Rattle.iot_kept.specs.Changes.{CanFollow, after}
 use Rattle.iot_kept.specs.States.{State}
 use Rattle.iot_kept.specs.declared.bringing.Purpose.{Purpose}
 use Rattle.iot_kept.specs.declared.bringing.Purpose.TheVariants.{Hold, Fetch}
-use Rattle.iot_kept.proofs.StandingLaws.{is_record}
 
 -- ---- entries whose rows have spellings
 
@@ -77,15 +75,17 @@ pub follows_with : (state : State) (purpose : Purpose) (t u : Nodes) → CanFoll
 follows_with state Hold t u follows = follows
 follows_with state Fetch t u follows = follows
 
--- the state after it, if nothing else has changed but that what runs has no acts
-pub brought_state : (purpose : Purpose) (state now : State) (t : Nodes) → CanFollow state (brought_for purpose t) → now.held ≡ t
-    → now.items ≡ state.items → now.running ≡ with_acts (λ acts. []) state.running → now.last ≡ state.last
-    → now.access ≡ state.access → now ≡ after state (brought_for purpose t)
-brought_state Hold state now t follows held items running last access =
-    let idle = running ∙ ap (with_acts (λ acts. [])) follows.0 ∙ sym follows.0 in
-    (λ i. record { held = held i; items = items i; running = idle i; last = last i; access = access i })
-brought_state Fetch state now t follows held items running last access =
-    (λ i. record { held = held i; items = items i; running = running i; last = last i; access = access i })
+-- the tree is held after it
+brought_held : (purpose : Purpose) (state : State) (t : Nodes) → (after state (brought_for purpose t)).held ≡ t
+brought_held Hold state t = refl
+brought_held Fetch state t = refl
+
+-- whatever change it is that brings it
+pub same_tree : (purpose : Purpose) (state now : State) (t u : Nodes) (change : Change) → t ≡ u → change ≡ brought_for purpose t
+    → now ≡ after state change → u ≡ now.held
+same_tree purpose state now t u change is made follows =
+    sym is ∙ sym (brought_held purpose state t) ∙ ap (λ (ch : Change). (after state ch).held) (sym made)
+    ∙ ap (λ (s : State). s.held) (sym follows)
 
 -- ---- what is brought
 
@@ -115,14 +115,15 @@ module _ (held : Stamps) (changes : Changes) (spelled : IsTreeOfRows (nodes_of h
   pub brought_spelled : IsTree (nodes_of (brought held changes)) → IsTreeOfRows (nodes_of (brought held changes))
   brought_spelled tree = record { tree = tree; each = each_entry (λ p node. IsRow (p, node)) (nodes_of (brought held changes)) node_at }
 
-  -- the body is the record of the change that brings it
-  pub brings_record : (purpose : Purpose) (now : Stamps) (body : List ℕ) → now ≡ brought held changes → IsTree (nodes_of now)
-      → body ≡ change_spelling (brought_for purpose (nodes_of now)) → IsRecord body (bringing purpose held changes)
-  brings_record purpose now body is tree made =
-      let rows = brought_spelled (subst (λ (t : Stamps). IsTree (nodes_of t)) is tree) in
-      is_record (bringing purpose held changes) body (is_change purpose (nodes_of (brought held changes)) rows)
-      (made ∙ ap (λ (t : Stamps). change_spelling (brought_for purpose (nodes_of t))) is)
-
-  -- and that has a spelling
+  -- the change that brings it has a spelling, ..
   pub brings_spelled : (purpose : Purpose) → IsTree (nodes_of (brought held changes)) → IsChange (bringing purpose held changes)
   brings_spelled purpose tree = is_change purpose (nodes_of (brought held changes)) (brought_spelled tree)
+
+-- .. also if it was merged into an equal tree
+pub change_spelled : (held stamps now : Stamps) (changes : Changes) (purpose : Purpose) (t : Nodes) (change : Change) → held ≡ stamps
+    → IsTreeOfRows (nodes_of stamps) → AreChanges changes → now ≡ brought held changes → IsTree (nodes_of now) → t ≡ nodes_of now
+    → change ≡ brought_for purpose t → IsChange change
+change_spelled held stamps now changes purpose t change same spelled are merged tree is made =
+    let rows = subst (λ (s : Stamps). IsTreeOfRows (nodes_of s)) (sym same) spelled in
+    let outcome = subst (λ (s : Stamps). IsTree (nodes_of s)) merged tree in
+    subst IsChange (sym (made ∙ ap (brought_for purpose) (is ∙ ap nodes_of merged))) (brings_spelled held changes rows are purpose outcome)

@@ -2,8 +2,15 @@ pub mod StatesLaws
 pub mod StampsLaws
 mod GuardingLaws
 mod FollowingLaws
-pub mod StandingLaws
 pub mod SpelledLaws
+mod NumbersLaws
+mod HeadLaws
+mod ChangedLaws
+mod SuitingLaws
+mod TurnsLaws
+mod PartsLaws
+mod BodiesLaws
+pub mod StandingLaws
 pub mod OneStateLaws
 pub mod SyncedLaws
 pub mod ContinuingLaws

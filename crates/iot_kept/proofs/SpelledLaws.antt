@@ -1,4 +1,4 @@
--- Changes that have spellings keep that all parts of a state have them; so what the records of a disk make has spellings.
+-- Changes that have spellings keep that all parts of a state have them.
 use Rattle.std.proofs.Common.{◌≡◌, ℕ, ◌<◌, List, [], ◌∷◌, ◌++◌, length, drop, Option, Some, None, bytes_eq}
 use Rattle.std.proofs.Common.{refl, sym, ◌∙◌, subst, arith, lit<, length-append}
 use Rattle.std.proofs.lemmas.Bool.{cond_both}
@@ -35,9 +35,8 @@ use Rattle.iot_changes.specs.declared.changes.Change.TheVariants.{Held, Begun, F
 use Rattle.iot_changes.specs.declared.changes.Change.TheVariants.{Repaired, Left}
 use Rattle.iot_kept.specs.States.{Transaction, State, opening, acts_of, EachHold, AllHold}
 use Rattle.iot_kept.specs.Changes.{CanFollow, with_acts, waiting, ended, cut, left, stage_by, stays_in, conflicted, repaired, after}
-use Rattle.iot_kept.specs.Standing.{Leads}
 use Rattle.iot_kept.specs.Spelled.{IsSpelledStage, IsSpelledItem, AreSpelledItems, IsSpelledRunning, IsSpelledIfAny, IsSpelledState}
-use Rattle.iot_kept.proofs.StatesLaws.{changed, keeps, opening_holds}
+use Rattle.iot_kept.proofs.StatesLaws.{changed}
 
 -- ---- trees whose rows have spellings
 
@@ -140,7 +139,7 @@ cut_spelled (Some running) is = (waits_spelled (length running.acts) running is.
 
 -- ---- the head
 
-nothing_spelled : IsAccess no_access
+pub nothing_spelled : IsAccess no_access
 nothing_spelled = record { bases = record { even = refl; reads = tt; places = tt }; updates = tt }
 
 staged_spelled : (stage : Stage) (item : Item) → IsSpelledStage stage → IsSpelledItem item → IsSpelledItem (staged stage item)
@@ -264,15 +263,3 @@ keeps_spelled state Left is follows hold spelled = left_spelled state.items stat
 -- before the first change
 pub opening_spelled : IsSpelledState opening
 opening_spelled = record { held = far_root_rows; items = tt; running = tt; last = lit< tt; access = nothing_spelled }
-
-leads_spell : (bodies : List (List ℕ)) (before now : State) → Leads bodies before now → AllHold before → IsSpelledState before
-    → IsSpelledState now
-leads_spell [] before now leads hold spelled = subst IsSpelledState (sym leads) spelled
-leads_spell (body ∷ bodies) before now leads hold spelled =
-    let change : Change = leads.0 in
-    leads_spell bodies (after before change) now leads.3 (keeps before change leads.2 hold)
-    (keeps_spelled before change leads.1.value leads.2 hold spelled)
-
--- whatever the records of a disk make
-pub leads_spelled : (bodies : List (List ℕ)) (state : State) → Leads bodies opening state → IsSpelledState state
-leads_spelled bodies state leads = leads_spell bodies opening state leads opening_holds opening_spelled

@@ -22,7 +22,7 @@ use Rattle.iot_changes.specs.declared.changes.Change.TheVariants.{Held, Begun, F
 use Rattle.iot_changes.specs.declared.changes.Change.TheVariants.{Repaired, Left}
 use Rattle.iot_kept.specs.Changes.{CanFollow, HeadIs, IsSubmitted, IsSubmittedIn, MayLeave, MayLeaveIn}
 use Rattle.iot_kept.specs.Stamps.{stamps_left}
-use Rattle.iot_kept.specs.Changes.{with_acts, ended, cut, left, stage_by, stays_in, conflicted, repaired, after, seen, FitsView}
+use Rattle.iot_kept.specs.Changes.{with_acts, ended, cut, left, stage_by, stays_in, conflicted, repaired, after, seen}
 
 -- ---- acts and items in turn
 
@@ -240,18 +240,6 @@ view_after state Conflicted follows = conflicted_view state.items state
 view_after state (Resolved done access) follows = changed_view (staged (stages.Resolved done)) access state (λ item. refl)
 view_after state (Repaired script) follows = changed_view (repaired script) no_access state (λ item. refl)
 view_after state Left follows = left_view state.items state refl
-
-pub fits_view : (state : State) (change : Change) → CanFollow state change → FitsView (view state) change
-fits_view state (Held tree) follows = tt
-fits_view state (Begun number script option) follows = tt
-fits_view state (Fetched tree) follows = tt
-fits_view state (Acted act) follows = follows.3
-fits_view state Ended follows = tt
-fits_view state Cut follows = tt
-fits_view state Conflicted follows = tt
-fits_view state (Resolved done access) follows = tt
-fits_view state (Repaired script) follows = tt
-fits_view state Left follows = tt
 
 -- what was seen and then made of it by the change is the view again
 pub sees_after : (result : Result (Unit {0}) NoMemory) (before now : State) (change : Change) (old new : Nodes) → CanFollow before change

@@ -1,8 +1,8 @@
 -- What becomes of the held tree by the changes that a reply brings.
 use Rattle.std.specs.Prelude.{ℕ, Result, Ok, Err}
 use Rattle.iot_count.specs.Counts.{Rose, Stayed}
-use Rattle.iot_disk.specs.declared.faults.JournalFault.{JournalFault}
-use Rattle.iot_disk.specs.declared.faults.JournalFault.TheVariants as journal
+use Rattle.iot_durable.specs.declared.fault.NoteFault.{NoteFault}
+use Rattle.iot_durable.specs.declared.fault.NoteFault.TheVariants as note
 use Rattle.iot_held.specs.declared.merging.MergeFault.{MergeFault}
 use Rattle.iot_held.specs.declared.merging.MergeFault.TheVariants as merge
 use Rattle.iot_tree.specs.Tree.{Nodes}
@@ -20,9 +20,10 @@ abbrev pub of_merge : MergeFault → BringFault
 of_merge merge.NoMemory = NoMemory
 of_merge merge.NoTree = NoTree
 
-abbrev pub of_journal : JournalFault → BringFault
-of_journal journal.NoMemory = NoMemory
-of_journal journal.Stopped = Stopped
+abbrev pub of_note : NoteFault → BringFault
+of_note note.NoMemory = NoMemory
+of_note note.StoppedBefore = Stopped
+of_note note.StoppedInDoubt = Stopped
 
 -- the held tree after these changes
 abbrev pub brought : Stamps → Changes → Stamps

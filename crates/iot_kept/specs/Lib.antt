@@ -3,10 +3,11 @@ pub mod Changes
 pub mod Stamps
 pub mod Memory
 pub mod Guarding
-pub mod Standing
 pub mod Spelled
 pub mod Continuing
-pub mod Replaying
-pub mod Causes
+pub mod Bodies
+pub mod Rules
+pub mod Standing
+pub mod Reading
 pub mod Kept
 pub mod Bringing

@@ -1,13 +1,11 @@
 -- What a client has in memory of its durable state.
-use Rattle.std.specs.Prelude.{◌≡◌, ℕ, Bool, true, false, Option, Some, None}
+use Rattle.std.specs.Prelude.{◌≡◌, ℕ, Bool, false, Option, Some, None}
 use Rattle.iot_changes.specs.declared.changes.Change.{Change}
 use Rattle.iot_changes.specs.declared.changes.Change.TheVariants.{Begun, Ended, Cut}
 use Rattle.iot_stamp.specs.Stamps.{nodes_of}
 use Rattle.iot_queue.specs.declared.items.Item.{Item}
 use Rattle.iot_queue.specs.declared.items.Stage.TheVariants.{Waiting}
 use Rattle.iot_kept.specs.States.{Transaction, State, view}
-use Rattle.iot_kept.specs.Changes.{CanFollow, after}
-use Rattle.iot_kept.specs.Stamps.{restamped}
 use Rattle.iot_kept.specs.declared.durable.Durable.{Durable}
 use Rattle.iot_kept.specs.declared.memory.Memory.{Memory}
 use Rattle.iot_kept.specs.declared.running.Running.{Running}
@@ -70,15 +68,3 @@ classed first (Some other) = Some first
 abbrev pub IsSecond : Option Bool → Type 0
 IsSecond None = Unit {0}
 IsSecond (Some first) = first ≡ false
-
--- ---- changes
-
--- a change was made if it can follow, and only then
-abbrev pub TakesIf : Bool → Change → Memory → Memory → Type 0
-TakesIf true change before after_it =
-    CanFollow (memory_state before) change
-    × (memory_state after_it ≡ after (memory_state before) change)
-    × (class_of after_it.durable.running ≡ class_after change (class_of before.durable.running))
-    × Sees after_it
-    × (after_it.durable.held ≡ restamped before.durable.queue before.durable.held change)
-TakesIf false change before after_it = CanFollow (memory_state before) change → ⊥

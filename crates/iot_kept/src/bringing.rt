@@ -1,21 +1,21 @@
 //! The held tree after what a reply brings.
-ghost use Rattle.std.specs.Prelude.{◌≡◌, ◌≢◌, ◌+◌, ◌++◌, [], ◌∷◌, IfOk, IfErr, OnOk, OnErr, IsErrOf, true};
-ghost use Rattle.iot_codec.specs.Rules.{AreChanges, IsTreeOfRows};
-ghost use Rattle.iot_journal.specs.Decoding.{Encodes};
-ghost use Rattle.iot_journal.specs.Images.{EachDecodesEither};
+ghost use Rattle.std.specs.Prelude.{◌≡◌, ◌≢◌, [], IfOk, IfErr, OnOk, OnErr, IsErrOf, true};
+ghost use Rattle.iot_codec.specs.Rules.{AreChanges};
+ghost use Rattle.iot_slots.specs.Cells.{next};
 ghost use Rattle.iot_tree.specs.Tree.{IsTree, Nodes};
 ghost use Rattle.iot_changes.specs.Rules.{IsChange};
 ghost use Rattle.iot_changes.specs.Spelling.{change_spelling};
 ghost use Rattle.iot_stamp.specs.Stamps.{nodes_of};
-ghost use Rattle.iot_kept.specs.Bringing.{of_merge, of_journal, brought, brought_for, bringing, CountsBringFault};
+ghost use Rattle.iot_kept.specs.Bringing.{of_merge, of_note, brought, brought_for, bringing, CountsBringFault};
 ghost use Rattle.iot_kept.specs.Changes.{CanFollow, after};
 ghost use Rattle.iot_kept.specs.Kept.{IsHeldRecord};
-ghost use Rattle.iot_kept.specs.Standing.{EachStandsEither};
+ghost use Rattle.iot_kept.specs.Standing.{EachStands, EachStandsEither};
 ghost use Rattle.iot_kept.specs.declared.bringing.BringFault.TheVariants.{NoMemory as NoRoom};
 
-use crate::kept::{Kept, spell};
-use iot_changes::Change;
-use iot_disk::{Disk, JournalFault};
+use crate::kept::Kept;
+use iot_changes::{Change, put_change};
+use iot_disk::Disk;
+use iot_durable::NoteFault;
 use iot_held::{Held, MergeFault};
 use iot_text::{NoMemory, Text};
 use iot_tree::{Changes, Tree};
@@ -57,13 +57,14 @@ impl From<MergeFault> for BringFault {
     }
 }
 
-impl From<JournalFault> for BringFault {
-    ghost from_gives = { λ journal fault. fault ≡ of_journal journal };
+impl From<NoteFault> for BringFault {
+    ghost from_gives = { λ note fault. fault ≡ of_note note };
 
-    fn from(fault: JournalFault) -> Self {
+    fn from(fault: NoteFault) -> Self {
         match fault {
-            JournalFault::NoMemory => BringFault::NoMemory,
-            JournalFault::Stopped => BringFault::Stopped,
+            NoteFault::NoMemory => BringFault::NoMemory,
+            NoteFault::StoppedBefore => BringFault::Stopped,
+            NoteFault::StoppedInDoubt => BringFault::Stopped,
         }
     }
 }
@@ -77,15 +78,15 @@ impl From<NoMemory> for BringFault {
 }
 
 impl<D: Disk> Kept<D> {
-    ghost use Rattle.iot_kept.specs.Kept.{state_of, stamps_of, class_in, disk_of, bodies_on, records_of, IsSynced};
+    ghost use Rattle.iot_kept.specs.Kept.{state_of, stamps_of, class_in, disk_of, records_of, IsSynced};
 
     /// Merges the changes into the held tree, and appends one record, of the whole tree, which is on the disk when this answers Ok.
-    /// Costs a pass over the tree if there are changes, and in any case a copy of the record's bytes.
+    /// Costs a pass over the tree and a copy of the record's bytes; with a checkpoint as much as the whole state is long.
     ///
     /// # Errors
     ///
-    /// `NoTree`, exactly if the outcome is no tree; it changes nothing. `Stopped` if the disk failed in this call, and `NoMemory`: each
-    /// image of the disk then stands for the state before or for the one after it.
+    /// `NoTree`, exactly if the outcome is no tree; it changes nothing. `Stopped` if the disk failed in this call: each image of the
+    /// disk then stands for the state before or for the one after it. `NoMemory`: each stands for the state before.
     pub fn bring(
         &mut self,
         alloc: Global,
@@ -96,13 +97,11 @@ impl<D: Disk> Kept<D> {
         requires changes { AreChanges changes }
         requires follows { CanFollow (state_of self.old) (brought_for purpose (state_of self.old).held) }
 
-        // However this returns, every image stands for the state before or for the one after: its records are those before,
-        // or those and the record of this change.
-        ensures images { EachStandsEither (D.medium.may_leave (disk_of self.new))
+        // However this returns, each image stands for the state before, or for the one after with one record more.
+        ensures images { EachStandsEither (D.medium.may_leave (disk_of self.new)) (records_of self.old)
             (state_of self.old) (after (state_of self.old) (bringing purpose (stamps_of self.old) changes)) }
-        ensures one_record { EachDecodesEither (D.medium.may_leave (disk_of self.new))
-            (Encodes (bodies_on D.medium self.old))
-            (Encodes (bodies_on D.medium self.old ++ change_spelling (bringing purpose (stamps_of self.old) changes) ∷ [])) }
+        ensures no_memory { IsErrOf result BringFault.NoMemory
+            → EachStands (D.medium.may_leave (disk_of self.new)) (records_of self.old) (state_of self.old) }
 
         ensures no_tree { IsErrOf result BringFault.NoTree → IsTree (nodes_of (brought (stamps_of self.old) changes)) → ⊥ }
         ensures nothing { IsErrOf result BringFault.NoTree → self.new ≡ self.old }
@@ -112,27 +111,32 @@ impl<D: Disk> Kept<D> {
         ensures stamps { OnOk result (stamps_of self.new ≡ brought (stamps_of self.old) changes) }
         ensures state { OnOk result (state_of self.new ≡ after (state_of self.old) (bringing purpose (stamps_of self.old) changes)) }
         ensures class { OnOk result (class_in self.new ≡ class_in self.old) }
-        ensures bodies { OnOk result (bodies_on D.medium self.new
-            ≡ bodies_on D.medium self.old ++ change_spelling (bringing purpose (stamps_of self.old) changes) ∷ []) }
-        ensures records { OnOk result (records_of self.new ≡ records_of self.old + 1) }
+        ensures records { OnOk result (records_of self.new ≡ next (records_of self.old)) }
         ensures synced { OnOk result (IsSynced D.medium self.new) }
 
         ensures faults { CountsBringFault result
             (D.medium.faults (disk_of self.old)) (D.medium.faults (disk_of self.new)) }
         ensures arms { D.medium.arms (disk_of self.new) ≡ D.medium.arms (disk_of self.old) }
     {
-        merge(
-            &mut self.memory.durable.held,
-            &mut self.held_record,
-            alloc,
-            changes,
-        )?;
-        let held = self.memory.durable.held.tree();
-        let text = record_for(held, &mut self.held_record, alloc, purpose)?;
-        self.journal.append(text.as_bytes())?;
+        let mut held = self.checkpointed.state().durable.held.copy(alloc)?;
+        merge(&mut held, &mut self.held_record, alloc, changes)?;
+        let change = brought_for(purpose, held.tree().copy(alloc)?);
+        let text = record_for(&change, held.tree(), &mut self.held_record, alloc, purpose)?;
+        self.checkpointed
+            .note_spelled(alloc, change, text.as_bytes())?;
         keep(&mut self.held_record, text, purpose);
-        self.memory.show_held(alloc)?;
+        self.checkpointed.state_mut().set_stamps(held);
         Ok(())
+    }
+}
+
+/// The change that brings the tree for this purpose.
+fn brought_for(purpose: Purpose, tree: Tree) -> Change
+    ensures { result ≡ brought_for purpose tree }
+{
+    match purpose {
+        Purpose::Hold => Change::Held(tree),
+        Purpose::Fetch => Change::Fetched(tree),
     }
 }
 
@@ -160,24 +164,26 @@ fn merge(
     Ok(())
 }
 
-/// The record for this purpose: the one that was spelled last, if the held tree is as it was then.
+/// The record of the change that brings the tree: the one that was spelled last, if the held tree is as it was then.
 fn record_for(
-    held: &Tree,
+    change: &Change,
+    tree: &Tree,
     held_record: &mut Option<Text>,
     alloc: Global,
     purpose: Purpose,
 ) -> Result<Text, NoMemory>
-    requires tree { IsTreeOfRows held.now }
-    requires spelled { IsHeldRecord held_record.old held.now }
-    ensures is { IfOk result (λ text. text ≡ change_spelling (brought_for purpose held.now)) }
-    ensures spelled { OnOk result (IsHeldRecord held_record.new held.now) }
+    requires change { change.now ≡ brought_for purpose tree.now }
+    requires spells { IsChange change.now }
+    requires spelled { IsHeldRecord held_record.old tree.now }
+    ensures is { IfOk result (λ text. text ≡ change_spelling change.now) }
+    ensures spelled { OnOk result (IsHeldRecord held_record.new tree.now) }
 {
     match purpose {
         Purpose::Hold => match held_record.take() {
             Some(text) => Ok(text),
-            None => spelled(Change::Held(held.copy(alloc)?), room_for(held), alloc),
+            None => spelled(change, room_for(tree), alloc),
         },
-        Purpose::Fetch => spelled(Change::Fetched(held.copy(alloc)?), room_for(held), alloc),
+        Purpose::Fetch => spelled(change, room_for(tree), alloc),
     }
 }
 
@@ -205,11 +211,11 @@ fn room_for(held: &Tree) -> usize {
 }
 
 /// The record of the change, in memory of its own, which has room for so many bytes at first.
-fn spelled(change: Change, room: usize, alloc: Global) -> Result<Text, NoMemory>
-    requires { IsChange change }
-    ensures { IfOk result (λ text. text ≡ change_spelling change) }
+fn spelled(change: &Change, room: usize, alloc: Global) -> Result<Text, NoMemory>
+    requires { IsChange change.now }
+    ensures { IfOk result (λ text. text ≡ change_spelling change.now) }
 {
     let mut out = Text::with_capacity(alloc, room)?;
-    spell(&change, &mut out)?;
+    put_change(change, &mut out)?;
     Ok(out)
 }

@@ -100,7 +100,7 @@ impl Durable {
     }
 
     /// The running transaction, if there is one, has no acts any more.
-    pub(crate) fn drop_acts(&mut self, alloc: Global)
+    fn drop_acts(&mut self, alloc: Global)
         ensures running { transaction_of self.new.running ≡ with_acts (λ acts. []) (transaction_of self.old.running) }
         ensures class { class_of self.new.running ≡ class_of self.old.running }
         ensures held { self.new.held ≡ self.old.held }

@@ -1,11 +1,11 @@
 //! Whether a change can follow those before it.
 ghost use Rattle.std.specs.Prelude.{◌≡◌, ◌↔◌, ◌+◌, ◌<◌, false, length, [], None, IsSome, IsTrue};
 ghost use Rattle.iot_tree.specs.declared.limits.TheConstants.{ACT_LIMIT as acts_limit};
-ghost use Rattle.iot_acts.specs.Guards.{IsGuarded};
-ghost use Rattle.iot_acts.specs.Traces.{FitsIfAny, ReadsHold};
+ghost use Rattle.iot_acts.specs.Traces.{ReadsHold};
 ghost use Rattle.iot_kept.specs.States.{acts_of, view};
 ghost use Rattle.iot_kept.specs.Changes.{CanFollow, HeadIs, IsSubmittedIn, IsSubmitted, IsInConflict, IsByHand, MayLeaveIn, MayLeave};
 ghost use Rattle.iot_kept.specs.Memory.{transaction_of, durable_state};
+ghost use Rattle.iot_kept.specs.Reading.{Suits};
 
 use crate::durable::Durable;
 use crate::guards::is_guarded;
@@ -78,8 +78,8 @@ fn is_empty(queue: &Queue) -> bool
 
 /// Whether the act is guarded, its update fits the tree, and each read is the tree's answer. What is guarded by a
 /// tree's answers fits that tree, so it is not asked.
-fn suits(tree: &Tree, act: &Act) -> bool
-    ensures { IsTrue result ↔ (IsGuarded act.now × FitsIfAny tree.now act.now.update × ReadsHold tree.now act.now.reads) }
+pub(crate) fn suits(tree: &Tree, act: &Act) -> bool
+    ensures { IsTrue result ↔ Suits tree.now act.now }
 {
     // The law is about trees, and that this is one is known of its rows.
     let _tree = tree.rows();

@@ -1,69 +1,66 @@
 //! What is kept of a client.
-ghost use Rattle.std.specs.Prelude.{◌≡◌, ◌+◌, ◌++◌, List, [], ◌∷◌, IfOk, IfErr, OnOk, IsErrOf, MatchResult, true, false, IsTrue};
+ghost use Rattle.std.specs.Prelude.{◌≡◌, ◌≢◌, ℕ, List, IfOk, IfErr, OnOk, IsErrOf, MatchResult, false, IsTrue};
 ghost use Rattle.std.specs.FinMap.{is_sorted};
 ghost use Rattle.std.specs.List.{AllByRecursion};
 ghost use Rattle.std.specs.Option.{option_copied};
 ghost use Rattle.iot_disk.specs.Disk.{armed_with, Only, SameImages};
 ghost use Rattle.iot_disk.specs.Faults.{CountsJournalFault};
-ghost use Rattle.iot_journal.specs.Decoding.{Encodes, decoded, is_started};
-ghost use Rattle.iot_journal.specs.Images.{EachDecodes, EachDecodesEither};
-ghost use Rattle.iot_journal.specs.Start.{ChangesNothing};
+ghost use Rattle.iot_durable.specs.Causes.{HasCause, SaysDamaged, SaysForeign, TakesBytes};
+ghost use Rattle.iot_durable.specs.Damage.{IsDamagedAt};
+ghost use Rattle.iot_durable.specs.Standing.{EachOpens, IsFresh, StandWith, header, records_in};
+ghost use Rattle.iot_records.specs.Records.{ChangesNothing};
+ghost use Rattle.iot_slots.specs.Cells.{next};
+ghost use Rattle.iot_slots.specs.Decoding.{Foreign, NotStarted, decoded};
 ghost use Rattle.iot_text.specs.Paths.{path_cmp};
 ghost use Rattle.iot_stamp.specs.Refresh.{known_with_stamps, IsStampedPath};
 ghost use Rattle.iot_stamp.specs.Stamps.{Stamps, nodes_of, unstamped};
 ghost use Rattle.iot_queue.specs.declared.items.Item.{Item};
 ghost use Rattle.iot_changes.specs.Rules.{IsChange};
-ghost use Rattle.iot_changes.specs.Spelling.{change_spelling};
 ghost use Rattle.iot_kept.specs.States.{State, view, AllHold, AreGuarded};
 ghost use Rattle.iot_kept.specs.Changes.{CanFollow, after};
 ghost use Rattle.iot_kept.specs.Kept.{IsHeldRecord};
+ghost use Rattle.iot_kept.specs.Rules.{rules};
 ghost use Rattle.iot_kept.specs.Stamps.{restamped};
 ghost use Rattle.iot_kept.specs.Memory.{transaction_of, class_of, class_after, classed, IsSecond};
 ghost use Rattle.iot_kept.specs.Standing.{StandFor, EachStands, EachStandsEither};
-ghost use Rattle.iot_kept.specs.Causes.{HasCause, TakesBytes};
 ghost use Rattle.iot_kept.specs.Spelled.{IsSpelledState};
 
 use crate::memory::Memory;
-use crate::replay::replay;
 use crate::running::Running;
-use iot_changes::{Change, put_change};
+use iot_changes::Change;
 use iot_disk::{Disk, JournalFault, Pick, StartFault};
-use iot_journal::Journal;
+use iot_durable::Durable;
 use iot_queue::Queue;
 use iot_text::{NoMemory, Text};
 use iot_tree::{Access, Known, Tree};
 use std::alloc::Global;
 
 /// What is durable of a client, on a disk to which each change is appended as one record; and in memory besides, with the class of
-/// the running transaction, which no disk keeps.
+/// the running transaction, which no disk keeps. A checkpoint of the whole comes before a change if the records since the last one
+/// have grown long.
 ///
-/// After an `Err` of `note` only `into_disk` says anything more: start again from the disk.
+/// After an `Err` of `note` or `bring` only `into_disk` says anything more: start again from the disk.
 #[derive(Drop)]
 pub struct Kept<D: Disk> {
-    pub(crate) journal: Journal<D>,
-    pub(crate) memory: Memory,
-
-    /// The last record that was spelled, whose memory serves the next one.
-    pub(crate) buffer: Text,
+    pub(crate) checkpointed: Durable<Memory, D>,
 
     /// The record that holds the held tree, if it was spelled since that last changed.
     pub(crate) held_record: Option<Text>,
 }
 
 impl<D: Disk> Kept<D> {
-    ghost use Rattle.iot_kept.specs.Kept.{state_of, stamps_of, class_in, disk_of, bodies_on, records_of, IsSynced};
+    ghost use Rattle.iot_kept.specs.Kept.{memory_of, state_of, stamps_of, class_in, disk_of, records_of, IsSynced};
 
-    /// Starts from a disk, which no one else writes, with the state that its records make; it runs no script. A disk on which
-    /// nothing was started becomes that of a client that knows nothing yet. The disk comes back if this gives no client.
+    /// Starts from a disk, which no one else writes, with the state of its checkpoint after its records; it runs no script. A disk on
+    /// which nothing was started becomes that of a client that knows nothing yet. The disk comes back if this gives no client.
     ///
     /// # Errors
     ///
-    /// `Foreign` if something else wrote the disk, and `Damaged` with the place of its gate if a record is the spelling of no change
-    /// or cannot follow the ones before it. `Stopped` if the disk failed in this call, and `NoMemory`.
+    /// `Foreign` if something else wrote the disk, and `Damaged` with the place of what is cut short, spells nothing, or cannot follow
+    /// what comes before it. `Stopped` if the disk failed in this call, and `NoMemory`.
     pub fn start(alloc: Global, disk: D) -> Result<Kept<D>, (D, StartFault)>
         requires { Only (D.medium.reads disk) (D.medium.may_leave disk) }
-        ensures stands { IfOk result (λ kept. StandFor (D.medium.reads disk) (state_of kept)) }
-        ensures records { IfOk result (λ kept. decoded (D.medium.reads disk) ≡ Encodes (bodies_on D.medium kept)) }
+        ensures stands { IfOk result (λ kept. StandWith rules (D.medium.reads disk) (records_of kept) (state_of kept)) }
 
         // The disk stands for no other state.
         ensures only { (state : State) → StandFor (D.medium.reads disk) state
@@ -79,20 +76,23 @@ impl<D: Disk> Kept<D> {
         ensures guarded { IfOk result (λ kept. AreGuarded (state_of kept)) }
         ensures spelled { IfOk result (λ kept. IsSpelledState (state_of kept)) }
 
-        // However this returns, every image encodes what the disk encoded before. So each stands for the state for which
-        // the disk stood; and if it stood for one, its bytes are not refused.
-        ensures bodies { MatchResult result
-            (λ kept. EachDecodes (D.medium.may_leave (disk_of kept)) (decoded (D.medium.reads disk)))
-            (λ refused. EachDecodes (D.medium.may_leave refused.0) (decoded (D.medium.reads disk))) }
+        // However this returns, each image stands for the state for which the disk stood, with as many records; and if it stood for
+        // one, its bytes are not refused.
         ensures images { (state : State) → StandFor (D.medium.reads disk) state → MatchResult result
-            (λ kept. EachStands (D.medium.may_leave (disk_of kept)) state)
-            (λ refused. EachStands (D.medium.may_leave refused.0) state) }
+            (λ kept. EachStands (D.medium.may_leave (disk_of kept)) (records_in (D.medium.reads disk)) state)
+            (λ refused. EachStands (D.medium.may_leave refused.0) (records_in (D.medium.reads disk)) state) }
         ensures never { (state : State) → StandFor (D.medium.reads disk) state
             → IfErr result (λ refused. TakesBytes refused.1) }
 
         ensures steady { IfOk result (λ kept. D.medium.faults (disk_of kept) ≡ D.medium.faults disk) }
         ensures cause { IfErr result (λ refused.
-            HasCause refused.1 (D.medium.reads disk) (D.medium.faults disk) (D.medium.faults refused.0)) }
+            HasCause rules refused.1 (D.medium.reads disk) (D.medium.faults disk) (D.medium.faults refused.0)) }
+
+        // What something else wrote, and what is damaged, is refused for that, unless memory or the disk fails.
+        ensures foreign { decoded header (D.medium.reads disk) ≡ Foreign
+            → MatchResult result (λ _. ⊥) (λ refused. SaysForeign refused.1) }
+        ensures damaged { (at : ℕ) → IsDamagedAt rules (D.medium.reads disk) at
+            → MatchResult result (λ _. ⊥) (λ refused. SaysDamaged at refused.1) }
 
         // A refusal of the bytes changes nothing.
         ensures refused_reads { IfErr result (λ refused.
@@ -100,73 +100,66 @@ impl<D: Disk> Kept<D> {
         ensures refused_images { IfErr result (λ refused.
             ChangesNothing refused.1 (SameImages (D.medium.may_leave disk) (D.medium.may_leave refused.0))) }
 
-        // A disk on which a journal was started is only read, whatever the answer, and so is each whose bytes are refused.
-        ensures only_read { is_started (D.medium.reads disk) ≡ true → MatchResult result
+        // A disk that is started is only read, whatever the answer, and so is each whose bytes are refused.
+        ensures only_read { decoded header (D.medium.reads disk) ≢ NotStarted → MatchResult result
             (λ kept. D.medium.reads (disk_of kept) ≡ D.medium.reads disk)
             (λ refused. D.medium.reads refused.0 ≡ D.medium.reads disk) }
-        ensures only_read_images { is_started (D.medium.reads disk) ≡ true → MatchResult result
+        ensures only_read_images { decoded header (D.medium.reads disk) ≢ NotStarted → MatchResult result
             (λ kept. SameImages (D.medium.may_leave disk) (D.medium.may_leave (disk_of kept)))
             (λ refused. SameImages (D.medium.may_leave disk) (D.medium.may_leave refused.0)) }
+
+        // However this returns, a disk that was not started is not, or was just started. After Ok it has these bytes.
+        ensures opens { decoded header (D.medium.reads disk) ≡ NotStarted → MatchResult result
+            (λ kept. EachOpens rules (D.medium.may_leave (disk_of kept)))
+            (λ refused. EachOpens rules (D.medium.may_leave refused.0)) }
+        ensures fresh { decoded header (D.medium.reads disk) ≡ NotStarted → IfOk result (λ kept.
+            IsFresh rules (D.medium.reads disk) (D.medium.reads (disk_of kept))) }
 
         ensures arms { MatchResult result
             (λ kept. D.medium.arms (disk_of kept) ≡ D.medium.arms disk)
             (λ refused. D.medium.arms refused.0 ≡ D.medium.arms disk) }
     {
-        let (journal, bodies) = match Journal::start(alloc, disk) {
-            Ok(started) => started,
-            Err(refused) => return Err(refused),
-        };
-        match replay(alloc, &bodies) {
-            Ok(memory) => Ok(Kept {
-                journal,
-                memory,
-                buffer: Text::new(alloc),
+        match Durable::start(alloc, disk) {
+            Ok(checkpointed) => Ok(Kept {
+                checkpointed,
                 held_record: None,
             }),
-            Err(fault) => Err((journal.into_disk(), fault)),
+            Err(refused) => Err(refused),
         }
     }
 
-    /// Makes a change that can follow: its record is appended first, and is on the disk when this answers Ok. A transaction that
-    /// begins is second class. Costs as much as the record is long, and what the change costs in memory.
+    /// Makes a change that can follow: its record is on the disk when this answers Ok. A transaction that begins is second class.
+    /// Costs as much as the record is long, and what the change costs in memory; with a checkpoint as much as the whole is long.
     ///
     /// # Errors
     ///
-    /// `Stopped` if the disk failed in this call, and `NoMemory`: each image of the disk then stands for the state before the change
-    /// or for the one after it.
+    /// `Stopped` if the disk failed in this call: each image of the disk then stands for the state before the change or for the one
+    /// after it. `NoMemory`: each stands for the state before.
     pub fn note(&mut self, alloc: Global, change: Change) -> Result<(), JournalFault>
         requires synced { IsSynced D.medium self.old }
         requires change { IsChange change }
         requires follows { CanFollow (state_of self.old) change }
 
-        // However this returns, every image stands for the state before or for the one after: its records are those before,
-        // or those and the record of this change.
-        ensures images { EachStandsEither (D.medium.may_leave (disk_of self.new))
+        // However this returns, each image stands for the state before, or for the one after with one record more.
+        ensures images { EachStandsEither (D.medium.may_leave (disk_of self.new)) (records_of self.old)
             (state_of self.old) (after (state_of self.old) change) }
-        ensures one_record { EachDecodesEither (D.medium.may_leave (disk_of self.new))
-            (Encodes (bodies_on D.medium self.old))
-            (Encodes (bodies_on D.medium self.old ++ change_spelling change ∷ [])) }
+        ensures no_memory { IsErrOf result JournalFault.NoMemory
+            → EachStands (D.medium.may_leave (disk_of self.new)) (records_of self.old) (state_of self.old) }
+        ensures noted { OnOk result (EachStands (D.medium.may_leave (disk_of self.new)) (next (records_of self.old))
+            (after (state_of self.old) change)) }
 
-        // If the disk failed, nothing has changed in memory.
-        ensures stopped { IsErrOf result JournalFault.Stopped → state_of self.new ≡ state_of self.old }
-        ensures stopped_class { IsErrOf result JournalFault.Stopped → class_in self.new ≡ class_in self.old }
-
-        ensures noted { OnOk result (EachStands (D.medium.may_leave (disk_of self.new)) (after (state_of self.old) change)) }
         ensures state { OnOk result (state_of self.new ≡ after (state_of self.old) change) }
         ensures class { OnOk result (class_in self.new ≡ class_after change (class_in self.old)) }
         ensures stamps { OnOk result (stamps_of self.new ≡ restamped (state_of self.old).items (stamps_of self.old) change) }
-        ensures bodies { OnOk result (bodies_on D.medium self.new ≡ bodies_on D.medium self.old ++ change_spelling change ∷ []) }
-        ensures records { OnOk result (records_of self.new ≡ records_of self.old + 1) }
+        ensures records { OnOk result (records_of self.new ≡ next (records_of self.old)) }
         ensures synced { OnOk result (IsSynced D.medium self.new) }
 
         ensures faults { CountsJournalFault result
             (D.medium.faults (disk_of self.old)) (D.medium.faults (disk_of self.new)) }
         ensures arms { D.medium.arms (disk_of self.new) ≡ D.medium.arms (disk_of self.old) }
     {
-        spell(&change, &mut self.buffer)?;
-        self.journal.append(self.buffer.as_bytes())?;
         forget_held(&mut self.held_record, &change);
-        self.memory.note(alloc, change)?;
+        self.checkpointed.note(alloc, change)?;
         Ok(())
     }
 
@@ -179,14 +172,21 @@ impl<D: Disk> Kept<D> {
         ensures records { records_of self.new ≡ records_of self.old }
         ensures synced { IsSynced D.medium self.old → IsSynced D.medium self.new }
     {
-        self.memory.durable.set_class(first);
+        self.checkpointed.state_mut().set_class(first);
+    }
+
+    /// What is in memory.
+    fn memory(&self) -> &Memory
+        ensures { result.now ≡ memory_of self.now }
+    {
+        self.checkpointed.state()
     }
 
     /// The held tree.
     pub fn held(&self) -> &Tree
         ensures { result.now ≡ (state_of self.now).held }
     {
-        self.memory.durable.held.tree()
+        self.memory().durable.held.tree()
     }
 
     /// The paths that are known of the held tree, with their stamps.
@@ -195,7 +195,7 @@ impl<D: Disk> Kept<D> {
         ensures rising { IfOk result (λ known. IsTrue (is_sorted path_cmp known)) }
         ensures each { IfOk result (AllByRecursion IsStampedPath) }
     {
-        self.memory.durable.held.known_with_stamps(alloc)
+        self.memory().durable.held.known_with_stamps(alloc)
     }
 
     /// The tree that scripts read: the held one after all that waits and runs.
@@ -203,21 +203,21 @@ impl<D: Disk> Kept<D> {
         requires { IsSynced D.medium self.now }
         ensures { result.now ≡ view (state_of self.now) }
     {
-        &self.memory.view
+        &self.memory().view
     }
 
     /// The transactions that wait.
     pub fn queue(&self) -> &Queue
         ensures { result.now ≡ (state_of self.now).items }
     {
-        &self.memory.durable.queue
+        &self.memory().durable.queue
     }
 
     /// What the resolution of the first one that waits asked of the server's tree, if it was resolved; else nothing.
     pub fn access(&self) -> &Access
         ensures { result.now ≡ (state_of self.now).access }
     {
-        &self.memory.durable.access
+        &self.memory().durable.access
     }
 
     /// The transaction that runs, if one does.
@@ -225,21 +225,21 @@ impl<D: Disk> Kept<D> {
         ensures running { transaction_of (option_copied result) ≡ (state_of self.now).running }
         ensures class { class_of (option_copied result) ≡ class_in self.now }
     {
-        self.memory.durable.running.as_ref()
+        self.memory().durable.running.as_ref()
     }
 
     /// The number of the last transaction, 0 before the first.
     pub fn last(&self) -> u64
         ensures { result ≡ (state_of self.now).last }
     {
-        self.memory.durable.last
+        self.memory().durable.last
     }
 
-    /// The number of records that were read and appended.
+    /// The number of records ever appended, modulo 2^64.
     pub fn records(&self) -> u64
         ensures { result ≡ records_of self.now }
     {
-        self.journal.count()
+        self.checkpointed.count()
     }
 
     /// Makes a later device call of the disk fail, and does nothing else.
@@ -254,15 +254,15 @@ impl<D: Disk> Kept<D> {
         ensures records { records_of self.new ≡ records_of self.old }
         ensures synced { IsSynced D.medium self.old → IsSynced D.medium self.new }
     {
-        self.journal.arm(calls, pick);
+        self.checkpointed.arm(calls, pick);
     }
 
     /// Gives the disk back. Unless `note` failed, each image of it stands for the state.
     pub fn into_disk(self) -> D
         ensures disk { result ≡ disk_of self }
-        ensures stands { IsSynced D.medium self → EachStands (D.medium.may_leave result) (state_of self) }
+        ensures stands { IsSynced D.medium self → EachStands (D.medium.may_leave result) (records_of self) (state_of self) }
     {
-        self.journal.into_disk()
+        self.checkpointed.into_disk()
     }
 }
 
@@ -292,13 +292,4 @@ fn touches_held(change: &Change) -> bool
         Change::Resolved(..) => false,
         Change::Repaired(_) => false,
     }
-}
-
-/// Makes the text the record of this change, and nothing else.
-pub(crate) fn spell(change: &Change, out: &mut Text) -> Result<(), NoMemory>
-    requires { IsChange change.now }
-    ensures { OnOk result (out.new ≡ change_spelling change.now) }
-{
-    out.clear();
-    put_change(change, out)
 }

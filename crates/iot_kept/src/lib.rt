@@ -1,15 +1,17 @@
-//! What is durable of a client, kept on a disk as a journal of its changes: after each crash it is what it was before a change, or
-//! what it was after it.
+//! What is durable of a client, kept on a disk as a checkpoint and the changes after it: after each crash it is what it was before a
+//! change, or what it was after it.
 #![tactic(auto)]
 
+mod body;
 mod bringing;
+mod checks;
 mod durable;
 mod following;
 mod guards;
 mod kept;
 mod laws;
 mod memory;
-mod replay;
+mod recorded;
 mod running;
 
 pub use bringing::{BringFault, Purpose};

@@ -1,13 +1,13 @@
 //! What is durable of a client, in memory, with the tree that scripts read.
-ghost use Rattle.std.specs.Prelude.{◌≡◌, [], None, IfOk, OnOk};
+ghost use Rattle.std.specs.Prelude.{◌≡◌, true, IfOk, OnOk};
 ghost use Rattle.iot_acts.specs.Traces.{FitsIfAny, after_update};
-ghost use Rattle.iot_stamp.specs.Stamps.{unstamped};
-ghost use Rattle.iot_tree.specs.Tree.{root_alone};
-ghost use Rattle.iot_tree.specs.declared.nodes.Node.TheVariants.{FarDir};
-ghost use Rattle.iot_kept.specs.States.{opening, view, AllHold};
-ghost use Rattle.iot_kept.specs.Changes.{CanFollow, after, seen, with_acts, FitsView};
-ghost use Rattle.iot_kept.specs.Stamps.{restamped};
-ghost use Rattle.iot_kept.specs.Memory.{memory_state, transaction_of, class_of, class_after, Sees, TakesIf};
+ghost use Rattle.iot_changes.specs.Rules.{IsChange};
+ghost use Rattle.iot_durable.specs.Rules.{FollowsIf};
+ghost use Rattle.iot_stamp.specs.Stamps.{nodes_of};
+ghost use Rattle.iot_kept.specs.States.{opening};
+ghost use Rattle.iot_kept.specs.Changes.{CanFollow, after, seen, FitsView};
+ghost use Rattle.iot_kept.specs.Memory.{memory_state, class_of, classed};
+ghost use Rattle.iot_kept.specs.Rules.{rules, ChangesMemory, IsMemory, IsStarted};
 
 use crate::durable::Durable;
 use iot_access::of_nothing;
@@ -31,9 +31,8 @@ impl Memory {
     /// Nothing is known yet, and nothing runs.
     pub(crate) fn new(alloc: Global) -> Result<Memory, NoMemory>
         ensures state { IfOk result (λ memory. memory_state memory ≡ opening) }
-        ensures class { IfOk result (λ memory. class_of memory.durable.running ≡ None) }
-        ensures sees { IfOk result Sees }
-        ensures stamps { IfOk result (λ memory. memory.durable.held ≡ unstamped (root_alone FarDir)) }
+        ensures sound { IfOk result IsMemory }
+        ensures fresh { IfOk result IsStarted }
     {
         let durable = Durable {
             held: Held::new(alloc)?,
@@ -49,42 +48,45 @@ impl Memory {
     /// Makes a change that can follow. A tree that it brings has no stamps of the server, and a transaction that begins is second class.
     /// After an error nothing is said of it.
     pub(crate) fn note(&mut self, alloc: Global, change: Change) -> Result<(), NoMemory>
+        requires sound { IsMemory self.old }
+        requires change { IsChange change }
         requires follows { CanFollow (memory_state self.old) change }
-        requires hold { AllHold (memory_state self.old) }
-        requires sees { Sees self.old }
         ensures state { OnOk result (memory_state self.new ≡ after (memory_state self.old) change) }
-        ensures class { OnOk result
-            (class_of self.new.durable.running ≡ class_after change (class_of self.old.durable.running)) }
-        ensures stamps { OnOk result
-            (self.new.durable.held ≡ restamped self.old.durable.queue self.old.durable.held change) }
-        ensures sees { OnOk result (Sees self.new) }
+        ensures makes { OnOk result (ChangesMemory self.old change self.new) }
+        ensures sound { OnOk result (IsMemory self.new) }
     {
         see(alloc, &mut self.view, &change)?;
         self.durable.note(alloc, change)
     }
 
-    /// Scripts read the held tree from now on: what runs, if it does, has no acts any more.
-    pub(crate) fn show_held(&mut self, alloc: Global) -> Result<(), NoMemory>
-        requires { self.old.durable.queue ≡ [] }
-        ensures held { OnOk result (self.new.durable.held ≡ self.old.durable.held) }
-        ensures queue { OnOk result (self.new.durable.queue ≡ self.old.durable.queue) }
-        ensures last { OnOk result (self.new.durable.last ≡ self.old.durable.last) }
-        ensures access { OnOk result (self.new.durable.access ≡ self.old.durable.access) }
-        ensures running { OnOk result (transaction_of self.new.durable.running
-            ≡ with_acts (λ acts. []) (transaction_of self.old.durable.running)) }
-        ensures class { OnOk result (class_of self.new.durable.running ≡ class_of self.old.durable.running) }
-        ensures sees { OnOk result (Sees self.new) }
+    /// Puts the running transaction, if there is one, into this class.
+    pub(crate) fn set_class(&mut self, first: bool)
+        ensures state { memory_state self.new ≡ memory_state self.old }
+        ensures class { class_of self.new.durable.running ≡ classed first (class_of self.old.durable.running) }
+        ensures held { self.new.durable.held ≡ self.old.durable.held }
+        ensures sound { IsMemory self.old → IsMemory self.new }
     {
-        self.view = self.durable.held.tree().copy(alloc)?;
-        self.durable.drop_acts(alloc);
-        Ok(())
+        self.durable.set_class(first);
+    }
+
+    /// Puts the same held tree with other stamps in the place of this one.
+    pub(crate) fn set_stamps(&mut self, held: Held)
+        requires { nodes_of held ≡ nodes_of self.old.durable.held }
+        ensures state { memory_state self.new ≡ memory_state self.old }
+        ensures class { class_of self.new.durable.running ≡ class_of self.old.durable.running }
+        ensures held { self.new.durable.held ≡ held }
+        ensures sound { IsMemory self.old → IsMemory self.new }
+    {
+        self.durable.held = held;
     }
 
     /// Makes the change if it can follow, and says whether it can.
     pub(crate) fn replay(&mut self, alloc: Global, change: Change) -> Result<bool, NoMemory>
-        requires hold { AllHold (memory_state self.old) }
-        requires sees { Sees self.old }
-        ensures { IfOk result (λ follows. TakesIf follows change self.old self.new) }
+        requires sound { IsMemory self.old }
+        requires change { IsChange change }
+        ensures follows { IfOk result (λ follows. FollowsIf rules follows change (memory_state self.old) (memory_state self.new)) }
+        ensures sound { IfOk result (λ follows. follows ≡ true → IsMemory self.new) }
+        ensures fresh { IfOk result (λ follows. follows ≡ true → IsStarted self.old → IsStarted self.new) }
     {
         if !self.durable.can_follow(&self.view, &change) {
             return Ok(false);
@@ -122,7 +124,11 @@ fn replace(alloc: Global, view: &mut Tree, tree: &Tree) -> Result<(), NoMemory>
 }
 
 /// Makes an update, if there is one.
-fn apply_if_any(alloc: Global, tree: &mut Tree, update: &Option<Update>) -> Result<(), NoMemory>
+pub(crate) fn apply_if_any(
+    alloc: Global,
+    tree: &mut Tree,
+    update: &Option<Update>,
+) -> Result<(), NoMemory>
     requires { FitsIfAny tree.old update.now }
     ensures { OnOk result (tree.new ≡ after_update tree.old update.now) }
 {

@@ -1,19 +1,19 @@
 -- What the server's replies bring and say, and what a call of a laptop that appends a record makes of the client of the machine: its
 -- change, or a stop in it.
 use Rattle.std.proofs.lemmas.Result.{IfOk-weaker, IfOk-at_ok}
-use Rattle.std.proofs.Common.{◌≡◌, ◌+◌, ℕ, Bool, true, false, List, [], ◌∷◌, ◌++◌, length, Option, Some, None, Result, Ok, Err, inl, inr}
-use Rattle.std.proofs.Common.{refl, sym, ap, subst, ◌∙◌, length-append, rules, zero, suc, ◌-◌, ◌<◌, slice_get, arith}
+use Rattle.std.proofs.Common.{◌≡◌, ◌+◌, ℕ, Bool, true, false, List, [], ◌∷◌, length, Option, Some, None, Result, Ok, Err, inl, inr}
+use Rattle.std.proofs.Common.{refl, sym, ap, subst, ◌∙◌, rules, zero, suc, ◌-◌, ◌<◌, slice_get, arith}
 use Rattle.std.specs.Prelude.{IfOk, OnOk, IsErrOf, IfErr}
 use Rattle.std.proofs.lemmas.List.{append-nil}
 use Rattle.std.proofs.lemmas.Option.{slice_get_within, same_Some}
 use Rattle.iot_access.specs.Access.{access_of}
-use Rattle.iot_laptop.specs.Below.{Try, Nodes, IsTree, IsSpelledTree, IsScript, Resolved, State, opening, acts_of, CanFollow, after, Notes}
-use Rattle.iot_laptop.specs.Below.{IsRefresh, Live, IsTied, state_of, live_of, disk_of, bodies_on, IsOwnRunIfAny, place_of, Client}
+use Rattle.iot_laptop.specs.Below.{Try, Nodes, IsTree, IsSpelledTree, IsScript, Resolved, State, acts_of, CanFollow, after, Notes}
+use Rattle.iot_laptop.specs.Below.{IsRefresh, Live, IsTied, state_of, live_of, disk_of, records_of, IsOwnRunIfAny, place_of, Client, StandWith, next}
 use Rattle.iot_laptop.specs.Below.{ClientFault, Stopped, Medium, Declared, ClientState, leave, repair, begin, Node, Appends, Writes}
 use Rattle.iot_laptop.specs.Below.{KeepsDisk, Appended, UpStands, StepsFrom, Answered, is_on, StepsTo, Halt, NoMemory, Over, Post, Up}
 use Rattle.iot_laptop.specs.Below.{Between, no_text, name_of, SpellsVerdict, Laptop, Seated, Read, Resolution, Code, Ran, IsHeadsRun}
 use Rattle.iot_laptop.specs.Below.{may_end, verdict_change, CanAct, next_acts, StepIs, Plan, act_once, reach, resolution_of}
-use Rattle.iot_laptop.specs.Below.{transaction_name, acts_output, Gone, Act, Step, Path, Item, Spells, reads_of, head_of, Stamps, nodes_of}
+use Rattle.iot_laptop.specs.Below.{transaction_name, acts_output, Gone, Act, Step, Item, Spells, reads_of, head_of, Stamps, nodes_of}
 use Rattle.iot_laptop.specs.Below.{stamps_of, brought, nothing_held}
 use Rattle.iot_client.specs.Messages.{ReadsObjects, ReadsNoted, noted_in, objects_in, Makes, no_tree, no_changes}
 use Rattle.iot_codec.specs.Rules.{IsTreeOfRows}
@@ -30,11 +30,8 @@ use Rattle.iot_machine.proofs.PossiblyLaws.{possibly_sure, appends_possibly}
 use Rattle.iot_node.proofs.PostsLaws.{same_counts}
 use Rattle.iot_node.proofs.StepsToLaws.{bind, answers}
 use Rattle.iot_tree.specs.declared.labels.OnConflict.{OnConflict as OnConflictNamed}
-use Rattle.iot_changes.specs.Spelling.{change_spelling}
 use Rattle.iot_changes.specs.declared.changes.Change.{Change}
 use Rattle.iot_changes.specs.declared.changes.Change.TheVariants.{Begun, Repaired, Left, Ended, Acted}
-use Rattle.iot_kept.specs.Standing.{Leads, IsRecord}
-use Rattle.iot_kept.proofs.StandingLaws.{leads_push}
 use Rattle.iot_client.specs.Calls.{CutsOff, Brings, CutsOffByTree, CutsOffByVerdict, CutsOffByRun, Resolves, Ends, EndsIfAny}
 use Rattle.iot_client.specs.Calls.{CutsOffNextIfAny, CutsOffNext, StepIsIfAny, CutsOffRerun, Reruns, RefusesReply}
 use Rattle.iot_client.specs.Faults.{CountsFault, MayFail}
@@ -173,7 +170,7 @@ pub record Noted {D T : Type 0} (medium : Medium D) (was now : Client D) (answer
     (live : Option Live) : Type 0 where
   pub notes : OnOk answer (Notes change was now)
   pub lives : OnOk answer (live_of now ≡ live)
-  pub stops : IsErrOf answer Stopped → CutsOff change (state_of was) (bodies_on medium was) (medium.may_leave (disk_of now))
+  pub stops : IsErrOf answer Stopped → CutsOff change (state_of was) (records_of was) (medium.may_leave (disk_of now))
 
 -- what is known of a change by it: if it was done, and if it was stopped
 pub record Fits {D T : Type 0} (medium : Medium D) (was now : Client D) (answer : Result T ClientFault) (scripts : List Declared)
@@ -182,7 +179,7 @@ pub record Fits {D T : Type 0} (medium : Medium D) (was now : Client D) (answer 
   pub ok : OnOk answer
       ((change : Change) × Notes change was now × KeptLive scripts (after (state_of was) change) (live_of now) first next)
   pub cut : IsErrOf answer Stopped → (change : Change)
-      × CutsOff change (state_of was) (bodies_on medium was) (medium.may_leave (disk_of now))
+      × CutsOff change (state_of was) (records_of was) (medium.may_leave (disk_of now))
       × KeptLive scripts (after (state_of was) change) live first next
 
 -- the call as one of the keeper of a node
@@ -194,39 +191,28 @@ appended_by {medium = medium} {was = was} {now = now} {m = m} place (Ok t) chang
   (λ n seat. record {
     place_is = fits.ok.1.place ∙ seat.place_is;
     tied = behaves.tied;
-    counted = fits.ok.1.records ∙ ap (λ (k : ℕ). k + 1) seat.counted;
+    counted = fits.ok.1.records ∙ ap next seat.counted;
     kept = subst (λ (s : State). StateKept s (change m)) (sym fits.ok.1.state) fits.ok.2.kept;
   }),
   same_counts medium (disk_of was) (disk_of now) behaves.counts behaves.arms,
 )
 appended_by {medium = medium} {was = was} {now = now} place (Err Stopped) change first fits behaves =
-    let cut = fits.cut refl in
-    let bodies : List (List ℕ) = bodies_on medium was in (
+    let cut = fits.cut refl in (
       -- each image is what the client keeps, without the record or with it
-      (λ n seat.
-          let leads : Leads bodies opening (state_of was) = seat.tied.synced.leads in
-          let many : length bodies ≡ n = sym seat.tied.synced.journal.count ∙ seat.counted in
-          let is : IsRecord (change_spelling cut.0) cut.0 = record { value = cut.1.spelled; spelled = refl } in
-          record {
-            each = λ image left. elim (cut.1.one_record.each image left) [
-              | inl before ↦ inl (record {
-                state = state_of was;
-                stands = record { bodies = bodies; read = before; leads = leads };
-                counted = many;
-                kept = seat.kept;
-              })
-              | inr more ↦ inr (record {
-                state = after (state_of was) cut.0;
-                stands = record {
-                  bodies = bodies ++ change_spelling cut.0 ∷ [];
-                  read = more;
-                  leads = leads_push bodies opening (state_of was) (change_spelling cut.0) cut.0 leads is cut.1.follows;
-                };
-                counted = length-append bodies (change_spelling cut.0 ∷ []) ∙ ap (λ (k : ℕ). k + 1) many;
-                kept = cut.2.kept;
-              })
-            ];
-          }),
+      (λ n seat. record {
+        each = λ image left. elim (cut.1.either.each image left) [
+          | inl before ↦ inl (record {
+            state = state_of was;
+            stands = subst (λ (k : ℕ). StandWith image k (state_of was)) seat.counted before;
+            kept = seat.kept;
+          })
+          | inr more ↦ inr (record {
+            state = after (state_of was) cut.0;
+            stands = subst (λ (k : ℕ). StandWith image (next k) (after (state_of was) cut.0)) seat.counted more;
+            kept = cut.2.kept;
+          })
+        ];
+      }),
       record { faults = behaves.counts; arms = behaves.arms },
     )
 appended_by place (Err other) change first fits behaves = tt
@@ -249,7 +235,7 @@ module _ {D T : Type 0} {medium : Medium D} {laptop : Laptop D} {was now : Clien
   s = state_of was
 
   abbrev cuts : Change → Type 0
-  cuts change = CutsOff change s (bodies_on medium was) (medium.may_leave (disk_of now))
+  cuts change = CutsOff change s (records_of was) (medium.may_leave (disk_of now))
 
   was_up : {scripts : List Declared} {m : machine.Client} → Before medium laptop scripts m
       → UpStands (seating medium laptop.place) medium no_text (record { client = was }) m.node
@@ -373,7 +359,7 @@ module _ {D T : Type 0} {medium : Medium D} {laptop : Laptop D} {was now : Clien
   pub brings : {purpose : Purpose} {other : Nodes → ClientState → ClientState} {live : Option Live} {reply : List ℕ}
       → IsTied medium was → ReadsObjects reply → OnOk answer (Brings purpose reply was now) → OnOk answer (live_of now ≡ live)
       → (IsErrOf answer Stopped
-      → CutsOffByTree purpose reply (stamps_of was) s (bodies_on medium was) (medium.may_leave (disk_of now)))
+      → CutsOffByTree purpose reply (stamps_of was) s (records_of was) (medium.may_leave (disk_of now)))
       → ((scripts : List Declared) (first : Bool) (m : ClientState) → KeptLive scripts s (live_of was) first m → (t : Nodes)
       → CanFollow s (brought_for purpose t) → IsTree t → IsSpelledTree t
       → KeptLive scripts (after s (brought_for purpose t)) live first (other t m))
@@ -426,7 +412,7 @@ module _ {D T : Type 0} {medium : Medium D} {laptop : Laptop D} {was now : Clien
   -- what is said of the first that waits, by its option
   pub takes_verdict : (noted : T → NotedIn) (reply : List ℕ) → ReadsNoted reply → IfOk answer (λ t. noted_in reply ≡ Ok (noted t))
       → IfOk answer (λ t. Notes (verdict_change (noted t)) was now) → OnOk answer (live_of now ≡ live_of was)
-      → (IsErrOf answer Stopped → CutsOffByVerdict reply s (bodies_on medium was) (medium.may_leave (disk_of now)))
+      → (IsErrOf answer Stopped → CutsOffByVerdict reply s (records_of was) (medium.may_leave (disk_of now)))
       → TakesVerdict medium reply laptop new x y (done result)
   takes_verdict noted reply only reads notes lives stops told option spells first scripts =
       let spelled = rw up at spells in
@@ -448,7 +434,7 @@ module _ {D T : Type 0} {medium : Medium D} {laptop : Laptop D} {was now : Clien
 
   pub resolves : (reply : List ℕ) (code : Code) → IsScript code → ReadsObjects reply → OnOk answer (Resolves reply code was now)
       → OnOk answer (live_of now ≡ live_of was)
-      → (IsErrOf answer Stopped → CutsOffByRun reply code s (bodies_on medium was) (medium.may_leave (disk_of now)))
+      → (IsErrOf answer Stopped → CutsOffByRun reply code s (records_of was) (medium.may_leave (disk_of now)))
       → (t : Nodes) → SpellsTree nothing_held reply t → (scripts : List Declared) (plan : Plan) → Plans medium scripts laptop plan
       → plan.script.code ≡ code → calls.Resolves medium scripts plan t laptop new x y (done result)
   resolves reply code script only ran lives stops t spells scripts plan plans same =
@@ -464,7 +450,7 @@ module _ {D T : Type 0} {medium : Medium D} {laptop : Laptop D} {was now : Clien
             (Resolved reruns.done (access_of reruns.done.acts t), reruns.notes, rw lives (live reruns.done reruns.run)));
         cut = λ stopped.
             let it = stops stopped in
-            let rerun = subst (λ (u : Nodes). CutsOffRerun code u s (bodies_on medium was) (medium.may_leave (disk_of now)))
+            let rerun = subst (λ (u : Nodes). CutsOffRerun code u s (records_of was) (medium.may_leave (disk_of now)))
             (spelled_changes it.changes only it.read spells) it.reruns in
             (Resolved rerun.done (access_of rerun.done.acts t), rerun.cuts_off, live rerun.done rerun.run);
       })
@@ -523,11 +509,11 @@ module _ {D : Type 0} {medium : Medium D} {laptop : Laptop D} {was now : Client 
     (placed : place_of was ≡ laptop.place) (does : IfOk answer (λ step. StepIsIfAny was (live_of was) step now))
     (lives : OnOk answer (live_of now ≡ live_of was))
     (stops : IsErrOf answer Stopped
-    → CutsOffNextIfAny (live_of was) (state_of was) (bodies_on medium was) (medium.may_leave (disk_of now))) where
+    → CutsOffNextIfAny (live_of was) (state_of was) (records_of was) (medium.may_leave (disk_of now))) where
   -- an act of what runs
   acted_by : (live : Live) → live_of was ≡ Some live → (act : Act) → CanAct (state_of was) live
       → next_acts (state_of was) live.code ≡ act ∷ [] → OnOk answer (Notes (Acted act) was now)
-      → (IsErrOf answer Stopped → CutsOff (Acted act) (state_of was) (bodies_on medium was) (medium.may_leave (disk_of now)))
+      → (IsErrOf answer Stopped → CutsOff (Acted act) (state_of was) (records_of was) (medium.may_leave (disk_of now)))
       → Changes medium act_once laptop new x y (done result)
   acted_by live has act can next notes cuts scripts =
       alone up goes behaves scripts act_once (Acted act) (live_of was) (record { notes = notes; lives = lives; stops = cuts })
@@ -541,9 +527,9 @@ module _ {D : Type 0} {medium : Medium D} {laptop : Laptop D} {was now : Client 
 
   -- the act in which it stopped
   halted : result ≡ Err Over → (own : Live) × (live_of was ≡ Some own)
-      × CutsOffNext own (state_of was) (bodies_on medium was) (medium.may_leave (disk_of now))
+      × CutsOffNext own (state_of was) (records_of was) (medium.may_leave (disk_of now))
   halted same =
-      some_live (λ live. CutsOffNextIfAny live (state_of was) (bodies_on medium was) (medium.may_leave (disk_of now))) (λ none. none)
+      some_live (λ live. CutsOffNextIfAny live (state_of was) (records_of was) (medium.may_leave (disk_of now))) (λ none. none)
       (live_of was) (stops (goes.stopped same))
 
   stays : (step : Step) → result ≡ Ok step → now ≡ was → (new ≡ laptop) × (y ≡ x)

@@ -5,8 +5,9 @@ use Rattle.std.proofs.Common.{sym, ap, subst, ◌∙◌, codes, if◌then◌else
 use Rattle.std.specs.Prelude.{IfOk, OnOk, IsErrOf}
 use Rattle.std.proofs.lemmas.List.{append-nil}
 use Rattle.std.proofs.lemmas.Option.{same_Some}
-use Rattle.iot_journal.specs.Decoding.{decoded}
-use Rattle.iot_laptop.specs.Below.{Nodes, IsTree, Transaction, opening, Notes, second_class, state_of, live_of, disk_of, bodies_on, IsTied}
+use Rattle.iot_durable.specs.Standing.{header}
+use Rattle.iot_slots.specs.Decoding.{Decoded, NotStarted, decoded, state_of as encoded_in}
+use Rattle.iot_laptop.specs.Below.{Nodes, IsTree, Transaction, opening, Notes, second_class, state_of, live_of, disk_of, IsTied}
 use Rattle.iot_laptop.specs.Below.{stamps_of, place_of, records_of, Client, ClientFault, Stopped, Medium, At, Declared, ClientState, base}
 use Rattle.iot_laptop.specs.Below.{cut, new_client, Node, unopened, Refines, Possibly, OpensNode, stopped_line, transaction_name, KeepsDisk}
 use Rattle.iot_laptop.specs.Below.{counts_on, IsEmpty, is_on, PostStands, UpStands, StepsFrom, CameIf, StepsTo, Halt, Over, Post, Up, Down}
@@ -183,12 +184,20 @@ module _ {D : Type 0} (medium : Medium D) (laptop : Laptop D) (post : Post (Seat
 -- ---- a new laptop
 
 -- an empty disk is that of a client that knows nothing
-empty_image : (bytes : List ℕ) → bytes ≡ [] → IsClientImage bytes 0 new_client
+nothing_started : decoded header [] ≡ NotStarted
 unfolding decoded
+nothing_started = refl
+
+empty_decoded : (bytes : List ℕ) → bytes ≡ [] → decoded header bytes ≡ NotStarted
+empty_decoded bytes none = ap (decoded header) none ∙ nothing_started
+
+empty_image : (bytes : List ℕ) → bytes ≡ [] → IsClientImage bytes 0 new_client
 empty_image bytes none = record {
   state = opening;
-  stands = record { bodies = []; read = ap decoded none; leads = refl };
-  counted = refl;
+  stands = record {
+    stands = record { decoding = NotStarted; is = empty_decoded bytes none; makes = refl };
+    counted = ap (λ (d : Decoded). (encoded_in d).count) (empty_decoded bytes none);
+  };
   kept = record {
     held = refl;
     items = tt;
@@ -469,7 +478,7 @@ module _ {D : Type 0} (medium : Medium D) (laptop : Laptop D) where
       (behaves : Behaves medium laptop was now answer count)
       (transaction : names.Transaction) (found : running_name laptop (state_in laptop).running ≡ Some transaction)
       (cuts : IfOk answer (λ told. CutsIfAny (state_of was).running told was now)) (lives : OnOk answer (live_of now ≡ None))
-      (stops : IsErrOf answer Stopped → client.CutsOff Cut (state_of was) (bodies_on medium was) (medium.may_leave (disk_of now))) where
+      (stops : IsErrOf answer Stopped → client.CutsOff Cut (state_of was) (records_of was) (medium.may_leave (disk_of now))) where
     module _ (scripts : List Declared) (m : machine.Client) (here : ReturnedStands medium scripts laptop m) where
       up_in : UpStands (seating medium laptop.place) medium no_text (record { client = was }) m.node
       up_in = rw post_up at here.node

@@ -3,7 +3,7 @@ pub use Rattle.iot_acts.specs.Traces.{after_acts}
 pub use Rattle.iot_acts.specs.Turns.{reads_of}
 pub use Rattle.iot_changes.specs.declared.changes.Change.TheVariants.{Resolved}
 pub use Rattle.iot_client.specs.Calls.{Notes, IsHeadsRun, may_end, verdict_change, CanAct, next_acts, StepIs, second_class, is_over_if_any}
-pub use Rattle.iot_client.specs.Ties.{records_of, Live, state_of, place_of, disk_of, live_of, stamps_of, IsTied, bodies_on}
+pub use Rattle.iot_client.specs.Ties.{records_of, Live, state_of, place_of, disk_of, live_of, stamps_of, IsTied}
 pub use Rattle.iot_client.specs.Ties.{IsOwnRunIfAny, class_by}
 pub use Rattle.iot_client.specs.declared.client.Client.{Client}
 pub use Rattle.iot_client.specs.declared.fault.ClientFault.{ClientFault}
@@ -14,7 +14,7 @@ pub use Rattle.iot_exec.specs.Runs.{run}
 pub use Rattle.iot_exec.specs.declared.ran.Ran.{Ran}
 pub use Rattle.iot_judging.specs.Verdicts.{SpellsVerdict}
 pub use Rattle.iot_kept.specs.Changes.{CanFollow, after, HeadIs, IsSubmitted, IsByHand}
-pub use Rattle.iot_kept.specs.Standing.{StandFor}
+pub use Rattle.iot_kept.specs.Standing.{StandFor, StandWith}
 pub use Rattle.iot_kept.specs.States.{Transaction, State, opening, acts_of, after_each, view}
 pub use Rattle.iot_lang.specs.Code.{Code}
 pub use Rattle.iot_lang.specs.Scripts.{IsScript}
@@ -46,6 +46,7 @@ pub use Rattle.iot_queue.specs.declared.items.Resolution.{Resolution}
 pub use Rattle.iot_queue.specs.declared.items.Stage.{Stage}
 pub use Rattle.iot_client.specs.Messages.{nothing_held}
 pub use Rattle.iot_kept.specs.Bringing.{brought}
+pub use Rattle.iot_slots.specs.Cells.{next}
 pub use Rattle.iot_stamp.specs.Stamps.{Stamps, nodes_of}
 pub use Rattle.iot_tree.specs.declared.changes.Changes.{Changes}
 pub use Rattle.iot_tree.specs.Tree.{Nodes, IsTree, Path, IsWhole}

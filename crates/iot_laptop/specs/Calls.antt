@@ -48,7 +48,7 @@ use Rattle.iot_laptop.specs.declared.needs.Need.TheVariants as needs
 
 -- ---- a record
 
--- a fault of a call that was not refused, as one of the journal
+-- a fault of a call that was not refused, as one of an append
 abbrev pub of_client : ClientFault → JournalFault
 of_client faults.Stopped = append.Stopped
 of_client other = append.NoMemory

@@ -37,7 +37,7 @@ abbrev pub lent_by : {D : Type 0} → Post (Seated D) D → Option (Client D)
 lent_by (Up seated) = Some seated.client
 lent_by other = None
 
--- how many records a client has that is alive
+-- how many records were ever appended to the disk of a client that is alive, modulo 2 ^ 64
 abbrev pub records_by : {D : Type 0} → Post (Seated D) D → ℕ
 records_by (Up seated) = client.records_of seated.client
 records_by other = 0

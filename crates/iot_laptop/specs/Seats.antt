@@ -1,7 +1,7 @@
 -- For which state of the machine a client stands as the keeper of a node, and the bytes of a disk.
-use Rattle.std.specs.Prelude.{◌≡◌, ℕ, List, Option, None, length}
+use Rattle.std.specs.Prelude.{◌≡◌, ℕ, List, Option, None}
 use Rattle.iot_laptop.specs.Below.{Live, state_of, place_of, disk_of, records_of, live_of, stamps_of, Stamps, IsTied, Medium, State}
-use Rattle.iot_laptop.specs.Below.{StandFor, ClientState, Keeping, Seated}
+use Rattle.iot_laptop.specs.Below.{StandWith, ClientState, Keeping, Seated}
 use Rattle.iot_standing.specs.Kept.{StateKept}
 use Rattle.iot_stamp.specs.Trails.{lent_stamps}
 
@@ -12,11 +12,10 @@ pub record IsSeated {D : Type 0} (medium : Medium D) (place : ℕ) (seated : Sea
   pub counted : records_of seated.client ≡ count
   pub kept : StateKept (state_of seated.client) m
 
--- an image with so many records is what the client keeps
+-- an image, to which so many records were ever appended, modulo 2 ^ 64, is what the client keeps
 pub record IsClientImage (image : List ℕ) (count : ℕ) (m : ClientState) : Type 0 where
   pub state : State
-  pub stands : StandFor image state
-  pub counted : length stands.bodies ≡ count
+  pub stands : StandWith image count state
   pub kept : StateKept state m
 
 abbrev pub seating : {D : Type 0} → Medium D → (place : ℕ) → Keeping (Seated D) ClientState D

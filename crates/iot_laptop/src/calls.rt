@@ -269,7 +269,7 @@ impl<D: Disk> Laptop<D> {
     }
 }
 
-/// An answer of a client's call that was not refused, as one of its journal.
+/// An answer of a client's call that was not refused, as one of an append.
 fn journaled<T>(answer: Result<T, ClientFault>) -> Result<T, JournalFault>
     requires { IfErr answer MayFail }
     ensures { result ≡ appended answer }

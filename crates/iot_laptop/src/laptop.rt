@@ -175,7 +175,7 @@ impl<D: Disk> Laptop<D> {
         self.is_alive() && !self.waits() && !self.runs() && self.link.is_up()
     }
 
-    /// How many records it has appended, if it is alive.
+    /// How many records were ever appended to its disk, modulo 2^64, if it is alive.
     pub fn records(&self) -> u64
         ensures { result ≡ records_in self.now }
     {

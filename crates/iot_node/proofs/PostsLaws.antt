@@ -1,10 +1,10 @@
 -- A node over any keeper does what the machine's node does.
-use Rattle.std.proofs.Common.{◌≡◌, ℕ, ◌+◌, Bool, true, false, List, [], ◌++◌, Option, None, Some, IsSome, Ok, Err, refl, sym, ap, subst}
-use Rattle.std.proofs.Common.{◌∙◌, inl, inr, arith, codes}
+use Rattle.std.proofs.Common.{◌≡◌, ℕ, ◌+◌, ◌==◌, Bool, true, false, List, [], ◌++◌, Option, None, Some, IsSome, Ok, Err, refl, sym, ap}
+use Rattle.std.proofs.Common.{◌∙◌, subst, inl, inr, arith, codes}
 use Rattle.std.proofs.lemmas.List.{append-nil}
-use Rattle.std.proofs.lemmas.Bool.{le-leb, lt-leb}
+use Rattle.std.proofs.lemmas.Bool.Decides.{nat_tests}
 use Rattle.iot_node.specs.Prelude.{Rose, Medium, SameImages, armed_with, Pick, StartFault, Call, Node, Counts, opened, changed, doubting}
-use Rattle.iot_node.specs.Prelude.{back, armed, Refines, line, stopped_line, stop_line, Doubt, Fallen, Post, Up, Down, Between}
+use Rattle.iot_node.specs.Prelude.{back, armed, Refines, line, stopped_line, stop_line, Doubt, Fallen, Post, Up, Down, Between, next}
 use Rattle.iot_disk.specs.declared.faults.JournalFault.TheVariants as append
 use Rattle.iot_disk.specs.declared.faults.StartFault.TheVariants as start
 use Rattle.iot_machine.specs.Stops.{IsStopped, OpensNode, Appends, ComesBackWith, ComesBack, Crashes, ArmsDisk}
@@ -23,6 +23,20 @@ pub has_disk : {K D : Type 0} (disk : K → D) (post : Post K D) → IsSome (dis
 has_disk disk post has is =
     let none = subst (λ (p : Post _ _). IsSome (disk_of disk p)) is has in
     cc
+
+-- ---- numbers of records
+
+pub same_number : (number count : ℕ) → number ≡ count → (number == count) ≡ true
+same_number number count is = grind (arith, nat_tests)
+
+-- one record more makes another number, also modulo 2 ^ 64
+next_is_other : (count : ℕ) → next count ≡ count → ⊥
+next_is_other count is = omega (arith, is)
+
+pub next_number : (number count : ℕ) → number ≡ next count → (number == count) ≡ false
+next_number number count is =
+    let other : number ≡ count → ⊥ = λ same. next_is_other count (sym is ∙ same) in
+    grind (arith, nat_tests, other)
 
 -- ---- the counts of a disk
 
@@ -66,7 +80,7 @@ module _ {K S D : Type 0} (keeping : Keeping K S D) (medium : Medium D) (says : 
       alive = here.alive;
       sure = here.sure;
       counts = kept.1 ∙ here.counts;
-      count = here.count + 1;
+      count = next here.count;
       stands = kept.0 here.count here.stands;
     },
   )
@@ -166,7 +180,7 @@ module _ {K S D : Type 0} (keeping : Keeping K S D) (medium : Medium D) (says : 
           let image = from bytes at in
           elim (it.each.each image.0 image.1) [
             | inl is ↦ inl (image.2 count node.durable is)
-            | inr is ↦ inr (image.2 (count + 1) it.after is)
+            | inr is ↦ inr (image.2 (next count) it.after is)
           ];
     };
     counted = it.counted;
@@ -203,15 +217,15 @@ module _ {K S D : Type 0} (keeping : Keeping K S D) (medium : Medium D) (says : 
             let stands = comes.from count node.durable is in
             let many = counted count node.durable stands in (
               back node.durable node,
-              rw it.is (inr (rw (le-leb number doubt.count (omega (arith, many, it.counted))) refl, refl)),
+              rw it.is (inr (rw (same_number number doubt.count (many ∙ sym it.counted)) refl, refl)),
               comes_with node node.durable count counts stands,
             )
         | inr is ↦
-            let stands = comes.from (count + 1) it.after is in
-            let many = counted (count + 1) it.after stands in (
+            let stands = comes.from (next count) it.after is in
+            let many = counted (next count) it.after stands in (
               back it.after node,
-              rw it.is (inl (rw (lt-leb number doubt.count (omega (arith, many, it.counted)), it.lines) refl, refl)),
-              comes_with node it.after (count + 1) counts stands,
+              rw it.is (inl (rw (next_number number doubt.count (many ∙ ap next (sym it.counted)), it.lines) refl, refl)),
+              comes_with node it.after (next count) counts stands,
             )
       ]
 
@@ -300,7 +314,7 @@ module _ {K S D : Type 0} (keeping : Keeping K S D) (medium : Medium D) (says : 
       each = record {
         each = λ bytes at. elim read [
           | inl is ↦ inl ((comes.images down.count node.durable is).each bytes at)
-          | inr it ↦ inr (it.0, it.1, (comes.images (down.count + 1) it.0 it.2).each bytes at)
+          | inr it ↦ inr (it.0, it.1, (comes.images (next down.count) it.0 it.2).each bytes at)
         ];
       };
     }
@@ -312,7 +326,7 @@ module _ {K S D : Type 0} (keeping : Keeping K S D) (medium : Medium D) (says : 
         let counts : CountsStart fault (counts_on medium disk) (counts_on medium behind) =
         elim read [
           | inl is ↦ fails.counts down.count node.durable is
-          | inr it ↦ fails.counts (down.count + 1) it.0 it.2
+          | inr it ↦ fails.counts (next down.count) it.0 it.2
         ] in
         rw stopped at counts
 
@@ -328,7 +342,7 @@ module _ {K S D : Type 0} (keeping : Keeping K S D) (medium : Medium D) (says : 
           count = down.count;
           said = elim read [
             | inl is ↦ inl (said (counted down.count node.durable (comes.from down.count node.durable is)), is)
-            | inr it ↦ inr (it.0, said (counted (down.count + 1) it.0 (comes.from (down.count + 1) it.0 it.2)), it.1, it.2)
+            | inr it ↦ inr (it.0, said (counted (next down.count) it.0 (comes.from (next down.count) it.0 it.2)), it.1, it.2)
           ];
         })
       where

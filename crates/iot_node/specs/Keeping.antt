@@ -1,11 +1,12 @@
 -- What keeps a node's state on a disk, and what its calls do: how it reads its disk, and what its records are, are its own affair.
-use Rattle.std.specs.Prelude.{◌≡◌, ◌⊎◌, ◌+◌}
+use Rattle.std.specs.Prelude.{◌≡◌, ◌⊎◌}
 use Rattle.iot_node.specs.Prelude.{ℕ, List, Result, Ok, Err, Rose, Medium, armed_with, Pick, StartFault, JournalFault, Counts, Doubt}
+use Rattle.iot_node.specs.Prelude.{next}
 use Rattle.iot_disk.specs.declared.faults.StartFault.TheVariants as start
 use Rattle.iot_disk.specs.declared.faults.JournalFault.TheVariants as append
 use Rattle.iot_node.specs.Disks.{counts_on}
 
--- a keeper stands for this state, with so many records; so do these bytes of a disk; and the keeper's disk
+-- A keeper stands for this state, with so many records, counted modulo 2 ^ 64; so do these bytes of a disk; and the keeper's disk.
 pub record Keeping (K S D : Type 0) : Type 1 where
   pub stands : K → ℕ → S → Type 0
   pub image : List ℕ → ℕ → S → Type 0
@@ -56,12 +57,12 @@ module _ {K S D : Type 0} (keeping : Keeping K S D) (medium : Medium D) where
   -- a call of its own that appends a record, by its answer, from this state: it makes this change
   abbrev pub Appended : {T : Type 0} → (S → S) → (s : S) → (old new : K) → Result T JournalFault → Type 0
   Appended change s old new (Ok _) =
-      ((n : ℕ) → keeping.stands old n s → keeping.stands new (n + 1) (change s))
+      ((n : ℕ) → keeping.stands old n s → keeping.stands new (next n) (change s))
       × (counts_on medium (keeping.disk new) ≡ counts_on medium (keeping.disk old))
   Appended change s old new (Err append.NoMemory) = Unit {0}
   Appended change s old new (Err append.Stopped) =
       ((n : ℕ) → keeping.stands old n s
-      → EachIs (medium.may_leave (keeping.disk new)) (λ bytes. keeping.image bytes n s ⊎ keeping.image bytes (n + 1) (change s)))
+      → EachIs (medium.may_leave (keeping.disk new)) (λ bytes. keeping.image bytes n s ⊎ keeping.image bytes (next n) (change s)))
       × Failed (counts_on medium (keeping.disk old)) (counts_on medium (keeping.disk new))
 
 -- how many records there were, and what this one would say

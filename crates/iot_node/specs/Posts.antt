@@ -1,7 +1,7 @@
 -- Which node of the machine a node over a keeper stands for.
-use Rattle.std.specs.Prelude.{◌≡◌, ◌⊎◌, ◌+◌, leb, if◌then◌else◌, Bool, true, false, ◌++◌, codes}
+use Rattle.std.specs.Prelude.{◌≡◌, ◌⊎◌, ◌==◌, if◌then◌else◌, Bool, true, false, ◌++◌, codes}
 use Rattle.iot_node.specs.Prelude.{ℕ, List, Option, None, Some, Result, Ok, Err, Medium, Only, JournalFault, Call, Node, line, kept_line}
-use Rattle.iot_node.specs.Prelude.{lost_line, Halt, NoMemory, Over, Doubt, Fallen, Post, Up, Down, Between}
+use Rattle.iot_node.specs.Prelude.{lost_line, Halt, NoMemory, Over, Doubt, Fallen, Post, Up, Down, Between, next}
 use Rattle.iot_node.specs.Disks.{counts_on}
 use Rattle.iot_node.specs.Keeping.{Keeping, EachIs}
 
@@ -33,10 +33,10 @@ Ready medium (Up keeper) = ⊥
 Ready medium (Down fallen) = (fallen.doubt ≡ None) × Only (medium.reads fallen.disk) (medium.may_leave fallen.disk)
 Ready medium Between = ⊥
 
--- what is said of one that is back with so many records
+-- What is said of one that is back with so many records, counted modulo 2 ^ 64: the one in doubt is lost if there are as many as before it.
 abbrev pub back_said : List ℕ → Option Doubt → (number : ℕ) → List ℕ
 back_said name None number = line (codes "restart " ++ name)
-back_said name (Some doubt) number = if leb number doubt.count then lost_line name else kept_line name ++ doubt.lines
+back_said name (Some doubt) number = if number == doubt.count then lost_line name else kept_line name ++ doubt.lines
 
 -- the call that was answered so went on, or ended its event
 abbrev pub Answered : {T : Type 0} → (Bool → Type 0) → Result T JournalFault → Result T Halt → Type 0
@@ -63,7 +63,7 @@ module _ {K S D : Type 0} (keeping : Keeping K S D) (medium : Medium D) (says : 
   pub record InDoubt (images : List ℕ → Type 0) (count : ℕ) (doubt : Doubt) (node : Node S) : Type 0 where
     pub after : S
     pub is : node.doubt ≡ Some after
-    pub each : EachIs images (λ bytes. keeping.image bytes count node.durable ⊎ keeping.image bytes (count + 1) after)
+    pub each : EachIs images (λ bytes. keeping.image bytes count node.durable ⊎ keeping.image bytes (next count) after)
     pub counted : doubt.count ≡ count
     pub lines : doubt.lines ≡ says node.durable after
 
@@ -95,7 +95,7 @@ module _ {K S D : Type 0} (keeping : Keeping K S D) (medium : Medium D) where
   abbrev pub HoldsEither : (count : ℕ) → Node S → List ℕ → Type 0
   HoldsEither count node bytes =
       keeping.image bytes count node.durable
-      ⊎ ((after : S) × (node.doubt ≡ Some after) × keeping.image bytes (count + 1) after)
+      ⊎ ((after : S) × (node.doubt ≡ Some after) × keeping.image bytes (next count) after)
 
   -- each image of its disk holds that
   pub record Lasts (post : Post K D) (node : Node S) : Type 0 where
@@ -112,8 +112,8 @@ module _ {K S D : Type 0} (keeping : Keeping K S D) (medium : Medium D) where
     pub left : medium.may_leave fallen.disk image
     pub count : ℕ
     pub said : ((y ≡ x ++ back_said name fallen.doubt count) × keeping.image image count node.durable)
-        ⊎ ((after : S) × (y ≡ x ++ back_said name fallen.doubt (count + 1)) × (node.doubt ≡ Some after)
-        × keeping.image image (count + 1) after)
+        ⊎ ((after : S) × (y ≡ x ++ back_said name fallen.doubt (next count)) × (node.doubt ≡ Some after)
+        × keeping.image image (next count) after)
 
   abbrev pub CameIf : (on : Bool) → Post K D → (name x y : List ℕ) → Node S → Type 0
   CameIf true (Down fallen) name x y node = CameFrom fallen name x y node

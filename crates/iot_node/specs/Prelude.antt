@@ -15,3 +15,4 @@ pub use Rattle.iot_node.specs.declared.post.Doubt.{Doubt}
 pub use Rattle.iot_node.specs.declared.post.Fallen.{Fallen}
 pub use Rattle.iot_node.specs.declared.post.Post.{Post}
 pub use Rattle.iot_node.specs.declared.post.Post.TheVariants.{Between, Down, Up}
+pub use Rattle.iot_slots.specs.Cells.{next}

@@ -11,7 +11,8 @@ pub trait Keeper<D: Disk> {
     /// The state that it keeps, for a reader.
     ghost Kept: { Type 0 };
 
-    /// For which state, with how many records, a keeper at this place among its kind stands, and the bytes of a disk; and its disk.
+    /// For which state, with how many records modulo 2^64, a keeper at this place among its kind stands, and the bytes of a disk; and
+    /// its disk.
     ghost keeping: { ℕ → Keeping Self Kept D };
 
     /// What a keeper has besides, of which its disk knows nothing.
@@ -30,7 +31,7 @@ pub trait Keeper<D: Disk> {
         ensures live { IfOk result (λ made. live made ≡ fresh) }
         ensures fails { IfErr result (λ refused. Fails (keeping place) D.medium disk refused.0 refused.1) };
 
-    /// How many records there are.
+    /// How many records were ever appended, modulo 2^64.
     fn records(&self) -> u64
         ensures { (place n : ℕ) (s : Kept) → (keeping place).stands self.now n s → result ≡ n };
 

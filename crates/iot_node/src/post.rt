@@ -22,7 +22,7 @@ use std::mem;
 /// A record that is in doubt, since its node stopped in the append.
 #[derive(Drop)]
 pub struct Doubt {
-    /// How many there are before it.
+    /// How many there are before it, modulo 2^64.
     pub count: u64,
 
     /// What is said after the line of a restart if it was kept.
@@ -305,7 +305,7 @@ fn say_back(doubt: Option<Doubt>, number: u64, name: &[u8], out: &mut Text) -> R
         out.push(b'\n')?;
         return Ok(());
     };
-    if number <= doubt.count {
+    if number == doubt.count {
         out.append(b" lost\n")?;
         return Ok(());
     }

@@ -1,4 +1,3 @@
 mod ChangesLaws
-mod NumbersLaws
 mod RepliesLaws
 mod StandingLaws

@@ -1,17 +1,22 @@
 -- Which bytes answer a request.
-use Rattle.std.proofs.Common.{◌≡◌, ◌+◌, ◌++◌, ◌∷◌, [], ℕ, List, length, Option, None, Ok, Err, Result, inl, refl, sym, ap, subst, ◌∙◌}
+use Rattle.std.proofs.Common.{◌≡◌, ◌+◌, ℕ, List, length, Option, None, Ok, Err, Result, inl, refl, sym, ap, subst, ◌∙◌}
 use Rattle.std.specs.Prelude.{IfOk}
 use Rattle.iot_access.specs.Access.{FitInTurn}
 use Rattle.iot_acts.specs.Traces.{ReadsHold}
 use Rattle.iot_certify.specs.Verdicts.{IsVerdictOnAccess}
 use Rattle.iot_certify.specs.declared.verdict.Verdict.{Verdict}
 use Rattle.iot_certify.specs.declared.verdict.Verdict.TheVariants.{Holds, Differs}
+use Rattle.iot_disk.specs.Disk.{Medium}
 use Rattle.iot_server.specs.Replies.{FollowsVerdict, IsAnswered, Submits}
+use Rattle.iot_slots.specs.Decoding.{State as Encoded}
 use Rattle.iot_stamp.specs.Refresh.{changes_for}
 use Rattle.iot_stamp.specs.Stamps.{Stamps}
 use Rattle.iot_store.specs.Numbers.{number_in}
-use Rattle.iot_store.specs.Records.{IsRecord}
+use Rattle.iot_store.specs.Standing.{IsGrown}
 use Rattle.iot_store.specs.States.{State, after_commit}
+use Rattle.iot_store.specs.Store.{IsRecorded, encoded_on, state_of}
+use Rattle.iot_store.specs.declared.commit.Commit.{Commit as CommitOf}
+use Rattle.iot_store.specs.declared.store.Store.{Store}
 use Rattle.iot_tree.specs.Tree.{Nodes, Path}
 use Rattle.iot_tree.specs.declared.access.Access.{Access}
 use Rattle.iot_tree.specs.declared.changes.Changes.{Changes}
@@ -29,6 +34,11 @@ pub if_ok : {T E : Type 0} (P Q : T → Type 0) (result : Result T E) → ((x : 
 if_ok P Q (Ok x) follows is = follows x is
 if_ok P Q (Err e) follows is = tt
 
+-- what a store noted is one record more
+pub grown_by : {D : Type 0} {medium : Medium D} {old new : Store D} {commit : CommitOf} → IsRecorded medium old new commit
+    → IsGrown (encoded_on medium old) (state_of old) commit (encoded_on medium new)
+grown_by it = record { body = it.body; spells = it.spells; mid = it.before; renews = it.renews; is = it.is }
+
 -- the verdict on the store's tree
 pub judged_so : (here tree : Nodes) (access : Access) (verdict : Verdict) (read : ℕ) (answer : Answer) → here ≡ tree
     → verdict ≡ Differs read answer → IsVerdictOnAccess here access verdict → IsVerdictOnAccess tree access (Differs read answer)
@@ -36,14 +46,14 @@ judged_so here tree access verdict read answer same is said =
     subst (λ (t : Nodes). IsVerdictOnAccess t access (Differs read answer)) same
     (subst (λ (v : Verdict). IsVerdictOnAccess here access v) is said)
 
-module _ (before : State) (bodies : List (List ℕ)) (bytes : List ℕ) where
+module _ (before : State) (was : Encoded) (bytes : List ℕ) where
   pub refreshed : (client : ℕ) (known : List (Path × ℕ)) (want : Want) (changes : Changes) (here : Stamps) → here ≡ before.stamps
       → changes ≡ changes_for here known want → IsReply (Objects changes) → bytes ≡ reply_spelling (Objects changes)
-      → IsAnswered before bodies (Refresh client known want) bytes before bodies
+      → IsAnswered before was (Refresh client known want) bytes before was
   refreshed client known want changes here same is has spelled = record {
     reply = Objects changes;
     answers = (ap Objects (is ∙ ap (λ (s : Stamps). changes_for s known want) same), refl);
-    records = refl;
+    encodes = refl;
     spelled = record { value = has; spelled = sym spelled };
   }
 
@@ -52,25 +62,25 @@ module _ (before : State) (bodies : List (List ℕ)) (bytes : List ℕ) where
     pub conflicted : (verdict : Verdict) (read : ℕ) (answer : Answer) → IsVerdictOnAccess before.tree access verdict
         → FollowsVerdict verdict before label access (Conflict read answer) before
         → IsMessage IsReply reply_spelling bytes (Conflict read answer)
-        → IsAnswered before bodies (Commit label access lines) bytes before bodies
+        → IsAnswered before was (Commit label access lines) bytes before was
     conflicted verdict read answer judged follows spelled = record {
       reply = Conflict read answer;
       answers =
           subst (λ (n : Option ℕ). Submits n before label access (Conflict read answer) before) (sym new) (verdict, judged, follows);
-      records = refl;
+      encodes = refl;
       spelled = spelled;
     }
 
     -- it is committed
-    pub made : (after : State) (now : List (List ℕ)) (record_of : List ℕ) → ReadsHold before.tree access.reads
-        → FitInTurn before.tree access.updates → IsRecord record_of label access lines → after ≡ after_commit before label access
-        → now ≡ bodies ++ record_of ∷ [] → IsMessage IsReply reply_spelling bytes (Committed (length before.labels + 1))
-        → IsAnswered before bodies (Commit label access lines) bytes after now
-    made after now record_of holds fit is state recorded spelled = record {
+    pub made : (after : State) (now : Encoded) → ReadsHold before.tree access.reads → FitInTurn before.tree access.updates
+        → after ≡ after_commit before label access → IsGrown was before (record { label = label; access = access; lines = lines }) now
+        → IsMessage IsReply reply_spelling bytes (Committed (length before.labels + 1))
+        → IsAnswered before was (Commit label access lines) bytes after now
+    made after now holds fit state grown spelled = record {
       reply = Committed (length before.labels + 1);
       answers =
           subst (λ (n : Option ℕ). Submits n before label access (Committed (length before.labels + 1)) after) (sym new)
           (Holds, holds, inl (fit, refl, state));
-      records = recorded ∙ ap (λ (body : List ℕ). bodies ++ body ∷ []) (sym is.spelled);
+      encodes = grown;
       spelled = spelled;
     }

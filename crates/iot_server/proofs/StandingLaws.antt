@@ -1,49 +1,55 @@
 -- What a store holds has a spelling, and so has each answer of its tree.
-use Rattle.std.proofs.Common.{ℕ, List, [], ◌∷◌, Some, inl, inr, sym, subst}
-use Rattle.std.specs.List.{AllByRecursion, zip}
-use Rattle.iot_access.specs.Access.{after_updates}
+use Rattle.std.proofs.Common.{◌≡◌, ℕ, List, [], ◌∷◌, inl, inr, sym, ◌∙◌, subst}
+use Rattle.std.specs.FinMap.{entries, get-entries}
+use Rattle.std.specs.List.{zip}
 use Rattle.iot_access.specs.BaseReads.{Base}
 use Rattle.iot_certify.specs.Verdicts.{FailsAt, IsVerdictOnAccess}
 use Rattle.iot_certify.specs.declared.verdict.Verdict.TheVariants.{Differs}
-use Rattle.iot_codec.specs.Rules.{IsAnswer, IsUpdate}
+use Rattle.iot_codec.specs.Rules.{IsAnswer, IsNode, IsRow, IsTreeOfRows}
 use Rattle.iot_disk.specs.Disk.{Medium}
 use Rattle.iot_limits.proofs.AnswerLaws.{tree_answers}
-use Rattle.iot_limits.proofs.UpdateLaws.{tree_after, root_tree}
-use Rattle.iot_limits.specs.Spelled.{IsSpelledTree}
-use Rattle.iot_store.specs.Standing.{Leads, StandFor, EachStands}
-use Rattle.iot_store.specs.States.{State, opening, after_commit}
-use Rattle.iot_store.specs.Store.{IsSynced, state_of, disk_of}
+use Rattle.iot_limits.specs.Spelled.{IsSpelledNode, IsSpelledRow, IsSpelledTree}
+use Rattle.iot_store.specs.Standing.{EachStays}
+use Rattle.iot_store.specs.Store.{IsSynced, count_of, encoded_on, state_of, disk_of}
 use Rattle.iot_store.specs.declared.store.Store.{Store}
-use Rattle.iot_tree.specs.Tree.{Nodes}
-use Rattle.iot_tree.specs.Updates.{updated}
+use Rattle.iot_store.proofs.StandingLaws.{store_stays}
+use Rattle.iot_tree.specs.Tree.{Nodes, Path}
 use Rattle.iot_tree.specs.declared.access.Access.{Access}
+use Rattle.iot_tree.specs.declared.nodes.Node.{Node}
+use Rattle.iot_tree.specs.declared.nodes.Node.TheVariants.{Dir, File, FarDir, FarFile}
 use Rattle.iot_tree.specs.declared.questions.Answer.{Answer}
-use Rattle.iot_tree.specs.declared.updates.Update.{Update}
+use Rattle.iot_tree.proofs.EachLaws.{found_row}
 
-updates_spelled : (updates : List Update) (t : Nodes) → AllByRecursion IsUpdate updates → IsSpelledTree t
-    → IsSpelledTree (after_updates t updates)
-updates_spelled [] t are spelled = spelled
-updates_spelled (update ∷ updates) t are spelled =
-    updates_spelled updates (updated t update) are.1 (tree_after t (Some update) are.0 spelled)
+-- ---- trees whose rows have spellings
 
-leads_spelled : (bodies : List (List ℕ)) (before after : State) → Leads bodies before after → IsSpelledTree before.tree
-    → IsSpelledTree after.tree
-leads_spelled [] before after leads spelled = subst (λ (s : State). IsSpelledTree s.tree) (sym leads) spelled
-leads_spelled (body ∷ bodies) before after leads spelled =
-    leads_spelled bodies (after_commit before leads.0 leads.1) after leads.5
-    (updates_spelled leads.1.updates before.tree leads.3.value.1.0.updates spelled)
+abbrev IsRowAt : Path → Node → Type 0
+IsRowAt path node = IsRow (path, node)
 
-module _ {D : Type 0} (medium : Medium D) (store : Store D)
-    (synced : IsSynced medium store) where
+node_spelled : (node : Node) → IsNode node → IsSpelledNode node
+node_spelled Dir is = tt
+node_spelled (File bytes) is = is
+node_spelled FarDir is = tt
+node_spelled FarFile is = tt
+
+row_spelled : (path : Path) (node : Node) → IsRowAt path node → IsSpelledRow path node
+row_spelled path node row = record { is_path = row.0; is_node = node_spelled node row.1 }
+
+tree_spelled : (t : Nodes) → IsTreeOfRows t → IsSpelledTree t
+tree_spelled t rows = record {
+  each = λ path node has.
+      row_spelled path node (found_row IsRowAt (entries t) rows.each path node (sym (get-entries t path) ∙ has));
+}
+
+-- ---- a store under which nothing is under way
+
+module _ {D : Type 0} (medium : Medium D) (store : Store D) (synced : IsSynced medium store) where
   pub store_spelled : IsSpelledTree (state_of store).tree
-  store_spelled = leads_spelled _ opening (state_of store) synced.leads root_tree
+  store_spelled = tree_spelled (state_of store).tree synced.sound.tree
 
-  -- its disk has one image, which stands for its state
-  pub store_stands : EachStands (medium.may_leave (disk_of store)) (state_of store)
-  store_stands = record {
-    each = λ image left. subst (λ (bytes : List ℕ). StandFor bytes (state_of store)) (sym (synced.journal.only.is image left))
-        (record { bodies = _; read = synced.journal.encodes; leads = synced.leads });
-  }
+  -- a disk that is still its own stands for its state
+  pub still_stays : (disk : D) → disk ≡ disk_of store
+      → EachStays (medium.may_leave disk) (count_of store) (encoded_on medium store) (state_of store)
+  still_stays disk same = rw same (store_stays medium store synced)
 
 -- ---- answers
 

@@ -1,13 +1,13 @@
 -- Why a request has no reply.
-use Rattle.std.specs.Prelude.{◌≡◌, ℕ, List, ◌++◌, [], ◌∷◌, Result, Ok, Err}
+use Rattle.std.specs.Prelude.{◌≡◌, ℕ, List, Result, Ok, Err}
 use Rattle.iot_codec.specs.declared.faults.CodecFault.{CodecFault}
 use Rattle.iot_codec.specs.declared.faults.CodecFault.TheVariants as codec
 use Rattle.iot_count.specs.Counts.{Rose, Stayed}
 use Rattle.iot_disk.specs.declared.faults.JournalFault.{JournalFault}
 use Rattle.iot_disk.specs.declared.faults.JournalFault.TheVariants as journal
-use Rattle.iot_journal.specs.Decoding.{Encodes}
-use Rattle.iot_journal.specs.Images.{EachDecodesEither}
-use Rattle.iot_store.specs.Records.{record_spelling}
+use Rattle.iot_durable.specs.Standing.{EachGoes}
+use Rattle.iot_slots.specs.Decoding.{State as Encoded}
+use Rattle.iot_store.specs.Rules.{rules}
 use Rattle.iot_store.specs.Standing.{EachStandsEither}
 use Rattle.iot_store.specs.States.{State, CanFollow, after_commit}
 use Rattle.iot_tree.specs.declared.access.Access.{Access}
@@ -45,13 +45,13 @@ CountsServerFault (Err NoMemory) before now = Stayed before now
 CountsServerFault (Err (Malformed at)) before now = Stayed before now
 CountsServerFault (Err Stopped) before now = Rose before now
 
--- a commit was asked for that can follow, and was cut off: each image stands for the state before or for the state with it, and has
--- the records before, or those and the record of the commit
-pub record CutsOff (Asks : Request → Type 0) (state : State) (bodies : List (List ℕ)) (images : List ℕ → Type 0) : Type 0 where
+-- A commit was asked for that can follow, and was cut off: each image stands for the state before or for the state with it. Each encodes
+-- what was there, or a checkpoint of the state before alone; or such with the record of the commit.
+pub record CutsOff (Asks : Request → Type 0) (state : State) (count : ℕ) (was : Encoded) (images : List ℕ → Type 0) : Type 0 where
   pub label : Label
   pub access : Access
   pub lines : List (List ℕ)
   pub asked : Asks (Commit label access lines)
   pub follows : CanFollow state label access
-  pub either : EachStandsEither images state (after_commit state label access)
-  pub one_record : EachDecodesEither images (Encodes bodies) (Encodes (bodies ++ record_spelling label access lines ∷ []))
+  pub either : EachStandsEither images count state (after_commit state label access)
+  pub encodes : EachGoes rules images was state (record { label = label; access = access; lines = lines })

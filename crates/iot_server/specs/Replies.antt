@@ -1,12 +1,13 @@
 -- What the server answers.
-use Rattle.std.specs.Prelude.{◌≡◌, ◌⊎◌, ℕ, ◌+◌, List, [], ◌∷◌, ◌++◌, length, Option, Some, None}
+use Rattle.std.specs.Prelude.{◌≡◌, ◌⊎◌, ℕ, ◌+◌, List, length, Option, Some, None}
 use Rattle.iot_access.specs.Access.{FitInTurn}
 use Rattle.iot_certify.specs.Verdicts.{IsVerdictOnAccess}
 use Rattle.iot_certify.specs.declared.verdict.Verdict.{Verdict}
 use Rattle.iot_certify.specs.declared.verdict.Verdict.TheVariants.{Holds, Differs}
+use Rattle.iot_slots.specs.Decoding.{State as Encoded}
 use Rattle.iot_stamp.specs.Refresh.{changes_for}
 use Rattle.iot_store.specs.Numbers.{number_in}
-use Rattle.iot_store.specs.Records.{record_spelling}
+use Rattle.iot_store.specs.Standing.{IsGrown}
 use Rattle.iot_store.specs.States.{State, after_commit}
 use Rattle.iot_tree.specs.declared.access.Access.{Access}
 use Rattle.iot_tree.specs.declared.labels.Label.{Label}
@@ -44,25 +45,21 @@ Answers before (Refresh client known want) reply after =
 Answers before (Commit label access lines) reply after =
     Submits (number_in before.labels label.client label.tid) before label access reply after
 
--- the bodies of the records after it: a commit that was made has one more, its own
-abbrev pub records_after : Request → Reply → List (List ℕ) → List (List ℕ)
-records_after (Refresh client known want) reply bodies = bodies
-records_after (Commit label access lines) (Objects changes) bodies = bodies
-records_after (Commit label access lines) (Committed number) bodies = bodies ++ record_spelling label access lines ∷ []
-records_after (Commit label access lines) (Already number) bodies = bodies
-records_after (Commit label access lines) (Conflict read answer) bodies = bodies
+-- what the disk encodes after it: a commit that was made has one record more, its own
+abbrev pub EncodesAfter : Request → Reply → State → (was now : Encoded) → Type 0
+EncodesAfter (Commit label access lines) (Committed number) before was now =
+    IsGrown was before (record { label = label; access = access; lines = lines }) now
+EncodesAfter request reply before was now = now ≡ was
 
 -- the bytes are the spelling of the reply to the request
-pub record IsAnswered (before : State) (bodies : List (List ℕ)) (request : Request) (bytes : List ℕ) (after : State)
-    (bodies_after : List (List ℕ)) : Type 0 where
+pub record IsAnswered (before : State) (was : Encoded) (request : Request) (bytes : List ℕ) (after : State) (now : Encoded) : Type 0 where
   pub reply : Reply
   pub answers : Answers before request reply after
-  pub records : bodies_after ≡ records_after request reply bodies
+  pub encodes : EncodesAfter request reply before was now
   pub spelled : IsMessage IsReply reply_spelling bytes reply
 
 -- bytes that are the spelling of a request are answered by bytes that are the spelling of its reply
-pub record IsHandled (before : State) (bodies : List (List ℕ)) (asked bytes : List ℕ) (after : State)
-    (bodies_after : List (List ℕ)) : Type 0 where
+pub record IsHandled (before : State) (was : Encoded) (asked bytes : List ℕ) (after : State) (now : Encoded) : Type 0 where
   pub request : Request
   pub is : IsMessage IsRequest request_spelling asked request
-  pub answered : IsAnswered before bodies request bytes after bodies_after
+  pub answered : IsAnswered before was request bytes after now

@@ -1,6 +1,7 @@
 -- A server over its disk.
-use Rattle.std.specs.Prelude.{ℕ, List}
+use Rattle.std.specs.Prelude.{ℕ}
 use Rattle.iot_disk.specs.Disk.{Medium}
+use Rattle.iot_slots.specs.Decoding.{State as Encoded}
 use Rattle.iot_store.specs.States.{State}
 use Rattle.iot_store.specs.Store as store
 use Rattle.iot_store.specs.declared.store.Store.{Store}
@@ -21,10 +22,14 @@ traffic_of server = server.traffic
 abbrev pub disk_of : {D : Type 0} → Server D → D
 disk_of server = store.disk_of server.store
 
--- the bodies of the records on its disk
-abbrev pub bodies_on : {D : Type 0} → Medium D → Server D → List (List ℕ)
-bodies_on medium server = store.bodies_on medium server.store
+-- the number of commits ever made, modulo 2 ^ 64
+abbrev pub count_of : {D : Type 0} → Server D → ℕ
+count_of server = store.count_of server.store
 
--- nothing is under way: the disk has one image, and its records lead to the state
+-- the checkpoint in force on its disk, and the records behind it
+abbrev pub encoded_on : {D : Type 0} → Medium D → Server D → Encoded
+encoded_on medium server = store.encoded_on medium server.store
+
+-- nothing is under way: the disk has one image, which stands for the state
 abbrev pub IsSynced : {D : Type 0} → Medium D → Server D → Type 0
 IsSynced medium server = store.IsSynced medium server.store

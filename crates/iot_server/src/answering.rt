@@ -4,27 +4,26 @@ ghost use Rattle.iot_access.specs.Access.{FitInTurn};
 ghost use Rattle.iot_acts.specs.Traces.{ReadsHold};
 ghost use Rattle.iot_codec.specs.Rules.{AreKnown};
 ghost use Rattle.iot_disk.specs.Faults.{CountsJournalFault};
-ghost use Rattle.iot_journal.specs.Decoding.{Encodes};
-ghost use Rattle.iot_journal.specs.Images.{EachDecodes};
 ghost use Rattle.iot_server.specs.Faults.{CutsOff};
 ghost use Rattle.iot_server.specs.Replies.{IsAnswered};
 ghost use Rattle.iot_store.specs.Numbers.{number_in};
 ghost use Rattle.iot_store.specs.Records.{IsRecord};
-ghost use Rattle.iot_store.specs.Standing.{EachStands};
-ghost use Rattle.iot_store.specs.Store.{state_of, disk_of, bodies_on, IsSynced};
+ghost use Rattle.iot_store.specs.Rules.{IsCommit};
+ghost use Rattle.iot_store.specs.Standing.{EachStays};
+ghost use Rattle.iot_store.specs.Store.{state_of, disk_of, count_of, encoded_on, IsSynced};
 ghost use Rattle.iot_tree.specs.declared.questions.Answer.TheVariants.{Away};
 ghost use Rattle.iot_wire.specs.Messages.{IsMessage};
 ghost use Rattle.iot_wire.specs.Rules.{IsRequest, IsReply};
 ghost use Rattle.iot_wire.specs.Spelling.{request_spelling, reply_spelling};
 ghost use Rattle.iot_wire.specs.declared.requests.Request.{Request as Asked};
-ghost use Rattle.iot_wire.specs.declared.requests.Request.TheVariants.{Refresh, Commit};
+ghost use Rattle.iot_wire.specs.declared.requests.Request.TheVariants.{Refresh, Commit as Asks};
 ghost use Rattle.iot_wire.specs.declared.replies.Reply.TheVariants.{Committed, Conflict};
 
 use iot_certify::{Verdict, certify};
 use iot_disk::{Disk, JournalFault};
-use iot_store::Store;
+use iot_store::{Commit, Store};
 use iot_text::NoMemory;
-use iot_tree::{Access, Answer, Known, Label, Lines, Want};
+use iot_tree::{Access, Answer, Known, Want};
 use iot_wire::{Reply, Request, write_reply};
 use std::alloc::Global;
 
@@ -37,14 +36,13 @@ pub(crate) fn answer<D: Disk>(
 ) -> Result<Vec<u8>, JournalFault>
     requires synced { IsSynced D.medium store.old }
     requires asked { IsMessage IsRequest request_spelling bytes.now request }
-    ensures answered { IfOk result (λ bytes. IsAnswered (state_of store.old) (bodies_on D.medium store.old) request bytes.items
-        (state_of store.new) (bodies_on D.medium store.new)) }
+    ensures answered { IfOk result (λ bytes. IsAnswered (state_of store.old) (encoded_on D.medium store.old) request bytes.items
+        (state_of store.new) (encoded_on D.medium store.new)) }
     ensures synced { OnOk result (IsSynced D.medium store.new) }
     ensures stopped { IsErrOf result JournalFault.Stopped → CutsOff (λ (asked : Asked). asked ≡ request)
-        (state_of store.old) (bodies_on D.medium store.old) (D.medium.may_leave (disk_of store.new)) }
-    ensures no_memory { IsErrOf result JournalFault.NoMemory → EachStands (D.medium.may_leave (disk_of store.new)) (state_of store.old) }
-    ensures no_record { IsErrOf result JournalFault.NoMemory
-        → EachDecodes (D.medium.may_leave (disk_of store.new)) (Encodes (bodies_on D.medium store.old)) }
+        (state_of store.old) (count_of store.old) (encoded_on D.medium store.old) (D.medium.may_leave (disk_of store.new)) }
+    ensures no_memory { IsErrOf result JournalFault.NoMemory → EachStays (D.medium.may_leave (disk_of store.new))
+        (count_of store.old) (encoded_on D.medium store.old) (state_of store.old) }
     ensures faults { CountsJournalFault result (D.medium.faults (disk_of store.old)) (D.medium.faults (disk_of store.new)) }
     ensures arms { D.medium.arms (disk_of store.new) ≡ D.medium.arms (disk_of store.old) }
 {
@@ -58,7 +56,14 @@ pub(crate) fn answer<D: Disk>(
             label,
             access,
             lines,
-        } => submit(alloc, store, label, &access, &lines, bytes),
+        } => {
+            let commit = Commit {
+                label,
+                access,
+                lines,
+            };
+            submit(alloc, store, commit, bytes)
+        }
     }
 }
 
@@ -73,8 +78,8 @@ fn lend<D: Disk>(
     requires synced { IsSynced D.medium store.now }
     requires known { AreKnown known.now }
     ensures { (client : _) → IfOk result (λ bytes.
-        IsAnswered (state_of store.now) (bodies_on D.medium store.now) (Refresh client known.now want.now) bytes.items
-        (state_of store.now) (bodies_on D.medium store.now)) }
+        IsAnswered (state_of store.now) (encoded_on D.medium store.now) (Refresh client known.now want.now) bytes.items
+        (state_of store.now) (encoded_on D.medium store.now)) }
 {
     let changes = store.stamped().changed(alloc, known.as_slice(), want)?;
     write_reply(alloc, &Reply::Objects(changes))
@@ -84,27 +89,26 @@ fn lend<D: Disk>(
 fn submit<D: Disk>(
     alloc: Global,
     store: &mut Store<D>,
-    label: Label,
-    access: &Access,
-    lines: &Lines,
+    commit: Commit,
     body: &[u8],
 ) -> Result<Vec<u8>, JournalFault>
     requires synced { IsSynced D.medium store.old }
-    requires recorded { IsRecord body.now label access.now lines.now }
-    ensures answered { IfOk result (λ bytes. IsAnswered (state_of store.old) (bodies_on D.medium store.old)
-        (Commit label access.now lines.now) bytes.items (state_of store.new) (bodies_on D.medium store.new)) }
+    requires commit { IsCommit commit }
+    requires recorded { IsRecord body.now commit.label commit.access commit.lines }
+    ensures answered { IfOk result (λ bytes. IsAnswered (state_of store.old) (encoded_on D.medium store.old)
+        (Asks commit.label commit.access commit.lines) bytes.items (state_of store.new) (encoded_on D.medium store.new)) }
     ensures synced { OnOk result (IsSynced D.medium store.new) }
-    ensures stopped { IsErrOf result JournalFault.Stopped → CutsOff (λ (asked : Asked). asked ≡ Commit label access.now lines.now)
-        (state_of store.old) (bodies_on D.medium store.old) (D.medium.may_leave (disk_of store.new)) }
-    ensures no_memory { IsErrOf result JournalFault.NoMemory → EachStands (D.medium.may_leave (disk_of store.new)) (state_of store.old) }
-    ensures no_record { IsErrOf result JournalFault.NoMemory
-        → EachDecodes (D.medium.may_leave (disk_of store.new)) (Encodes (bodies_on D.medium store.old)) }
+    ensures stopped { IsErrOf result JournalFault.Stopped
+        → CutsOff (λ (asked : Asked). asked ≡ Asks commit.label commit.access commit.lines)
+        (state_of store.old) (count_of store.old) (encoded_on D.medium store.old) (D.medium.may_leave (disk_of store.new)) }
+    ensures no_memory { IsErrOf result JournalFault.NoMemory → EachStays (D.medium.may_leave (disk_of store.new))
+        (count_of store.old) (encoded_on D.medium store.old) (state_of store.old) }
     ensures faults { CountsJournalFault result (D.medium.faults (disk_of store.old)) (D.medium.faults (disk_of store.new)) }
     ensures arms { D.medium.arms (disk_of store.new) ≡ D.medium.arms (disk_of store.old) }
 {
-    match store.number_of(label.client, label.tid) {
+    match store.number_of(commit.label.client, commit.label.tid) {
         Some(number) => Ok(write_reply(alloc, &Reply::Already { number })?),
-        None => judge(alloc, store, label, access, lines, body),
+        None => judge(alloc, store, commit, body),
     }
 }
 
@@ -112,27 +116,26 @@ fn submit<D: Disk>(
 fn judge<D: Disk>(
     alloc: Global,
     store: &mut Store<D>,
-    label: Label,
-    access: &Access,
-    lines: &Lines,
+    commit: Commit,
     body: &[u8],
 ) -> Result<Vec<u8>, JournalFault>
     requires synced { IsSynced D.medium store.old }
-    requires recorded { IsRecord body.now label access.now lines.now }
-    requires new { number_in (state_of store.old).labels label.client label.tid ≡ None }
-    ensures answered { IfOk result (λ bytes. IsAnswered (state_of store.old) (bodies_on D.medium store.old)
-        (Commit label access.now lines.now) bytes.items (state_of store.new) (bodies_on D.medium store.new)) }
+    requires commit { IsCommit commit }
+    requires recorded { IsRecord body.now commit.label commit.access commit.lines }
+    requires new { number_in (state_of store.old).labels commit.label.client commit.label.tid ≡ None }
+    ensures answered { IfOk result (λ bytes. IsAnswered (state_of store.old) (encoded_on D.medium store.old)
+        (Asks commit.label commit.access commit.lines) bytes.items (state_of store.new) (encoded_on D.medium store.new)) }
     ensures synced { OnOk result (IsSynced D.medium store.new) }
-    ensures stopped { IsErrOf result JournalFault.Stopped → CutsOff (λ (asked : Asked). asked ≡ Commit label access.now lines.now)
-        (state_of store.old) (bodies_on D.medium store.old) (D.medium.may_leave (disk_of store.new)) }
-    ensures no_memory { IsErrOf result JournalFault.NoMemory → EachStands (D.medium.may_leave (disk_of store.new)) (state_of store.old) }
-    ensures no_record { IsErrOf result JournalFault.NoMemory
-        → EachDecodes (D.medium.may_leave (disk_of store.new)) (Encodes (bodies_on D.medium store.old)) }
+    ensures stopped { IsErrOf result JournalFault.Stopped
+        → CutsOff (λ (asked : Asked). asked ≡ Asks commit.label commit.access commit.lines)
+        (state_of store.old) (count_of store.old) (encoded_on D.medium store.old) (D.medium.may_leave (disk_of store.new)) }
+    ensures no_memory { IsErrOf result JournalFault.NoMemory → EachStays (D.medium.may_leave (disk_of store.new))
+        (count_of store.old) (encoded_on D.medium store.old) (state_of store.old) }
     ensures faults { CountsJournalFault result (D.medium.faults (disk_of store.old)) (D.medium.faults (disk_of store.new)) }
     ensures arms { D.medium.arms (disk_of store.new) ≡ D.medium.arms (disk_of store.old) }
 {
-    match certify(alloc, store.tree(), access)? {
-        Verdict::Holds => commit_if_fit(alloc, store, label, access, lines, body),
+    match certify(alloc, store.tree(), &commit.access)? {
+        Verdict::Holds => commit_if_fit(alloc, store, commit, body),
         Verdict::Differs { read, answer } => {
             Ok(write_reply(alloc, &Reply::Conflict { read, answer })?)
         }
@@ -143,30 +146,29 @@ fn judge<D: Disk>(
 fn commit_if_fit<D: Disk>(
     alloc: Global,
     store: &mut Store<D>,
-    label: Label,
-    access: &Access,
-    lines: &Lines,
+    commit: Commit,
     body: &[u8],
 ) -> Result<Vec<u8>, JournalFault>
     requires synced { IsSynced D.medium store.old }
-    requires recorded { IsRecord body.now label access.now lines.now }
-    requires new { number_in (state_of store.old).labels label.client label.tid ≡ None }
-    requires holds { ReadsHold (state_of store.old).tree access.now.reads }
-    ensures answered { IfOk result (λ bytes. IsAnswered (state_of store.old) (bodies_on D.medium store.old)
-        (Commit label access.now lines.now) bytes.items (state_of store.new) (bodies_on D.medium store.new)) }
+    requires commit { IsCommit commit }
+    requires recorded { IsRecord body.now commit.label commit.access commit.lines }
+    requires new { number_in (state_of store.old).labels commit.label.client commit.label.tid ≡ None }
+    requires holds { ReadsHold (state_of store.old).tree commit.access.reads }
+    ensures answered { IfOk result (λ bytes. IsAnswered (state_of store.old) (encoded_on D.medium store.old)
+        (Asks commit.label commit.access commit.lines) bytes.items (state_of store.new) (encoded_on D.medium store.new)) }
     ensures synced { OnOk result (IsSynced D.medium store.new) }
-    ensures stopped { IsErrOf result JournalFault.Stopped → CutsOff (λ (asked : Asked). asked ≡ Commit label access.now lines.now)
-        (state_of store.old) (bodies_on D.medium store.old) (D.medium.may_leave (disk_of store.new)) }
-    ensures no_memory { IsErrOf result JournalFault.NoMemory → EachStands (D.medium.may_leave (disk_of store.new)) (state_of store.old) }
-    ensures no_record { IsErrOf result JournalFault.NoMemory
-        → EachDecodes (D.medium.may_leave (disk_of store.new)) (Encodes (bodies_on D.medium store.old)) }
+    ensures stopped { IsErrOf result JournalFault.Stopped
+        → CutsOff (λ (asked : Asked). asked ≡ Asks commit.label commit.access commit.lines)
+        (state_of store.old) (count_of store.old) (encoded_on D.medium store.old) (D.medium.may_leave (disk_of store.new)) }
+    ensures no_memory { IsErrOf result JournalFault.NoMemory → EachStays (D.medium.may_leave (disk_of store.new))
+        (count_of store.old) (encoded_on D.medium store.old) (state_of store.old) }
     ensures faults { CountsJournalFault result (D.medium.faults (disk_of store.old)) (D.medium.faults (disk_of store.new)) }
     ensures arms { D.medium.arms (disk_of store.new) ≡ D.medium.arms (disk_of store.old) }
 {
-    if !store.fit_in_turn(alloc, &access.updates)? {
-        return Ok(misfit(alloc, access)?);
+    if !store.fit_in_turn(alloc, &commit.access.updates)? {
+        return Ok(misfit(alloc, &commit.access)?);
     }
-    commit(alloc, store, label, access, lines, body)
+    add(alloc, store, commit, body)
 }
 
 /// The reply that the updates of an access do not fit, which no client of this system sends. Places end at 64 bits; no list in memory is
@@ -184,32 +186,31 @@ fn misfit(alloc: Global, access: &Access) -> Result<Vec<u8>, NoMemory>
 }
 
 /// Commits a new transaction that can follow. Its reply is spelled first, so that want of memory comes before the commit.
-fn commit<D: Disk>(
+fn add<D: Disk>(
     alloc: Global,
     store: &mut Store<D>,
-    label: Label,
-    access: &Access,
-    lines: &Lines,
+    commit: Commit,
     body: &[u8],
 ) -> Result<Vec<u8>, JournalFault>
     requires synced { IsSynced D.medium store.old }
-    requires recorded { IsRecord body.now label access.now lines.now }
-    requires new { number_in (state_of store.old).labels label.client label.tid ≡ None }
-    requires holds { ReadsHold (state_of store.old).tree access.now.reads }
-    requires fit { FitInTurn (state_of store.old).tree access.now.updates }
-    ensures answered { IfOk result (λ bytes. IsAnswered (state_of store.old) (bodies_on D.medium store.old)
-        (Commit label access.now lines.now) bytes.items (state_of store.new) (bodies_on D.medium store.new)) }
+    requires commit { IsCommit commit }
+    requires recorded { IsRecord body.now commit.label commit.access commit.lines }
+    requires new { number_in (state_of store.old).labels commit.label.client commit.label.tid ≡ None }
+    requires holds { ReadsHold (state_of store.old).tree commit.access.reads }
+    requires fit { FitInTurn (state_of store.old).tree commit.access.updates }
+    ensures answered { IfOk result (λ bytes. IsAnswered (state_of store.old) (encoded_on D.medium store.old)
+        (Asks commit.label commit.access commit.lines) bytes.items (state_of store.new) (encoded_on D.medium store.new)) }
     ensures synced { OnOk result (IsSynced D.medium store.new) }
-    ensures stopped { IsErrOf result JournalFault.Stopped → CutsOff (λ (asked : Asked). asked ≡ Commit label access.now lines.now)
-        (state_of store.old) (bodies_on D.medium store.old) (D.medium.may_leave (disk_of store.new)) }
-    ensures no_memory { IsErrOf result JournalFault.NoMemory → EachStands (D.medium.may_leave (disk_of store.new)) (state_of store.old) }
-    ensures no_record { IsErrOf result JournalFault.NoMemory
-        → EachDecodes (D.medium.may_leave (disk_of store.new)) (Encodes (bodies_on D.medium store.old)) }
+    ensures stopped { IsErrOf result JournalFault.Stopped
+        → CutsOff (λ (asked : Asked). asked ≡ Asks commit.label commit.access commit.lines)
+        (state_of store.old) (count_of store.old) (encoded_on D.medium store.old) (D.medium.may_leave (disk_of store.new)) }
+    ensures no_memory { IsErrOf result JournalFault.NoMemory → EachStays (D.medium.may_leave (disk_of store.new))
+        (count_of store.old) (encoded_on D.medium store.old) (state_of store.old) }
     ensures faults { CountsJournalFault result (D.medium.faults (disk_of store.old)) (D.medium.faults (disk_of store.new)) }
     ensures arms { D.medium.arms (disk_of store.new) ≡ D.medium.arms (disk_of store.old) }
 {
     let bytes = committed(alloc, store.number())?;
-    store.commit_recorded(alloc, label, access, lines, body)?;
+    store.commit_recorded(alloc, commit, body)?;
     Ok(bytes)
 }
 

@@ -7,5 +7,5 @@ pub use Rattle.iot_node.proofs.PostsLaws.{same_counts}
 pub use Rattle.iot_node.proofs.StepsToLaws.{answers, asks, bind, nothing, says_this}
 pub use Rattle.iot_server_node.specs.Keepers.{Handles, KeepsList, Refuses, lists}
 pub use Rattle.iot_server_node.specs.Messages.{SpellsCut, committed_since, printed_under, said_of}
-pub use Rattle.iot_server_node.specs.Records.{IsImage, label_of, records_from, records_of, stamps_from, state_of}
+pub use Rattle.iot_server_node.specs.Records.{EncodesList, HasList, IsImage, label_of, records_from, stamps_from, state_of}
 pub use Rattle.iot_server_node.specs.Servers.{AreOf, ServerStands, disk_of}

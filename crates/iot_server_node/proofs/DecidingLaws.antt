@@ -1,22 +1,15 @@
 -- What a node says that comes back is decided by its images, where they agree.
-use Rattle.std.proofs.lemmas.Bool.{le-leb, lt-leb}
-use Rattle.iot_server_node.proofs.Common.{◌≡◌, ℕ, suc, ◌+◌, Bool, true, false, List, [], ◌∷◌, ◌++◌, length, Option, Some, None, inl, inr}
-use Rattle.iot_server_node.proofs.Common.{refl, sym, ap, ◌∙◌, arith, append_assoc, append-nil, lists, IsImage, records_from}
-use Rattle.iot_server_node.specs.Prelude.{Medium, Nodes, root_alone, Dir, run_entry, Commit, Node, Refines, server_name, kept_text}
+use Rattle.iot_server_node.proofs.Common.{◌≡◌, ℕ, Bool, true, false, List, [], ◌++◌, Option, Some, None, inl, inr, refl, sym, ap, ◌∙◌}
+use Rattle.iot_server_node.proofs.Common.{append_assoc, append-nil, lists, IsImage}
+use Rattle.iot_server_node.specs.Prelude.{Medium, next, Commit, Node, Refines, server_name, kept_text}
 use Rattle.iot_server_node.specs.Prelude.{ComesBack, stopped_line, kept_line, lost_line, PostStands, CameIf, back_said, Doubt, Post, Down}
 use Rattle.iot_server_node.specs.Prelude.{Keeping, ServerKeeper}
 use Rattle.iot_server_node.specs.Deciding.{HasCount, Begins, DecidesBy, DecidesIfAny, DecidesPost}
-use Rattle.iot_server_node.proofs.KeepersLaws.{same_bodies}
+use Rattle.iot_node.proofs.PostsLaws.{next_number, same_number}
 
--- there are as many records as commits
-many_from : (commits : List Commit) (tree : Nodes) → length (records_from commits tree) ≡ length commits
-many_from [] tree = refl
-many_from (commit ∷ commits) tree = ap suc (many_from commits (run_entry commit.entry tree).tree)
-
--- so an image of a list has as many
+-- an image of a list has as many records as are counted
 many_there : (bytes : List ℕ) (n : ℕ) (commits : List Commit) (count : ℕ) → IsImage bytes n commits → HasCount count bytes → n ≡ count
-many_there bytes n commits count is has =
-    is.counted ∙ sym (many_from commits (root_alone Dir)) ∙ ap length (same_bodies _ _ (sym is.has_records ∙ has.read)) ∙ has.counted
+many_there bytes n commits count is has = sym is.many ∙ has.counted
 
 -- a text that was said, also within a longer one
 pub begins_in : (text more rest : List ℕ) {x mid y said : List ℕ} → y ≡ mid ++ rest → mid ≡ x ++ said → said ≡ text ++ more
@@ -32,12 +25,12 @@ module _ {K S D : Type 0} (keeping : Keeping K S D) (medium : Medium D)
       → mid ≡ x ++ back_said name (Some doubt) n → DecidesBy images doubt.count name x y
   by_image images doubt bytes n s left is wrote = record {
     kept = λ all.
-        let counted = many bytes n s (doubt.count + 1) is (all.each bytes left) in
-        inl (begins_in (kept_line name) doubt.lines rest whole wrote (rw (lt-leb n doubt.count (omega (arith, counted))) refl));
+        let counted = many bytes n s (next doubt.count) is (all.each bytes left) in
+        inl (begins_in (kept_line name) doubt.lines rest whole wrote (rw (next_number n doubt.count counted) refl));
     lost = λ all.
         let counted = many bytes n s doubt.count is (all.each bytes left) in
         inl (begins_in (lost_line name) [] rest whole wrote
-        (rw (le-leb n doubt.count (omega (arith, counted))) (sym (append-nil (lost_line name)))));
+        (rw (same_number n doubt.count counted) (sym (append-nil (lost_line name)))));
   }
 
   by_doubt : (disk : D) (doubt : Option Doubt) (on : Bool) (node : Node S)
@@ -49,7 +42,7 @@ module _ {K S D : Type 0} (keeping : Keeping K S D) (medium : Medium D)
       record { kept = λ all. inr it; lost = λ all. inr it }
   by_doubt disk (Some doubt) true node came stopped = elim came.said [
     | inl it ↦ by_image (medium.may_leave disk) doubt came.image came.count node.durable came.left it.1 it.0
-    | inr it ↦ by_image (medium.may_leave disk) doubt came.image (came.count + 1) it.0 came.left it.3 it.1
+    | inr it ↦ by_image (medium.may_leave disk) doubt came.image (next came.count) it.0 came.left it.3 it.1
   ]
 
   -- by all images, if it is down

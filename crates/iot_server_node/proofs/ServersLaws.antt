@@ -2,31 +2,34 @@
 use Rattle.std.proofs.Math.Nat.{mod-add-mod}
 use Rattle.iot_server_node.proofs.Common.{◌≡◌, ℕ, suc, zero, ◌+◌, ◌%◌, ◌^◌, Bool, true, false, if◌then◌else◌, List, [], ◌∷◌, ◌++◌, length}
 use Rattle.iot_server_node.proofs.Common.{drop, Option, Some, None, IsSome, codes, refl, sym, ap, subst, ◌∙◌, arith, inl, inr}
-use Rattle.iot_server_node.proofs.Common.{slice_index_or, length-append, lists, Handles, KeepsList, ServerStands, AreOf, bind, asks}
-use Rattle.iot_server_node.specs.Prelude.{Medium, Encodes, record_spelling, State, after_commit, Server, Label, Call, Says, Nothing, Then}
+use Rattle.iot_server_node.proofs.Common.{slice_index_or, length-append, lists, Handles, KeepsList, ServerStands, AreOf, EncodesList}
+use Rattle.iot_server_node.proofs.Common.{state_of, bind, asks}
+use Rattle.iot_server_node.specs.Prelude.{Medium, Encoded, NotStarted, header, next, IsGrown, IsRenewed, Leads, rules, State}
+use Rattle.iot_server_node.specs.Prelude.{after_commit, Server, Label, Call, Says, Nothing, Then}
 use Rattle.iot_server_node.specs.Prelude.{either, Commit, add_commit, tree_after, Node, fallen, changed, back, unopened, Refines}
 use Rattle.iot_server_node.specs.Prelude.{server_name, kept_text, OpensNode, Appends, ComesBack, ComesBackWith, Crashes, Restarts, ArmsDisk}
 use Rattle.iot_server_node.specs.Prelude.{line, transaction_name, IsEmpty, KeepsDisk, counts_on, is_on, live_of, PostStands, HoldsBy}
 use Rattle.iot_server_node.specs.Prelude.{IsStanding, Lasts, StepsTo, Doubt, Post, Up, Down, Between, ServerKeeper, ServerNode}
-use Rattle.iot_journal.specs.Decoding.{decoded}
 use Rattle.iot_disk.specs.declared.disk.Pick.{Pick}
 use Rattle.iot_tree.specs.declared.access.Access.{Access}
 use Rattle.iot_server.specs.Servers as servers
+use Rattle.iot_slots.specs.Decoding.{decoded}
 use Rattle.iot_server.specs.Traffic.{no_traffic}
 use Rattle.iot_machine.specs.Serving.{added_text, commit_text}
 use Rattle.iot_node.specs.Posts as posts
 use Rattle.iot_server_node.specs.Keepers.{traffic_in}
 use Rattle.iot_server_node.specs.Servers.{is_up, IsKnown, AreKnown, AreKnownIfAny, IsOneMoreIfAny, NodeIsKnown, HasAnsweredIn}
 use Rattle.iot_server_node.specs.Servers.{HavingAnswered, IsUnopened, answered_since, live, IsLive, Lives}
-use Rattle.iot_server_node.proofs.KeepersLaws.{keeps_images, record_is, state_is}
+use Rattle.iot_server_node.proofs.KeepersLaws.{empty_image, keeps_images, one_counted, record_is, renewed_list, state_is}
 use Rattle.iot_machine.proofs.FollowsLaws.{all_as, all_push, at_push}
 use Rattle.iot_machine.proofs.KeepsLaws.{asks_then, keeps_either, keeps_does, stays_says}
 use Rattle.iot_node.proofs.PostsLaws.{lasts_in as posts_lasts_in, on_is}
+use Rattle.iot_store.proofs.StandingLaws.{grown_count}
 
--- no bytes are a journal without a body
-nothing_decoded : decoded [] ≡ Encodes []
+-- nothing was started on an empty disk
+nothing_started : decoded header [] ≡ NotStarted
 unfolding decoded
-nothing_decoded = refl
+nothing_started = refl
 
 -- ---- what is known of the commits
 
@@ -68,13 +71,15 @@ module _ (names : List (List ℕ)) where
       (asks_then (keeps_either (keeps_does (λ (m : Node (List Commit)) it. known_so {node = m} refl it refl refl)) stays_says)).at
       node after text tt known step
 
-  -- also where the server stops as it appends a commit that is known
-  pub known_stopped : (commit : Commit) → IsKnown names commit → Keeps (Appends server_name (add_commit commit)) false
-  known_stopped commit one node after text (inl done) known = absurd cc
-  known_stopped commit one node after text (inr stop) known = subst (NodeIsKnown names) (sym stop.2.is) (record {
+  -- also if the server stops as it appends a commit that is known, and that can follow
+  pub known_stopped : (commit : Commit) (node after : Node (List Commit)) (text body : List ℕ) → IsKnown names commit
+      → Leads rules (body ∷ []) (state_of node.durable) (state_of (add_commit commit node.durable))
+      → Appends server_name (add_commit commit) node text false after → NodeIsKnown names node → NodeIsKnown names after
+  known_stopped commit node after text body one leads (inl done) known = absurd cc
+  known_stopped commit node after text body one leads (inr stop) known = subst (NodeIsKnown names) (sym stop.2.is) (record {
     durable = known.durable;
     doubt = all_push (IsKnown names) node.durable commit one known.durable;
-    longer = record { commit = commit; is = refl };
+    longer = record { commit = commit; is = refl; body = body; leads = leads };
   })
 
 -- one client more has a name
@@ -141,15 +146,23 @@ module _ {D : Type 0} (medium : Medium D) (names : List (List ℕ)) where
   abbrev Posted : Post (ServerKeeper D) D → Node (List Commit) → Type 0
   Posted = PostStands (lists medium) medium (kept_text names)
 
-  -- what its post does, it does
+  -- what its post does, it does, if what is known of its node stays so
+  pub with_known_there : {A : Type 0} {call : Call (Node (List Commit)) A} {old new : ServerNode D} {n k : ℕ} {x y : List ℕ} {a : A}
+      → Refines Posted call old.post new.post x y a
+      → ((node after : Node (List Commit)) (text : List ℕ) → Posted old.post node → call node text a after → NodeIsKnown names node
+      → NodeIsKnown names after)
+      → (HasAnsweredIn n old.post → HasAnsweredIn k new.post) → StepsTo (Stands n) (Stands k) call old new x y a
+  with_known_there one keeps counts = record {
+    step = λ node here.
+        let s = one.step node here.post in
+        (s.0, s.1, s.2, s.3, record { post = s.4; known = keeps node s.1 s.0 here.post s.3 here.known; answered = counts here.answered });
+  }
+
+  -- also if it stays so in any node
   pub with_known : {A : Type 0} {call : Call (Node (List Commit)) A} {old new : ServerNode D} {n k : ℕ} {x y : List ℕ} {a : A}
       → Refines Posted call old.post new.post x y a → Keeps names call a → (HasAnsweredIn n old.post → HasAnsweredIn k new.post)
       → StepsTo (Stands n) (Stands k) call old new x y a
-  with_known one keeps counts = record {
-    step = λ node here.
-        let s = one.step node here.post in
-        (s.0, s.1, s.2, s.3, record { post = s.4; known = keeps node s.1 s.0 s.3 here.known; answered = counts here.answered });
-  }
+  with_known one keeps counts = with_known_there one (λ node after text here. keeps node after text) counts
 
   -- ---- never started
 
@@ -163,11 +176,8 @@ module _ {D : Type 0} (medium : Medium D) (names : List (List ℕ)) where
       holds = record {
         sure = refl;
         each = record {
-          each = λ bytes there. record {
-            has_records = ap decoded (empty.synced.is bytes there ∙ empty.empty) ∙ nothing_decoded;
-            leads = refl;
-            counted = refl;
-          };
+          each = λ bytes there.
+              empty_image bytes (ap (decoded header) (empty.synced.is bytes there ∙ empty.empty) ∙ nothing_started);
         };
       };
     };
@@ -229,13 +239,19 @@ module _ {D : Type 0} (medium : Medium D) (names : List (List ℕ)) where
           it.requests ∙ ap (λ (requests : ℕ). (requests + 1) % 2 ^ 64) here.answered ∙ mod-add-mod n (2 ^ 64) 1;
     }
 
-    -- one that has the records and the state that it had stands for what it stood for
-    pub stands_still : servers.bodies_on medium now ≡ servers.bodies_on medium was → servers.state_of now ≡ servers.state_of was
+    -- as many records as before it
+    counted_before : (servers.encoded_on medium was).count ≡ here.post.count
+    counted_before = sym here.post.stands.synced.slots.layout.count ∙ here.post.stands.many
+
+    -- one that encodes what it did, and has the state that it had, stands for what it stood for
+    pub stands_still : servers.encoded_on medium now ≡ servers.encoded_on medium was → servers.state_of now ≡ servers.state_of was
         → ServerStands medium names (live now) node (n + 1)
-    stands_still recorded made =
+    stands_still encoded made =
         stands_on (λ commits. commits) here.post.count (record {
           synced = it.synced;
-          has_records = recorded ∙ here.post.stands.has_records;
+          has_list = subst (λ (e : Encoded). EncodesList e node.durable) (sym encoded) here.post.stands.has_list;
+          many =
+              it.synced.slots.layout.count ∙ ap (λ (e : Encoded). e.count) encoded ∙ counted_before;
           has_state = made ∙ here.post.stands.has_state;
           counted = here.post.stands.counted;
         })
@@ -244,18 +260,25 @@ module _ {D : Type 0} (medium : Medium D) (names : List (List ℕ)) where
     -- one that has one record more, of this commit, and the state after it, stands for a list with this commit
     pub stands_longer : {commit : Commit} {label : Label} {access : Access} {lines : List (List ℕ)}
         → AreOf commit (tree_after node.durable) label access lines
-        → servers.bodies_on medium now ≡ servers.bodies_on medium was ++ record_spelling label access lines ∷ []
+        → IsGrown (servers.encoded_on medium was) (servers.state_of was) (record { label = label; access = access; lines = lines })
+        (servers.encoded_on medium now)
         → servers.state_of now ≡ after_commit (servers.state_of was) label access → IsKnown names commit
         → ServerStands medium names (live now) (changed (add_commit commit) node) (n + 1)
-    stands_longer {commit} {label} {access} {lines} are recorded made known =
-        stands_on (add_commit commit) (here.post.count + 1) (record {
+    stands_longer {commit} {label} {access} {lines} are grown made known =
+        let was_encoded : Encoded = servers.encoded_on medium was in
+        let renews : IsRenewed rules was_encoded (state_of node.durable) grown.mid =
+        subst (λ (s : State). IsRenewed rules was_encoded s grown.mid) here.post.stands.has_state grown.renews in
+        let list : EncodesList grown.mid node.durable = renewed_list was_encoded grown.mid node.durable renews here.post.stands.has_list in
+        stands_on (add_commit commit) (next here.post.count) (record {
           synced = it.synced;
-          has_records =
-              recorded ∙ ap (λ (bodies : List (List ℕ)). bodies ++ record_spelling label access lines ∷ []) here.post.stands.has_records
-              ∙ sym (record_is node.durable are);
+          has_list =
+              subst (λ (e : Encoded). EncodesList e (add_commit commit node.durable)) (sym grown.is)
+              (record_is node.durable are grown.mid grown.body grown.spells list);
+          many =
+              it.synced.slots.layout.count ∙ grown_count _ _ _ _ grown ∙ ap next counted_before;
           has_state =
               made ∙ ap (λ (s : State). after_commit s label access) here.post.stands.has_state ∙ sym (state_is node.durable are);
-          counted = ap (λ (k : ℕ). k + 1) here.post.stands.counted ∙ sym (length-append node.durable (commit ∷ []));
+          counted = one_counted here.post.stands commit;
         })
         (record {
           durable = all_push (IsKnown names) node.durable commit known here.known.durable;

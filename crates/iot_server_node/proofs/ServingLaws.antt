@@ -8,12 +8,12 @@ use Rattle.std.specs.List.{list_any, position_from}
 use Rattle.iot_server_node.proofs.Common.{◌≡◌, ℕ, List, [], ◌++◌, length, Bool, Option, Some, refl, sym, ap, subst, ◌∙◌, inl, arith, ◌+◌}
 use Rattle.iot_server_node.proofs.Common.{◌-◌, true, false, cond, ◌∷◌, map, ◌⊎◌, None, option_map, slice_get, inr, append-nil, lists}
 use Rattle.iot_server_node.proofs.Common.{Handles, Refuses, KeepsList, committed_since, said_of, SpellsCut, printed_under, disk_of}
-use Rattle.iot_server_node.proofs.Common.{ServerStands, AreOf, IsImage, label_of, records_of, state_of, bind, asks, says_this, answers}
-use Rattle.iot_server_node.specs.Prelude.{Medium, JournalFault, Nodes, IsTree, IsWhole, Want, IsAnswered, Submits, records_after, Server}
-use Rattle.iot_server_node.specs.Prelude.{State, CanFollow, opening, after_commit, Encodes, IsMessage, IsRequest, request_spelling, Request}
-use Rattle.iot_server_node.specs.Prelude.{run_entry, snapshot, Commit, add_commit, tree_after, Call, Then, Node, changed, doubting}
+use Rattle.iot_server_node.proofs.Common.{ServerStands, AreOf, IsImage, label_of, state_of, bind, asks, says_this, answers}
+use Rattle.iot_server_node.specs.Prelude.{Medium, JournalFault, Nodes, IsTree, IsWhole, Want, IsAnswered, Submits, EncodesAfter, Server}
+use Rattle.iot_server_node.specs.Prelude.{State, CanFollow, Leads, rules, after_commit, IsMessage, IsRequest, request_spelling, Request}
+use Rattle.iot_server_node.specs.Prelude.{next, run_entry, snapshot, Commit, add_commit, tree_after, Call, Then, Node, changed, doubting}
 use Rattle.iot_server_node.specs.Prelude.{server_name, Lasts, HoldsEither, IsRefresh, Spells, Handed, Message, Served, ServerNode, ActsHold}
-use Rattle.iot_server_node.specs.Prelude.{reads_of, turns, DiffersAt, Appends, commit_line, acts_output, EachIs, StepsTo, record_spelling}
+use Rattle.iot_server_node.specs.Prelude.{reads_of, turns, DiffersAt, Appends, commit_line, acts_output, EachIs, StepsTo}
 use Rattle.iot_server_node.specs.Prelude.{Act, Label, Reply}
 use Rattle.iot_disk.specs.declared.faults.JournalFault.TheVariants as append
 use Rattle.iot_server.specs.Servers as servers
@@ -28,8 +28,8 @@ use Rattle.iot_wire.specs.declared.replies.Reply.TheVariants as replies
 use Rattle.iot_judging.proofs.ListsLaws.{list_stamped}
 use Rattle.iot_server_node.specs.Servers.{count_of, stamps_of, Handled, Refused, ServesBy, ServerIsSound, live, IsKnown, HavingAnswered}
 use Rattle.iot_server_node.specs.Servers.{IsSubmission, IsHanded, IsNamedIn, HasAnsweredIn, GivesUp}
-use Rattle.iot_server_node.proofs.KeepersLaws.{leads_list, as_many, record_is, state_is}
-use Rattle.iot_server_node.proofs.ServersLaws.{stands_still, stands_longer, with_known, known_stopped}
+use Rattle.iot_server_node.proofs.KeepersLaws.{as_many, cut_images, keeps_on, state_is}
+use Rattle.iot_server_node.proofs.ServersLaws.{stands_still, stands_longer, with_known_there, known_stopped}
 use Rattle.iot_access.specs.Access.{FitInTurn, IsAccess, TakesPlace, lines_of}
 use Rattle.iot_acts.specs.Traces.{ReadsHold, after_acts}
 use Rattle.iot_certify.specs.Verdicts.{IsVerdictOnAccess}
@@ -41,7 +41,6 @@ use Rattle.iot_judging.proofs.JudgingLaws.{takes_place_of}
 use Rattle.iot_machine.specs.Serving as serving
 use Rattle.iot_machine.proofs.KeptLaws.{kept_added}
 use Rattle.iot_store.specs.Numbers.{number_in}
-use Rattle.iot_store.proofs.StandingLaws.{leads_push}
 use Rattle.iot_tree.specs.declared.access.Access.{Access}
 use Rattle.iot_tree.specs.declared.questions.Answer.{Answer}
 use Rattle.iot_store.specs.States as store
@@ -63,8 +62,8 @@ module _ {D : Type 0} {medium : Medium D} (message : Message) (served : Served) 
     (it : Handles medium message.request.items served.reply.items was now) where
   -- the reply is to what the bytes spell
   pub answers_it : {request : Request} → IsMessage IsRequest request_spelling message.request.items request
-      → IsAnswered (servers.state_of was) (servers.bodies_on medium was) request served.reply.items (servers.state_of now)
-      (servers.bodies_on medium now)
+      → IsAnswered (servers.state_of was) (servers.encoded_on medium was) request served.reply.items (servers.state_of now)
+      (servers.encoded_on medium now)
   answers_it asked =
       let answered = it.handled.answered in
       rw (one_request message _ _ it.handled.is asked) at answered
@@ -119,12 +118,7 @@ refused_lasts {D} {medium} {names} {asked} fault {old} {mid} {new} {node} {n} al
     by : (fault : JournalFault) → Refuses medium asked fault refused.was refused.now → (bytes : List ℕ)
         → medium.may_leave (servers.disk_of refused.now) bytes
         → HoldsEither (lists medium) medium there.post.count (record node { alive = alive; doubt = doubt }) bytes
-    by append.NoMemory kept bytes left =
-        inl (record {
-          has_records = kept.each bytes left ∙ ap Encodes there.post.stands.has_records;
-          leads = leads_list there.post.stands;
-          counted = there.post.stands.counted;
-        })
+    by append.NoMemory kept bytes left = inl ((keeps_on there.post.stands kept).each bytes left)
     by append.Stopped stops bytes left = stopped refused.was refused.now there stops bytes left
 
 -- ---- a request for objects
@@ -162,7 +156,7 @@ module _ {D : Type 0} (medium : Medium D) (message : Message) {client : ℕ} (he
               node,
               ap (λ (text : List ℕ). x ++ text) (still_silent message served it counted told.answers.1),
               (refl, ap (λ (s : State). Some (snapshot (nodes_of held) want s.tree)) here.post.stands.has_state, refl),
-              stands_still medium names it here told.records told.answers.1,
+              stands_still medium names it here told.encodes told.answers.1,
             );
           },
         ),
@@ -286,7 +280,8 @@ module _ {message : Message} {it : Submission} (hands : IsHanded message it) whe
         has_label = is.has_label;
         has_access =
             access_there it.commit.entry.script it.commit.entry.kept it.commit.entry.budget is.base (tree_after commits) acts is.has_acts
-            is.tree (list_tree commits) hold_there (subst (λ (a : Access). ReadsHold (tree_after commits) a.reads) is.has_access reads_there)
+            is.tree (list_tree commits) hold_there
+            (subst (λ (a : Access). ReadsHold (tree_after commits) a.reads) is.has_access reads_there)
             ∙ sym is.has_access;
         has_lines = ap (λ (ran : Ran). lines_of ran.acts) does_same;
         made = ap (λ (ran : Ran). ran.tree) does_same ∙ sym ((takes_there commits).after hold_there);
@@ -313,35 +308,25 @@ module _ {message : Message} {it : Submission} (hands : IsHanded message it) whe
         let cut = stops.0.follows in
         rw (its_own.0, its_own.1) at cut
 
-    -- each image has the list without it, or with it
-    either_list : {count : ℕ} {commits : List Commit} → KeepsList medium (record { server = was }) count commits
-        → EachIs (medium.may_leave (servers.disk_of now))
-        (λ bytes. IsImage bytes count commits ⊎ IsImage bytes (count + 1) (add_commit it.commit commits))
-    either_list {count} {commits} keeps = record {
-      each = λ image there. elim (stops.0.one_record.each image there) [
-        | inl same ↦
-            inl (record {
-              has_records = same ∙ ap Encodes keeps.has_records;
-              leads = leads_list keeps;
-              counted = keeps.counted;
-            })
-        | inr same ↦
-            inr (record {
-              has_records =
-                  same ∙ (λ i. Encodes (keeps.has_records i ++ record_spelling (its_own.0 i) (its_own.1 i) (its_own.2 i) ∷ []))
-                  ∙ ap Encodes (sym (record_is commits there_are));
-              leads =
-                  rw (record_is commits there_are, state_is commits there_are)
-                  (leads_push (records_of commits) opening (state_of commits) (record_spelling label access (lines_of acts)) label access
-                  (lines_of acts) (leads_list keeps) (record { value = hands.asked.value; spelled = refl })
-                  (subst (λ (s : State). CanFollow s label access) keeps.has_state follows));
-              counted = ap (λ (k : ℕ). k + 1) keeps.counted ∙ sym (length-append commits (it.commit ∷ []));
-            })
-      ];
-    }
-      where
-        there_are : AreOf it.commit (tree_after commits) label access (lines_of acts)
-        there_are = are keeps follows.holds
+    module _ {count : ℕ} {commits : List Commit} (keeps : KeepsList medium (record { server = was }) count commits) where
+      there_are : AreOf it.commit (tree_after commits) label access (lines_of acts)
+      there_are = are keeps follows.holds
+
+      -- each image has the list without it, or with it
+      either_list : EachIs (medium.may_leave (servers.disk_of now))
+          (λ bytes. IsImage bytes count commits ⊎ IsImage bytes (next count) (add_commit it.commit commits))
+      either_list =
+          let goes = stops.0.encodes in
+          cut_images keeps there_are follows (rw (its_own.0, its_own.1, its_own.2) at goes)
+
+      -- the state of the list is that before it, and it leads to the state after it
+      leads_on : Leads rules (message.request.items ∷ []) (state_of commits) (state_of (add_commit it.commit commits))
+      leads_on = (
+        record { label = label; access = access; lines = lines_of acts },
+        hands.asked,
+        subst (λ (s : State). CanFollow s label access) keeps.has_state follows,
+        state_is commits there_are,
+      )
 
   module _ {D : Type 0} (medium : Medium D) (names : List (List ℕ)) (named : IsNamedIn names it) where
     is_known : IsKnown names it.commit
@@ -405,20 +390,21 @@ module _ {message : Message} {it : Submission} (hands : IsHanded message it) whe
       abbrev Serves : Type 0
       Serves = ServesBy medium names (Judges it) (SpellsVerdict it.reads) message.handed (Some served) (live was) (live now) y y
 
-      told : IsAnswered (servers.state_of was) (servers.bodies_on medium was) (requests.Commit label access (lines_of acts))
-          served.reply.items (servers.state_of now) (servers.bodies_on medium now)
+      told : IsAnswered (servers.state_of was) (servers.encoded_on medium was) (requests.Commit label access (lines_of acts))
+          served.reply.items (servers.state_of now) (servers.encoded_on medium now)
       told = answers_it message served done hands.asked
 
       module _ {reply : Reply} (replied : told.reply ≡ reply) where
         spelled : Spells served.reply.items reply
         spelled = subst (Spells served.reply.items) replied told.spelled
 
-        recorded : servers.bodies_on medium now
-            ≡ records_after (requests.Commit label access (lines_of acts)) reply (servers.bodies_on medium was)
+        recorded : EncodesAfter (requests.Commit label access (lines_of acts)) reply (servers.state_of was)
+            (servers.encoded_on medium was) (servers.encoded_on medium now)
         recorded =
-            told.records
-            ∙ ap (λ (reply : Reply). records_after (requests.Commit label access (lines_of acts)) reply (servers.bodies_on medium was))
-            replied
+            subst
+            (λ (reply : Reply). EncodesAfter (requests.Commit label access (lines_of acts)) reply (servers.state_of was)
+            (servers.encoded_on medium was) (servers.encoded_on medium now))
+            replied told.encodes
 
       -- this is the verdict, and this is to be said
       serves : (verdict : serving.Verdict) {said : List ℕ} → SpellsVerdict it.reads served.reply.items verdict
@@ -505,7 +491,7 @@ module _ {message : Message} {it : Submission} (hands : IsHanded message it) whe
         rw refused.old_is
         (judged_well refused.was (not_listed _ label.client label.tid after.is_new) after.holds counts
         (bind _ _ _ _ _ _ false None
-        (with_known medium names
+        (with_known_there medium names
         (record {
           step = λ node here.
               gives_up.step (record { server = refused.was }) (record { server = refused.now }) (add_commit it.commit) node
@@ -518,7 +504,10 @@ module _ {message : Message} {it : Submission} (hands : IsHanded message it) whe
                     ∙ sym (kept_added names commits it.commit);
               });
         })
-        (known_stopped names it.commit is_known) (λ had. off n))
+        (λ node after text here.
+        known_stopped names it.commit node after text message.request.items is_known
+        (leads_on medium refused.was refused.now stops here.stands))
+        (λ had. off n))
         (answers _ _ _ None (λ node here. here))))
 
   -- its disk has the list, or the list with it, if memory runs out

@@ -1,13 +1,11 @@
 -- If all images of a disk have the commit that is in doubt, or none has it, that decides whether it is kept.
-use Rattle.std.specs.Prelude.{◌≡◌, ◌⊎◌, ℕ, ◌+◌, List, ◌++◌, length, Option, Some, None}
-use Rattle.iot_server_node.specs.Prelude.{Medium, Encodes, decoded, server_name, stopped_line, kept_line, lost_line, Doubt, Post, Down}
-use Rattle.iot_server_node.specs.Prelude.{ServerNode}
+use Rattle.std.specs.Prelude.{◌≡◌, ◌⊎◌, ℕ, List, ◌++◌, Option, Some, None}
+use Rattle.iot_server_node.specs.Prelude.{Medium, server_name, stopped_line, kept_line, lost_line, Doubt, Post, Down}
+use Rattle.iot_server_node.specs.Prelude.{ServerNode, next, records_in}
 
--- the bytes are a journal of so many records
+-- so many records were ever appended to the bytes
 pub record HasCount (count : ℕ) (bytes : List ℕ) : Type 0 where
-  pub records : List (List ℕ)
-  pub read : decoded bytes ≡ Encodes records
-  pub counted : length records ≡ count
+  pub counted : records_in bytes ≡ count
 
 -- each of the images is one
 pub record EachHas (images : List ℕ → Type 0) (count : ℕ) : Type 0 where
@@ -20,7 +18,7 @@ pub record Begins (text before after : List ℕ) : Type 0 where
 
 -- a node of this name that comes back says so of the record behind so many, or that it has stopped again
 pub record DecidesBy (images : List ℕ → Type 0) (count : ℕ) (name before after : List ℕ) : Type 0 where
-  pub kept : EachHas images (count + 1) → Begins (kept_line name) before after ⊎ Begins (stopped_line name) before after
+  pub kept : EachHas images (next count) → Begins (kept_line name) before after ⊎ Begins (stopped_line name) before after
   pub lost : EachHas images count → Begins (lost_line name) before after ⊎ Begins (stopped_line name) before after
 
 abbrev pub DecidesIfAny : (images : List ℕ → Type 0) → Option Doubt → (name before after : List ℕ) → Type 0

@@ -3,9 +3,8 @@ pub use Rattle.iot_acts.specs.Traces.{ActsHold, after_acts}
 pub use Rattle.iot_acts.specs.Turns.{DiffersAt, reads_of, turns}
 pub use Rattle.iot_disk.specs.Disk.{Medium}
 pub use Rattle.iot_disk.specs.declared.faults.JournalFault.{JournalFault}
+pub use Rattle.iot_durable.specs.Standing.{EachGoes, IsRenewed, Leads, StandWith, header, records_in}
 pub use Rattle.iot_exec.specs.Serial.{Entry, run_entry, tree_from}
-pub use Rattle.iot_journal.specs.Decoding.{Encodes, decoded}
-pub use Rattle.iot_journal.specs.Images.{EachDecodes}
 pub use Rattle.iot_machine.specs.Calls.{Call, Nothing, Says, Then, either}
 pub use Rattle.iot_machine.specs.Clients.{snapshot}
 pub use Rattle.iot_machine.specs.Machine.{Commit, add_commit, entries_of, tree_after}
@@ -22,11 +21,15 @@ pub use Rattle.iot_node.specs.Steps.{StepsTo}
 pub use Rattle.iot_node.specs.declared.post.Doubt.{Doubt}
 pub use Rattle.iot_node.specs.declared.post.Post.{Post}
 pub use Rattle.iot_node.specs.declared.post.Post.TheVariants.{Between, Down, Up}
-pub use Rattle.iot_server.specs.Replies.{IsAnswered, IsHandled, Submits, records_after}
+pub use Rattle.iot_server.specs.Replies.{EncodesAfter, IsAnswered, IsHandled, Submits}
 pub use Rattle.iot_server.specs.declared.server.Server.{Server}
+pub use Rattle.iot_slots.specs.Cells.{next}
+pub use Rattle.iot_slots.specs.Decoding.{Damaged, Decoded, Encodes, Foreign, NotStarted, State as Encoded, decoded}
+pub use Rattle.iot_slots.specs.Slots.{appended}
 pub use Rattle.iot_stamp.specs.Stamps.{Stamps}
 pub use Rattle.iot_store.specs.Records.{IsRecord, record_spelling}
-pub use Rattle.iot_store.specs.Standing.{Leads, StandFor}
+pub use Rattle.iot_store.specs.Rules.{rules}
+pub use Rattle.iot_store.specs.Standing.{EachStays, IsGrown, StandFor}
 pub use Rattle.iot_store.specs.States.{CanFollow, State, after_commit, opening}
 pub use Rattle.iot_tree.specs.Tree.{IsTree, IsWhole, Nodes, root_alone}
 pub use Rattle.iot_tree.specs.declared.acts.Act.{Act}

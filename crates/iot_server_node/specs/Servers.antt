@@ -7,7 +7,8 @@ use Rattle.iot_tree.specs.declared.access.Access.{Access}
 use Rattle.iot_server_node.specs.Prelude.{Nodes, IsTree, Act, Label, reads_of, Medium, JournalFault, run_entry, Call, Commit, tree_after}
 use Rattle.iot_server_node.specs.Prelude.{Node, server_name, kept_text, Appends, transaction_name, acts_output, IsEmpty, Appended, Doubts}
 use Rattle.iot_server_node.specs.Prelude.{PostStands, UpStands, StepsFrom, is_on, StepsTo, Doubt, Post, Up, Down, Between, Server}
-use Rattle.iot_server_node.specs.Prelude.{IsMessage, IsRequest, request_spelling, ServerKeeper, Handed, Message, Served, ServerNode}
+use Rattle.iot_server_node.specs.Prelude.{IsMessage, IsRequest, request_spelling, ServerKeeper, Handed, Message, Served, ServerNode, Leads}
+use Rattle.iot_server_node.specs.Prelude.{rules}
 use Rattle.iot_judging.specs.Entries.{IsSpelledEntry}
 use Rattle.iot_machine.specs.Serving.{Submission}
 use Rattle.iot_node.specs.Posts as posts
@@ -18,7 +19,7 @@ use Rattle.iot_stamp.specs.Stamps.{Stamps}
 use Rattle.iot_store.specs.Stamps.{opening_stamps}
 use Rattle.iot_server_node.specs.Keepers.{lists, traffic_in, Handles, Refuses}
 use Rattle.iot_server_node.specs.Messages.{said_of}
-use Rattle.iot_server_node.specs.Records.{DiskBegins, label_of, records_of}
+use Rattle.iot_server_node.specs.Records.{DiskGoesOn, label_of, state_of}
 
 -- ---- what it has
 
@@ -81,21 +82,18 @@ abbrev pub AreKnownIfAny : List (List ℕ) → Option (List Commit) → Type 0
 AreKnownIfAny names None = Unit {0}
 AreKnownIfAny names (Some commits) = AreKnown names commits
 
--- a list that begins with these commits
-pub record IsLonger (commits longer : List Commit) : Type 0 where
-  pub later : List Commit
-  pub is : longer ≡ commits ++ later
-
--- it has one commit more
+-- it has one commit more, which can follow: a record leads from the state of the one list to that of the other
 pub record IsOneMore (commits longer : List Commit) : Type 0 where
   pub commit : Commit
   pub is : longer ≡ commits ++ commit ∷ []
+  pub body : List ℕ
+  pub leads : Leads rules (body ∷ []) (state_of commits) (state_of longer)
 
 abbrev pub IsOneMoreIfAny : List Commit → Option (List Commit) → Type 0
 IsOneMoreIfAny commits None = Unit {0}
 IsOneMoreIfAny commits (Some longer) = IsOneMore commits longer
 
--- so is each commit of what is durable, and of what is in doubt, which has one more than what is durable
+-- so is each commit of what is durable, and of what is in doubt, which has one more than what is durable, and one that can follow
 pub record NodeIsKnown (names : List (List ℕ)) (node : Node (List Commit)) : Type 0 where
   pub durable : AreKnown names node.durable
   pub doubt : AreKnownIfAny names node.doubt
@@ -140,10 +138,10 @@ abbrev pub LendsServer : {D : Type 0} → Option (Server D) → Node (List Commi
 LendsServer None node count = node.alive ≡ false
 LendsServer (Some it) node count = IsServerOf it node count
 
--- whatever list the old server has, each image of the new one's disk begins with the records of its commits
+-- whatever list the old server has, each image of the new one's disk goes on from its state
 pub record KeepsCommits {D : Type 0} (medium : Medium D) (old new : ServerNode D) : Type 0 where
   pub keeps : (names : List (List ℕ)) (node : Node (List Commit)) (n : ℕ) → ServerStands medium names old node n
-      → DiskBegins medium (records_of node.durable) (disk_of new)
+      → DiskGoesOn medium (state_of node.durable) (disk_of new)
 
 -- it was never started, and its disk is empty
 pub record IsUnopened {D : Type 0} (medium : Medium D) (server : ServerNode D) : Type 0 where

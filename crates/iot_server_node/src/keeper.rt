@@ -63,7 +63,7 @@ impl<D: Disk> Keeper<D> for ServerKeeper<D> {
     }
 
     fn records(&self) -> u64 {
-        self.server.store().number()
+        self.server.store().count()
     }
 
     fn arm(&mut self, calls: u64, pick: Pick) {

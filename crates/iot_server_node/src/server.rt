@@ -112,7 +112,7 @@ impl<D: Disk> ServerNode<D> {
             → ServerStands D.medium names self.old node n
             → Lasts (lists D.medium) D.medium (post_of self.new) (doubting (add_commit it.commit) node)) }
 
-        // Whatever comes of it, no record is lost.
+        // Whatever comes of it, no commit is lost.
         ensures records { KeepsRecords D.medium (disk_of self.old) (disk_of self.new) }
         ensures disk { KeepsDisk D.medium (disk_of self.old) (disk_of self.new) }
     {

@@ -8,7 +8,7 @@ ghost use Rattle.iot_tree.specs.Updates.{Fits, FitsRemove, FitsMove, updated};
 ghost use Rattle.iot_stamp.specs.Agreement.{Agrees, IsPositive, Keeps};
 ghost use Rattle.iot_stamp.specs.Carried.{in_either};
 ghost use Rattle.iot_stamp.specs.Lining.{marked, PutsAt};
-ghost use Rattle.iot_stamp.specs.Pairing.{AreStamps, paired};
+ghost use Rattle.iot_stamp.specs.Pairing.{AreStamps, paired, stamps_of};
 ghost use Rattle.iot_stamp.specs.Stamping.{stamped, is_at, is_parent};
 ghost use Rattle.iot_stamp.specs.Stamps.{Stamps, nodes_of, stamp_at, with_stamps, unstamped, FarZero};
 
@@ -59,6 +59,14 @@ impl Stamped {
             Ok(tree) => Ok(Stamped { tree, stamps }),
             Err(fault) => Err(fault),
         }
+    }
+
+    /// The tree with these stamps, in the order of its rows. Does not allocate.
+    pub fn from_tree(tree: Tree, stamps: Vec<u64>) -> Stamped
+        requires { AreStamps (entries tree) stamps.items }
+        ensures { result ≡ stamps_of (entries tree) stamps.items }
+    {
+        Stamped { tree, stamps }
     }
 
     /// The tree with this stamp on each row that is known.

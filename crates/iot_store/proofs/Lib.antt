@@ -1,4 +1,9 @@
+mod BodiesLaws
 mod CommitsLaws
-mod NumbersLaws
+mod NotingLaws
+pub mod NumbersLaws
 mod RecordsLaws
+mod RowsLaws
 pub mod StandingLaws
+pub mod StatesLaws
+mod WithinLaws

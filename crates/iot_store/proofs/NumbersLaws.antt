@@ -1,7 +1,8 @@
--- The place of a transaction's label, and the index after one label more.
-use Rattle.std.proofs.Common.{◌≡◌, ℕ, ◌+◌, Bool, true, false, cond, List, [], ◌∷◌, ◌++◌, length, Option, Some, None, inl, inr, refl, sym}
-use Rattle.std.proofs.Common.{ap, ◌∙◌, subst, arith}
-use Rattle.std.specs.Prelude.{◌==◌, ◌&&◌, option_map, position}
+-- The place of a transaction's label, the index after one label more, and the index of a list of labels.
+use Rattle.std.proofs.Common.{◌≡◌, ℕ, ◌+◌, ◌<◌, ◌≤◌, Bool, true, false, cond, List, [], ◌∷◌, ◌++◌, length}
+use Rattle.std.proofs.Common.{get_or, take, drop, Option, Some, None, inl, inr, refl, sym, ap, ◌∙◌, subst, arith}
+use Rattle.std.specs.Prelude.{◌==◌, ◌&&◌, is_some, option_map, position}
+use Rattle.std.proofs.lemmas.List.{drop_more, length-take-le, take_all, take_more, take-append-drop}
 use Rattle.std.specs.List.{list_any, position_from}
 use Rattle.std.specs.Ordering.{nat_cmp, ordering_then, is_eq}
 use Rattle.std.specs.declared.cmp.Ordering.{Ordering}
@@ -13,7 +14,9 @@ use Rattle.std.proofs.lemmas.Iterator.Adapters.{position_from-zero}
 use Rattle.iot_tree.specs.declared.labels.Label.{Label}
 use Rattle.iot_store.specs.States.{is_of}
 use Rattle.iot_store.specs.Numbers.{number_in}
-use Rattle.iot_store.specs.Commits.{key_cmp}
+use Rattle.iot_store.specs.Bodies.{AreApart}
+use Rattle.iot_store.specs.Commits.{IsIndex, key_cmp}
+use Rattle.iot_store.proofs.StatesLaws.{apart_push}
 
 -- ---- the first place that passes a test
 
@@ -102,3 +105,62 @@ module _ (old new : BTreeMap (ℕ × ℕ) ℕ) (labels : List Label) (label : La
             here ∙ cond-false (is_of client tid label) (Some number) (get key_cmp old (client, tid)) fails ∙ indexed client tid
             ∙ sym (ap (option_map (λ n. n + 1)) (position_other (is_of client tid) labels label fails))
       ]
+
+-- ---- a loop over labels
+
+-- the index has the labels up to a place, no two of which are of one transaction
+pub record IndexOnWay (labels : List Label) (i : ℕ) (numbers : BTreeMap (ℕ × ℕ) ℕ) : Type 0 where
+  pub index : IsIndex numbers (take i labels)
+  pub apart : AreApart (take i labels)
+
+module _ (labels : List Label) (i : ℕ) (numbers : BTreeMap (ℕ × ℕ) ℕ) (way : IndexOnWay labels i numbers) where
+  module _ (label : Label) (within : i < length labels) (is : label ≡ get_or labels i label) where
+    abbrev here : Option ℕ
+    here = get key_cmp numbers (label.client, label.tid)
+
+    one_more : take (i + 1) labels ≡ take i labels ++ label ∷ []
+    one_more = take_more labels i label within ∙ ap (λ (l : Label). take i labels ++ l ∷ []) (sym is)
+
+    split_here : labels ≡ take i labels ++ label ∷ drop (i + 1) labels
+    split_here =
+        sym (take-append-drop i labels)
+        ∙ ap (λ (rest : List Label). take i labels ++ rest)
+        (drop_more labels i label within ∙ ap (λ (l : Label). l ∷ drop (i + 1) labels) (sym is))
+
+    -- its transaction has another label before it
+    pub label_twice : is_some here ≡ true → AreApart labels → ⊥
+    label_twice some apart = by here refl some
+      where
+        by : (o : Option ℕ) → here ≡ o → is_some o ≡ true → ⊥
+        by None found some = absurd cc
+        by (Some n) found some =
+            is_old_from (take i labels) label.client label.tid n (sym (way.index.finds label.client label.tid) ∙ found)
+            (apart (take i labels) label (drop (i + 1) labels) split_here)
+
+    -- or none, and the label is put into the index
+    module _ (none : is_some here ≡ false) (new : BTreeMap (ℕ × ℕ) ℕ) (number : ℕ) (number_is : number ≡ i + 1) where
+      is_new_here : list_any (is_of label.client label.tid) (take i labels) ≡ false
+      is_new_here = is_new_from (take i labels) label.client label.tid (sym (way.index.finds label.client label.tid) ∙ by here none)
+        where
+          by : (o : Option ℕ) → is_some o ≡ false → o ≡ None
+          by None is = refl
+          by (Some n) is = absurd cc
+
+      pub label_put : ((key : ℕ × ℕ) → get key_cmp new key
+          ≡ cond (is_eq (key_cmp (label.client, label.tid) key)) (Some number) (get key_cmp numbers key)) → IndexOnWay labels (i + 1) new
+      label_put puts = record {
+        index = record {
+          finds = λ client tid.
+              indexed_push numbers new (take i labels) label number is_new_here
+              (number_is ∙ ap (λ (n : ℕ). n + 1) (sym (length-take-le i labels (omega arith)))) puts way.index.finds client tid
+              ∙ ap (λ (ls : List Label). number_in ls client tid) (sym one_more);
+        };
+        apart = subst AreApart (sym one_more) (apart_push (take i labels) label way.apart is_new_here);
+      }
+
+  module _ (past : length labels ≤ i) where
+    pub all_indexed : IsIndex numbers labels
+    all_indexed = subst (IsIndex numbers) (take_all i labels past) way.index
+
+    pub all_apart : AreApart labels
+    all_apart = subst AreApart (take_all i labels past) way.apart

@@ -1,207 +1,119 @@
--- Bodies that lead from one state to another, and the states for which images of a disk stand whose journal is known.
-use Rattle.std.proofs.Common.{◌≡◌, ◌≢◌, ◌≤◌, ◌<◌, inl, inr, true, Some, ℕ, ◌+◌, ◌^◌, List, [], ◌∷◌, ◌++◌, length}
-use Rattle.std.proofs.Common.{refl, sym, ap, ◌∙◌, subst, arith, append_assoc, append-nil, length-append}
-use Rattle.iot_disk.specs.declared.faults.StartFault.{StartFault}
-use Rattle.iot_disk.specs.declared.faults.StartFault.TheVariants as fault
-use Rattle.iot_journal.specs.Decoding.{Encodes, decoded, records, bodies_decoded}
-use Rattle.iot_journal.specs.Images.{EachDecodes, EachDecodesEither}
-use Rattle.iot_journal.proofs.DecodingLaws.{length-records-append, length-records-push}
-use Rattle.iot_tree.specs.declared.access.Access.{Access}
-use Rattle.iot_tree.specs.declared.labels.Label.{Label}
-use Rattle.iot_tree.specs.declared.updates.Update.{Update}
-use Rattle.std.proofs.lemmas.Option.{none-some}
-use Rattle.std.specs.FinMap.{empty, get-empty}
-use Rattle.iot_text.specs.Paths.{path_cmp}
-use Rattle.iot_tree.specs.Tree.{IsTree, IsWhole, Nodes, Path, root_alone}
-use Rattle.iot_tree.specs.declared.nodes.Node.{Node}
-use Rattle.iot_tree.specs.declared.nodes.Node.TheVariants.{Dir, FarDir, FarFile}
-use Rattle.iot_tree.proofs.EachLaws.{EachNode, each_inserted}
-use Rattle.iot_tree.proofs.RowLaws.{root_map, root_rows}
-use Rattle.iot_tree.specs.Updates.{updated}
-use Rattle.iot_access.specs.Access.{FitInTurn, after_updates}
-use Rattle.iot_access.proofs.WholeLaws.{whole_after}
-use Rattle.iot_acts.proofs.TraceLaws.{tree_after}
-use Rattle.iot_store.specs.States.{State, opening, CanFollow, after_commit}
+-- For which state bytes stand: for one at most; and for which they stand after a commit.
+use Rattle.std.proofs.Common.{◌≡◌, ◌≤◌, ◌<◌, ◌⊎◌, ◌^◌, inl, inr, ℕ, List, [], ◌∷◌, length, sym, ap, ◌∙◌, subst, arith}
+use Rattle.iot_disk.specs.Disk.{Medium}
+use Rattle.iot_durable.specs.Standing.{EachGoes, IsRenewed, Leads, Makes, MakesBy, StandWith, header}
+use Rattle.iot_durable.proofs.ImagesLaws.{idle_stays, makes_push, makes_whole, one_makes}
+use Rattle.iot_slots.specs.Cells.{next}
+use Rattle.iot_slots.specs.Decoding.{Decoded, Encodes, NotStarted, Foreign, Damaged, State as Encoded, decoded, state_of as state_in}
+use Rattle.iot_slots.specs.Slots.{appended}
 use Rattle.iot_store.specs.Records.{IsRecord}
-use Rattle.iot_store.specs.Commits.{ReplaysIf}
-use Rattle.iot_store.specs.Causes.{IsReason, TakesBytes}
-use Rattle.iot_store.specs.Standing.{Leads, StandFor, EachStands, EachStandsEither, CannotFollow, IsDamagedAt}
+use Rattle.iot_store.specs.Rules.{rules}
+use Rattle.iot_store.specs.Standing.{EachStays, IsGrown, StandFor}
+use Rattle.iot_store.specs.States.{State, CanFollow, after_commit}
+use Rattle.iot_store.specs.Store.{IsSynced, count_of, disk_of, encoded_on, state_of}
+use Rattle.iot_store.specs.declared.commit.Commit.{Commit}
+use Rattle.iot_store.specs.declared.store.Store.{Store}
+use Rattle.iot_store.proofs.BodiesLaws.{body_one}
 use Rattle.iot_store.proofs.RecordsLaws.{record_alone}
+use Rattle.iot_store.proofs.WithinLaws.{AreWithin, IsWithin, decoded_within}
 
--- one record more
-pub leads_push : (front : List (List ℕ)) (before mid : State) (body : List ℕ) (label : Label) (access : Access) (lines : List (List ℕ))
-    → Leads front before mid → IsRecord body label access lines → CanFollow mid label access
-    → Leads (front ++ body ∷ []) before (after_commit mid label access)
-leads_push [] before mid body label access lines leads is follows =
-    (label, access, lines, is, subst (λ s. CanFollow s label access) leads follows, ap (λ s. after_commit s label access) leads)
-leads_push (first ∷ front) before mid body label access lines leads is follows = (
-  leads.0,
-  leads.1,
-  leads.2,
-  leads.3,
-  leads.4,
-  leads_push front (after_commit before leads.0 leads.1) mid body label access lines leads.5 is follows,
-)
+-- ---- bytes stand for one state
 
--- the state in between
-leads_split : (front bodies : List (List ℕ)) (before after : State) → Leads (front ++ bodies) before after →
-    (mid : State) × Leads front before mid × Leads bodies mid after
-leads_split [] bodies before after leads = (before, refl, leads)
-leads_split (first ∷ front) bodies before after leads =
-    let more = leads_split front bodies (after_commit before leads.0 leads.1) after leads.5 in
-    (more.0, (leads.0, leads.1, leads.2, leads.3, leads.4, more.1), more.2)
+leads_one : (bodies : List (List ℕ)) (n : ℕ) (before a b : State) → n < 2 ^ 64 → AreWithin n bodies → Leads rules bodies before a
+    → Leads rules bodies before b → a ≡ b
+leads_one [] n before a b few within one other = one ∙ sym other
+leads_one (body ∷ bodies) n before a b few within one other =
+    let same : one.0 ≡ other.0 = record_alone body one.0 other.0 (omega (arith, few, within.0)) one.1 other.1 in
+    leads_one bodies n (rules.after before other.0) a b few within.1
+    (subst (λ (commit : Commit). Leads rules bodies (rules.after before commit) a) same one.3) other.3
 
-length-records : (body : List ℕ) (bodies : List (List ℕ)) → length (records (body ∷ bodies)) ≡ 9 + length body + length (records bodies)
-length-records body bodies = omega (arith, length-records-append (body ∷ []) bodies, length-records-push [] body)
+makes_one : (body : List ℕ) (bodies : List (List ℕ)) (n : ℕ) (a b : State) → n < 2 ^ 64 → length body ≤ n → AreWithin n bodies
+    → Makes rules body bodies a → Makes rules body bodies b → a ≡ b
+makes_one body bodies n a b few body_in bodies_in one other =
+    let same : one.start ≡ other.start = body_one body one.start other.start (omega (arith, few, body_in)) one.spells other.spells in
+    leads_one bodies n other.start a b few bodies_in (subst (λ (s : State). Leads rules bodies s a) same one.leads) other.leads
 
--- ---- whole trees
+one_by : (d : Decoded) (n : ℕ) (a b : State) → n < 2 ^ 64 → IsWithin n d → MakesBy rules d a → MakesBy rules d b → a ≡ b
+one_by (Encodes encoded) n a b few within one other = makes_one encoded.body encoded.bodies n a b few within.0 within.1 one other
+one_by NotStarted n a b few within one other = one ∙ sym other
+one_by Foreign n a b few within one other = absurd one
+one_by (Damaged at) n a b few within one other = absurd one
 
--- before the first commit there is a root alone
-pub opening_tree : IsTree opening.tree
-opening_tree = subst IsTree (root_map Dir) (root_rows Dir refl).tree
+pub stands_one : (bytes : List ℕ) (a b : State) → length bytes < 2 ^ 64 → StandFor bytes a → StandFor bytes b → a ≡ b
+stands_one bytes a b short one other =
+    one_by (decoded header bytes) (length bytes) a b short (decoded_within header bytes)
+    (subst (λ (d : Decoded). MakesBy rules d a) (sym one.is) one.makes)
+    (subst (λ (d : Decoded). MakesBy rules d b) (sym other.is) other.makes)
 
-abbrev IsNear : Path → Node → Type 0
-IsNear path node = (node ≢ FarDir) × (node ≢ FarFile)
+-- ---- a store under which nothing is under way
 
-pub opening_whole : IsWhole opening.tree
-opening_whole =
-    let none : EachNode IsNear empty = λ path node is. absurd (none-some node (sym (get-empty path_cmp path) ∙ is)) in
-    let near : EachNode IsNear (root_alone Dir) = each_inserted IsNear empty [] Dir none ((λ is. cc), (λ is. cc)) in
-    record { no_far_dir = λ p is. (near p FarDir is).0 refl; no_far_file = λ p is. (near p FarFile is).1 refl }
+module _ {D : Type 0} (medium : Medium D) (store : Store D) (synced : IsSynced medium store) where
+  pub store_decoded : decoded header (medium.reads (disk_of store)) ≡ Encodes (encoded_on medium store)
+  store_decoded =
+      ap (λ (h : List ℕ). decoded h (medium.reads (disk_of store))) (sym synced.header_is) ∙ synced.slots.encodes
 
--- updates that fit leave a whole tree whole
-after_whole : (t : Nodes) (updates : List Update) → IsTree t → IsWhole t → FitInTurn t updates
-    → IsTree (after_updates t updates) × IsWhole (after_updates t updates)
-after_whole t [] tree whole fit = (tree, whole)
-after_whole t (update ∷ updates) tree whole fit =
-    after_whole (updated t update) updates (tree_after t (Some update) tree fit.0) (whole_after t tree whole (Some update) fit.0) fit.1
+  -- its disk stands for its state
+  pub store_stays : EachStays (medium.may_leave (disk_of store)) (count_of store) (encoded_on medium store) (state_of store)
+  store_stays =
+      idle_stays rules _ _ _ _ _ _ synced.header_is synced.slots.only synced.slots.encodes (sym synced.slots.layout.count) synced.makes
 
--- so do commits
-pub leads_to_whole : (bodies : List (List ℕ)) (before after : State) → IsTree before.tree → IsWhole before.tree → Leads bodies before after
-    → IsWhole after.tree
-leads_to_whole [] before after tree whole leads = subst (λ (s : State). IsWhole s.tree) (sym leads) whole
-leads_to_whole (body ∷ bodies) before after tree whole leads =
-    let next = after_whole before.tree leads.1.updates tree whole leads.4.fit in
-    leads_to_whole bodies (after_commit before leads.0 leads.1) after next.0 next.1 leads.5
+  -- and for no other
+  pub store_alone : (state : State) → StandFor (medium.reads (disk_of store)) state → state ≡ state_of store
+  store_alone state it =
+      stands_one (medium.reads (disk_of store)) state (state_of store) (omega (arith, synced.slots.layout.limit)) it
+      (record { decoding = Encodes (encoded_on medium store); is = store_decoded; makes = synced.makes })
 
--- each record is longer than nothing, so there are no more labels than the records have bytes
-pub labels_few : (bodies : List (List ℕ)) (before after : State) → Leads bodies before after
-    → length after.labels ≤ length before.labels + length (records bodies)
-labels_few [] before after leads = let same = ap (λ (s : State). length s.labels) leads in omega (arith, same)
-labels_few (body ∷ bodies) before after leads =
-    let more = labels_few bodies (after_commit before leads.0 leads.1) after leads.5 in
-    omega (arith, more, length-records body bodies, length-append before.labels (leads.0 ∷ []))
+-- a disk with the same bytes encodes the same
+pub same_encoded : {D : Type 0} (medium : Medium D) (old new : Store D) → IsSynced medium old → IsSynced medium new
+    → medium.reads (disk_of new) ≡ medium.reads (disk_of old) → encoded_on medium new ≡ encoded_on medium old
+same_encoded medium old new before after same =
+    ap state_in (sym (store_decoded medium new after) ∙ ap (decoded header) same ∙ store_decoded medium old before)
 
--- bodies lead to one state
-leads_same : (bodies : List (List ℕ)) (before one other : State) → length (records bodies) < 2 ^ 64 → Leads bodies before one →
-    Leads bodies before other → one ≡ other
-leads_same [] before one other fits p q = p ∙ sym q
-leads_same (body ∷ bodies) before one other fits p q =
-    let long = length-records body bodies in
-    let same = record_alone body q.0 p.0 q.1 p.1 q.2 p.2 (omega arith) q.3 p.3 in
-    leads_same bodies (after_commit before p.0 p.1) one other (omega arith) p.5
-    (subst (λ l. Leads bodies (after_commit before l p.1) other) same.0
-    (subst (λ a. Leads bodies (after_commit before q.0 a) other) same.1 q.5))
+-- ---- after a commit
 
--- bodies that lead to a state are not damaged
-leads_whole : (bodies : List (List ℕ)) (before state mid : State) (front later : List (List ℕ)) (body : List ℕ) →
-    length (records bodies) < 2 ^ 64 → bodies ≡ front ++ body ∷ later → Leads bodies before state → Leads front before mid →
-    CannotFollow mid body → ⊥
-leads_whole bodies before state mid front later body fits split leads good bad =
-    let parts = leads_split front (body ∷ later) before state (subst (λ (bs : List (List ℕ)). Leads bs before state) split leads) in
-    let size = ap (λ (bs : List (List ℕ)). length (records bs)) split in
-    let less : length (records front) < 2 ^ 64 = omega (arith, length-records-append front (body ∷ later), size) in
-    let same : parts.0 ≡ mid = leads_same front before parts.0 mid less parts.1 good in
-    let next = parts.2 in
-    bad next.0 next.1 next.2 next.3 (subst (λ s. CanFollow s next.0 next.1) same next.4)
+pub renewed_count : (was encoded : Encoded) (now : State) → IsRenewed rules was now encoded → encoded.count ≡ was.count
+renewed_count was encoded now (inl same) = ap (λ (e : Encoded). e.count) same
+renewed_count was encoded now (inr alone) = ap (λ (e : Encoded). e.count) alone.is
 
--- ---- images
+-- there is one record more
+pub grown_count : (was : Encoded) (before : State) (commit : Commit) (now : Encoded) → IsGrown was before commit now
+    → now.count ≡ next was.count
+grown_count was before commit now it =
+    ap (λ (e : Encoded). e.count) it.is ∙ ap next (renewed_count was it.mid before it.renews)
 
-pub each_stands : (images : List ℕ → Type 0) (bodies : List (List ℕ)) (state : State) → Leads bodies opening state →
-    EachDecodes images (Encodes bodies) → EachStands images state
-each_stands images bodies state leads encodes = record {
-  each = λ image left. record { bodies = bodies; read = encodes.each image left; leads = leads };
-}
+module _ (was : Encoded) (count : ℕ) (before : State) (counted : was.count ≡ count) (makes : Makes rules was.body was.bodies before) where
+  -- a checkpoint of the state alone makes the same
+  renewed_makes : (encoded : Encoded) → IsRenewed rules was before encoded → Makes rules encoded.body encoded.bodies before
+  renewed_makes encoded (inl same) = subst (λ (e : Encoded). Makes rules e.body e.bodies before) (sym same) makes
+  renewed_makes encoded (inr alone) =
+      subst (λ (e : Encoded). Makes rules e.body e.bodies before) (sym alone.is) (makes_whole rules alone.body before alone.spells)
 
-pub either_stands : (images : List ℕ → Type 0) (bodies : List (List ℕ)) (state : State) (body : List ℕ) (label : Label) (access : Access)
-    (lines : List (List ℕ)) → Leads bodies opening state → IsRecord body label access lines → CanFollow state label access →
-    EachDecodesEither images (Encodes bodies) (Encodes (bodies ++ body ∷ [])) →
-    EachStandsEither images state (after_commit state label access)
-either_stands images bodies state body label access lines leads is follows encodes = record {
-  each = λ image left. elim (encodes.each image left) [
-    | inl before ↦ inl (record { bodies = bodies; read = before; leads = leads })
-    | inr after ↦
-        let more = leads_push bodies opening state body label access lines leads is follows in
-        inr (record { bodies = bodies ++ body ∷ []; read = after; leads = more })
-  ];
-}
+  -- an image of a commit that was cut off: what is encoded without its record, and for what that stands; and what with it
+  pub record IsCutOff (commit : Commit) (image : List ℕ) : Type 0 where
+    pub encoded : Encoded
+    pub renews : IsRenewed rules was before encoded
+    pub either : ((decoded header image ≡ Encodes encoded) × StandWith rules image count before)
+        ⊎ ((body : List ℕ) × IsRecord body commit.label commit.access commit.lines
+        × (decoded header image ≡ Encodes (appended encoded body))
+        × StandWith rules image (next count) (after_commit before commit.label commit.access))
 
--- ---- replaying
-
--- the commits so far are those of the bodies before the ones that are left, and the gate is that of the record there
-pub record BodiesOnWay (bodies left : List (List ℕ)) (state : State) (gate : ℕ) : Type 0 where
-  pub front : List (List ℕ)
-  pub split : bodies ≡ front ++ left
-  pub leads : Leads front opening state
-  pub place : gate ≡ 9 + length (records front)
-
-module _ (bodies left : List (List ℕ)) (state : State) (gate : ℕ) (way : BodiesOnWay bodies left state gate) where
-  module _ (body : List ℕ) (rest : List (List ℕ)) (is : left ≡ body ∷ rest) where
-    split_here : bodies ≡ way.front ++ body ∷ rest
-    split_here = way.split ∙ ap (λ (bs : List (List ℕ)). way.front ++ bs) is
-
-    pub gate_fits : 9 + length (records bodies) ≤ 2 ^ 62 → gate + 9 + length body ≤ 2 ^ 62
-    gate_fits limit =
-        let size = ap (λ (bs : List (List ℕ)). length (records bs)) split_here in
-        let parts = length-records-append way.front (body ∷ rest) in
-        omega (arith, way.place, limit, size, parts, length-records body rest)
-
-    pub body_damaged : CannotFollow state body → IsDamagedAt bodies gate
-    body_damaged bad = record {
-      front = way.front;
-      body = body;
-      later = rest;
-      split = split_here;
-      state = state;
-      good = way.leads;
-      bad = bad;
-      place = way.place;
-    }
-
-    pub body_replayed : (after : State) (next : ℕ) → ReplaysIf true body state after → next ≡ gate + (9 + length body) →
-        BodiesOnWay bodies rest after next
-    body_replayed after next replays moved =
-        let more = leads_push way.front opening state body replays.0 replays.1 replays.2 way.leads replays.3 replays.4 in
-        record {
-          front = way.front ++ body ∷ [];
-          split = split_here ∙ sym (append_assoc way.front (body ∷ []) rest);
-          leads = subst (λ s. Leads (way.front ++ body ∷ []) opening s) (sym replays.5) more;
-          place = omega (arith, moved, way.place, length-records-push way.front body);
-        }
-
-  pub bodies_lead : left ≡ [] → Leads bodies opening state
-  bodies_lead none =
-      let all = way.split ∙ ap (λ (bs : List (List ℕ)). way.front ++ bs) none ∙ append-nil way.front in
-      subst (λ (bs : List (List ℕ)). Leads bs opening state) (sym all) way.leads
-
--- ---- what a start says
-
-module _ (bytes : List ℕ) (bodies : List (List ℕ)) (fits : length (records bodies) < 2 ^ 64) (is : decoded bytes ≡ Encodes bodies) where
-  -- the bodies lead to whatever state the bytes stand for
-  leads_there : (state : State) → StandFor bytes state → Leads bodies opening state
-  leads_there state stands =
-      let same : stands.bodies ≡ bodies = ap bodies_decoded (sym stands.read ∙ is) in
-      subst (λ (bs : List (List ℕ)). Leads bs opening state) same stands.leads
-
-  -- bytes stand for one state
-  pub only_state : (one state : State) → Leads bodies opening one → StandFor bytes state → one ≡ state
-  only_state one state leads stands = leads_same bodies opening one state fits leads (leads_there state stands)
-
-  -- bytes that stand for a state are not damaged
-  pub takes : (fault : StartFault) (state : State) → IsReason fault bodies → StandFor bytes state → TakesBytes fault
-  takes fault.NoMemory state reason stands = tt
-  takes fault.Stopped state reason stands = tt
-  takes fault.Foreign state reason stands = reason
-  takes (fault.Damaged at) state reason stands =
-      leads_whole bodies opening state reason.state reason.front reason.later reason.body fits reason.split
-      (leads_there state stands) reason.good reason.bad
+  pub cut_off : (commit : Commit) → CanFollow before commit.label commit.access → {images : List ℕ → Type 0}
+      → EachGoes rules images was before commit → (image : List ℕ) → images image → IsCutOff commit image
+  cut_off commit follows goes image left =
+      let it = goes.encodes image left in
+      let kept : it.0.count ≡ count = renewed_count was it.0 before it.1 ∙ counted in
+      let made : Makes rules it.0.body it.0.bodies before = renewed_makes it.0 it.1 in
+      record {
+        encoded = it.0;
+        renews = it.1;
+        either = elim it.2 [
+          | inl here ↦ inl (here, one_makes rules image it.0 count before here kept made)
+          | inr there ↦ inr (
+            there.0,
+            there.1,
+            there.2,
+            one_makes rules image (appended it.0 there.0) (next count) (after_commit before commit.label commit.access) there.2
+                (ap next kept) (makes_push rules it.0 there.0 commit before made there.1 follows),
+          )
+        ];
+      }

@@ -12,9 +12,7 @@ use Rattle.iot_stamp.specs.Stamping.{stamped}
 use Rattle.iot_stamp.specs.Stamps.{Stamps, nodes_of}
 use Rattle.iot_store.specs.States.{State, CanFollow, after_commit}
 use Rattle.iot_store.specs.Numbers.{number_in}
-use Rattle.iot_store.specs.Records.{IsRecord}
 use Rattle.iot_store.specs.Stamps.{stamped_all}
-use Rattle.iot_store.specs.Standing.{CannotFollow}
 
 -- clients with their transactions, in the order of the index
 abbrev pub key_cmp : ℕ × ℕ → ℕ × ℕ → Ordering
@@ -28,13 +26,6 @@ pub record IsIndex (numbers : BTreeMap (ℕ × ℕ) ℕ) (labels : List Label) :
 abbrev pub AddsIf : Bool → Label → Access → State → State → Type 0
 AddsIf true label access before after = CanFollow before label access × (after ≡ after_commit before label access)
 AddsIf false label access before after = CanFollow before label access → ⊥
-
--- the commit whose record the body is was added if it can follow, and only then
-abbrev pub ReplaysIf : Bool → List ℕ → State → State → Type 0
-ReplaysIf true body before after =
-    (label : Label) × (access : Access) × (lines : List (List ℕ)) × IsRecord body label access lines × CanFollow before label access
-    × (after ≡ after_commit before label access)
-ReplaysIf false body before after = CannotFollow before body
 
 -- ---- updates
 

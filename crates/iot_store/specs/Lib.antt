@@ -1,7 +1,9 @@
-pub mod Causes
+pub mod Bodies
 pub mod Commits
 pub mod Numbers
+pub mod Reading
 pub mod Records
+pub mod Rules
 pub mod Stamps
 pub mod Standing
 pub mod States

@@ -1,52 +1,33 @@
--- The state for which bytes on a disk stand.
-use Rattle.std.specs.Prelude.{◌≡◌, ◌⊎◌, ℕ, ◌+◌, List, [], ◌∷◌, ◌++◌, length}
-use Rattle.iot_tree.specs.declared.access.Access.{Access}
-use Rattle.iot_tree.specs.declared.labels.Label.{Label}
-use Rattle.iot_journal.specs.Decoding.{Encodes, decoded, records}
-use Rattle.iot_store.specs.States.{State, opening, CanFollow, after_commit}
+-- The state for which bytes on a server's disk stand.
+use Rattle.std.specs.Prelude.{◌≡◌, ℕ, List}
+use Rattle.iot_durable.specs.Standing as durable
+use Rattle.iot_slots.specs.Decoding.{State as Encoded}
+use Rattle.iot_slots.specs.Slots.{appended}
 use Rattle.iot_store.specs.Records.{IsRecord}
+use Rattle.iot_store.specs.Rules.{rules}
+use Rattle.iot_store.specs.States.{State}
+use Rattle.iot_store.specs.declared.commit.Commit.{Commit}
 
--- each body in turn is the record of a commit that can follow, and these lead from one state to the other
-abbrev pub Leads : List (List ℕ) → State → State → Type 0
-Leads [] before after = after ≡ before
-Leads (body ∷ bodies) before after =
-    (label : Label) × (access : Access) × (lines : List (List ℕ)) × IsRecord body label access lines × CanFollow before label access
-    × Leads bodies (after_commit before label access) after
+-- the bytes stand for the state
+abbrev pub StandFor : List ℕ → State → Type 0
+StandFor bytes state = durable.StandFor rules bytes state
 
--- the bytes are a journal whose bodies lead to the state
-pub record StandFor (bytes : List ℕ) (state : State) : Type 0 where
-  pub bodies : List (List ℕ)
-  pub read : decoded bytes ≡ Encodes bodies
-  pub leads : Leads bodies opening state
+-- each image stands for the state, with so many commits, modulo 2 ^ 64
+abbrev pub EachStands : (images : List ℕ → Type 0) → (count : ℕ) → State → Type 0
+EachStands images count state = durable.EachStands rules images count state
 
--- each image does
-pub record EachStands (images : List ℕ → Type 0) (state : State) : Type 0 where
-  pub each : (image : List ℕ) → images image → StandFor image state
+-- each image stands for the one state, with so many commits, or for the other, with one more
+abbrev pub EachStandsEither : (images : List ℕ → Type 0) → (count : ℕ) → (before after : State) → Type 0
+EachStandsEither images count before after = durable.EachStandsEither rules images count before after
 
--- each image does so for one of two states
-pub record EachStandsEither (images : List ℕ → Type 0) (before after : State) : Type 0 where
-  pub each : (image : List ℕ) → images image → StandFor image before ⊎ StandFor image after
-
--- ---- damage
-
--- the body is the record of no commit that can follow
-abbrev pub CannotFollow : State → List ℕ → Type 0
-CannotFollow state body =
-    (label : Label) (access : Access) (lines : List (List ℕ)) → IsRecord body label access lines → CanFollow state label access → ⊥
-
--- the first body that cannot follow the ones before it, and the place of its record's gate
-pub record IsDamagedAt (bodies : List (List ℕ)) (at : ℕ) : Type 0 where
-  pub front : List (List ℕ)
+-- what is encoded has the record of this commit last; before it is what was there, or a checkpoint of the state before alone
+pub record IsGrown (was : Encoded) (before : State) (commit : Commit) (now : Encoded) : Type 0 where
   pub body : List ℕ
-  pub later : List (List ℕ)
-  pub split : bodies ≡ front ++ body ∷ later
-  pub state : State
-  pub good : Leads front opening state
-  pub bad : CannotFollow state body
-  pub place : at ≡ 9 + length (records front)
+  pub spells : IsRecord body commit.label commit.access commit.lines
+  pub mid : Encoded
+  pub renews : durable.IsRenewed rules was before mid
+  pub is : now ≡ appended mid body
 
--- the bytes are a journal one of whose bodies cannot follow
-pub record HoldsDamageAt (bytes : List ℕ) (at : ℕ) : Type 0 where
-  pub bodies : List (List ℕ)
-  pub read : decoded bytes ≡ Encodes bodies
-  pub damaged : IsDamagedAt bodies at
+-- each image stands for the state, with so many commits, and encodes what was there, or a checkpoint of the state alone
+abbrev pub EachStays : (images : List ℕ → Type 0) → (count : ℕ) → (was : Encoded) → State → Type 0
+EachStays images count was state = durable.EachStays rules images count was state

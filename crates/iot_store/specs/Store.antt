@@ -1,24 +1,34 @@
 -- A store over its disk.
-use Rattle.std.specs.Prelude.{ℕ, List}
+use Rattle.std.specs.Prelude.{ℕ}
 use Rattle.iot_disk.specs.Disk.{Medium}
-use Rattle.iot_journal.specs.Journal as journal
-use Rattle.iot_store.specs.States.{State, opening}
-use Rattle.iot_store.specs.Standing.{Leads}
+use Rattle.iot_durable.specs.Durable as durable
+use Rattle.iot_slots.specs.Decoding.{State as Encoded}
+use Rattle.iot_store.specs.Bodies.{IsState}
+use Rattle.iot_store.specs.Rules.{rules}
+use Rattle.iot_store.specs.States.{State}
+use Rattle.iot_store.specs.declared.commit.Commit.{Commit}
 use Rattle.iot_store.specs.declared.store.Store.{Store}
 
--- the tree and the labels
+-- the tree, the labels and the stamps
 abbrev pub state_of : {D : Type 0} → Store D → State
-state_of store = store.commits
+state_of store = durable.memory_of store.durable
 
 -- the disk under a store
 abbrev pub disk_of : {D : Type 0} → Store D → D
-disk_of store = journal.disk_of store.journal
+disk_of store = durable.disk_of store.durable
 
--- the bodies of the records on its disk
-abbrev pub bodies_on : {D : Type 0} → Medium D → Store D → List (List ℕ)
-bodies_on medium store = journal.bodies_on medium store.journal
+-- the number of commits ever made, modulo 2 ^ 64
+abbrev pub count_of : {D : Type 0} → Store D → ℕ
+count_of store = durable.count_of store.durable
 
--- nothing is under way: the disk has one image, and its records lead to the state
-pub record IsSynced {D : Type 0} (medium : Medium D) (store : Store D) : Type 0 where
-  pub journal : journal.IsSynced medium store.journal
-  pub leads : Leads (bodies_on medium store) opening (state_of store)
+-- the checkpoint in force on its disk, and the records behind it
+abbrev pub encoded_on : {D : Type 0} → Medium D → Store D → Encoded
+encoded_on medium store = durable.encoded_on medium store.durable
+
+-- nothing is under way: the disk has one image, which stands for the state
+abbrev pub IsSynced : {D : Type 0} → Medium D → Store D → Type 0
+IsSynced medium store = durable.IsSynced medium rules (λ state. state) IsState store.durable
+
+-- the last record on the disk is that of the commit; before it is what was there, or a checkpoint of the state alone if one was due
+abbrev pub IsRecorded : {D : Type 0} → Medium D → (old new : Store D) → Commit → Type 0
+IsRecorded medium old new commit = durable.IsRecorded medium rules (λ state. state) old.durable new.durable commit

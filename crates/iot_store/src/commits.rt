@@ -1,10 +1,11 @@
 //! The commits in memory: the tree that they make, with its stamps, their labels, and the number of each.
-ghost use Rattle.std.specs.Prelude.{◌≡◌, ◌↔◌, ◌<◌, ◌^◌, length, IsTrue, OnOk, IfOk};
+ghost use Rattle.std.specs.Prelude.{◌≡◌, ◌↔◌, ◌<◌, ◌+◌, ◌^◌, length, true, None, IsTrue, OnOk, IfOk, IfSome};
 ghost use Rattle.iot_access.specs.Access.{FitInTurn};
 ghost use Rattle.iot_acts.specs.Traces.{ReadsHold};
 ghost use Rattle.iot_stamp.specs.Stamps.{nodes_of};
 ghost use Rattle.iot_tree.specs.Tree.{IsWhole};
-ghost use Rattle.iot_store.specs.Commits.{MakesAllIf, UpdatesIf};
+ghost use Rattle.iot_store.specs.Commits.{IsIndex, MakesAllIf, UpdatesIf};
+ghost use Rattle.iot_store.specs.Bodies.{AreApart};
 
 use iot_stamp::Stamped;
 use iot_text::NoMemory;
@@ -43,6 +44,7 @@ impl Commits {
     ghost use Rattle.iot_store.specs.States.{opening, is_of, CanFollow, after_commit};
     ghost use Rattle.iot_store.specs.Numbers.{number_in};
     ghost use Rattle.iot_store.specs.Commits.{AddsIf};
+    ghost use Rattle.iot_store.specs.Reading.{state_with};
     ghost use Rattle.iot_store.specs.Stamps.{next_stamp};
 
     /// No commits.
@@ -71,12 +73,34 @@ impl Commits {
         &self.tree
     }
 
-    /// The stamp of the next commit.
-    fn next_stamp(&self) -> u64
-        requires { length self.now.labels < 2 ^ 62 }
-        ensures { result ≡ next_stamp (length self.now.labels) }
+    /// Those of this tree with these labels, if no transaction has two of them. `NoMemory` too if the next one could have no stamp.
+    pub(crate) fn with_labels(
+        alloc: Global,
+        tree: Stamped,
+        labels: Labels,
+    ) -> Result<Option<Commits>, NoMemory>
+        ensures made { IfOk result (λ read. IfSome read (λ made. made ≡ state_with tree labels)) }
+        ensures apart { IfOk result (λ read. IfSome read (λ _. AreApart labels)) }
+        ensures none { IfOk result (λ read. read ≡ None → AreApart labels → ⊥) }
+        ensures few { IfOk result (λ read. IfSome read (λ _. length labels + 1 < 2 ^ 64)) }
     {
-        self.labels.len() as u64 + 2
+        let Some(numbers) = numbers_of(alloc, labels.as_slice())? else {
+            return Ok(None);
+        };
+        let commits = Commits {
+            tree,
+            labels,
+            numbers,
+        };
+        commits.next_stamp()?;
+        Ok(Some(commits))
+    }
+
+    /// The stamp of the next commit. Stamps end at 64 bits; no list in memory is that long.
+    fn next_stamp(&self) -> Result<u64, NoMemory>
+        ensures { IfOk result (λ stamp. (stamp ≡ next_stamp (length self.now.labels)) × (length self.now.labels + 2 < 2 ^ 64)) }
+    {
+        (self.labels.len() as u64).checked_add(2).ok_or(NoMemory)
     }
 
     /// Their labels.
@@ -114,10 +138,10 @@ impl Commits {
         access: &Access,
     ) -> Result<(), NoMemory>
         requires follows { CanFollow self.old label access.now }
-        requires few { length self.old.labels < 2 ^ 62 }
-        ensures { OnOk result (self.new ≡ after_commit self.old label access.now) }
+        ensures made { OnOk result (self.new ≡ after_commit self.old label access.now) }
+        ensures few { OnOk result (length self.old.labels + 2 < 2 ^ 64) }
     {
-        let stamp = self.next_stamp();
+        let stamp = self.next_stamp()?;
         self.tree
             .apply_all(alloc, access.updates.as_slice(), stamp)?;
         self.list(label)?;
@@ -131,8 +155,8 @@ impl Commits {
         label: Label,
         access: &Access,
     ) -> Result<bool, NoMemory>
-        requires { length self.old.labels < 2 ^ 62 }
-        ensures { IfOk result (λ follows. AddsIf follows label access.now self.old self.new) }
+        ensures adds { IfOk result (λ follows. AddsIf follows label access.now self.old self.new) }
+        ensures few { IfOk result (λ follows. follows ≡ true → length self.old.labels + 2 < 2 ^ 64) }
     {
         if let Some(_) = self.number_of(label.client, label.tid) {
             return Ok(false);
@@ -140,7 +164,7 @@ impl Commits {
         if !do_hold(self.tree.tree(), access.reads.as_slice()) {
             return Ok(false);
         }
-        let stamp = self.next_stamp();
+        let stamp = self.next_stamp()?;
         if !make_all(alloc, &mut self.tree, access.updates.as_slice(), stamp)? {
             return Ok(false);
         }
@@ -166,6 +190,30 @@ impl Commits {
             }
         }
     }
+}
+
+/// The number of each label by its client and its transaction, if no transaction has two labels.
+fn numbers_of(
+    alloc: Global,
+    labels: &[Label],
+) -> Result<Option<BTreeMap<(u64, u64), u64>>, NoMemory>
+    ensures index { IfOk result (λ read. IfSome read (λ numbers. IsIndex numbers labels.now)) }
+    ensures apart { IfOk result (λ read. IfSome read (λ _. AreApart labels.now)) }
+    ensures none { IfOk result (λ read. read ≡ None → AreApart labels.now → ⊥) }
+{
+    let mut numbers = BTreeMap::new(alloc);
+    'labels: for place in 0..labels.len() {
+        let label = &labels[place];
+        let key = (label.client, label.tid);
+        if numbers.contains_key(&key) {
+            return Ok(None);
+        }
+        match numbers.insert(key, place as u64 + 1) {
+            Ok(_) => (),
+            Err(_) => return Err(NoMemory),
+        }
+    }
+    Ok(Some(numbers))
 }
 
 /// Makes the updates as long as they fit, and says whether all do.

@@ -1,6 +1,6 @@
 -- What is said of a record in doubt is decided by its images, also if it is said in a text of its own first.
 use Rattle.std.proofs.lemmas.Option.{same_Some}
-use Rattle.iot_world.proofs.Common.{◌≡◌, ◌⊎◌, ℕ, ◌+◌, Bool, true, List, [], ◌++◌, length, Option, Some, None, ◌<◌, slice_index_or, inl, inr}
+use Rattle.iot_world.proofs.Common.{◌≡◌, ◌⊎◌, ℕ, Bool, true, List, [], ◌++◌, length, Option, Some, None, ◌<◌, slice_index_or, inl, inr}
 use Rattle.iot_world.proofs.Common.{refl, sym, ap, subst, ◌∙◌, append_assoc, append-nil, ClientIs}
 use Rattle.iot_world.specs.Prelude.{Medium, Event, NodeEvent, Declared, ClientState, Client, Node, server_name, Keeping, is_fallen, CameIf}
 use Rattle.iot_world.specs.Prelude.{Post, Down, lists, Came, ClientStands, StandsAnyhow, Result, Ok, Err, OnOk, IsClientImage, seating}
@@ -11,14 +11,12 @@ use Rattle.iot_event.specs.declared.event.NodeEvent.TheVariants as nodes
 use Rattle.iot_node.specs.declared.post.Doubt.{Doubt}
 use Rattle.iot_server_node.specs.Deciding.{HasCount, Begins, DecidesIfAny, DecidesPost}
 use Rattle.iot_server_node.proofs.DecidingLaws.{begins_in, decides_post}
-use Rattle.iot_server_node.proofs.KeepersLaws.{same_bodies}
 use Rattle.iot_world.specs.Deciding.{DecidesClient, ClientDecides, Decides}
 use Rattle.iot_world.proofs.ListLaws.{looked_up}
 
 -- an image of a client has as many records as are counted in it
 many_there : (bytes : List ℕ) (n : ℕ) (m : ClientState) (count : ℕ) → IsClientImage bytes n m → HasCount count bytes → n ≡ count
-many_there bytes n m count is has =
-    sym is.counted ∙ ap (λ (bodies : List (List ℕ)). length bodies) (same_bodies _ _ (sym is.stands.read ∙ has.read)) ∙ has.counted
+many_there bytes n m count is has = sym is.stands.counted ∙ has.counted
 
 module _ {D : Type 0} (medium : Medium D) where
   -- by all images, as by the one from which it came

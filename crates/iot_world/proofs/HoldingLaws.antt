@@ -1,18 +1,19 @@
 -- What the disks that a world gives back hold and count: the first has the list, the next what clients keep, and the others are spare.
 use Rattle.std.proofs.lemmas.Option.{same_Some}
-use Rattle.iot_server_node.proofs.BeginningLaws.{is_longer}
 use Rattle.iot_world.proofs.Common.{◌≡◌, ◌+◌, ℕ, List, [], ◌∷◌, ◌++◌, length, map, Option, Some, None, inl, inr, refl, sym, ap, subst, ◌∙◌}
 use Rattle.iot_world.proofs.Common.{arith, length-append, map-append, lasts, has_disk, node_stands, IsListed, Holds, IsKept, KeepsClient}
 use Rattle.iot_world.proofs.Common.{DisksHold, counts_in, StandsForSome, KeepsNode, Each, StandsFor, Opens, KeepsDisks, with_clients}
-use Rattle.iot_world.proofs.Common.{disks_of, length-map, with_first, running_kept, state_kept, stands_begin, own_begins, image_begins}
+use Rattle.iot_world.proofs.Common.{disks_of, length-map, with_first, running_kept, state_kept, stands_go_on, own_goes_on, image_goes_on}
 use Rattle.iot_world.proofs.Common.{FirstBegins, HoldsList, SameArms}
 use Rattle.iot_world.specs.Prelude.{is_some, true, Result, Ok, Err, IfErr, OnOk, StandFor, State, Medium, Call, Declared, ClientState}
 use Rattle.iot_world.specs.Prelude.{names_in, no_text, Machine, Commit, Node, Counts, Refines, kept_text, CountsOn, KeepsDisk, counts_on}
 use Rattle.iot_world.specs.Prelude.{Keeping, PostStands, Lasts, HoldsEither, StepsTo, Post, Up, Down, Between, lists, IsImage, HasDisk}
 use Rattle.iot_world.specs.Prelude.{HavingAnswered, ServerNode, ClientStands, StandsAnyhow, disk_in, IsClientImage, seating, Laptop, World}
-use Rattle.iot_world.specs.Prelude.{Client, Transaction, base, BeginsWith, DiskBegins, records_of, IsOneMoreIfAny}
+use Rattle.iot_world.specs.Prelude.{Client, Transaction, base, DiskGoesOn, GoesOnFrom, IsOneMoreIfAny}
+use Rattle.iot_judging.specs.Lists.{state_of}
 use Rattle.iot_machine.specs.Machine as machine
 use Rattle.iot_node.specs.Posts.{disk_of}
+use Rattle.iot_node.specs.Prelude.{next}
 use Rattle.iot_node.proofs.PostsLaws.{lasts_in}
 use Rattle.iot_server_node.specs.Servers as servers
 use Rattle.iot_laptop.proofs.RestartLaws.{keeps_any}
@@ -104,7 +105,7 @@ module _ {K S D : Type 0} (keeping : Keeping K S D) (medium : Medium D) (Is : S 
       ]
       by (Some after) is = λ image left. elim (each image left) [
         | inl it ↦ inl (means node.durable image count it)
-        | inr it ↦ inr (subst (λ (s : S). Is s image) (same_Some it.0 after (sym it.1 ∙ is)) (means it.0 image (count + 1) it.2))
+        | inr it ↦ inr (subst (λ (s : S). Is s image) (same_Some it.0 after (sym it.1 ∙ is)) (means it.0 image (next count) it.2))
       ]
 
   counted : (says : S → S → List ℕ) (post : Post K D) (node : Node S) → PostStands keeping medium says post node
@@ -125,10 +126,10 @@ module _ {K S D : Type 0} (keeping : Keeping K S D) (medium : Medium D) (Is : S 
 
 -- an image that is a list of so many is that list
 is_listed : (commits : List Commit) (image : List ℕ) (count : ℕ) → IsImage image count commits → IsListed commits image
-is_listed commits image count is = record { has_records = is.has_records; leads = is.leads; counted = refl }
+is_listed commits image count is = record { stands = is.stands; list = is.list; many = is.many ∙ is.counted; counted = refl }
 
 is_kept : (m : ClientState) (image : List ℕ) (count : ℕ) → IsClientImage image count m → IsKept m image
-is_kept m image count is = subst (λ (s : State). StandFor image s) (state_is is.state m is.kept) is.stands
+is_kept m image count is = subst (λ (s : State). StandFor image s) (state_is is.state m is.kept) is.stands.stands
 
 module _ {D : Type 0} (medium : Medium D) where
   -- ---- a client
@@ -230,7 +231,7 @@ module _ {D : Type 0} (medium : Medium D) where
 -- ---- what each image of the first disk begins with
 
 module _ {D : Type 0} (medium : Medium D) where
-  first_begins : (commits : List Commit) (disk : Option D) (rest : List D) → DiskBegins medium (records_of commits) disk
+  first_begins : (commits : List Commit) (disk : Option D) (rest : List D) → DiskGoesOn medium (state_of commits) disk
       → FirstBegins medium commits (with_first disk rest)
   first_begins commits None rest begins = absurd begins
   first_begins commits (Some disk) rest begins = record { first = disk; rest = rest; is = refl; begins = begins }
@@ -239,7 +240,7 @@ module _ {D : Type 0} (medium : Medium D) where
   pub world_begins : (world : World D) (m : Machine) → StandsFor medium world m → FirstBegins medium m.server.durable (disks_of world)
   world_begins world m here =
       first_begins m.server.durable (servers.disk_of world.server) (with_clients world.clients.items world.spare.items)
-      (stands_begin medium (names_in m) world.server m.server m.requests here.server)
+      (stands_go_on medium (names_in m) world.server m.server m.requests here.server)
 
   -- still, if memory ran out in an event
   pub still_begins : (old new : World D) (m : Machine) (joins : ℕ) → StandsFor medium old m → SameArms medium joins old new
@@ -250,12 +251,12 @@ module _ {D : Type 0} (medium : Medium D) where
 
   -- so it is of a list that the images hold
   list_begins : (images : List ℕ → Type 0) (commits : List Commit) (doubt : Option (List Commit)) → IsOneMoreIfAny commits doubt
-      → HoldsList images commits doubt → (image : List ℕ) → images image → BeginsWith (records_of commits) image
-  list_begins images commits None longer holds image there = own_begins image (length commits) commits (holds image there)
+      → HoldsList images commits doubt → (image : List ℕ) → images image → GoesOnFrom (state_of commits) image
+  list_begins images commits None longer holds image there = own_goes_on image (length commits) commits (holds image there)
   list_begins images commits (Some after) longer holds image there =
       elim (holds image there) [
-        | inl is ↦ own_begins image (length commits) commits is
-        | inr is ↦ image_begins image (length after) commits after (is_longer longer) is
+        | inl is ↦ own_goes_on image (length commits) commits is
+        | inr is ↦ image_goes_on image (length after) commits after longer is
       ]
 
   pub held_begins : (handed back : List D) (m : Machine) → DisksHold medium handed back m → FirstBegins medium m.server.durable back

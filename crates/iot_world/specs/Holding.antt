@@ -6,7 +6,7 @@ use Rattle.iot_machine.specs.Recorded.{option_named, queue_kept}
 use Rattle.iot_standing.specs.Kept.{access_kept}
 use Rattle.iot_world.specs.World.{Each}
 
--- an image has this list, a record for each commit
+-- an image has this list: it stands for its state, and as many records were ever appended to it
 abbrev pub IsListed : List Commit → (image : List ℕ) → Type 0
 IsListed commits image = IsImage image (length commits) commits
 

@@ -50,7 +50,7 @@ pub use Rattle.iot_node.specs.declared.post.Post.TheVariants.{Between, Down, Up}
 pub use Rattle.iot_queue.specs.declared.items.Item.{Item}
 pub use Rattle.iot_server.specs.declared.server.Server.{Server}
 pub use Rattle.iot_server_node.specs.Keepers.{lists}
-pub use Rattle.iot_server_node.specs.Records.{BeginsWith, DiskBegins, EachBegins, IsImage, records_of}
+pub use Rattle.iot_server_node.specs.Records.{DiskGoesOn, EachGoesOn, GoesOnFrom, IsImage}
 pub use Rattle.iot_server_node.specs.Servers.{HasDisk, HavingAnswered, IsOneMoreIfAny, IsServerOf, KeepsCommits, ServerStands}
 pub use Rattle.iot_server_node.specs.Servers.{answered_since, disk_of, is_up, post_of}
 pub use Rattle.iot_server_node.specs.declared.server.ServerNode.{ServerNode}

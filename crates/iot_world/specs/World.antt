@@ -156,8 +156,8 @@ abbrev pub joined_by : Event → ℕ
 joined_by (events.Client name) = 1
 joined_by other = 0
 
--- The disks come back of a world that was not made. The first was not armed, and each of its images is a journal; the others are as they
--- were.
+-- The disks come back of a world that was not made. The first was not armed, and each of its images stands for a state to which commits
+-- lead, each of which can follow the ones before it; the others are as they were.
 pub record GivesBack {D : Type 0} (medium : Medium D) (disks back : List D) : Type 0 where
   pub was : D
   pub now : D

@@ -7,7 +7,7 @@ use Rattle.iot_kept.specs.States.{view}
 use Rattle.iot_kept.proofs.SyncedLaws.{synced_holds, synced_spelled}
 use Rattle.iot_wire.specs.Meanings.{IsRefresh}
 use Rattle.iot_client.specs.declared.interpreter.Decided.TheVariants.{Did, Missed}
-use Rattle.iot_client.specs.Ties.{state_of, stamps_of, bodies_on, disk_of, class_in, live}
+use Rattle.iot_client.specs.Ties.{state_of, stamps_of, records_of, disk_of, class_in, live}
 use Rattle.iot_client.specs.declared.fault.ClientFault.TheVariants.{Stopped}
 use Rattle.iot_client.specs.declared.interpreter.Interpreter.{Interpreter}
 use Rattle.iot_client.proofs.DoingLaws.{decided_can, decided_did, decided_misses, decided_on, follows, lives_on, next_in_doubt}
@@ -94,7 +94,7 @@ returns-in_err-note-in-Did-clause-stopped g c =
     (view (state_of old)) c.in-Did.done c.requires.tied.runs c.requires.runs c.is_first-first.ensures refl c.requires.able decided in
     λ is.
     next_in_doubt (state_of old) (class_in old) old.interpreter c.decide_by.new.interpreter c.in-Did.done
-    (bodies_on g.D.Disk.medium old) (g.D.Disk.medium.may_leave (disk_of c.note.new.self)) c.requires.tied.runs c.requires.runs can
+    (records_of old) (g.D.Disk.medium.may_leave (disk_of c.note.new.self)) c.requires.tied.runs c.requires.runs can
     did
     (c.note.ensures.stopped
     (same_fault c.note.result c.from_residual-in_err-note-in-Did.result c.in_err-note-in-Did.field-0.0 Stopped c.in_err-note-in-Did.was

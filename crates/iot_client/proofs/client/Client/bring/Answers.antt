@@ -33,7 +33,6 @@ returns-in-Err-Stopped-clause-stopped g c = λ is.
             c.args.purpose (done.stopped (ap Err c.in-Err-Stopped.field-0-is));
         follows = follows_with (state_of old) c.args.purpose _ _ c.requires.follows;
         either = done.images;
-        one_record = done.one_record;
       };
     }
 

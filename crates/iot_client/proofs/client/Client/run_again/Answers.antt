@@ -32,9 +32,9 @@ returns-clause-reruns g c =
     })
     c.change_head.ensures.notes
 
-cut_by : {state : State} {bodies : List (List ℕ)} {images : List ℕ → Type 0} (done : Resolution) {access other : Access} → access ≡ other
-    → CutsOff (Resolved done access) state bodies images → CutsOff (Resolved done other) state bodies images
-cut_by {state} {bodies} {images} done is cuts = subst (λ (access : Access). CutsOff (Resolved done access) state bodies images) is cuts
+cut_by : {state : State} {records : ℕ} {images : List ℕ → Type 0} (done : Resolution) {access other : Access} → access ≡ other
+    → CutsOff (Resolved done access) state records images → CutsOff (Resolved done other) state records images
+cut_by {state} {records} {images} done is cuts = subst (λ (access : Access). CutsOff (Resolved done access) state records images) is cuts
 
 pub returns-clause-stopped : goal.returns-clause-stopped
 returns-clause-stopped g c = λ is. record {

@@ -1,19 +1,24 @@
-use Rattle.std.proofs.Common.{[], ◌∙◌, sym, ap, None}
-use Rattle.iot_tree.specs.Tree.{Nodes}
-use Rattle.iot_kept.specs.States.{State, view}
+use Rattle.std.proofs.Common.{◌≡◌, ◌∙◌, sym, ap, subst, None}
+use Rattle.iot_stamp.specs.Stamps.{nodes_of}
+use Rattle.iot_kept.specs.Bodies.{IsState}
+use Rattle.iot_kept.specs.States.{State, opening, view}
+use Rattle.iot_kept.proofs.ChangedLaws.{opening_state}
 use Rattle.iot_kept.proofs.memory.Memory.new.Goals as goal
 
-pub returns-clause-state : goal.returns-clause-state
-returns-clause-state c =
-    λ i. record {
+pub returns-clause-sound : goal.returns-clause-sound
+returns-clause-sound c =
+    let is : record {
+      held = nodes_of c.in_ok-new.field-0;
+      items = c.new-2.result;
+      running = None;
+      last = 0;
+      access = c.of_nothing.result;
+    } ≡ opening =
+    (λ i. record {
       held = c.in_ok-new.ensures.nodes i;
       items = c.new-2.ensures i;
       running = None;
       last = 0;
       access = c.of_nothing.ensures i;
-    }
-
-pub returns-clause-sees : goal.returns-clause-sees
-returns-clause-sees c =
-    c.in_ok-view.ensures
-    ∙ sym (ap (λ (s : State). view s) (returns-clause-state c))
+    }) in
+    record { state = subst IsState (sym is) opening_state; sees = c.in_ok-view.ensures ∙ sym (ap (λ (s : State). view s) is) }

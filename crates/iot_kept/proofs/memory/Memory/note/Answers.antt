@@ -1,9 +1,7 @@
-use Rattle.iot_kept.proofs.StatesLaws.{sees_after}
-use Rattle.iot_kept.specs.Memory.{durable_state, memory_state}
+use Rattle.iot_kept.proofs.ChangedLaws.{memory_after}
 use Rattle.iot_kept.proofs.memory.Memory.note.Goals as goal
 
-pub returns-clause-sees : goal.returns-clause-sees
-returns-clause-sees c =
-    sees_after c.note.result (memory_state c.args.self.now) (durable_state c.note.new.self) c.args.change
-    c.args.self.now.view c.see.new.view
-    c.requires.follows c.requires.sees c.in_ok-see.ensures c.note.ensures.state
+pub returns-clause-sound : goal.returns-clause-sound
+returns-clause-sound c =
+    memory_after c.note.result c.args.self.now c.note.new.self c.see.new.view c.args.change c.requires.sound c.requires.change
+    c.requires.follows c.in_ok-see.ensures c.note.ensures.state

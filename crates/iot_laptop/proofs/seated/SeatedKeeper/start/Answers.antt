@@ -3,14 +3,14 @@ use Rattle.iot_laptop.proofs.seated.SeatedKeeper.start.Goals as goal
 
 pub returns-in-Ok-clause-comes : goal.returns-in-Ok-clause-comes
 returns-in-Ok-clause-comes g c =
-    seat_comes g.D.Disk.medium c.args.disk c.args.place c.in-Ok.client c.in-Ok.ensures.only c.in-Ok.ensures.records c.in-Ok.ensures.tied
-    c.in-Ok.ensures.place c.in-Ok.ensures.bodies c.in-Ok.ensures.steady c.in-Ok.ensures.arms
+    seat_comes g.D.Disk.medium c.args.disk c.args.place c.in-Ok.client c.in-Ok.ensures.only c.in-Ok.ensures.stands c.in-Ok.ensures.tied
+    c.in-Ok.ensures.place c.in-Ok.ensures.images c.in-Ok.ensures.steady c.in-Ok.ensures.arms
 
 pub returns-in-Err-clause-fails : goal.returns-in-Err-clause-fails
 returns-in-Err-clause-fails g c =
     seat_fails g.D.Disk.medium c.args.disk c.args.place c.in-Err.refused.1 c.in-Err.refused.0 c.in-Err.ensures.never
     c.in-Err.ensures.cause
-    c.in-Err.ensures.bodies c.in-Err.ensures.arms
+    c.in-Err.ensures.images c.in-Err.ensures.arms
 
 pub returns-in-Ok-clause-live : goal.returns-in-Ok-clause-live
 returns-in-Ok-clause-live g c = seat_fresh g.D.Disk.medium c.args.disk c.in-Ok.client c.in-Ok.ensures.live c.in-Ok.ensures.stamps

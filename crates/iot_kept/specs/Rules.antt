@@ -1,0 +1,37 @@
+-- How what is durable of a client is kept behind checkpoints.
+use Rattle.std.specs.Prelude.{◌≡◌, ℕ, List}
+use Rattle.iot_wire.specs.Messages.{IsMessage}
+use Rattle.iot_changes.specs.Rules.{IsChange}
+use Rattle.iot_changes.specs.Spelling.{change_spelling}
+use Rattle.iot_changes.specs.declared.changes.Change.{Change}
+use Rattle.iot_durable.specs.Rules.{Rules}
+use Rattle.iot_stamp.specs.Stamps.{nodes_of, unstamped}
+use Rattle.iot_kept.specs.Bodies.{IsBody, IsState}
+use Rattle.iot_kept.specs.Changes.{CanFollow, after}
+use Rattle.iot_kept.specs.Memory.{memory_state, class_of, class_after, IsSecond, Sees}
+use Rattle.iot_kept.specs.Stamps.{restamped}
+use Rattle.iot_kept.specs.States.{State, opening}
+use Rattle.iot_kept.specs.declared.memory.Memory.{Memory}
+
+-- the body is the spelling of this change
+abbrev pub IsRecord : List ℕ → Change → Type 0
+IsRecord body change = IsMessage IsChange change_spelling body change
+
+-- the states are a client's, and what changes them are its changes
+abbrev pub rules : Rules State Change
+rules = record { opening = opening; IsBody = IsBody; IsChange = IsChange; IsRecord = IsRecord; CanFollow = CanFollow; after = after }
+
+-- what is in memory has a state that a client may have, and its view beside it
+pub record IsMemory (memory : Memory) : Type 0 where
+  pub state : IsState (memory_state memory)
+  pub sees : Sees memory
+
+-- after a start no stamp of a server is known, and a transaction that runs is second class
+pub record IsStarted (memory : Memory) : Type 0 where
+  pub stamps : memory.durable.held ≡ unstamped (nodes_of memory.durable.held)
+  pub class : IsSecond (class_of memory.durable.running)
+
+-- what a change makes of the stamps and of the class
+pub record ChangesMemory (old : Memory) (change : Change) (new : Memory) : Type 0 where
+  pub stamps : new.durable.held ≡ restamped old.durable.queue old.durable.held change
+  pub class : class_of new.durable.running ≡ class_after change (class_of old.durable.running)

@@ -1,0 +1,73 @@
+//! What the disk keeps of a client: the whole of it in a checkpoint, and each change in a record.
+ghost use Rattle.iot_kept.specs.Memory.{memory_state};
+ghost use Rattle.iot_kept.specs.Rules.{rules as of_client, ChangesMemory, IsMemory, IsStarted};
+ghost use Rattle.iot_kept.specs.States.{State};
+
+use crate::body::read_body;
+use crate::memory::Memory;
+use crate::running::{acts_of, order_of};
+use iot_bodies::put_client;
+use iot_changes::{Change, put_change, read_change};
+use iot_codec::CodecFault;
+use iot_durable::Recorded;
+use iot_text::{NoMemory, Text};
+use std::alloc::Global;
+
+impl Recorded for Memory {
+    type Change = Change;
+
+    ghost Kept = { State };
+
+    ghost kept = { memory_state };
+
+    ghost rules = { of_client };
+
+    ghost IsSound = { IsMemory };
+
+    ghost IsFresh = { IsStarted };
+
+    ghost Makes = { ChangesMemory };
+
+    fn opening(alloc: Global) -> Result<Memory, NoMemory> {
+        Memory::new(alloc)
+    }
+
+    fn spell(&self, out: &mut Text) -> Result<(), NoMemory> {
+        out.clear();
+        let durable = &self.durable;
+        put_client(
+            durable.held.tree(),
+            durable.queue.items(),
+            &durable.access,
+            order_of(&durable.running),
+            acts_of(&durable.running),
+            durable.last,
+            out,
+        )
+    }
+
+    fn read(alloc: Global, body: &[u8]) -> Result<Option<Memory>, NoMemory> {
+        read_body(alloc, body)
+    }
+
+    fn spell_change(change: &Change, out: &mut Text) -> Result<(), NoMemory> {
+        out.clear();
+        put_change(change, out)
+    }
+
+    fn read_change(alloc: Global, body: &[u8]) -> Result<Option<Change>, NoMemory> {
+        match read_change(alloc, body) {
+            Ok(change) => Ok(Some(change)),
+            Err(CodecFault::Malformed { .. }) => Ok(None),
+            Err(CodecFault::NoMemory) => Err(NoMemory),
+        }
+    }
+
+    fn follow(&mut self, alloc: Global, change: Change) -> Result<bool, NoMemory> {
+        self.replay(alloc, change)
+    }
+
+    fn apply(&mut self, alloc: Global, change: Change) -> Result<(), NoMemory> {
+        self.note(alloc, change)
+    }
+}

@@ -1,0 +1,24 @@
+-- How what a server keeps is kept behind checkpoints.
+use Rattle.iot_codec.specs.Rules.{AreLines, IsAccess, IsLabel}
+use Rattle.iot_durable.specs.Rules.{Rules}
+use Rattle.iot_store.specs.Bodies.{IsBody}
+use Rattle.iot_store.specs.Records.{IsRecord}
+use Rattle.iot_store.specs.States.{State, opening, CanFollow, after_commit}
+use Rattle.iot_store.specs.declared.commit.Commit.{Commit}
+
+-- the label, the access and the lines of the commit have spellings
+pub record IsCommit (commit : Commit) : Type 0 where
+  pub label : IsLabel commit.label
+  pub access : IsAccess commit.access
+  pub lines : AreLines commit.lines
+
+-- the states are a server's, and what changes them are commits
+abbrev pub rules : Rules State Commit
+rules = record {
+  opening = opening;
+  IsBody = IsBody;
+  IsChange = IsCommit;
+  IsRecord = λ body commit. IsRecord body commit.label commit.access commit.lines;
+  CanFollow = λ state commit. CanFollow state commit.label commit.access;
+  after = λ state commit. after_commit state commit.label commit.access;
+}

@@ -1,0 +1,75 @@
+//! Reading the body of a checkpoint.
+ghost use Rattle.std.specs.Prelude.{◌≡◌, ◌↔◌, IfOk, IfSome, IsTrue};
+ghost use Rattle.iot_durable.specs.Rules.{IsThis};
+ghost use Rattle.iot_store.specs.Bodies.{IsBody, IsState};
+ghost use Rattle.iot_store.specs.Reading.{FitStamps, IsReadAs};
+ghost use Rattle.iot_store.specs.States.{State};
+ghost use Rattle.iot_tree.specs.Snapshots.{is_known};
+
+use crate::commits::Commits;
+use iot_bodies::{ServerBody, read_server};
+use iot_codec::CodecFault;
+use iot_stamp::Stamped;
+use iot_text::{NoMemory, Path};
+use iot_tree::Node;
+use std::alloc::Global;
+
+/// The commits of which the body spells the whole, if it does.
+pub(crate) fn read_body(alloc: Global, body: &[u8]) -> Result<Option<Commits>, NoMemory>
+    ensures found { IfOk result (λ read. IfSome read (λ made. IsBody body.now made)) }
+    ensures only { (state : State) → IsBody body.now state → IfOk result (IsThis (λ (s : State). s) state) }
+    ensures sound { IfOk result (λ read. IfSome read IsState) }
+{
+    let Some(parts) = read_parts(alloc, body)? else {
+        return Ok(None);
+    };
+    let ServerBody {
+        tree,
+        labels,
+        stamps,
+    } = parts;
+    if !are_stamps(tree.rows().as_slice(), stamps.as_slice(), labels.len()) {
+        return Ok(None);
+    }
+    let tree = Stamped::from_tree(tree, stamps.into_vec());
+    Commits::with_labels(alloc, tree, labels)
+}
+
+/// The parts that the body spells, if it spells some.
+fn read_parts(alloc: Global, body: &[u8]) -> Result<Option<ServerBody>, NoMemory>
+    ensures { IfOk result (IsReadAs body.now) }
+{
+    match read_server(alloc, body) {
+        Ok(parts) => Ok(Some(parts)),
+        Err(CodecFault::Malformed { .. }) => Ok(None),
+        Err(CodecFault::NoMemory) => Err(NoMemory),
+    }
+}
+
+/// Whether the rows are those of a whole tree, and each has a stamp, from 1 to the number of commits plus 1.
+fn are_stamps(rows: &[(Path, Node)], stamps: &[u64], commits: usize) -> bool
+    ensures { IsTrue result ↔ FitStamps rows.now stamps.now commits }
+{
+    if stamps.len() != rows.len() {
+        return false;
+    }
+    'rows: for place in 0..rows.len() {
+        if !is_known(&rows[place].1) {
+            return false;
+        }
+        if stamps[place] == 0 || stamps[place] - 1 > commits as u64 {
+            return false;
+        }
+    }
+    true
+}
+
+/// Whether the inside of the object is known.
+fn is_known(node: &Node) -> bool
+    ensures { result ≡ is_known node.now }
+{
+    match node {
+        Node::Dir | Node::File(_) => true,
+        Node::FarDir | Node::FarFile => false,
+    }
+}
