@@ -3,8 +3,17 @@ use crate::fixtures::{Failing, NONE, ran};
 use crate::runs::{CRASH, RECORDED};
 use std::test::Fail;
 
-/// What the server's disk has before any commit.
-const STARTED: &[u8] = b"\xa5IOTJRNL1\0";
+/// What the server's disk has before any commit: the header; the cell in force, with generation 1 and the place 43; the other cell, closed;
+/// and at 43 a checkpoint with a body of 41 bytes, before and behind which there is no record: the root, no labels, and the root's stamp.
+const STARTED: &[u8] = b"\xa5IOTSLOT1\
+    \xa5\0\0\0\0\0\0\0\x01\0\0\0\0\0\0\0\x2b\
+    \0\0\0\0\0\0\0\0\0\0\0\0\0\0\0\0\0\
+    \0\0\0\0\0\0\0\x29\
+    \0\0\0\0\0\0\0\x01\0\0\0\0\0\0\0\0\x01\
+    \0\0\0\0\0\0\0\0\
+    \0\0\0\0\0\0\0\x01\0\0\0\0\0\0\0\x01\
+    \0\0\0\0\0\0\0\0\
+    \0";
 
 /// What no events leave.
 const NOTHING: &[u8] = b"{\"clients\":[],\"commits\":[],\"server\":[[\"/\",\"dir\"]]}\n";
@@ -45,8 +54,8 @@ fn each_job_writes_its_output(rt: HostRuntime) -> Result<(), Fail> {
 
 #[test]
 fn a_disk_that_cannot_be_read_is_not_saved(rt: HostRuntime) -> Result<(), Fail> {
-    // Its start makes six device calls. The one after them is the read of what is saved, which fails too if the start did.
-    for (device, status) in [(6, 6), (7, 6), (8, 0)] {
+    // Its start makes eight device calls. The one after them is the read of what is saved, which fails too if the start did.
+    for (device, status) in [(8, 6), (9, 6), (10, 0)] {
         let failing = Failing { device, ..NONE };
         let (ended, written) = ran(rt.alloc(), b"", &["--save"], failing)?;
         assert_eq!(rt; ended.status, status);

@@ -18,9 +18,17 @@ const COMMITTED: &[u8] =
 
 const CRASHED: &[u8] = b"crash server\naway\ndown\nrestart server\nup\ndir /\ndir /d\n";
 
-/// What it leaves on the server's disk: one record, of 181 bytes. It has the label of client 0's transaction 1, of the
-/// script `e`, certified, with nothing kept; what it asked of the tree before it, its update and its line.
-pub(crate) const RECORDED: &[u8] = b"\xa5IOTJRNL1\xa5\0\0\0\0\0\0\0\xb5\x02\
+/// What it leaves on the server's disk: one record behind the checkpoint of the start, of 181 bytes. It has the label of client 0's
+/// transaction 1, of the script `e`, certified, with nothing kept; what it asked of the tree before it, its update and its line.
+pub(crate) const RECORDED: &[u8] = b"\xa5IOTSLOT1\
+    \xa5\0\0\0\0\0\0\0\x01\0\0\0\0\0\0\0\x2b\
+    \0\0\0\0\0\0\0\0\0\0\0\0\0\0\0\0\0\
+    \0\0\0\0\0\0\0\x29\
+    \0\0\0\0\0\0\0\x01\0\0\0\0\0\0\0\0\x01\
+    \0\0\0\0\0\0\0\0\
+    \0\0\0\0\0\0\0\x01\0\0\0\0\0\0\0\x01\
+    \0\0\0\0\0\0\0\0\
+    \xa5\0\0\0\0\0\0\0\xb5\x02\
     \0\0\0\0\0\0\0\0\0\0\0\0\0\0\0\x01\0\0\0\0\0\0\0\x01e\0\0\0\0\0\0\x10\0\x01\0\0\0\0\0\0\0\0\
     \0\0\0\0\0\0\0\x03\
     \x01\0\0\0\0\0\0\0\x01\0\0\0\0\0\0\0\x01d\x02\0\0\0\0\0\0\0\x01\
@@ -188,8 +196,8 @@ fn a_read_or_a_write_that_fails_ends_the_run(rt: HostRuntime) -> Result<(), Fail
 #[test]
 fn a_server_whose_disk_fails_stops(rt: HostRuntime) -> Result<(), Fail> {
     let alloc = rt.alloc();
-    // A start of an empty disk makes six device calls, a commit four, and the start after a crash one.
-    for device in 1..12 {
+    // A start of an empty disk makes eight device calls, a commit four, and the start after a crash one.
+    for device in 1..14 {
         for pick in [Pick::Old, Pick::New, Pick::Fill(165)] {
             let failing = Failing {
                 device,
@@ -198,11 +206,11 @@ fn a_server_whose_disk_fails_stops(rt: HostRuntime) -> Result<(), Fail> {
             };
             let (ended, written) = ran(alloc, CRASH, &[], failing)?;
             assert_eq!(rt; ended.status, 0, "call {device}");
-            let kept = device > 8 && pick != Pick::Old;
+            let kept = device > 10 && pick != Pick::Old;
             let (first, rest, number) = match device {
-                1..=6 => (UNSTARTED, b"".as_slice(), 0),
-                7..=10 if kept => (STOPPED, KEPT, 1),
-                7..=10 => (STOPPED, LOST, 0),
+                1..=8 => (UNSTARTED, b"".as_slice(), 0),
+                9..=12 if kept => (STOPPED, KEPT, 1),
+                9..=12 => (STOPPED, LOST, 0),
                 _ => (COMMITTED, AGAIN, 1),
             };
             let mut says = Vec::from_slice(alloc, first)?;
@@ -264,48 +272,48 @@ fn stops_and_finds(
 #[test]
 fn a_client_whose_disk_fails_stops(rt: HostRuntime) -> Result<(), Fail> {
     let alloc = rt.alloc();
-    // A start of an empty disk makes six device calls, a record four, and the start after a crash one.
+    // A start of an empty disk makes eight device calls, a record four, and the start after a crash one.
     let cases: [(u64, Pick, &[u8]); 8] = [
         (
-            6,
+            8,
             Pick::Old,
             b"laptop stopped\ndown\ndown\ndown\nrestart laptop\nempty\nrefresh laptop\n",
         ),
         (
-            8,
+            10,
             Pick::New,
             b"client laptop\nlaptop stopped\ndown\ndown\nrestart laptop lost\nempty\nrefresh laptop\n",
         ),
         (
-            14,
+            16,
             Pick::New,
             b"client laptop\nlaptop stopped\ndown\ndown\nrestart laptop kept\ncut laptop.1 0 acts\n\
             item laptop.1 five abort waiting 0 acts cut\ncommit 1 laptop.1 certified\nsettled laptop.1 1\nrefresh laptop\n",
         ),
         (
-            26,
+            28,
             Pick::Old,
             b"client laptop\nbegin laptop.1 five first\nlaptop stopped\ndown\nrestart laptop lost\ncut laptop.1 2 acts\n\
             item laptop.1 five abort waiting 2 acts cut\ncommit 1 laptop.1 certified\n|1\n|2\nsettled laptop.1 1\nrefresh laptop\n",
         ),
         (
-            26,
+            28,
             Pick::New,
             b"client laptop\nbegin laptop.1 five first\nlaptop stopped\ndown\nrestart laptop kept\ncut laptop.1 3 acts\n\
             item laptop.1 five abort waiting 3 acts cut\ncommit 1 laptop.1 certified\n|1\n|2\n|3\nsettled laptop.1 1\nrefresh laptop\n",
         ),
         (
-            27,
+            29,
             Pick::New,
             b"client laptop\nbegin laptop.1 five first\nstep laptop.1 3 acts\ncrash laptop\nlaptop stopped\ndown\ndown\n",
         ),
         (
-            31,
+            33,
             Pick::New,
             b"client laptop\nbegin laptop.1 five first\nstep laptop.1 3 acts\ncrash laptop\nrestart laptop\nlaptop stopped\ndown\ndown\n",
         ),
         (
-            35,
+            37,
             Pick::New,
             b"client laptop\nbegin laptop.1 five first\nstep laptop.1 3 acts\ncrash laptop\nrestart laptop\ncut laptop.1 3 acts\n\
             item laptop.1 five abort waiting 3 acts cut\ncommit 1 laptop.1 certified\n|1\n|2\n|3\nlaptop stopped\n",
@@ -315,7 +323,7 @@ fn a_client_whose_disk_fails_stops(rt: HostRuntime) -> Result<(), Fail> {
         stops_and_says(&rt, alloc, device, pick, says)?;
     }
     // What it finds that stops in its last records.
-    for (device, before, after) in [(27, 5, 5), (31, 5, 6), (35, 6, 7), (39, 7, 8)] {
+    for (device, before, after) in [(29, 5, 5), (33, 5, 6), (37, 6, 7), (41, 7, 8)] {
         stops_and_finds(&rt, alloc, device, Pick::Old, before)?;
         stops_and_finds(&rt, alloc, device, Pick::New, after)?;
     }

@@ -23,3 +23,34 @@ pub(crate) fn tree(rt: &impl Abort, alloc: Global, text: &str) -> Result<Tree, N
     assert!(rt; acted.ended);
     Ok(tree)
 }
+
+/// What a client's disk has on which nothing but its start was done: the cells, and a checkpoint of a client that knows nothing.
+pub(crate) const CLIENT_STARTED: &[u8] = b"\xa5IOTSLOT1\xa5\0\0\0\0\0\0\0\x01\0\0\0\0\0\0\0\x2b\
+    \0\0\0\0\0\0\0\0\0\0\0\0\0\0\0\0\0\
+    \0\0\0\0\0\0\0\x22\0\0\0\0\0\0\0\x01\0\0\0\0\0\0\0\0\x03\0\0\0\0\0\0\0\0\0\0\0\0\0\0\0\0\0\
+    \0\0\0\0\0\0\0\0";
+
+/// That with records of these bodies, and of one more.
+pub(crate) fn recorded(
+    alloc: Global,
+    bodies: &[&[u8]],
+    last: Option<&[u8]>,
+) -> Result<Vec<u8>, NoMemory> {
+    let mut bytes = Vec::from_slice(alloc, CLIENT_STARTED)?;
+    for body in bodies {
+        record(&mut bytes, body)?;
+    }
+    if let Some(body) = last {
+        record(&mut bytes, body)?;
+    }
+    bytes.push(0)?;
+    Ok(bytes)
+}
+
+/// Appends a record of this body.
+fn record(bytes: &mut Vec<u8>, body: &[u8]) -> Result<(), NoMemory> {
+    bytes.push(165)?;
+    bytes.extend_from_slice(&(body.len() as u64).to_be_bytes())?;
+    bytes.extend_from_slice(body)?;
+    Ok(())
+}

@@ -1,10 +1,11 @@
-//! Journals of a client with each of its changes, as they were written by hand.
+//! Records of each of a client's changes, as they were written by hand.
 ghost use Rattle.std.specs.Prelude.{IfOk};
 ghost use Rattle.iot_kept.specs.Kept.{IsSynced};
 
+use crate::fixtures::recorded;
 use iot_disk::{Disk, MemDisk};
 use iot_kept::{Kept, StartFault};
-use iot_text::{NoMemory, Path};
+use iot_text::Path;
 use iot_tree::Kind;
 use std::alloc::Global;
 use std::process::Abort;
@@ -70,46 +71,25 @@ const DAMAGE: &[(&[&[u8]], &[&[u8]], u64)] = &[
         &[
             SECOND, FETCHED, ACTED, ENDED, CUT, CONFLICTED, RESOLVED, REPAIRED, LEFT, b"\x0b",
         ],
-        9,
+        93,
     ),
     // One runs. The root that is known at first is far, so that `/d` is away.
-    (&[FIRST], &[FIRST, SECOND, HELD, ACTED, LEFT], 37),
-    (&[HELD, FIRST], &[UNGUARDED], 64),
-    (&[HELD, FIRST, ACTED], &[ACTED], 137),
+    (&[FIRST], &[FIRST, SECOND, HELD, ACTED, LEFT], 121),
+    (&[HELD, FIRST], &[UNGUARDED], 148),
+    (&[HELD, FIRST, ACTED], &[ACTED], 221),
     // One waits, and then it is to be resolved.
     (
         &[FIRST, ENDED],
         &[HELD, FIRST, FETCHED, ENDED, RESOLVED, REPAIRED],
-        47,
+        131,
     ),
     (
         &[FIRST, ENDED, CONFLICTED],
         &[CONFLICTED, REPAIRED, LEFT],
-        57,
+        141,
     ),
-    (&[FIRST, ENDED, SECOND], &[FETCHED], 75),
+    (&[FIRST, ENDED, SECOND], &[FETCHED], 159),
 ];
-
-/// A disk with a journal of these bodies and of one more.
-fn written(alloc: Global, bodies: &[&[u8]], last: Option<&[u8]>) -> Result<MemDisk, NoMemory> {
-    let mut bytes = Vec::from_slice(alloc, b"\xa5IOTJRNL1")?;
-    for body in bodies {
-        write(&mut bytes, body)?;
-    }
-    if let Some(body) = last {
-        write(&mut bytes, body)?;
-    }
-    bytes.push(0)?;
-    MemDisk::of(alloc, bytes)
-}
-
-/// Appends a record of this body.
-fn write(bytes: &mut Vec<u8>, body: &[u8]) -> Result<(), NoMemory> {
-    bytes.push(165)?;
-    bytes.extend_from_slice(&(body.len() as u64).to_be_bytes())?;
-    bytes.extend_from_slice(body)?;
-    Ok(())
-}
 
 /// What is kept on a disk that is restarted.
 fn started<D: Disk + Drop>(alloc: Global, mut disk: D) -> Result<Kept<D>, StartFault>
@@ -151,7 +131,7 @@ struct Seen {
 }
 
 fn seen_after(alloc: Global, bodies: &[&[u8]], path: &Path) -> Result<Seen, StartFault> {
-    let kept = started(alloc, written(alloc, bodies, None)?)?;
+    let kept = started(alloc, MemDisk::of(alloc, recorded(alloc, bodies, None)?)?)?;
     Ok(Seen {
         running: running_of(&kept),
         head: head_of(&kept),
@@ -211,9 +191,12 @@ fn a_conflict_may_be_given_up(rt: HostRuntime) -> Result<(), Fail> {
     Ok(())
 }
 
-/// Whether a disk with a journal of these bodies, and of the last one, is damaged at this place.
+/// Whether a disk with records of these bodies, and of the last one, is damaged at this place.
 fn is_damaged(alloc: Global, bodies: &[&[u8]], last: &[u8], at: u64) -> Result<bool, StartFault> {
-    match started(alloc, written(alloc, bodies, Some(last))?) {
+    match started(
+        alloc,
+        MemDisk::of(alloc, recorded(alloc, bodies, Some(last))?)?,
+    ) {
         Ok(_) => Ok(false),
         Err(StartFault::Damaged { at: place }) => Ok(place == at),
         Err(fault) => Err(fault),

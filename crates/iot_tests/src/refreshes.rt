@@ -5,6 +5,7 @@ ghost use Rattle.iot_server.specs.Servers.{IsSynced};
 ghost use Rattle.iot_client.specs.Calls.{HeadIsIfAny, IsPlanned};
 ghost use Rattle.iot_client.specs.Ties.{IsTied, place_of, state_of};
 
+use crate::fixtures::recorded;
 use iot_client::{Client, ClientFault};
 use iot_disk::{Disk, MemDisk};
 use iot_lang::parse;
@@ -35,19 +36,21 @@ const NOTHING: &[u8] = b"\x01\0\0\0\0\0\0\0\0\0\0\0\0\0\0\0\0";
 const RESTARTED: &[u8] = b"\x01\0\0\0\0\0\0\0\0\0\0\0\0\0\0\0\x01\0\0\0\0\0\0\0\0\0\0\0\0\0\0\0\0\
     \x03\0\0\0\0\0\0\0\0";
 
-/// A journal of two records, each of which says that the root alone is held, and is whole.
-const TWICE: &[u8] = b"\xa5IOTJRNL1\
-    \xa5\0\0\0\0\0\0\0\x12\x01\0\0\0\0\0\0\0\x01\0\0\0\0\0\0\0\0\x01\
-    \xa5\0\0\0\0\0\0\0\x12\x01\0\0\0\0\0\0\0\x01\0\0\0\0\0\0\0\0\x01\0";
+/// Two records, each of which says that the root alone is held, and is whole.
+const TWICE: &[&[u8]] = &[HELD, HELD];
+
+const HELD: &[u8] = b"\x01\0\0\0\0\0\0\0\x01\0\0\0\0\0\0\0\0\x01";
 
 /// The far directory `/d`, without the root above it.
 const WITHOUT_ROOT: &[u8] = b"\x01\0\0\0\0\0\0\0\x01\0\0\0\0\0\0\0\x01\0\0\0\0\0\0\0\x01d\x03\
     \0\0\0\0\0\0\0\0\0\0\0\0\0\0\0\0";
 
-/// A journal of a client whose transaction 1, of script `e`, is in conflict, and is to be run again.
-const CONFLICT: &[u8] = b"\xa5IOTJRNL1\
-    \xa5\0\0\0\0\0\0\0\x13\x02\0\0\0\0\0\0\0\x01\0\0\0\0\0\0\0\x01e\x01\
-    \xa5\0\0\0\0\0\0\0\x01\x05\xa5\0\0\0\0\0\0\0\x01\x07\0";
+/// The records of a client whose transaction 1, of script `e`, is in conflict, and is to be run again.
+const CONFLICT: &[&[u8]] = &[
+    b"\x02\0\0\0\0\0\0\0\x01\0\0\0\0\0\0\0\x01e\x01",
+    b"\x05",
+    b"\x07",
+];
 
 /// The root with stamp 2, and the far directory `/d`.
 const FAR: &[u8] = b"\x01\0\0\0\0\0\0\0\x02\0\0\0\0\0\0\0\0\x01\0\0\0\0\0\0\0\x02\
@@ -126,14 +129,15 @@ fn what_is_known_does_not_come_again(rt: HostRuntime) -> Result<(), Fail> {
     // What is held has not changed, and its record was appended again.
     assert_eq!(rt; client.held().rows().len(), 1);
     assert_eq!(rt; client.records(), 2);
-    assert_eq!(rt; client.into_disk().bytes(), TWICE);
+    let twice = recorded(alloc, TWICE, None)?;
+    assert_eq!(rt; client.into_disk().bytes(), twice.as_slice());
     Ok(())
 }
 
 #[test]
 fn no_stamp_is_known_after_a_restart(rt: HostRuntime) -> Result<(), Fail> {
     let alloc = rt.alloc();
-    let disk = MemDisk::of(alloc, Vec::from_slice(alloc, TWICE)?)?;
+    let disk = MemDisk::of(alloc, recorded(alloc, TWICE, None)?)?;
     let mut client = client_on(alloc, disk)?;
     hoard_twice(&rt, alloc, &mut client, RESTARTED)?;
     assert_eq!(rt; client.records(), 4);
@@ -232,7 +236,7 @@ fn a_resolution_needs_a_whole_tree(rt: HostRuntime) -> Result<(), Fail> {
         (WITHOUT_ROOT, WITHOUT_ROOT.len() as u64),
         (b"\x01", 1),
     ] {
-        let disk = MemDisk::of(alloc, Vec::from_slice(alloc, CONFLICT)?)?;
+        let disk = MemDisk::of(alloc, recorded(alloc, CONFLICT, None)?)?;
         let mut client = client_on(alloc, disk)?;
         refuses_to_resolve(&rt, alloc, &mut client, reply, at)?;
     }
