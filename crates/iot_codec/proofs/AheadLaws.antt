@@ -14,7 +14,7 @@ use Rattle.iot_tree.specs.Tree.{Path, Row}
 use Rattle.iot_tree.specs.declared.nodes.Node.TheVariants.{Dir}
 use Rattle.iot_tree.proofs.PlaceLaws.{rows_rise}
 use Rattle.iot_codec.specs.Ahead.{ComesAfter, IsAhead}
-use Rattle.iot_codec.specs.Rules.{rises}
+use Rattle.iot_views.specs.Rules.{rises}
 
 -- after a row comes the next one
 pub next_after : (rows : List Row) → Rising rows → (place : ℕ) (row : Row) → slice_get rows place ≡ Some row
@@ -44,10 +44,3 @@ after_row rows rising path place at =
 
 pub after_gap : (rows : List Row) (path : Path) (place : ℕ) → IsGap rows path place → ComesAfter rows place path
 after_gap rows path place gap = after_drop path rows place gap.after
-
--- a path that is not before the row at the place rises
-pub rises_here : (rows : List Row) (place : ℕ) (previous : Option (Path × ℕ)) (row : Row) → IsAhead rows place previous
-    → slice_get rows place ≡ Some row → rises path_cmp previous row.0 ≡ true
-rises_here rows place None row ahead is = refl
-rises_here rows place (Some previous) row ahead is =
-    subst (λ (found : Option Row). IfSome found (λ row. IsTrue (is_lt (path_cmp previous.0 row.0)))) is ahead

@@ -13,10 +13,11 @@ use Rattle.iot_tree.specs.declared.acts.Read.{Read}
 use Rattle.iot_codec.specs.declared.faults.CodecFault.{CodecFault}
 use Rattle.iot_codec.specs.declared.faults.CodecFault.TheVariants.{NoMemory, Malformed}
 use Rattle.iot_codec.specs.Outcomes.{IsOutcome}
-use Rattle.iot_codec.specs.Decoders.{number_at, items_at}
-use Rattle.iot_codec.specs.Decoding.{base_at, bases_at}
+use Rattle.iot_views.specs.Decoders.{number_at, items_at}
+use Rattle.iot_views.specs.Decoding.{base_at, bases_at}
 use Rattle.iot_codec.specs.Spelling.{number_spelling, base_spelling, bases_spelling}
-use Rattle.iot_codec.proofs.DecodersLaws.{with_front, IsOnWay, goes_on, ends, is_done}
+use Rattle.iot_views.proofs.DecodersLaws.{with_front, IsOnWay, goes_on, is_done}
+use Rattle.iot_codec.proofs.FaultsLaws.{ends}
 
 -- a pair more
 pub zip_push : {A B : Type 0} (xs : List A) (ys : List B) (x : A) (y : B) → length ys ≡ length xs
@@ -116,10 +117,8 @@ goes_on_even bytes count mid reads places i end read place after lt base so_far 
     )
 
 module _ (bytes : List ℕ) (at : ℕ) where
-  pub number_fault : (fault : CodecFault) → IsOutcome {X = ℕ × ℕ} (Err fault) (number_at bytes at)
-      → IsOutcome {X = (List Read × List ℕ) × ℕ} (Err fault) (bases_at bytes at)
-  number_fault NoMemory h = tt
-  number_fault (Malformed place) h = rw h refl
+  pub number_fault : (place : ℕ) → number_at bytes at ≡ Err place → bases_at bytes at ≡ Err place
+  number_fault place h = rw h refl
 
   module _ (count mid : ℕ) (number : number_at bytes at ≡ Ok (count, mid)) where
     pub base_fault : (fault : CodecFault)

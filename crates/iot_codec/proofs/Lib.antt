@@ -1,5 +1,5 @@
 pub mod AheadLaws
 pub mod BasesLaws
-pub mod DecodersLaws
 pub mod DigitsLaws
+pub mod FaultsLaws
 pub mod OutcomesLaws

@@ -4,7 +4,7 @@ use Rattle.std.specs.Prelude.{IfOk}
 use Rattle.iot_codec.specs.declared.faults.CodecFault.{CodecFault}
 use Rattle.iot_codec.specs.Outcomes.{IsOutcome}
 use Rattle.iot_codec.specs.Places.{IsSpelledAt, AreBytes, IsAlone, IsSpelling}
-use Rattle.iot_codec.specs.Decoders.{Decoder}
+use Rattle.iot_views.specs.Decoders.{Decoder}
 
 same_ok : {X : Type 0} (decoding : Result X ℕ) (one other : X) → decoding ≡ Ok one → decoding ≡ Ok other → one ≡ other
 same_ok decoding one other p q = cc

@@ -1,6 +1,6 @@
 -- Where a spelling is in bytes.
 use Rattle.std.specs.Prelude.{◌≡◌, ℕ, ◌+◌, ◌<◌, ◌≤◌, ◌^◌, List, ◌++◌, length, drop, get_or, Ok}
-use Rattle.iot_codec.specs.Decoders.{Decoder}
+use Rattle.iot_views.specs.Decoders.{Decoder}
 
 -- the text lies in the bytes from offset `at` on, and ends at offset `end`
 pub record LiesAt (bytes : List ℕ) (at : ℕ) (text : List ℕ) (end : ℕ) : Type 0 where

@@ -3,17 +3,17 @@ ghost use Rattle.std.specs.Prelude.{◌≡◌, ◌++◌, length, OnOk, OnErr, If
 ghost use Rattle.iot_text.specs.Texts.{AppendsPart};
 ghost use Rattle.iot_codec.specs.Outcomes.{IsOutcome, DecodesWhatIsSpelled};
 ghost use Rattle.iot_codec.specs.Places.{IsSpelledAt, IsAlone};
-ghost use Rattle.iot_codec.specs.Decoding.{base_at, bases_at, access_at};
-ghost use Rattle.iot_codec.specs.Rules.{IsAccess};
+ghost use Rattle.iot_views.specs.Decoding.{base_at, bases_at, access_at};
+ghost use Rattle.iot_views.specs.Rules.{IsAccess};
 ghost use Rattle.iot_codec.specs.Spelling.{base_spelling, bases_spelling, access_spelling};
 ghost use Rattle.iot_codec.specs.Laws.Bases.{access_laws};
 
 use crate::CodecFault;
 use crate::lists::{put_list, read_list};
-use crate::numbers::number_at;
 use crate::spelled::{Spelled, read};
 use iot_text::{NoMemory, Text};
 use iot_tree::{Access, Places, Read, Reads, Update};
+use iot_views::number_at;
 use std::alloc::Global;
 
 /// Appends a base read: the read, and then its place.
@@ -39,7 +39,7 @@ fn put_bases(reads: &[Read], places: &[u64], out: &mut Text) -> Result<(), NoMem
 }
 
 /// Reads a base read.
-#[tactic(auto, unfolding(crate::specs::Decoding::base_at))]
+#[tactic(auto, unfolding(iot_views::specs::Decoding::base_at))]
 fn read_base(alloc: Global, bytes: &[u8], at: usize) -> Result<((Read, u64), usize), CodecFault>
     ensures { IsOutcome result (base_at bytes.now at) }
 {
@@ -82,7 +82,7 @@ impl Spelled for Access {
         put_list(self.updates.as_slice(), out)
     }
 
-    #[tactic(auto, unfolding(crate::specs::Decoding::access_at))]
+    #[tactic(auto, unfolding(iot_views::specs::Decoding::access_at))]
     fn read(alloc: Global, bytes: &[u8], at: usize) -> Result<(Access, usize), CodecFault> {
         let ((reads, places), at) = read_bases(alloc, bytes, at)?;
         let (updates, end) = read_list::<Update>(alloc, bytes, at)?;

@@ -3,18 +3,18 @@ ghost use Rattle.std.specs.Prelude.{◌≡◌, ◌++◌, length, OnOk, OnErr, If
 ghost use Rattle.iot_text.specs.Texts.{AppendsPart};
 ghost use Rattle.iot_codec.specs.Outcomes.{IsOutcome, DecodesWhatIsSpelled};
 ghost use Rattle.iot_codec.specs.Places.{IsSpelledAt, IsAlone};
-ghost use Rattle.iot_codec.specs.Decoding.{act_at, acts_at};
-ghost use Rattle.iot_codec.specs.Rules.{IsAct, AreActs};
+ghost use Rattle.iot_views.specs.Decoding.{act_at, acts_at};
+ghost use Rattle.iot_views.specs.Rules.{IsAct, AreActs};
 ghost use Rattle.iot_codec.specs.Spelling.{act_spelling, acts_spelling};
 ghost use Rattle.iot_codec.specs.Laws.Updates.{act_laws, acts_laws};
 
 use crate::CodecFault;
 use crate::lists::{put_list, read_items};
-use crate::numbers::at_most;
 use crate::spelled::{Spelled, read};
 use crate::updates::read_optional_update_on;
 use iot_text::{NoMemory, Path, Text};
 use iot_tree::{ACT_LIMIT, Act, Acts, Lines, Question, Read, Reads};
+use iot_views::at_most;
 use std::alloc::Global;
 
 impl Spelled for Act {
@@ -31,7 +31,7 @@ impl Spelled for Act {
         self.lines.put(out)
     }
 
-    #[tactic(auto, unfolding(crate::specs::Decoding::act_at))]
+    #[tactic(auto, unfolding(iot_views::specs::Decoding::act_at))]
     fn read(alloc: Global, bytes: &[u8], at: usize) -> Result<(Act, usize), CodecFault> {
         let (reads, at) = Reads::read(alloc, bytes, at)?;
         let known = last_path(reads.as_slice());
@@ -68,7 +68,7 @@ impl Spelled for Acts {
         put_list(self.as_slice(), out)
     }
 
-    #[tactic(auto, unfolding(crate::specs::Decoding::acts_at))]
+    #[tactic(auto, unfolding(iot_views::specs::Decoding::acts_at))]
     fn read(alloc: Global, bytes: &[u8], at: usize) -> Result<(Acts, usize), CodecFault> {
         let (count, at) = at_most(ACT_LIMIT, bytes, at)?;
         read_items(alloc, count, bytes, at)

@@ -3,16 +3,17 @@ ghost use Rattle.std.specs.Prelude.{◌≡◌, ◌++◌, length, OnOk, OnErr, If
 ghost use Rattle.iot_text.specs.Texts.{AppendsPart};
 ghost use Rattle.iot_codec.specs.Outcomes.{IsOutcome, DecodesWhatIsSpelled};
 ghost use Rattle.iot_codec.specs.Places.{IsSpelledAt, IsAlone};
-ghost use Rattle.iot_codec.specs.Decoding.{answer_at};
-ghost use Rattle.iot_codec.specs.Rules.{IsAnswer};
+ghost use Rattle.iot_views.specs.Decoding.{answer_at};
+ghost use Rattle.iot_views.specs.Rules.{IsAnswer};
 ghost use Rattle.iot_codec.specs.Spelling.{answer_spelling};
 ghost use Rattle.iot_codec.specs.Laws.Questions.{answer_laws};
 
 use crate::CodecFault;
-use crate::parts::{malformed, tag_at};
+use crate::parts::malformed;
 use crate::spelled::{Spelled, read};
 use iot_text::{NoMemory, Text};
 use iot_tree::{Answer, Blob, Children};
+use iot_views::tag_at;
 use std::alloc::Global;
 
 impl Spelled for Answer {
@@ -40,7 +41,7 @@ impl Spelled for Answer {
         }
     }
 
-    #[tactic(auto, unfolding(crate::specs::Decoding::answer_at))]
+    #[tactic(auto, unfolding(iot_views::specs::Decoding::answer_at))]
     fn read(alloc: Global, bytes: &[u8], at: usize) -> Result<(Answer, usize), CodecFault> {
         match tag_at(bytes, at) {
             Some(1) => Ok((Answer::Away, at + 1)),

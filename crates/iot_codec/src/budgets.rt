@@ -3,15 +3,15 @@ ghost use Rattle.std.specs.Prelude.{◌≡◌, ◌++◌, length, OnOk, OnErr, If
 ghost use Rattle.iot_text.specs.Texts.{AppendsPart};
 ghost use Rattle.iot_codec.specs.Outcomes.{IsOutcome, DecodesWhatIsSpelled};
 ghost use Rattle.iot_codec.specs.Places.{IsSpelledAt, IsAlone};
-ghost use Rattle.iot_codec.specs.Decoding.{budget_at};
-ghost use Rattle.iot_codec.specs.Rules.{IsBudget};
+ghost use Rattle.iot_views.specs.Decoding.{budget_at};
+ghost use Rattle.iot_views.specs.Rules.{IsBudget};
 ghost use Rattle.iot_codec.specs.Spelling.{number_spelling};
 
 use crate::CodecFault;
-use crate::numbers::at_most;
 use crate::spelled::Spelled;
 use iot_text::{NoMemory, Text};
 use iot_tree::ACT_LIMIT;
+use iot_views::at_most;
 
 /// Appends the budget, which is a number.
 pub fn put_budget(value: &u64, out: &mut Text) -> Result<(), NoMemory>
@@ -33,5 +33,12 @@ pub fn read_budget(bytes: &[u8], at: usize) -> Result<(u64, usize), CodecFault>
     ensures one { IsAlone IsBudget number_spelling bytes.now at }
     ensures exact { IsOutcome result (budget_at bytes.now at) }
 {
-    at_most(ACT_LIMIT, bytes, at)
+    budget_at(bytes, at)
+}
+
+/// Reads the budget.
+fn budget_at(bytes: &[u8], at: usize) -> Result<(u64, usize), CodecFault>
+    ensures { IsOutcome result (budget_at bytes.now at) }
+{
+    Ok(at_most(ACT_LIMIT, bytes, at)?)
 }

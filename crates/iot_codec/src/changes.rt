@@ -3,8 +3,8 @@ ghost use Rattle.std.specs.Prelude.{◌≡◌, ◌++◌, length, OnOk, OnErr, If
 ghost use Rattle.iot_text.specs.Texts.{AppendsPart};
 ghost use Rattle.iot_codec.specs.Outcomes.{IsOutcome, DecodesWhatIsSpelled};
 ghost use Rattle.iot_codec.specs.Places.{IsSpelledAt, IsAlone};
-ghost use Rattle.iot_codec.specs.Decoding.{known_at, stamped_node_at, stamped_rows_at, changes_at};
-ghost use Rattle.iot_codec.specs.Rules.{AreKnown, IsStampedNode, AreStampedRows, AreChanges};
+ghost use Rattle.iot_views.specs.Decoding.{known_at, stamped_node_at, stamped_rows_at, changes_at};
+ghost use Rattle.iot_views.specs.Rules.{AreKnown, IsStampedNode, AreStampedRows, AreChanges};
 ghost use Rattle.iot_codec.specs.Spelling.{known_spelling, stamped_node_spelling, stamped_rows_spelling, changes_spelling};
 ghost use Rattle.iot_codec.specs.Laws.Changes.{known_laws, stamped_node_laws, stamped_rows_laws, changes_laws};
 
@@ -26,7 +26,7 @@ impl Spelled for Known {
         put_table(self.as_slice(), out)
     }
 
-    #[tactic(auto, unfolding(crate::specs::Decoding::known_at))]
+    #[tactic(auto, unfolding(iot_views::specs::Decoding::known_at))]
     fn read(alloc: Global, bytes: &[u8], at: usize) -> Result<(Known, usize), CodecFault> {
         read_table(alloc, bytes, at)
     }
@@ -46,7 +46,7 @@ impl Spelled for (Node, u64) {
         self.1.put(out)
     }
 
-    #[tactic(auto, unfolding(crate::specs::Decoding::stamped_node_at))]
+    #[tactic(auto, unfolding(iot_views::specs::Decoding::stamped_node_at))]
     fn read(alloc: Global, bytes: &[u8], at: usize) -> Result<((Node, u64), usize), CodecFault> {
         let (node, after) = Node::read(alloc, bytes, at)?;
         let (stamp, end) = u64::read(alloc, bytes, after)?;
@@ -67,7 +67,7 @@ impl Spelled for StampedRows {
         put_table(self.as_slice(), out)
     }
 
-    #[tactic(auto, unfolding(crate::specs::Decoding::stamped_rows_at))]
+    #[tactic(auto, unfolding(iot_views::specs::Decoding::stamped_rows_at))]
     fn read(alloc: Global, bytes: &[u8], at: usize) -> Result<(StampedRows, usize), CodecFault> {
         read_table(alloc, bytes, at)
     }
@@ -88,7 +88,7 @@ impl Spelled for Changes {
         self.gone.put(out)
     }
 
-    #[tactic(auto, unfolding(crate::specs::Decoding::changes_at))]
+    #[tactic(auto, unfolding(iot_views::specs::Decoding::changes_at))]
     fn read(alloc: Global, bytes: &[u8], at: usize) -> Result<(Changes, usize), CodecFault> {
         let (rows, after) = StampedRows::read(alloc, bytes, at)?;
         let (gone, end) = Paths::read(alloc, bytes, after)?;

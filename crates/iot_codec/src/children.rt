@@ -1,15 +1,15 @@
 //! What is in a directory: names with the kinds of the objects.
-ghost use Rattle.iot_codec.specs.Rules.{IsObject, AreChildren};
-ghost use Rattle.iot_codec.specs.Decoding.{kind_at, children_at};
+ghost use Rattle.iot_views.specs.Rules.{IsObject, AreChildren};
+ghost use Rattle.iot_views.specs.Decoding.{kind_at, children_at};
 ghost use Rattle.iot_codec.specs.Spelling.{kind_spelling, children_spelling};
 ghost use Rattle.iot_codec.specs.Laws.Values.{kind_laws, children_laws};
 
 use crate::CodecFault;
-use crate::parts::{malformed, tag_at};
 use crate::spelled::Spelled;
 use crate::tables::{put_table, read_table};
 use iot_text::{NoMemory, Text};
 use iot_tree::{Children, Kind};
+use iot_views::kind_at;
 use std::alloc::Global;
 
 impl Spelled for Kind {
@@ -29,13 +29,8 @@ impl Spelled for Kind {
         })
     }
 
-    #[tactic(auto, unfolding(crate::specs::Decoding::kind_at))]
     fn read(_alloc: Global, bytes: &[u8], at: usize) -> Result<(Kind, usize), CodecFault> {
-        match tag_at(bytes, at) {
-            Some(3) => Ok((Kind::IsDir, at + 1)),
-            Some(4) => Ok((Kind::IsFile, at + 1)),
-            _ => Err(malformed(at)),
-        }
+        Ok(kind_at(bytes, at)?)
     }
 
     ghost laws = { kind_laws };
@@ -52,7 +47,7 @@ impl Spelled for Children {
         put_table(self.as_slice(), out)
     }
 
-    #[tactic(auto, unfolding(crate::specs::Decoding::children_at))]
+    #[tactic(auto, unfolding(iot_views::specs::Decoding::children_at))]
     fn read(alloc: Global, bytes: &[u8], at: usize) -> Result<(Children, usize), CodecFault> {
         read_table(alloc, bytes, at)
     }

@@ -2,6 +2,7 @@
 ghost use Rattle.std.specs.Prelude.{◌≡◌};
 
 use iot_text::NoMemory;
+use iot_views::Malformed;
 use std::alloc::AllocFailed;
 use thiserror::Error;
 
@@ -36,5 +37,15 @@ impl<T: Drop> From<AllocFailed<T>> for CodecFault {
 
     fn from(_failed: AllocFailed<T>) -> CodecFault {
         CodecFault::NoMemory
+    }
+}
+
+impl From<Malformed> for CodecFault {
+    ghost use Rattle.iot_codec.specs.declared.faults.CodecFault.TheVariants as faults;
+
+    ghost from_gives = { λ malformed fault. fault ≡ faults.Malformed malformed.at };
+
+    fn from(malformed: Malformed) -> CodecFault {
+        CodecFault::Malformed { at: malformed.at }
     }
 }

@@ -3,8 +3,8 @@ ghost use Rattle.std.specs.Prelude.{◌≡◌, ◌++◌, length, OnOk, OnErr, If
 ghost use Rattle.iot_text.specs.Texts.{AppendsPart};
 ghost use Rattle.iot_codec.specs.Outcomes.{IsOutcome, DecodesWhatIsSpelled};
 ghost use Rattle.iot_codec.specs.Places.{IsSpelledAt, IsAlone};
-ghost use Rattle.iot_codec.specs.Decoding.{files_at};
-ghost use Rattle.iot_codec.specs.Rules.{AreFiles};
+ghost use Rattle.iot_views.specs.Decoding.{files_at};
+ghost use Rattle.iot_views.specs.Rules.{AreFiles};
 ghost use Rattle.iot_codec.specs.Spelling.{files_spelling};
 ghost use Rattle.iot_codec.specs.Laws.Values.{files_laws};
 
@@ -26,7 +26,7 @@ impl Spelled for Files {
         put_table(self.as_slice(), out)
     }
 
-    #[tactic(auto, unfolding(crate::specs::Decoding::files_at))]
+    #[tactic(auto, unfolding(iot_views::specs::Decoding::files_at))]
     fn read(alloc: Global, bytes: &[u8], at: usize) -> Result<(Files, usize), CodecFault> {
         read_table(alloc, bytes, at)
     }

@@ -5,17 +5,17 @@ ghost use Rattle.iot_text.specs.Paths.{path_cmp};
 ghost use Rattle.iot_tree.specs.Rows.{Rising};
 ghost use Rattle.iot_codec.specs.Ahead.{ComesAfter, IsAhead};
 ghost use Rattle.iot_codec.specs.Outcomes.{IsOutcome};
-ghost use Rattle.iot_codec.specs.Decoders.{items_at, number_at, tested};
-ghost use Rattle.iot_codec.specs.Decoding.{known_at, pair_at, path_at};
-ghost use Rattle.iot_codec.specs.Rules.{rises};
+ghost use Rattle.iot_views.specs.Decoders.{items_at, number_at, tested};
+ghost use Rattle.iot_views.specs.Decoding.{known_at, pair_at, path_at};
+ghost use Rattle.iot_views.specs.Rules.{rises};
 
 use crate::CodecFault;
-use crate::numbers::number_at;
 use crate::parts::{malformed, room_for};
 use crate::paths::{after_path, read_new};
 use crate::tables::rises;
 use iot_text::Path;
 use iot_tree::{Known, Node, place_of};
+use iot_views::number_at;
 use std::alloc::Global;
 
 /// Reads what a client knows, as `read_known` does. A path that is one of these rows, which rise, shares its names: that costs a
@@ -24,7 +24,7 @@ use std::alloc::Global;
 /// # Errors
 ///
 /// `Malformed` exactly if no paths that rise are spelled there, each with its stamp. `NoMemory` if there is none for them.
-#[tactic(auto, unfolding(crate::specs::Decoding::known_at))]
+#[tactic(auto, unfolding(iot_views::specs::Decoding::known_at))]
 pub fn read_known_beside(
     alloc: Global,
     rows: &[(Path, Node)],
@@ -61,7 +61,7 @@ fn read_stamped(
 }
 
 /// Reads a path with its stamp, which follow others, or are the first.
-#[tactic(auto, unfolding(crate::specs::Decoding::pair_at))]
+#[tactic(auto, unfolding(iot_views::specs::Decoding::pair_at))]
 fn read_pair(
     alloc: Global,
     rows: &[(Path, Node)],

@@ -3,17 +3,16 @@ ghost use Rattle.std.specs.Prelude.{◌≡◌, ◌++◌, length, OnOk, OnErr, If
 ghost use Rattle.iot_text.specs.Texts.{AppendsPart};
 ghost use Rattle.iot_codec.specs.Outcomes.{IsOutcome, DecodesWhatIsSpelled};
 ghost use Rattle.iot_codec.specs.Places.{IsSpelledAt, IsAlone};
-ghost use Rattle.iot_codec.specs.Decoding.{way_at, label_at};
-ghost use Rattle.iot_codec.specs.Rules.{IsWay, IsLabel};
+ghost use Rattle.iot_views.specs.Decoding.{way_at, label_at};
+ghost use Rattle.iot_views.specs.Rules.{IsWay, IsLabel};
 ghost use Rattle.iot_codec.specs.Spelling.{transaction_spelling, run_spelling, way_spelling, label_spelling};
 ghost use Rattle.iot_codec.specs.Laws.Labels.{way_laws, label_laws};
 
 use crate::CodecFault;
-use crate::numbers::{at_most, number_at};
-use crate::parts::{malformed, tag_at};
 use crate::spelled::{Spelled, read};
 use iot_text::{Name, NoMemory, Text};
 use iot_tree::{ACT_LIMIT, Files, Label, Way};
+use iot_views::{at_most, number_at, way_at};
 use std::alloc::Global;
 
 /// The greatest number of a client.
@@ -35,14 +34,8 @@ impl Spelled for Way {
         })
     }
 
-    #[tactic(auto, unfolding(crate::specs::Decoding::way_at))]
     fn read(_alloc: Global, bytes: &[u8], at: usize) -> Result<(Way, usize), CodecFault> {
-        match tag_at(bytes, at) {
-            Some(1) => Ok((Way::Certified, at + 1)),
-            Some(2) => Ok((Way::Reexecuted, at + 1)),
-            Some(3) => Ok((Way::Resolved, at + 1)),
-            _ => Err(malformed(at)),
-        }
+        Ok(way_at(bytes, at)?)
     }
 
     ghost laws = { way_laws };
@@ -81,7 +74,7 @@ impl Spelled for Label {
         put_run(self, out)
     }
 
-    #[tactic(auto, unfolding(crate::specs::Decoding::label_at))]
+    #[tactic(auto, unfolding(iot_views::specs::Decoding::label_at))]
     fn read(alloc: Global, bytes: &[u8], at: usize) -> Result<(Label, usize), CodecFault> {
         let (client, at) = at_most(LAST_CLIENT, bytes, at)?;
         let (tid, at) = number_at(bytes, at)?;

@@ -43,6 +43,11 @@ pub use changes::{put_changes, put_known, read_changes, read_known};
 pub use contents::{put_contents, read_contents};
 pub use faults::CodecFault;
 pub use files::{put_files, read_files};
+pub use iot_views::{
+    AccessView, ActView, AnswerView, BaseView, BaseViews, ChildViews, FileViews, LabelView,
+    LineViews, Malformed, NameViews, PathView, QuestionView, ReadView, ReadViews, UpdateView,
+    UpdateViews,
+};
 pub use known::read_known_beside;
 pub use labels::{put_label, read_label};
 pub use lines::{put_line, put_lines, read_line, read_lines};

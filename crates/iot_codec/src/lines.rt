@@ -1,29 +1,21 @@
 //! Lines.
 ghost use Rattle.std.specs.Prelude.{◌≡◌, ◌++◌, length, OnOk, OnErr, IfOk};
-ghost use Rattle.std.specs.List.{list_all};
 ghost use Rattle.iot_text.specs.Texts.{AppendsPart};
 ghost use Rattle.iot_codec.specs.Outcomes.{IsOutcome, DecodesWhatIsSpelled};
 ghost use Rattle.iot_codec.specs.Places.{IsSpelledAt, IsAlone};
-ghost use Rattle.iot_codec.specs.Decoding.{line_at, lines_at};
-ghost use Rattle.iot_codec.specs.Rules.{IsLine, AreLines, is_printable};
+ghost use Rattle.iot_views.specs.Decoding.{line_at, lines_at};
+ghost use Rattle.iot_views.specs.Rules.{IsLine, AreLines};
 ghost use Rattle.iot_codec.specs.Spelling.{line_spelling, lines_spelling};
 ghost use Rattle.iot_codec.specs.Laws.Values.{line_laws, lines_laws};
 
 use crate::CodecFault;
 use crate::lists::{put_list, read_list};
-use crate::numbers::number_at;
-use crate::parts::{bytes_at, malformed, put_counted};
+use crate::parts::put_counted;
 use crate::spelled::{Spelled, read};
 use iot_text::{NoMemory, Text};
 use iot_tree::Lines;
+use iot_views::line_at;
 use std::alloc::Global;
-
-/// Whether a line may have each of these bytes.
-fn are_printable(bytes: &[u8]) -> bool
-    ensures { result ≡ list_all is_printable bytes.now }
-{
-    bytes.iter().all(|byte| 32 <= *byte && *byte <= 126)
-}
 
 impl Spelled for Text {
     ghost has_spelling = { IsLine };
@@ -36,13 +28,8 @@ impl Spelled for Text {
         put_counted(self.as_bytes(), out)
     }
 
-    #[tactic(auto, unfolding(crate::specs::Decoding::line_at))]
     fn read(alloc: Global, bytes: &[u8], at: usize) -> Result<(Text, usize), CodecFault> {
-        let (len, at) = number_at(bytes, at)?;
-        let (line, end) = bytes_at(bytes, at, len)?;
-        if !are_printable(line) {
-            return Err(malformed(at));
-        }
+        let (line, end) = line_at(bytes, at)?;
         Ok((Text::from(Vec::from_slice(alloc, line)?), end))
     }
 
@@ -60,7 +47,7 @@ impl Spelled for Lines {
         put_list(self.as_slice(), out)
     }
 
-    #[tactic(auto, unfolding(crate::specs::Decoding::lines_at))]
+    #[tactic(auto, unfolding(iot_views::specs::Decoding::lines_at))]
     fn read(alloc: Global, bytes: &[u8], at: usize) -> Result<(Lines, usize), CodecFault> {
         read_list(alloc, bytes, at)
     }

@@ -3,15 +3,15 @@ ghost use Rattle.std.specs.Prelude.{◌≡◌, ◌++◌, length, OnOk, OnErr, If
 ghost use Rattle.std.specs.List.{AllByRecursion};
 ghost use Rattle.iot_text.specs.Texts.{AppendsPart};
 ghost use Rattle.iot_codec.specs.Outcomes.{IsOutcome};
-ghost use Rattle.iot_codec.specs.Decoders.{items_at, list_at};
+ghost use Rattle.iot_views.specs.Decoders.{items_at, list_at};
 ghost use Rattle.iot_codec.specs.Spelling.{list_spelling};
 
 use crate::CodecFault;
-use crate::numbers::number_at;
 use crate::parts::room_for;
 use crate::spelled::Spelled;
 use iot_text::{NoMemory, Text};
 use iot_tree::Sequence;
+use iot_views::number_at;
 use std::alloc::Global;
 
 /// Appends the spelling of a list: the number of its elements, and then each element's spelling.

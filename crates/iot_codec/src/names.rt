@@ -4,15 +4,15 @@ ghost use Rattle.iot_text.specs.Names.{IsName};
 ghost use Rattle.iot_text.specs.Texts.{AppendsPart};
 ghost use Rattle.iot_codec.specs.Outcomes.{IsOutcome, DecodesWhatIsSpelled};
 ghost use Rattle.iot_codec.specs.Places.{IsSpelledAt, IsAlone};
-ghost use Rattle.iot_codec.specs.Decoding.{name_at};
+ghost use Rattle.iot_views.specs.Decoding.{name_at};
 ghost use Rattle.iot_codec.specs.Spelling.{name_spelling};
 ghost use Rattle.iot_codec.specs.Laws.Values.{name_laws};
 
 use crate::CodecFault;
-use crate::numbers::number_at;
-use crate::parts::{bytes_at, malformed};
+use crate::parts::malformed;
 use crate::spelled::{Spelled, read};
 use iot_text::{NAME_LIMIT, Name, NoMemory, Text};
+use iot_views::{bytes_at, number_at};
 use std::alloc::Global;
 
 impl Spelled for Name {
@@ -32,7 +32,7 @@ impl Spelled for Name {
         out.append(&spelled[..end])
     }
 
-    #[tactic(auto, unfolding(crate::specs::Decoding::name_at))]
+    #[tactic(auto, unfolding(iot_views::specs::Decoding::name_at))]
     fn read(_alloc: Global, bytes: &[u8], at: usize) -> Result<(Name, usize), CodecFault> {
         let (len, at) = number_at(bytes, at)?;
         let (text, end) = bytes_at(bytes, at, len)?;
@@ -47,7 +47,7 @@ impl Spelled for Name {
 
 /// The offset after the spelling of the name, if that is what lies at the offset.
 #[inline]
-#[tactic(auto, unfolding(crate::specs::Decoding::name_at))]
+#[tactic(auto, unfolding(iot_views::specs::Decoding::name_at))]
 pub(crate) fn after_name(name: &Name, bytes: &[u8], at: usize) -> Option<usize>
     ensures { IfSome result (λ end. name_at bytes.now at ≡ Ok (name.now, end)) }
 {

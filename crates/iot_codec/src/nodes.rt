@@ -3,16 +3,17 @@ ghost use Rattle.std.specs.Prelude.{◌≡◌, ◌++◌, length, OnOk, OnErr, If
 ghost use Rattle.iot_text.specs.Texts.{AppendsPart};
 ghost use Rattle.iot_codec.specs.Outcomes.{IsOutcome, DecodesWhatIsSpelled};
 ghost use Rattle.iot_codec.specs.Places.{IsSpelledAt, IsAlone};
-ghost use Rattle.iot_codec.specs.Decoding.{node_at};
-ghost use Rattle.iot_codec.specs.Rules.{IsNode};
+ghost use Rattle.iot_views.specs.Decoding.{node_at};
+ghost use Rattle.iot_views.specs.Rules.{IsNode};
 ghost use Rattle.iot_codec.specs.Spelling.{node_spelling};
 ghost use Rattle.iot_codec.specs.Laws.Trees.{node_laws};
 
 use crate::CodecFault;
-use crate::parts::{malformed, tag_at};
+use crate::parts::malformed;
 use crate::spelled::{Spelled, read};
 use iot_text::{NoMemory, Text};
 use iot_tree::{Blob, Node};
+use iot_views::tag_at;
 use std::alloc::Global;
 
 impl Spelled for Node {
@@ -35,7 +36,7 @@ impl Spelled for Node {
         }
     }
 
-    #[tactic(auto, unfolding(crate::specs::Decoding::node_at))]
+    #[tactic(auto, unfolding(iot_views::specs::Decoding::node_at))]
     fn read(alloc: Global, bytes: &[u8], at: usize) -> Result<(Node, usize), CodecFault> {
         match tag_at(bytes, at) {
             Some(1) => Ok((Node::Dir, at + 1)),

@@ -3,37 +3,16 @@ ghost use Rattle.std.specs.Prelude.{◌≡◌, ◌++◌, length, OnOk, OnErr, If
 ghost use Rattle.iot_text.specs.Texts.{AppendsPart};
 ghost use Rattle.iot_codec.specs.Outcomes.{IsOutcome, DecodesWhatIsSpelled};
 ghost use Rattle.iot_codec.specs.Places.{IsSpelledAt, IsAlone};
-ghost use Rattle.iot_codec.specs.Decoders.{number_at, at_most};
-ghost use Rattle.iot_codec.specs.Rules.{IsNumber};
+ghost use Rattle.iot_views.specs.Decoders.{number_at};
+ghost use Rattle.iot_views.specs.Rules.{IsNumber};
 ghost use Rattle.iot_codec.specs.Spelling.{number_spelling};
 ghost use Rattle.iot_codec.specs.Laws.Parts.{number_laws};
 
 use crate::CodecFault;
-use crate::parts::{bytes_at, malformed};
 use crate::spelled::{Spelled, read};
 use iot_text::{NoMemory, Text};
+use iot_views::number_at;
 use std::alloc::Global;
-
-/// The number at the offset, and the offset after it.
-#[tactic(auto, unfolding(crate::specs::Decoders::number_at))]
-pub(crate) fn number_at(bytes: &[u8], at: usize) -> Result<(u64, usize), CodecFault>
-    ensures { IsOutcome result (number_at bytes.now at) }
-{
-    let (d, end) = bytes_at(bytes, at, 8)?;
-    let number = u64::from_be_bytes([d[0], d[1], d[2], d[3], d[4], d[5], d[6], d[7]]);
-    Ok((number, end))
-}
-
-/// A number up to the limit at the offset, and the offset after it.
-pub(crate) fn at_most(limit: u64, bytes: &[u8], at: usize) -> Result<(u64, usize), CodecFault>
-    ensures { IsOutcome result (at_most limit bytes.now at) }
-{
-    let (number, end) = number_at(bytes, at)?;
-    if limit < number {
-        return Err(malformed(at));
-    }
-    Ok((number, end))
-}
 
 impl Spelled for u64 {
     ghost has_spelling = { IsNumber };
@@ -48,7 +27,7 @@ impl Spelled for u64 {
     }
 
     fn read(_alloc: Global, bytes: &[u8], at: usize) -> Result<(u64, usize), CodecFault> {
-        number_at(bytes, at)
+        Ok(number_at(bytes, at)?)
     }
 
     ghost laws = { number_laws };

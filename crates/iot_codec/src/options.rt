@@ -3,16 +3,17 @@ ghost use Rattle.std.specs.Prelude.{◌≡◌, ◌++◌, length, OnOk, OnErr, If
 ghost use Rattle.iot_text.specs.Texts.{AppendsPart};
 ghost use Rattle.iot_codec.specs.Outcomes.{IsOutcome, DecodesWhatIsSpelled};
 ghost use Rattle.iot_codec.specs.Places.{IsSpelledAt, IsAlone};
-ghost use Rattle.iot_codec.specs.Decoding.{option_at};
-ghost use Rattle.iot_codec.specs.Rules.{IsOption};
+ghost use Rattle.iot_views.specs.Decoding.{option_at};
+ghost use Rattle.iot_views.specs.Rules.{IsOption};
 ghost use Rattle.iot_codec.specs.Spelling.{option_spelling};
 ghost use Rattle.iot_codec.specs.Laws.Options.{option_laws};
 
 use crate::CodecFault;
-use crate::parts::{malformed, tag_at};
+use crate::parts::malformed;
 use crate::spelled::{Spelled, read};
 use iot_text::{Name, NoMemory, Text};
 use iot_tree::OnConflict;
+use iot_views::tag_at;
 use std::alloc::Global;
 
 impl Spelled for OnConflict {
@@ -35,7 +36,7 @@ impl Spelled for OnConflict {
         }
     }
 
-    #[tactic(auto, unfolding(crate::specs::Decoding::option_at))]
+    #[tactic(auto, unfolding(iot_views::specs::Decoding::option_at))]
     fn read(alloc: Global, bytes: &[u8], at: usize) -> Result<(OnConflict, usize), CodecFault> {
         match tag_at(bytes, at) {
             Some(1) => Ok((OnConflict::Reexec, at + 1)),

@@ -5,18 +5,18 @@ ghost use Rattle.iot_text.specs.Paths.{IsPath};
 ghost use Rattle.iot_text.specs.Texts.{AppendsPart};
 ghost use Rattle.iot_codec.specs.Outcomes.{IsOutcome, DecodesWhatIsSpelled};
 ghost use Rattle.iot_codec.specs.Places.{IsSpelledAt, IsAlone};
-ghost use Rattle.iot_codec.specs.Decoders.{items_at};
-ghost use Rattle.iot_codec.specs.Decoding.{name_at, path_at};
+ghost use Rattle.iot_views.specs.Decoders.{items_at};
+ghost use Rattle.iot_views.specs.Decoding.{name_at, path_at};
 ghost use Rattle.iot_codec.specs.Spelling.{name_spelling, path_spelling};
 ghost use Rattle.iot_codec.specs.Laws.Values.{path_laws};
 
 use crate::CodecFault;
 use crate::lists::{put_list, read_list};
 use crate::names::after_name;
-use crate::numbers::number_at;
 use crate::piece::Piece;
 use crate::spelled::{Spelled, read};
 use iot_text::{Name, NoMemory, Path, Text};
+use iot_views::number_at;
 use std::alloc::Global;
 
 /// How many names a path has at most that is spelled in one piece: 8 bytes and then up to 40 for each name.
@@ -88,7 +88,7 @@ pub(crate) fn read_path_on(
 }
 
 /// The offset after the spelling of the path, if that is what lies at the offset.
-#[tactic(auto, unfolding(crate::specs::Decoding::path_at))]
+#[tactic(auto, unfolding(iot_views::specs::Decoding::path_at))]
 pub(crate) fn after_path(path: &Path, bytes: &[u8], at: usize) -> Option<usize>
     ensures { IfSome result (λ end. path_at bytes.now at ≡ Ok (path.now, end)) }
 {
@@ -114,7 +114,7 @@ fn after_names(names: &[Name], bytes: &[u8], at: usize) -> Option<usize>
 }
 
 /// Reads a path into a block of its own. Up to three names are read without a list of them.
-#[tactic(auto, unfolding(crate::specs::Decoding::path_at))]
+#[tactic(auto, unfolding(iot_views::specs::Decoding::path_at))]
 pub(crate) fn read_new(alloc: Global, bytes: &[u8], at: usize) -> Result<(Path, usize), CodecFault>
     ensures { IsOutcome result (path_at bytes.now at) }
 {
@@ -128,7 +128,7 @@ pub(crate) fn read_new(alloc: Global, bytes: &[u8], at: usize) -> Result<(Path, 
 }
 
 /// Reads a path from the number of its names on.
-#[tactic(auto, unfolding(crate::specs::Decoding::path_at))]
+#[tactic(auto, unfolding(iot_views::specs::Decoding::path_at))]
 fn read_any(alloc: Global, bytes: &[u8], at: usize) -> Result<(Path, usize), CodecFault>
     ensures { IsOutcome result (path_at bytes.now at) }
 {

@@ -3,16 +3,17 @@ ghost use Rattle.std.specs.Prelude.{◌≡◌, ◌++◌, length, OnOk, OnErr, If
 ghost use Rattle.iot_text.specs.Texts.{AppendsPart};
 ghost use Rattle.iot_codec.specs.Outcomes.{IsOutcome, DecodesWhatIsSpelled};
 ghost use Rattle.iot_codec.specs.Places.{IsSpelledAt, IsAlone};
-ghost use Rattle.iot_codec.specs.Decoding.{question_at};
-ghost use Rattle.iot_codec.specs.Rules.{IsQuestion};
+ghost use Rattle.iot_views.specs.Decoding.{question_at};
+ghost use Rattle.iot_views.specs.Rules.{IsQuestion};
 ghost use Rattle.iot_codec.specs.Spelling.{question_spelling};
 ghost use Rattle.iot_codec.specs.Laws.Questions.{question_laws};
 
 use crate::CodecFault;
-use crate::parts::{malformed, tag_at};
+use crate::parts::malformed;
 use crate::spelled::{Spelled, read};
 use iot_text::{NoMemory, Path, Text};
 use iot_tree::Question;
+use iot_views::tag_at;
 use std::alloc::Global;
 
 impl Spelled for Question {
@@ -33,7 +34,7 @@ impl Spelled for Question {
         path.put(out)
     }
 
-    #[tactic(auto, unfolding(crate::specs::Decoding::question_at))]
+    #[tactic(auto, unfolding(iot_views::specs::Decoding::question_at))]
     fn read(alloc: Global, bytes: &[u8], at: usize) -> Result<(Question, usize), CodecFault> {
         match tag_at(bytes, at) {
             Some(1) => {

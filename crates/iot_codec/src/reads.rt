@@ -3,8 +3,8 @@ ghost use Rattle.std.specs.Prelude.{◌≡◌, ◌++◌, length, OnOk, OnErr, If
 ghost use Rattle.iot_text.specs.Texts.{AppendsPart};
 ghost use Rattle.iot_codec.specs.Outcomes.{IsOutcome, DecodesWhatIsSpelled};
 ghost use Rattle.iot_codec.specs.Places.{IsSpelledAt, IsAlone};
-ghost use Rattle.iot_codec.specs.Decoding.{read_at, reads_at};
-ghost use Rattle.iot_codec.specs.Rules.{AreReads, IsRead};
+ghost use Rattle.iot_views.specs.Decoding.{read_at, reads_at};
+ghost use Rattle.iot_views.specs.Rules.{AreReads, IsRead};
 ghost use Rattle.iot_codec.specs.Spelling.{read_spelling, reads_spelling};
 ghost use Rattle.iot_codec.specs.Laws.Questions.{read_laws, reads_laws};
 
@@ -28,7 +28,7 @@ impl Spelled for Read {
         self.answer.put(out)
     }
 
-    #[tactic(auto, unfolding(crate::specs::Decoding::read_at))]
+    #[tactic(auto, unfolding(iot_views::specs::Decoding::read_at))]
     fn read(alloc: Global, bytes: &[u8], at: usize) -> Result<(Read, usize), CodecFault> {
         let (question, at) = Question::read(alloc, bytes, at)?;
         let (answer, end) = Answer::read(alloc, bytes, at)?;
@@ -49,7 +49,7 @@ impl Spelled for Reads {
         put_list(self.as_slice(), out)
     }
 
-    #[tactic(auto, unfolding(crate::specs::Decoding::reads_at))]
+    #[tactic(auto, unfolding(iot_views::specs::Decoding::reads_at))]
     fn read(alloc: Global, bytes: &[u8], at: usize) -> Result<(Reads, usize), CodecFault> {
         read_list(alloc, bytes, at)
     }

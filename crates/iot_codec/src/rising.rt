@@ -5,19 +5,19 @@ ghost use Rattle.iot_text.specs.Paths.{path_cmp};
 ghost use Rattle.iot_text.specs.Texts.{AppendsPart};
 ghost use Rattle.iot_codec.specs.Outcomes.{IsOutcome, DecodesWhatIsSpelled};
 ghost use Rattle.iot_codec.specs.Places.{IsSpelledAt, IsAlone};
-ghost use Rattle.iot_codec.specs.Decoders.{items_at};
-ghost use Rattle.iot_codec.specs.Decoding.{next_path_at, paths_at};
-ghost use Rattle.iot_codec.specs.Rules.{ArePaths, is_after};
+ghost use Rattle.iot_views.specs.Decoders.{items_at};
+ghost use Rattle.iot_views.specs.Decoding.{next_path_at, paths_at};
+ghost use Rattle.iot_views.specs.Rules.{ArePaths, is_after};
 ghost use Rattle.iot_codec.specs.Spelling.{paths_spelling};
 ghost use Rattle.iot_codec.specs.Laws.Rising.{paths_laws};
 
 use crate::CodecFault;
 use crate::lists::put_list;
-use crate::numbers::number_at;
 use crate::parts::{malformed, room_for};
 use crate::spelled::{Spelled, read};
 use iot_text::{NoMemory, Path, Text};
 use iot_tree::Paths;
+use iot_views::number_at;
 use std::alloc::Global;
 
 /// Whether the path is greater than the one before it, if there is one.
@@ -76,7 +76,7 @@ impl Spelled for Paths {
         put_list(self.as_slice(), out)
     }
 
-    #[tactic(auto, unfolding(crate::specs::Decoding::paths_at))]
+    #[tactic(auto, unfolding(iot_views::specs::Decoding::paths_at))]
     fn read(alloc: Global, bytes: &[u8], at: usize) -> Result<(Paths, usize), CodecFault> {
         let (count, at) = number_at(bytes, at)?;
         read_rising(alloc, count, bytes, at)

@@ -3,7 +3,7 @@ ghost use Rattle.std.specs.Prelude.{ℕ, List, ◌≡◌, ◌++◌, length, OnOk
 ghost use Rattle.iot_text.specs.Texts.{AppendsPart};
 ghost use Rattle.iot_codec.specs.Outcomes.{IsOutcome, DecodesWhatIsSpelled};
 ghost use Rattle.iot_codec.specs.Places.{IsSpelledAt, IsAlone, IsSpelling};
-ghost use Rattle.iot_codec.specs.Decoders.{Decoder};
+ghost use Rattle.iot_views.specs.Decoders.{Decoder};
 
 use crate::CodecFault;
 use iot_text::{NoMemory, Text};

@@ -3,17 +3,17 @@ ghost use Rattle.std.specs.Prelude.{◌≡◌, ◌++◌, length, OnOk, OnErr, If
 ghost use Rattle.std.specs.Option.{option_copied};
 ghost use Rattle.iot_text.specs.Texts.{AppendsPart};
 ghost use Rattle.iot_codec.specs.Outcomes.{IsOutcome};
-ghost use Rattle.iot_codec.specs.Decoding.{pair_at, table_at};
-ghost use Rattle.iot_codec.specs.Decoders.{items_at};
-ghost use Rattle.iot_codec.specs.Rules.{rises};
+ghost use Rattle.iot_views.specs.Decoding.{pair_at, table_at};
+ghost use Rattle.iot_views.specs.Decoders.{items_at};
+ghost use Rattle.iot_views.specs.Rules.{rises};
 ghost use Rattle.iot_codec.specs.Spelling.{pair_spelling, table_spelling};
 
 use crate::CodecFault;
-use crate::numbers::number_at;
 use crate::parts::{malformed, room_for};
 use crate::spelled::Spelled;
 use iot_text::{NoMemory, Text};
 use iot_tree::Sequence;
+use iot_views::number_at;
 use std::alloc::Global;
 
 /// Appends a pair: the key, and then the value.
@@ -51,7 +51,7 @@ pub(crate) fn rises<K: Ord, V>(previous: Option<&(K, V)>, key: &K) -> bool
 }
 
 /// Reads a pair that follows another one, or is the first.
-#[tactic(auto, unfolding(crate::specs::Decoding::pair_at))]
+#[tactic(auto, unfolding(iot_views::specs::Decoding::pair_at))]
 fn read_pair<K: Spelled + Ord, V: Spelled>(
     alloc: Global,
     previous: Option<&(K, V)>,

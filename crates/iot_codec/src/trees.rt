@@ -6,19 +6,19 @@ ghost use Rattle.iot_text.specs.Texts.{AppendsPart};
 ghost use Rattle.iot_tree.specs.Rows.{AreTreeRows};
 ghost use Rattle.iot_codec.specs.Outcomes.{IsOutcome, DecodesWhatIsSpelled};
 ghost use Rattle.iot_codec.specs.Places.{IsSpelledAt, IsAlone};
-ghost use Rattle.iot_codec.specs.Decoders.{items_at};
-ghost use Rattle.iot_codec.specs.Decoding.{at_least_one, row_at, rows_at, tree_at};
-ghost use Rattle.iot_codec.specs.Rules.{IsTreeOfRows, has_dir, has_parent, path_follows, node_follows};
+ghost use Rattle.iot_views.specs.Decoders.{items_at};
+ghost use Rattle.iot_views.specs.Decoding.{at_least_one, row_at, rows_at, tree_at};
+ghost use Rattle.iot_views.specs.Rules.{IsTreeOfRows, has_dir, has_parent, path_follows, node_follows};
 ghost use Rattle.iot_codec.specs.Spelling.{tree_spelling};
 ghost use Rattle.iot_codec.specs.Laws.Trees.{tree_laws};
 
 use crate::CodecFault;
-use crate::numbers::number_at;
 use crate::parts::{malformed, room_for};
 use crate::spelled::{Spelled, read};
 use crate::tables::put_table;
 use iot_text::{Name, NoMemory, Path, Text};
 use iot_tree::{Node, Rows, Tree};
+use iot_views::number_at;
 use std::alloc::Global;
 
 /// Whether rows of a tree that end in `last` have a known directory at the path.
@@ -57,7 +57,7 @@ fn node_follows(previous: Option<&(Path, Node)>, node: &Node) -> bool
 }
 
 /// Reads a row that follows another one, or is the first.
-#[tactic(auto, unfolding(crate::specs::Decoding::row_at))]
+#[tactic(auto, unfolding(iot_views::specs::Decoding::row_at))]
 fn read_row(
     alloc: Global,
     previous: Option<&(Path, Node)>,
@@ -108,7 +108,7 @@ fn count_at(bytes: &[u8], at: usize) -> Result<(u64, usize), CodecFault>
 }
 
 /// Reads rows, the number of them first.
-#[tactic(auto, unfolding(crate::specs::Decoding::rows_at))]
+#[tactic(auto, unfolding(iot_views::specs::Decoding::rows_at))]
 fn counted_rows(alloc: Global, bytes: &[u8], at: usize) -> Result<(Rows, usize), CodecFault>
     ensures { IsOutcome result (rows_at bytes.now at) }
 {
@@ -135,7 +135,7 @@ impl Spelled for Tree {
         put_table(self.rows().as_slice(), out)
     }
 
-    #[tactic(auto, unfolding(crate::specs::Decoding::tree_at))]
+    #[tactic(auto, unfolding(iot_views::specs::Decoding::tree_at))]
     fn read(alloc: Global, bytes: &[u8], at: usize) -> Result<(Tree, usize), CodecFault> {
         let (rows, end) = read_tree_rows(alloc, bytes, at)?;
         let tree = Tree::of_rows(rows)?;

@@ -3,17 +3,18 @@ ghost use Rattle.std.specs.Prelude.{◌≡◌, ◌++◌, length, OnOk, OnErr, If
 ghost use Rattle.iot_text.specs.Texts.{AppendsPart};
 ghost use Rattle.iot_codec.specs.Outcomes.{IsOutcome, DecodesWhatIsSpelled};
 ghost use Rattle.iot_codec.specs.Places.{IsSpelledAt, IsAlone};
-ghost use Rattle.iot_codec.specs.Decoding.{update_at, optional_update_at};
-ghost use Rattle.iot_codec.specs.Rules.{IsUpdate, IsOptionalUpdate};
+ghost use Rattle.iot_views.specs.Decoding.{update_at, optional_update_at};
+ghost use Rattle.iot_views.specs.Rules.{IsUpdate, IsOptionalUpdate};
 ghost use Rattle.iot_codec.specs.Spelling.{update_spelling, optional_update_spelling};
 ghost use Rattle.iot_codec.specs.Laws.Updates.{update_laws, optional_update_laws};
 
 use crate::CodecFault;
-use crate::parts::{malformed, tag_at};
+use crate::parts::malformed;
 use crate::paths::read_path_on;
 use crate::spelled::{Spelled, read};
 use iot_text::{NoMemory, Path, Text};
 use iot_tree::{Blob, Update};
+use iot_views::tag_at;
 use std::alloc::Global;
 
 impl Spelled for Update {
@@ -77,7 +78,7 @@ impl Spelled for Option<Update> {
 }
 
 /// Reads an update, whose first path shares the names of the one that is given, if it is equal to that.
-#[tactic(auto, unfolding(crate::specs::Decoding::update_at))]
+#[tactic(auto, unfolding(iot_views::specs::Decoding::update_at))]
 fn read_update_on(
     alloc: Global,
     known: Option<&Path>,
@@ -110,7 +111,7 @@ fn read_update_on(
 }
 
 /// Reads an update or none, as [`read_update_on`] does.
-#[tactic(auto, unfolding(crate::specs::Decoding::optional_update_at))]
+#[tactic(auto, unfolding(iot_views::specs::Decoding::optional_update_at))]
 pub(crate) fn read_optional_update_on(
     alloc: Global,
     known: Option<&Path>,

@@ -3,16 +3,17 @@ ghost use Rattle.std.specs.Prelude.{◌≡◌, ◌++◌, length, OnOk, OnErr, If
 ghost use Rattle.iot_text.specs.Texts.{AppendsPart};
 ghost use Rattle.iot_codec.specs.Outcomes.{IsOutcome, DecodesWhatIsSpelled};
 ghost use Rattle.iot_codec.specs.Places.{IsSpelledAt, IsAlone};
-ghost use Rattle.iot_codec.specs.Decoding.{want_at};
-ghost use Rattle.iot_codec.specs.Rules.{IsWant};
+ghost use Rattle.iot_views.specs.Decoding.{want_at};
+ghost use Rattle.iot_views.specs.Rules.{IsWant};
 ghost use Rattle.iot_codec.specs.Spelling.{want_spelling};
 ghost use Rattle.iot_codec.specs.Laws.Wants.{want_laws};
 
 use crate::CodecFault;
-use crate::parts::{malformed, tag_at};
+use crate::parts::malformed;
 use crate::spelled::{Spelled, read};
 use iot_text::{NoMemory, Path, Text};
 use iot_tree::Want;
+use iot_views::tag_at;
 use std::alloc::Global;
 
 impl Spelled for Want {
@@ -37,7 +38,7 @@ impl Spelled for Want {
         }
     }
 
-    #[tactic(auto, unfolding(crate::specs::Decoding::want_at))]
+    #[tactic(auto, unfolding(iot_views::specs::Decoding::want_at))]
     fn read(alloc: Global, bytes: &[u8], at: usize) -> Result<(Want, usize), CodecFault> {
         match tag_at(bytes, at) {
             Some(1) => Ok((Want::Nothing, at + 1)),

@@ -6,9 +6,9 @@ use Rattle.iot_tree.specs.declared.access.Access.{Access}
 use Rattle.iot_tree.specs.declared.acts.Read.{Read}
 use Rattle.iot_tree.specs.declared.updates.Update.{Update}
 use Rattle.iot_codec.specs.Places.{LiesAt, IsSpelledAt, IsSpelling}
-use Rattle.iot_codec.specs.Decoders.{Decoder, ◌>>=◌, done, number_at, list_at}
-use Rattle.iot_codec.specs.Decoding.{read_at, update_at, base_at, parted, bases_at, updates_at, access_at}
-use Rattle.iot_codec.specs.Rules.{IsNumber, IsRead, AreReads, IsUpdate, AreUpdates, AreBases, IsAccess}
+use Rattle.iot_views.specs.Decoders.{Decoder, ◌>>=◌, done, number_at, list_at}
+use Rattle.iot_views.specs.Decoding.{read_at, update_at, base_at, parted, bases_at, updates_at, access_at}
+use Rattle.iot_views.specs.Rules.{IsNumber, IsRead, AreReads, IsUpdate, AreUpdates, AreBases, IsAccess}
 use Rattle.iot_codec.specs.Spelling.{number_spelling, list_spelling, read_spelling, base_spelling, bases_spelling, update_spelling}
 use Rattle.iot_codec.specs.Spelling.{updates_spelling, access_spelling}
 use Rattle.iot_codec.specs.Laws.Steps.{step, carried}

@@ -3,9 +3,9 @@ use Rattle.std.proofs.Common.{refl}
 use Rattle.iot_text.specs.Paths.{IsPath, path_cmp}
 use Rattle.iot_tree.specs.declared.changes.Changes.{Changes}
 use Rattle.iot_codec.specs.Places.{IsSpelling}
-use Rattle.iot_codec.specs.Decoders.{◌>>=◌, done, number_at}
-use Rattle.iot_codec.specs.Decoding.{path_at, node_at, paths_at, known_at, stamped_node_at, stamped_rows_at, changes_at}
-use Rattle.iot_codec.specs.Rules.{IsNumber, IsNode, ArePaths, AreKnown, IsStampedNode, AreStampedRows, AreChanges}
+use Rattle.iot_views.specs.Decoders.{◌>>=◌, done, number_at}
+use Rattle.iot_views.specs.Decoding.{path_at, node_at, paths_at, known_at, stamped_node_at, stamped_rows_at, changes_at}
+use Rattle.iot_views.specs.Rules.{IsNumber, IsNode, ArePaths, AreKnown, IsStampedNode, AreStampedRows, AreChanges}
 use Rattle.iot_codec.specs.Spelling.{number_spelling, path_spelling, node_spelling, paths_spelling, known_spelling, stamped_node_spelling}
 use Rattle.iot_codec.specs.Spelling.{stamped_rows_spelling, changes_spelling}
 use Rattle.iot_codec.specs.Laws.Parts.{number_laws, same_rule}

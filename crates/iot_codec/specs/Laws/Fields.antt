@@ -1,7 +1,7 @@
 -- Values of several fields, whose spellings follow one another.
 use Rattle.std.proofs.Common.{◌≡◌, ℕ, ◌+◌, ◌<◌, ◌^◌, List, ◌++◌, length, Ok, refl, sym, ap, subst, arith, length-append}
 use Rattle.iot_codec.specs.Places.{LiesAt, IsSpelledAt, AreBytes, IsSpelling}
-use Rattle.iot_codec.specs.Decoders.{Decoder, ◌>>=◌, done}
+use Rattle.iot_views.specs.Decoders.{Decoder, ◌>>=◌, done}
 use Rattle.iot_codec.specs.Laws.Places.{lies_then, lies_first, lies_second}
 use Rattle.iot_codec.specs.Laws.Steps.{step, same_read}
 

@@ -6,9 +6,9 @@ use Rattle.iot_tree.specs.declared.labels.Way.{Way}
 use Rattle.iot_tree.specs.declared.labels.Way.TheVariants.{Certified, Reexecuted, Resolved}
 use Rattle.iot_tree.specs.declared.limits.TheConstants.{ACT_LIMIT}
 use Rattle.iot_codec.specs.Places.{LiesAt, IsSpelling}
-use Rattle.iot_codec.specs.Decoders.{Decoder, done, number_at, at_most}
-use Rattle.iot_codec.specs.Decoding.{name_at, files_at, way_at, label_at}
-use Rattle.iot_codec.specs.Rules.{IsNumber, AreFiles, IsWay, IsLabel}
+use Rattle.iot_views.specs.Decoders.{Decoder, done, number_at, at_most}
+use Rattle.iot_views.specs.Decoding.{name_at, files_at, way_at, label_at}
+use Rattle.iot_views.specs.Rules.{IsNumber, AreFiles, IsWay, IsLabel}
 use Rattle.iot_codec.specs.Spelling.{number_spelling, name_spelling, files_spelling, way_spelling, label_spelling}
 use Rattle.iot_codec.specs.Laws.Parts.{number_laws, at_most_laws, same_rule, same_spelling}
 use Rattle.iot_codec.specs.Laws.Tags.{AreArms, empty_arm, tagged_found, tagged_again, empty_again}

@@ -5,9 +5,9 @@ use Rattle.std.specs.List.{flat_map, AllByRecursion}
 use Rattle.std.specs.declared.cmp.Ordering.{Ordering}
 use Rattle.std.proofs.lemmas.List.Concat.{flat_map-cons}
 use Rattle.iot_codec.specs.Places.{LiesAt, IsSpelledAt, AreBytes, IsSpelling}
-use Rattle.iot_codec.specs.Decoders.{Decoder, ◌>>=◌, go_on, tested, number_at, items_at, list_at}
-use Rattle.iot_codec.specs.Decoding.{pair_at, table_at}
-use Rattle.iot_codec.specs.Rules.{IsNumber, rises, AreRising, IsTable}
+use Rattle.iot_views.specs.Decoders.{Decoder, ◌>>=◌, go_on, tested, number_at, items_at, list_at}
+use Rattle.iot_views.specs.Decoding.{pair_at, table_at}
+use Rattle.iot_views.specs.Rules.{IsNumber, rises, AreRising, IsTable}
 use Rattle.iot_codec.specs.Spelling.{number_spelling, list_spelling, pair_spelling}
 use Rattle.iot_codec.specs.Laws.Places.{lies_none, lies_then, lies_first, lies_second}
 use Rattle.iot_codec.specs.Laws.Steps.{step, carried, step_tested, tested_again}

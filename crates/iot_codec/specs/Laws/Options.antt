@@ -5,8 +5,8 @@ use Rattle.iot_tree.specs.declared.labels.OnConflict.{OnConflict}
 use Rattle.iot_tree.specs.declared.labels.OnConflict.TheVariants.{Reexec, Resolver, Abort, Manual}
 use Rattle.iot_tree.specs.declared.limits.TheConstants.{ACT_LIMIT}
 use Rattle.iot_codec.specs.Places.{LiesAt, IsSpelling}
-use Rattle.iot_codec.specs.Decoding.{name_at, option_table, option_at, budget_at}
-use Rattle.iot_codec.specs.Rules.{IsOption, IsBudget}
+use Rattle.iot_views.specs.Decoding.{name_at, option_table, option_at, budget_at}
+use Rattle.iot_views.specs.Rules.{IsOption, IsBudget}
 use Rattle.iot_codec.specs.Spelling.{number_spelling, name_spelling, option_spelling}
 use Rattle.iot_codec.specs.Laws.Parts.{at_most_laws}
 use Rattle.iot_codec.specs.Laws.Tags.{AreArms, empty_arm, single_arm, tagged_found, tagged_again, empty_again, single_again}

@@ -7,8 +7,8 @@ use Rattle.std.proofs.lemmas.Bool.{cases_lt, leb-true, le-leb}
 use Rattle.std.proofs.lemmas.List.{length-take, get_or-drop, get_or-take, get_or_past}
 use Rattle.std.proofs.lemmas.Nat.{be_bytes_8, from_be_bytes-to_be_bytes_8}
 use Rattle.iot_codec.specs.Places.{LiesAt, IsSpelledAt, AreBytes, IsSpelling}
-use Rattle.iot_codec.specs.Decoders.{Decoder, ◌>>=◌, tested, bytes_at, number_at, at_most}
-use Rattle.iot_codec.specs.Rules.{IsNumber}
+use Rattle.iot_views.specs.Decoders.{Decoder, ◌>>=◌, tested, bytes_at, number_at, at_most}
+use Rattle.iot_views.specs.Rules.{IsNumber}
 use Rattle.iot_codec.specs.Spelling.{number_spelling, counted}
 use Rattle.iot_codec.specs.Laws.Places.{lies_then, lies_first, lies_second, lies_short}
 use Rattle.iot_codec.specs.Laws.Steps.{step, step_tested, tested_again, carried, part_found, part_again}

@@ -7,10 +7,10 @@ use Rattle.iot_tree.specs.declared.questions.Answer.{Answer}
 use Rattle.iot_tree.specs.declared.questions.Answer.TheVariants as answers
 use Rattle.iot_tree.specs.declared.acts.Read.{Read}
 use Rattle.iot_codec.specs.Places.{LiesAt, IsSpelling}
-use Rattle.iot_codec.specs.Decoders.{◌>>=◌, done}
-use Rattle.iot_codec.specs.Decoding.{path_at, contents_at, children_at, question_table, question_at, answer_table, answer_at, read_at}
-use Rattle.iot_codec.specs.Decoding.{reads_at}
-use Rattle.iot_codec.specs.Rules.{IsContents, AreChildren, IsQuestion, IsAnswer, IsRead, AreReads}
+use Rattle.iot_views.specs.Decoders.{◌>>=◌, done}
+use Rattle.iot_views.specs.Decoding.{path_at, contents_at, children_at, question_table, question_at, answer_table, answer_at, read_at}
+use Rattle.iot_views.specs.Decoding.{reads_at}
+use Rattle.iot_views.specs.Rules.{IsContents, AreChildren, IsQuestion, IsAnswer, IsRead, AreReads}
 use Rattle.iot_codec.specs.Spelling.{path_spelling, contents_spelling, children_spelling, question_spelling, answer_spelling}
 use Rattle.iot_codec.specs.Spelling.{read_spelling, reads_spelling}
 use Rattle.iot_codec.specs.Laws.Parts.{same_rule}

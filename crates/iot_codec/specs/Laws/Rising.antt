@@ -9,8 +9,8 @@ use Rattle.iot_tree.specs.Snapshots.{ArePathsRising}
 use Rattle.iot_tree.specs.Tree.{Path}
 use Rattle.iot_tree.proofs.PlaceLaws.{is_less}
 use Rattle.iot_codec.specs.Places.{IsSpelling}
-use Rattle.iot_codec.specs.Decoding.{path_at, next_path_at, paths_at}
-use Rattle.iot_codec.specs.Rules.{is_after, ArePaths}
+use Rattle.iot_views.specs.Decoding.{path_at, next_path_at, paths_at}
+use Rattle.iot_views.specs.Rules.{is_after, ArePaths}
 use Rattle.iot_codec.specs.Spelling.{path_spelling, paths_spelling}
 use Rattle.iot_codec.specs.Laws.Parts.{tested_laws, same_rule}
 use Rattle.iot_codec.specs.Laws.Lists.{Follow, follow_laws}

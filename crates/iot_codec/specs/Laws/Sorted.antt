@@ -10,7 +10,7 @@ use Rattle.iot_text.specs.Paths.{path_cmp}
 use Rattle.iot_text.proofs.PathsLaws.{path_total}
 use Rattle.iot_tree.specs.Tree.{Path}
 use Rattle.iot_tree.proofs.PlaceLaws.{is_less}
-use Rattle.iot_codec.specs.Rules.{AreRising}
+use Rattle.iot_views.specs.Rules.{AreRising}
 
 module _ {V : Type 0} where
   -- a lesser path comes before the same paths

@@ -4,7 +4,7 @@ use Rattle.std.proofs.Common.{ap, ◌∙◌, arith, subst}
 use Rattle.std.proofs.lemmas.Bool.{ltb-false, le-ltb}
 use Rattle.std.proofs.lemmas.List.{take-append-drop, drop-drop, length-take, length-drop, take_at}
 use Rattle.iot_codec.specs.Places.{LiesAt}
-use Rattle.iot_codec.specs.Decoders.{Decoder, go_on, tested, bytes_at}
+use Rattle.iot_views.specs.Decoders.{Decoder, go_on, tested, bytes_at}
 
 abbrev pub read_ok : {X : Type 0} → X → Result X ℕ
 read_ok x = Ok x

@@ -4,7 +4,7 @@ use Rattle.std.proofs.Common.{length, get_or, Option, Some, None, Result, Ok, Er
 use Rattle.std.specs.Prelude.{slice_get}
 use Rattle.std.proofs.lemmas.Bool.{eqb-true}
 use Rattle.iot_codec.specs.Places.{LiesAt, IsSpelledAt, AreBytes, IsSpelling}
-use Rattle.iot_codec.specs.Decoders.{Decoder, ◌>>=◌, go_on, done, after_tag, after_byte, tagged, unless_zero, optional_at}
+use Rattle.iot_views.specs.Decoders.{Decoder, ◌>>=◌, go_on, done, after_tag, after_byte, tagged, unless_zero, optional_at}
 use Rattle.iot_codec.specs.Laws.Places.{lies_none, lies_then, lies_first, lies_second, lies_tag, tag_within, tag_is, lies_after_tag}
 use Rattle.iot_codec.specs.Laws.Steps.{read_ok, step, carried}
 

@@ -21,9 +21,9 @@ use Rattle.iot_tree.proofs.FollowLaws.{grown, not_begun, longer_has, same_has, e
 use Rattle.iot_tree.proofs.PlaceLaws.{is_less, find_after, below_lower, back_after}
 use Rattle.iot_tree.proofs.RowLaws.{is_tested, get_rows, entries_rows, get_middle, root_rows}
 use Rattle.iot_codec.specs.Places.{LiesAt, IsSpelling}
-use Rattle.iot_codec.specs.Decoders.{◌>>=◌, done, tested, number_at}
-use Rattle.iot_codec.specs.Decoding.{path_at, contents_at, node_table, node_at, row_at, at_least_one, rows_at, tree_at}
-use Rattle.iot_codec.specs.Rules.{IsNumber, IsContents, IsNode, IsRow, IsTreeOfRows, has_dir, has_parent, path_follows, node_follows}
+use Rattle.iot_views.specs.Decoders.{◌>>=◌, done, tested, number_at}
+use Rattle.iot_views.specs.Decoding.{path_at, contents_at, node_table, node_at, row_at, at_least_one, rows_at, tree_at}
+use Rattle.iot_views.specs.Rules.{IsNumber, IsContents, IsNode, IsRow, IsTreeOfRows, has_dir, has_parent, path_follows, node_follows}
 use Rattle.iot_codec.specs.Spelling.{number_spelling, pair_spelling, path_spelling, contents_spelling, node_spelling, rows_spelling}
 use Rattle.iot_codec.specs.Spelling.{tree_spelling}
 use Rattle.iot_codec.specs.Laws.Bases.{made_laws}

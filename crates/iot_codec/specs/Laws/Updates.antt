@@ -7,9 +7,9 @@ use Rattle.iot_tree.specs.declared.acts.Read.{Read}
 use Rattle.iot_tree.specs.declared.acts.Act.{Act}
 use Rattle.iot_tree.specs.declared.limits.TheConstants.{ACT_LIMIT}
 use Rattle.iot_codec.specs.Places.{LiesAt, IsSpelling}
-use Rattle.iot_codec.specs.Decoders.{◌>>=◌, done, at_most}
-use Rattle.iot_codec.specs.Decoding.{path_at, contents_at, lines_at, reads_at, update_table, update_at, optional_update_at, act_at, acts_at}
-use Rattle.iot_codec.specs.Rules.{IsContents, AreLines, AreReads, IsUpdate, IsOptionalUpdate, IsAct, AreActs}
+use Rattle.iot_views.specs.Decoders.{◌>>=◌, done, at_most}
+use Rattle.iot_views.specs.Decoding.{path_at, contents_at, lines_at, reads_at, update_table, update_at, optional_update_at, act_at, acts_at}
+use Rattle.iot_views.specs.Rules.{IsContents, AreLines, AreReads, IsUpdate, IsOptionalUpdate, IsAct, AreActs}
 use Rattle.iot_codec.specs.Spelling.{path_spelling, contents_spelling, lines_spelling, reads_spelling, update_spelling}
 use Rattle.iot_codec.specs.Spelling.{optional_update_spelling, act_spelling, acts_spelling}
 use Rattle.iot_codec.specs.Laws.Parts.{at_most_laws, same_rule}

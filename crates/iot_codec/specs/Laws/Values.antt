@@ -10,9 +10,9 @@ use Rattle.iot_tree.specs.declared.kinds.Kind as object
 use Rattle.iot_tree.specs.declared.kinds.Kind.TheVariants as kinds
 use Rattle.iot_tree.specs.declared.limits.TheConstants.{CONTENTS_LIMIT}
 use Rattle.iot_codec.specs.Places.{LiesAt, IsSpelling}
-use Rattle.iot_codec.specs.Decoders.{Decoder, ◌>>=◌, done, tested, bytes_at, number_at, at_most}
-use Rattle.iot_codec.specs.Decoding.{name_at, path_at, contents_at, line_at, lines_at, files_at, kind_at, children_at}
-use Rattle.iot_codec.specs.Rules.{IsNumber, IsContents, IsLine, AreLines, AreFiles, IsObject, AreChildren, is_content_byte, is_printable}
+use Rattle.iot_views.specs.Decoders.{Decoder, ◌>>=◌, done, tested, bytes_at, number_at, at_most}
+use Rattle.iot_views.specs.Decoding.{name_at, path_at, contents_at, line_at, lines_at, files_at, kind_at, children_at}
+use Rattle.iot_views.specs.Rules.{IsNumber, IsContents, IsLine, AreLines, AreFiles, IsObject, AreChildren, is_content_byte, is_printable}
 use Rattle.iot_codec.specs.Spelling.{number_spelling, counted, name_spelling, path_spelling, contents_spelling, line_spelling}
 use Rattle.iot_codec.specs.Spelling.{lines_spelling, files_spelling, kind_spelling, children_spelling}
 use Rattle.iot_codec.specs.Laws.Parts.{number_laws, at_most_laws, counted_laws, without_count, same_rule}

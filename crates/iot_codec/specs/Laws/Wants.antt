@@ -4,8 +4,8 @@ use Rattle.iot_text.specs.Paths.{IsPath}
 use Rattle.iot_tree.specs.declared.want.Want.{Want}
 use Rattle.iot_tree.specs.declared.want.Want.TheVariants as wants
 use Rattle.iot_codec.specs.Places.{LiesAt, IsSpelling}
-use Rattle.iot_codec.specs.Decoding.{path_at, want_table, want_at}
-use Rattle.iot_codec.specs.Rules.{IsWant}
+use Rattle.iot_views.specs.Decoding.{path_at, want_table, want_at}
+use Rattle.iot_views.specs.Rules.{IsWant}
 use Rattle.iot_codec.specs.Spelling.{path_spelling, want_spelling}
 use Rattle.iot_codec.specs.Laws.Tags.{AreArms, empty_arm, single_arm, tagged_found, tagged_again, empty_again, single_again}
 use Rattle.iot_codec.specs.Laws.Values.{path_laws}

@@ -5,7 +5,7 @@ use Rattle.iot_codec.proofs.access.read_bases.Goals as goal
 pub returns-in_err-count : goal.returns-in_err-count
 returns-in_err-count c =
     let p = err_from_is_err_and c.from_residual.result c.from_residual.ensures.1 in
-    rw (p.1, p.2) (number_fault c.args.bytes.now c.args.at c.in_err-count.field-0.0 c.in_err-count.ensures)
+    rw (p.1, p.2) (number_fault c.args.bytes.now c.args.at c.in_err-count.field-0.0.at c.in_err-count.ensures)
 
 pub bases-init : goal.bases-init
 bases-init c = rw (c.new-reads.ensures, c.new-places.ensures) (begin c.args.bytes.now c.in_ok-count.count c.in_ok-count.at)

@@ -1,12 +1,13 @@
-use Rattle.std.proofs.Common.{◌≡◌, ◌++◌, ◌∷◌, [], ◌∙◌, ap, subst, sym}
+use Rattle.std.proofs.Common.{◌≡◌, ◌∙◌, ap, subst, sym}
 use Rattle.std.specs.Prelude.{None}
 use Rattle.std.specs.Option.{option_copied}
 use Rattle.std.proofs.lemmas.Result.{err_from_is_err_and}
 use Rattle.iot_text.specs.Paths.{path_cmp}
 use Rattle.iot_codec.specs.Ahead.{IsAhead}
-use Rattle.iot_codec.specs.Decoders.{items_at, number_at}
-use Rattle.iot_codec.specs.Decoding.{pair_at, path_at}
-use Rattle.iot_codec.proofs.DecodersLaws.{goes_on, ends, is_done, last_of, last_of-append, last_of-get}
+use Rattle.iot_views.specs.Decoders.{items_at, number_at}
+use Rattle.iot_views.specs.Decoding.{pair_at, path_at}
+use Rattle.iot_views.proofs.DecodersLaws.{goes_on, is_done, last_of, last_of-append, last_of-get}
+use Rattle.iot_codec.proofs.FaultsLaws.{ends}
 use Rattle.iot_codec.proofs.known.read_stamped.Goals as goal
 
 pub read_pair-requires-clause-ahead : goal.read_pair-requires-clause-ahead

@@ -1,9 +1,9 @@
 use Rattle.std.specs.Prelude.{None}
 use Rattle.iot_text.specs.Paths.{path_cmp}
 use Rattle.iot_codec.specs.Ahead.{IsAhead}
-use Rattle.iot_codec.specs.Decoding.{pair_at, path_at}
-use Rattle.iot_codec.specs.Decoders.{items_at, number_at}
-use Rattle.iot_codec.proofs.DecodersLaws.{IsOnWay, last_of}
+use Rattle.iot_views.specs.Decoding.{pair_at, path_at}
+use Rattle.iot_views.specs.Decoders.{items_at, number_at}
+use Rattle.iot_views.proofs.DecodersLaws.{IsOnWay, last_of}
 use Rattle.iot_codec.proofs.known.read_stamped.Given as goal
 
 abbrev pub invariant-pairs : goal.invariant-pairs

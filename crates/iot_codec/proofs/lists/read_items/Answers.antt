@@ -1,7 +1,8 @@
 use Rattle.std.specs.Prelude.{None}
 use Rattle.std.proofs.lemmas.Result.{err_from_is_err_and}
-use Rattle.iot_codec.specs.Decoders.{items_at}
-use Rattle.iot_codec.proofs.DecodersLaws.{goes_on, ends}
+use Rattle.iot_views.specs.Decoders.{items_at}
+use Rattle.iot_views.proofs.DecodersLaws.{goes_on}
+use Rattle.iot_codec.proofs.FaultsLaws.{ends}
 use Rattle.iot_codec.proofs.lists.read_items.Goals as goal
 
 pub returns-in_err-item : goal.returns-in_err-item

@@ -1,6 +1,6 @@
 use Rattle.std.specs.Prelude.{None}
-use Rattle.iot_codec.specs.Decoders.{items_at}
-use Rattle.iot_codec.proofs.DecodersLaws.{IsOnWay}
+use Rattle.iot_views.specs.Decoders.{items_at}
+use Rattle.iot_views.proofs.DecodersLaws.{IsOnWay}
 use Rattle.iot_codec.proofs.lists.read_items.Given as goal
 
 abbrev pub invariant-items : goal.invariant-items

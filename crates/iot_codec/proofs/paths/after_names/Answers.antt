@@ -1,9 +1,9 @@
 use Rattle.std.specs.Prelude.{◌≡◌, suc, ◌+◌, ◌++◌, [], ◌∷◌, take, length, None}
 use Rattle.std.proofs.Common.{ap, sym, ◌∙◌, arith}
 use Rattle.std.proofs.Math.Seq.{take-suc}
-use Rattle.iot_codec.specs.Decoders.{items_at}
-use Rattle.iot_codec.specs.Decoding.{name_at}
-use Rattle.iot_codec.proofs.DecodersLaws.{goes_on}
+use Rattle.iot_views.specs.Decoders.{items_at}
+use Rattle.iot_views.specs.Decoding.{name_at}
+use Rattle.iot_views.proofs.DecodersLaws.{goes_on}
 use Rattle.iot_codec.proofs.paths.after_names.Goals as goal
 
 pub names-preserved : goal.names-preserved

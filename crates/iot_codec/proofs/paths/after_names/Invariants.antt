@@ -1,7 +1,7 @@
 use Rattle.std.specs.Prelude.{take, length, None}
-use Rattle.iot_codec.specs.Decoders.{items_at}
-use Rattle.iot_codec.specs.Decoding.{name_at}
-use Rattle.iot_codec.proofs.DecodersLaws.{IsOnWay}
+use Rattle.iot_views.specs.Decoders.{items_at}
+use Rattle.iot_views.specs.Decoding.{name_at}
+use Rattle.iot_views.proofs.DecodersLaws.{IsOnWay}
 use Rattle.iot_codec.proofs.paths.after_names.Given as goal
 
 abbrev pub invariant-names : goal.invariant-names

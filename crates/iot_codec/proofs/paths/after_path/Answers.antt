@@ -1,5 +1,5 @@
 use Rattle.std.proofs.Common.{sym}
-use Rattle.iot_codec.specs.Decoding.{path_at}
+use Rattle.iot_views.specs.Decoding.{path_at}
 use Rattle.iot_codec.proofs.paths.after_path.Goals as goal
 
 pub returns : goal.returns

@@ -1,4 +1,4 @@
-use Rattle.std.proofs.Common.{◌≡◌, ◌+◌, ◌≤◌, ◌++◌, ◌∙◌, [], List, ℕ, ap, arith, append-nil, length, sym}
+use Rattle.std.proofs.Common.{◌≡◌, ◌++◌, ◌∙◌, List, ℕ, ap, arith, append-nil, length, sym}
 use Rattle.iot_codec.specs.Spelling.{number_spelling}
 use Rattle.iot_codec.proofs.DigitsLaws.{length-digits}
 use Rattle.iot_codec.proofs.paths.put_few.Goals as goal

@@ -1,7 +1,7 @@
 use Rattle.std.specs.Prelude.{None}
-use Rattle.iot_codec.specs.Decoders.{items_at}
-use Rattle.iot_codec.specs.Decoding.{next_path_at}
-use Rattle.iot_codec.proofs.DecodersLaws.{IsOnWay}
+use Rattle.iot_views.specs.Decoders.{items_at}
+use Rattle.iot_views.specs.Decoding.{next_path_at}
+use Rattle.iot_views.proofs.DecodersLaws.{IsOnWay}
 use Rattle.iot_codec.proofs.rising.read_rising.Given as goal
 
 abbrev pub invariant-paths : goal.invariant-paths

@@ -1,7 +1,7 @@
 use Rattle.std.specs.Prelude.{None}
-use Rattle.iot_codec.specs.Decoding.{pair_at}
-use Rattle.iot_codec.specs.Decoders.{items_at}
-use Rattle.iot_codec.proofs.DecodersLaws.{IsOnWay}
+use Rattle.iot_views.specs.Decoding.{pair_at}
+use Rattle.iot_views.specs.Decoders.{items_at}
+use Rattle.iot_views.proofs.DecodersLaws.{IsOnWay}
 use Rattle.iot_codec.proofs.tables.read_pairs.Given as goal
 
 abbrev pub invariant-pairs : goal.invariant-pairs

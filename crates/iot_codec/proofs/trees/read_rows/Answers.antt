@@ -2,9 +2,10 @@ use Rattle.std.proofs.Common.{◌≡◌, sym}
 use Rattle.std.specs.Prelude.{None}
 use Rattle.std.specs.Option.{option_copied}
 use Rattle.std.proofs.lemmas.Result.{err_from_is_err_and}
-use Rattle.iot_codec.specs.Decoders.{items_at}
-use Rattle.iot_codec.specs.Decoding.{row_at}
-use Rattle.iot_codec.proofs.DecodersLaws.{goes_on, ends, is_done, last_of, last_of-get}
+use Rattle.iot_views.specs.Decoders.{items_at}
+use Rattle.iot_views.specs.Decoding.{row_at}
+use Rattle.iot_views.proofs.DecodersLaws.{goes_on, is_done, last_of, last_of-get}
+use Rattle.iot_codec.proofs.FaultsLaws.{ends}
 use Rattle.iot_codec.proofs.trees.read_rows.Goals as goal
 
 pub returns-in_err-row : goal.returns-in_err-row

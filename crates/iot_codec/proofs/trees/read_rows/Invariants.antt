@@ -1,7 +1,7 @@
 use Rattle.std.specs.Prelude.{None}
-use Rattle.iot_codec.specs.Decoders.{items_at}
-use Rattle.iot_codec.specs.Decoding.{row_at}
-use Rattle.iot_codec.proofs.DecodersLaws.{IsOnWay}
+use Rattle.iot_views.specs.Decoders.{items_at}
+use Rattle.iot_views.specs.Decoding.{row_at}
+use Rattle.iot_views.proofs.DecodersLaws.{IsOnWay}
 use Rattle.iot_codec.proofs.trees.read_rows.Given as goal
 
 abbrev pub invariant-rows : goal.invariant-rows

@@ -2,10 +2,7 @@
 use Rattle.std.proofs.Common.{◌≡◌, ℕ, suc, ◌+◌, ◌-◌, ◌<◌, ◌≤◌, List, [], ◌∷◌, ◌++◌, length, Option, Some, None, Result, Ok, Err, refl, sym}
 use Rattle.std.proofs.Common.{ap, ◌∙◌, append_assoc, append-nil, arith}
 use Rattle.std.specs.Prelude.{slice_get}
-use Rattle.iot_codec.specs.declared.faults.CodecFault.{CodecFault}
-use Rattle.iot_codec.specs.declared.faults.CodecFault.TheVariants.{NoMemory, Malformed}
-use Rattle.iot_codec.specs.Outcomes.{IsOutcome}
-use Rattle.iot_codec.specs.Decoders.{Decoder, go_on, items_at}
+use Rattle.iot_views.specs.Decoders.{Decoder, go_on, items_at}
 
 -- the last element of a list, or else what was before it
 abbrev pub last_of : {X : Type 0} → Option X → List X → Option X
@@ -48,13 +45,11 @@ module _ {X : Type 0} (item : Option X → Decoder X) (bytes : List ℕ) (count 
       rw (last_of-append front None x, k, h) (regroup front x (items_at item (count - (i + 1)) (Some x) bytes after)) in
       sym one ∙ so_far
 
-  pub ends : (fault : CodecFault) (front : List X) (i at : ℕ) → i < count
-      → IsOutcome {X = X × ℕ} (Err fault) (item (last_of None front) bytes at) → IsOnWay front i at
-      → IsOutcome {X = List X × ℕ} (Err fault) total
-  ends NoMemory front i at lt h so_far = tt
-  ends (Malformed place) front i at lt h so_far =
+  pub ends_at : (fault : ℕ) (front : List X) (i at : ℕ) → i < count → item (last_of None front) bytes at ≡ Err fault
+      → IsOnWay front i at → total ≡ Err fault
+  ends_at fault front i at lt h so_far =
       let k : count - i ≡ suc (count - (i + 1)) = omega arith in
-      let one : with_front front (items_at item (count - i) (last_of None front) bytes at) ≡ Err place = rw (k, h) refl in
+      let one : with_front front (items_at item (count - i) (last_of None front) bytes at) ≡ Err fault = rw (k, h) refl in
       sym so_far ∙ one
 
   pub is_done : (front : List X) (i at : ℕ) → count ≤ i → IsOnWay front i at → total ≡ Ok (front, at)

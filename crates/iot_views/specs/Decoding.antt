@@ -30,8 +30,8 @@ use Rattle.iot_tree.specs.declared.want.Want.{Want}
 use Rattle.iot_tree.specs.declared.want.Want.TheVariants as wants
 use Rattle.iot_tree.specs.Rows.{map_of}
 use Rattle.iot_tree.specs.Tree.{Nodes, Path, Row}
-use Rattle.iot_codec.specs.Decoders.{Decoder, ◌>>=◌, done, tested, bytes_at, number_at, at_most, items_at, list_at, tagged, optional_at}
-use Rattle.iot_codec.specs.Rules.{is_printable, is_content_byte, rises, is_after, path_follows, node_follows}
+use Rattle.iot_views.specs.Decoders.{Decoder, ◌>>=◌, done, tested, bytes_at, number_at, at_most, items_at, list_at, tagged, optional_at}
+use Rattle.iot_views.specs.Rules.{is_printable, is_content_byte, rises, is_after, path_follows, node_follows}
 
 -- bytes that are a name
 unfoldable pub name_at : Decoder (List ℕ)
