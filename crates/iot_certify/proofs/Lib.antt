@@ -2,3 +2,5 @@ pub mod ReadsLaws
 pub mod WalkLaws
 pub mod AccessLaws
 mod SilentLaws
+mod AsksLaws
+mod BasesLaws

@@ -3,10 +3,15 @@
 
 mod access;
 mod acts;
+mod asking;
+mod children;
+mod places;
 mod reads;
 mod updates;
 mod verdict;
+mod views;
 
 pub use access::certify;
 pub use acts::certify_acts;
 pub use verdict::Verdict;
+pub use views::certify_view;

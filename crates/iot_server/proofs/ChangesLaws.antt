@@ -4,7 +4,7 @@ use Rattle.std.specs.FinMap.{entries, is_sorted}
 use Rattle.std.specs.List.{filter_map, cons_option, AllByRecursion}
 use Rattle.iot_text.specs.Paths.{IsPath, path_cmp}
 use Rattle.iot_codec.specs.Laws.Sorted.{rising_table}
-use Rattle.iot_codec.specs.Rules.{IsNode, IsStampedNode, AreChanges}
+use Rattle.iot_views.specs.Rules.{IsNode, IsStampedNode, AreChanges}
 use Rattle.iot_limits.specs.Spelled.{IsSpelledNode, IsSpelledRow, IsSpelledTree}
 use Rattle.iot_stamp.proofs.SendingLaws.{sent_rows}
 use Rattle.iot_stamp.specs.Passes.{sending}

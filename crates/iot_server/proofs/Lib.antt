@@ -1,3 +1,4 @@
+mod CopiesLaws
 mod ChangesLaws
 mod RepliesLaws
 mod StandingLaws

@@ -5,9 +5,10 @@ use Rattle.std.specs.List.{zip}
 use Rattle.iot_access.specs.BaseReads.{Base}
 use Rattle.iot_certify.specs.Verdicts.{FailsAt, IsVerdictOnAccess}
 use Rattle.iot_certify.specs.declared.verdict.Verdict.TheVariants.{Differs}
-use Rattle.iot_codec.specs.Rules.{IsAnswer, IsNode, IsRow, IsTreeOfRows}
+use Rattle.iot_views.specs.Rules.{IsAnswer, IsNode, IsRow, IsTreeOfRows}
 use Rattle.iot_disk.specs.Disk.{Medium}
 use Rattle.iot_limits.proofs.AnswerLaws.{tree_answers}
+use Rattle.iot_limits.proofs.TreesLaws.{tree_spelled}
 use Rattle.iot_limits.specs.Spelled.{IsSpelledNode, IsSpelledRow, IsSpelledTree}
 use Rattle.iot_store.specs.Standing.{EachStays}
 use Rattle.iot_store.specs.Store.{IsSynced, count_of, encoded_on, state_of, disk_of}
@@ -19,26 +20,6 @@ use Rattle.iot_tree.specs.declared.nodes.Node.{Node}
 use Rattle.iot_tree.specs.declared.nodes.Node.TheVariants.{Dir, File, FarDir, FarFile}
 use Rattle.iot_tree.specs.declared.questions.Answer.{Answer}
 use Rattle.iot_tree.proofs.EachLaws.{found_row}
-
--- ---- trees whose rows have spellings
-
-abbrev IsRowAt : Path → Node → Type 0
-IsRowAt path node = IsRow (path, node)
-
-node_spelled : (node : Node) → IsNode node → IsSpelledNode node
-node_spelled Dir is = tt
-node_spelled (File bytes) is = is
-node_spelled FarDir is = tt
-node_spelled FarFile is = tt
-
-row_spelled : (path : Path) (node : Node) → IsRowAt path node → IsSpelledRow path node
-row_spelled path node row = record { is_path = row.0; is_node = node_spelled node row.1 }
-
-tree_spelled : (t : Nodes) → IsTreeOfRows t → IsSpelledTree t
-tree_spelled t rows = record {
-  each = λ path node has.
-      row_spelled path node (found_row IsRowAt (entries t) rows.each path node (sym (get-entries t path) ∙ has));
-}
 
 -- ---- a store under which nothing is under way
 

@@ -2,9 +2,11 @@
 ghost use Rattle.std.specs.Prelude.{◌≡◌, ◌+◌, IfOk, OnOk, IsErrOf, None, length};
 ghost use Rattle.iot_access.specs.Access.{FitInTurn};
 ghost use Rattle.iot_acts.specs.Traces.{ReadsHold};
-ghost use Rattle.iot_codec.specs.Rules.{AreKnown};
+ghost use Rattle.iot_certify.specs.Verdicts.{IsVerdictOnAccess};
+ghost use Rattle.iot_views.specs.Rules.{AreKnown};
 ghost use Rattle.iot_disk.specs.Faults.{CountsJournalFault};
 ghost use Rattle.iot_server.specs.Faults.{CutsOff};
+ghost use Rattle.iot_server.specs.Copies.{commit_of};
 ghost use Rattle.iot_server.specs.Replies.{IsAnswered};
 ghost use Rattle.iot_store.specs.Numbers.{number_in};
 ghost use Rattle.iot_store.specs.Records.{IsRecord};
@@ -12,6 +14,7 @@ ghost use Rattle.iot_store.specs.Rules.{IsCommit};
 ghost use Rattle.iot_store.specs.Standing.{EachStays};
 ghost use Rattle.iot_store.specs.Store.{state_of, disk_of, count_of, encoded_on, IsSynced};
 ghost use Rattle.iot_tree.specs.declared.questions.Answer.TheVariants.{Away};
+ghost use Rattle.iot_wire.specs.Lent.{request_of, request_seen};
 ghost use Rattle.iot_wire.specs.Messages.{IsMessage};
 ghost use Rattle.iot_wire.specs.Rules.{IsRequest, IsReply};
 ghost use Rattle.iot_wire.specs.Spelling.{request_spelling, reply_spelling};
@@ -19,27 +22,27 @@ ghost use Rattle.iot_wire.specs.declared.requests.Request.{Request as Asked};
 ghost use Rattle.iot_wire.specs.declared.requests.Request.TheVariants.{Refresh, Commit as Asks};
 ghost use Rattle.iot_wire.specs.declared.replies.Reply.TheVariants.{Committed, Conflict};
 
-use iot_certify::{Verdict, certify};
+use iot_certify::{Verdict, certify_view};
 use iot_disk::{Disk, JournalFault};
 use iot_store::{Commit, Store};
 use iot_text::NoMemory;
-use iot_tree::{Access, Answer, Known, Want};
-use iot_wire::{Reply, Request, write_reply};
+use iot_tree::{Access, Answer, Known, Tree, Want};
+use iot_wire::{CommitView, Reply, Request, RequestView, read_request, write_reply};
 use std::alloc::Global;
 
 /// Answers the request with these bytes. A commit is on the disk when this gives its reply.
 pub(crate) fn answer<D: Disk>(
     alloc: Global,
     store: &mut Store<D>,
-    request: Request,
+    request: &RequestView<'_>,
     bytes: &[u8],
 ) -> Result<Vec<u8>, JournalFault>
     requires synced { IsSynced D.medium store.old }
-    requires asked { IsMessage IsRequest request_spelling bytes.now request }
-    ensures answered { IfOk result (λ bytes. IsAnswered (state_of store.old) (encoded_on D.medium store.old) request bytes.items
-        (state_of store.new) (encoded_on D.medium store.new)) }
+    requires asked { IsMessage IsRequest request_spelling bytes.now (request_seen request.now) }
+    ensures answered { IfOk result (λ bytes. IsAnswered (state_of store.old) (encoded_on D.medium store.old)
+        (request_seen request.now) bytes.items (state_of store.new) (encoded_on D.medium store.new)) }
     ensures synced { OnOk result (IsSynced D.medium store.new) }
-    ensures stopped { IsErrOf result JournalFault.Stopped → CutsOff (λ (asked : Asked). asked ≡ request)
+    ensures stopped { IsErrOf result JournalFault.Stopped → CutsOff (λ (asked : Asked). asked ≡ request_seen request.now)
         (state_of store.old) (count_of store.old) (encoded_on D.medium store.old) (D.medium.may_leave (disk_of store.new)) }
     ensures no_memory { IsErrOf result JournalFault.NoMemory → EachStays (D.medium.may_leave (disk_of store.new))
         (count_of store.old) (encoded_on D.medium store.old) (state_of store.old) }
@@ -47,23 +50,12 @@ pub(crate) fn answer<D: Disk>(
     ensures arms { D.medium.arms (disk_of store.new) ≡ D.medium.arms (disk_of store.old) }
 {
     match request {
-        Request::Refresh {
+        RequestView::Refresh {
             client: _,
             known,
             want,
-        } => Ok(lend(alloc, store, &known, &want)?),
-        Request::Commit {
-            label,
-            access,
-            lines,
-        } => {
-            let commit = Commit {
-                label,
-                access,
-                lines,
-            };
-            submit(alloc, store, commit, bytes)
-        }
+        } => Ok(lend(alloc, store, known, want)?),
+        RequestView::Commit(commit) => submit(alloc, store, commit, bytes),
     }
 }
 
@@ -89,56 +81,118 @@ fn lend<D: Disk>(
 fn submit<D: Disk>(
     alloc: Global,
     store: &mut Store<D>,
-    commit: Commit,
+    commit: &CommitView<'_>,
     body: &[u8],
 ) -> Result<Vec<u8>, JournalFault>
     requires synced { IsSynced D.medium store.old }
-    requires commit { IsCommit commit }
-    requires recorded { IsRecord body.now commit.label commit.access commit.lines }
+    requires asked { IsMessage IsRequest request_spelling body.now (request_of commit.now) }
     ensures answered { IfOk result (λ bytes. IsAnswered (state_of store.old) (encoded_on D.medium store.old)
-        (Asks commit.label commit.access commit.lines) bytes.items (state_of store.new) (encoded_on D.medium store.new)) }
+        (request_of commit.now) bytes.items (state_of store.new) (encoded_on D.medium store.new)) }
     ensures synced { OnOk result (IsSynced D.medium store.new) }
     ensures stopped { IsErrOf result JournalFault.Stopped
-        → CutsOff (λ (asked : Asked). asked ≡ Asks commit.label commit.access commit.lines)
+        → CutsOff (λ (asked : Asked). asked ≡ request_of commit.now)
         (state_of store.old) (count_of store.old) (encoded_on D.medium store.old) (D.medium.may_leave (disk_of store.new)) }
     ensures no_memory { IsErrOf result JournalFault.NoMemory → EachStays (D.medium.may_leave (disk_of store.new))
         (count_of store.old) (encoded_on D.medium store.old) (state_of store.old) }
     ensures faults { CountsJournalFault result (D.medium.faults (disk_of store.old)) (D.medium.faults (disk_of store.new)) }
     ensures arms { D.medium.arms (disk_of store.new) ≡ D.medium.arms (disk_of store.old) }
 {
-    match store.number_of(commit.label.client, commit.label.tid) {
+    match number_of(store, commit) {
         Some(number) => Ok(write_reply(alloc, &Reply::Already { number })?),
         None => judge(alloc, store, commit, body),
     }
 }
 
+/// The number of the transaction, if it is among the commits.
+fn number_of<D: Disk>(store: &Store<D>, commit: &CommitView<'_>) -> Option<u64>
+    ensures { result ≡ number_in (state_of store.now).labels commit.now.0.client commit.now.0.tid }
+{
+    let label = commit.label();
+    store.number_of(label.client, label.tid)
+}
+
 /// Commits a new transaction if what it asked of the tree before it is so of the store's tree; else tells the first read that is not.
+/// Only then are its parts copied out of the request.
 fn judge<D: Disk>(
     alloc: Global,
     store: &mut Store<D>,
-    commit: Commit,
+    commit: &CommitView<'_>,
     body: &[u8],
 ) -> Result<Vec<u8>, JournalFault>
     requires synced { IsSynced D.medium store.old }
-    requires commit { IsCommit commit }
-    requires recorded { IsRecord body.now commit.label commit.access commit.lines }
-    requires new { number_in (state_of store.old).labels commit.label.client commit.label.tid ≡ None }
+    requires asked { IsMessage IsRequest request_spelling body.now (request_of commit.now) }
+    requires new { number_in (state_of store.old).labels commit.now.0.client commit.now.0.tid ≡ None }
     ensures answered { IfOk result (λ bytes. IsAnswered (state_of store.old) (encoded_on D.medium store.old)
-        (Asks commit.label commit.access commit.lines) bytes.items (state_of store.new) (encoded_on D.medium store.new)) }
+        (request_of commit.now) bytes.items (state_of store.new) (encoded_on D.medium store.new)) }
     ensures synced { OnOk result (IsSynced D.medium store.new) }
     ensures stopped { IsErrOf result JournalFault.Stopped
-        → CutsOff (λ (asked : Asked). asked ≡ Asks commit.label commit.access commit.lines)
+        → CutsOff (λ (asked : Asked). asked ≡ request_of commit.now)
         (state_of store.old) (count_of store.old) (encoded_on D.medium store.old) (D.medium.may_leave (disk_of store.new)) }
     ensures no_memory { IsErrOf result JournalFault.NoMemory → EachStays (D.medium.may_leave (disk_of store.new))
         (count_of store.old) (encoded_on D.medium store.old) (state_of store.old) }
     ensures faults { CountsJournalFault result (D.medium.faults (disk_of store.old)) (D.medium.faults (disk_of store.new)) }
     ensures arms { D.medium.arms (disk_of store.new) ≡ D.medium.arms (disk_of store.old) }
 {
-    match certify(alloc, store.tree(), &commit.access)? {
-        Verdict::Holds => commit_if_fit(alloc, store, commit, body),
+    match verdict(alloc, store.tree(), commit)? {
+        Verdict::Holds => commit_copied(alloc, store, commit, body),
         Verdict::Differs { read, answer } => {
             Ok(write_reply(alloc, &Reply::Conflict { read, answer })?)
         }
+    }
+}
+
+/// The verdict on what the transaction asked of the tree before it.
+fn verdict(alloc: Global, t: &Tree, commit: &CommitView<'_>) -> Result<Verdict, NoMemory>
+    ensures { IfOk result (IsVerdictOnAccess t.now commit.now.1.0) }
+{
+    certify_view(alloc, t, &commit.access())
+}
+
+/// Copies a new transaction whose base reads hold, and commits it if its updates fit in turn.
+fn commit_copied<D: Disk>(
+    alloc: Global,
+    store: &mut Store<D>,
+    commit: &CommitView<'_>,
+    body: &[u8],
+) -> Result<Vec<u8>, JournalFault>
+    requires synced { IsSynced D.medium store.old }
+    requires asked { IsMessage IsRequest request_spelling body.now (request_of commit.now) }
+    requires new { number_in (state_of store.old).labels commit.now.0.client commit.now.0.tid ≡ None }
+    requires holds { ReadsHold (state_of store.old).tree commit.now.1.0.reads }
+    ensures answered { IfOk result (λ bytes. IsAnswered (state_of store.old) (encoded_on D.medium store.old)
+        (request_of commit.now) bytes.items (state_of store.new) (encoded_on D.medium store.new)) }
+    ensures synced { OnOk result (IsSynced D.medium store.new) }
+    ensures stopped { IsErrOf result JournalFault.Stopped
+        → CutsOff (λ (asked : Asked). asked ≡ request_of commit.now)
+        (state_of store.old) (count_of store.old) (encoded_on D.medium store.old) (D.medium.may_leave (disk_of store.new)) }
+    ensures no_memory { IsErrOf result JournalFault.NoMemory → EachStays (D.medium.may_leave (disk_of store.new))
+        (count_of store.old) (encoded_on D.medium store.old) (state_of store.old) }
+    ensures faults { CountsJournalFault result (D.medium.faults (disk_of store.old)) (D.medium.faults (disk_of store.new)) }
+    ensures arms { D.medium.arms (disk_of store.new) ≡ D.medium.arms (disk_of store.old) }
+{
+    let copy = copied(alloc, commit, body)?;
+    commit_if_fit(alloc, store, copy, body)
+}
+
+/// The commit that is lent out of the bytes, in memory of its own.
+fn copied(alloc: Global, commit: &CommitView<'_>, bytes: &[u8]) -> Result<Commit, NoMemory>
+    requires { IsMessage IsRequest request_spelling bytes.now (request_of commit.now) }
+    ensures { IfOk result (λ copy. copy ≡ commit_of commit.now) }
+{
+    match read_request(alloc, bytes) {
+        Ok(
+            Request::Commit {
+                label,
+                access,
+                lines,
+            },
+        ) => Ok(Commit {
+            label,
+            access,
+            lines,
+        }),
+        // The bytes are those of a commit, so that only memory can be lacking.
+        _ => Err(NoMemory),
     }
 }
 

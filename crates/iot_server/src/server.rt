@@ -23,7 +23,7 @@ use crate::answering::answer;
 use crate::{ServerFault, Traffic};
 use iot_disk::{Disk, Pick, StartFault};
 use iot_store::Store;
-use iot_wire::read_request_beside;
+use iot_wire::lend_request;
 use std::alloc::Global;
 
 /// A server: a store, to which it appends what clients commit, and what was received and sent since the start.
@@ -111,13 +111,14 @@ impl<D: Disk> Server<D> {
     /// the client knows or wants to know, the rows that are new to it, with their stamps, and the paths that it sent and that are
     /// gone. It takes one pass over the tree and the sent paths. A commit is answered by the number of its transaction, if that is
     /// among the commits or if all that it read still holds, and else by the read that differs; it takes as much as the request is
-    /// long, and a search for each read and update. Its record is on the disk when this answers Ok.
+    /// long, and a search for each read and update. It is judged where it lies in the request, and copied out of that only if what it
+    /// read holds. Its record is on the disk when this answers Ok.
     ///
     /// # Errors
     ///
     /// `Malformed` exactly if the bytes are the spelling of no request; it changes nothing. `Stopped` if the disk failed in this call,
     /// which was to append a commit: each image then stands for the commits before or for those with the new one. `NoMemory`: each
-    /// stands for the commits before, and has their records.
+    /// stands for the commits before.
     pub fn handle(&mut self, alloc: Global, request: &[u8]) -> Result<Vec<u8>, ServerFault>
         requires { IsSynced D.medium self.old }
 
@@ -145,8 +146,8 @@ impl<D: Disk> Server<D> {
         ensures traffic { traffic_of self.new ≡ traffic_after result (length request.now) (traffic_of self.old) }
     {
         let rows = self.store.tree().rows();
-        let asked = read_request_beside(alloc, rows.as_slice(), request)?;
-        let reply = answer(alloc, &mut self.store, asked, request)?;
+        let asked = lend_request(alloc, rows.as_slice(), request)?;
+        let reply = answer(alloc, &mut self.store, &asked, request)?;
         self.traffic.count(request.len(), reply.len());
         Ok(reply)
     }

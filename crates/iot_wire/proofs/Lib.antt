@@ -1,2 +1,3 @@
+pub mod CommitsLaws
 pub mod MessagesLaws
 pub mod SpellingLaws

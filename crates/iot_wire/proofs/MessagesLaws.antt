@@ -5,11 +5,11 @@ use Rattle.std.specs.Prelude.{IfOk}
 use Rattle.std.proofs.lemmas.Bool.{eqb-true, eq-eqb}
 use Rattle.std.proofs.lemmas.List.{drop_all}
 use Rattle.iot_codec.specs.declared.faults.CodecFault.{CodecFault}
-use Rattle.iot_codec.specs.Outcomes.{IsOutcome}
+use Rattle.iot_codec.specs.Outcomes.{IsSeen, IsOutcome}
 use Rattle.iot_codec.specs.Places.{LiesAt, AreBytes, IsSpelling}
-use Rattle.iot_codec.specs.Decoders.{Decoder}
+use Rattle.iot_views.specs.Decoders.{Decoder}
 use Rattle.iot_codec.specs.Laws.Steps.{read_ok}
-use Rattle.iot_wire.specs.Messages.{IsMessage, ReadsMessage, IsOneMessage, at_end, whole}
+use Rattle.iot_wire.specs.Messages.{IsMessage, ReadsMessage, LendsMessage, IsOneMessage, at_end, whole}
 
 -- nothing comes after all bytes
 nothing_left : (bytes text : List ℕ) → text ++ drop (length bytes) bytes ≡ text
@@ -68,3 +68,12 @@ module _ {X : Type 0} (HasSpelling : X → Type 0) (spelling : X → List ℕ) (
   pub call_one : (bytes : List ℕ) → length bytes < 2 ^ 64 → IsOneMessage HasSpelling spelling bytes
   call_one bytes short one other m n =
       same_ok (whole decoding bytes) one other (whole_again bytes one short m) (whole_again bytes other short n)
+
+  pub view_found : {V : Type 0} (seen : V → X) (bytes : List ℕ) (answer : Result V CodecFault) → AreBytes bytes
+      → IsSeen seen answer (whole decoding bytes) → IfOk answer (λ view. IsMessage HasSpelling spelling bytes (seen view))
+  view_found seen bytes (Ok view) fit given = whole_found bytes (seen view) fit given
+  view_found seen bytes (Err fault) fit given = tt
+
+  pub view_only : {V : Type 0} (seen : V → X) (bytes : List ℕ) (answer : Result V CodecFault) → length bytes < 2 ^ 64
+      → IsSeen seen answer (whole decoding bytes) → LendsMessage seen HasSpelling spelling bytes answer
+  view_only seen bytes answer short given x m = subst (λ r. IsSeen seen answer r) (whole_again bytes x short m) given

@@ -1,9 +1,9 @@
 -- The laws of messages: what is decoded is what is spelled.
 use Rattle.std.proofs.Common.{◌≡◌, ℕ, ◌+◌, ◌<◌, ◌≤◌, ◌^◌, List, [], ◌∷◌, ◌++◌, length, Ok, refl, ◌∙◌, arith}
 use Rattle.iot_codec.specs.Places.{LiesAt, IsSpelling}
-use Rattle.iot_codec.specs.Decoders.{Decoder, ◌>>=◌, go_on, done, number_at, at_most}
-use Rattle.iot_codec.specs.Decoding.{known_at, want_at, label_at, access_at, lines_at, changes_at, answer_at}
-use Rattle.iot_codec.specs.Rules.{IsNumber, AreKnown, IsWant, IsLabel, IsAccess, AreLines, AreChanges, IsAnswer}
+use Rattle.iot_views.specs.Decoders.{Decoder, ◌>>=◌, go_on, done, number_at, at_most}
+use Rattle.iot_views.specs.Decoding.{known_at, want_at, label_at, access_at, lines_at, changes_at, answer_at}
+use Rattle.iot_views.specs.Rules.{IsNumber, AreKnown, IsWant, IsLabel, IsAccess, AreLines, AreChanges, IsAnswer}
 use Rattle.iot_codec.specs.Spelling.{number_spelling, known_spelling, want_spelling, label_spelling, access_spelling, lines_spelling}
 use Rattle.iot_codec.specs.Spelling.{changes_spelling, answer_spelling}
 use Rattle.iot_codec.specs.Laws.Changes.{known_laws, changes_laws}

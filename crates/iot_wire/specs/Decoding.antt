@@ -1,7 +1,8 @@
 -- Decoding messages, with the first fault from the left.
 use Rattle.std.specs.Prelude.{[], ◌∷◌}
-use Rattle.iot_codec.specs.Decoders.{Decoder, ◌>>=◌, done, number_at, at_most, tagged}
-use Rattle.iot_codec.specs.Decoding.{known_at, want_at, label_at, access_at, lines_at, changes_at, answer_at}
+use Rattle.iot_views.specs.Decoders.{Decoder, ◌>>=◌, done, number_at, at_most, tagged}
+use Rattle.iot_views.specs.Decoding.{known_at, want_at, label_at, bases_at, updates_at, access_at, lines_at, changes_at, answer_at}
+use Rattle.iot_wire.specs.declared.effects.Effects.{Effects}
 use Rattle.iot_wire.specs.declared.requests.Request.{Request}
 use Rattle.iot_wire.specs.declared.requests.Request.TheVariants.{Refresh, Commit}
 use Rattle.iot_wire.specs.declared.replies.Reply.{Reply}
@@ -13,6 +14,14 @@ refresh_at = do
   known ← known_at
   want ← want_at
   done (Refresh client known want)
+
+-- what a commit changes: its base reads and its lines are passed over
+unfoldable pub effects_at : Decoder Effects
+effects_at = do
+  label ← label_at
+  bases ← bases_at
+  updates ← updates_at
+  done (record { label = label; updates = updates })
 
 unfoldable pub commit_at : Decoder Request
 commit_at = do

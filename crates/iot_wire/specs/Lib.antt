@@ -3,3 +3,5 @@ pub mod Messages
 pub mod Rules
 pub mod Spelling
 pub mod Meanings
+pub mod Submissions
+pub mod Lent

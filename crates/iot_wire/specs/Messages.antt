@@ -1,7 +1,7 @@
 -- Messages: values whose spelling is the whole input.
 use Rattle.std.specs.Prelude.{◌≡◌, ℕ, ◌==◌, if◌then◌else◌, List, length, Result, Ok, Err}
-use Rattle.iot_codec.specs.Decoders.{Decoder}
-use Rattle.iot_codec.specs.Outcomes.{IsOutcome}
+use Rattle.iot_views.specs.Decoders.{Decoder}
+use Rattle.iot_codec.specs.Outcomes.{IsSeen, IsOutcome}
 use Rattle.iot_codec.specs.declared.faults.CodecFault.{CodecFault}
 
 -- the bytes are the spelling of the value
@@ -12,6 +12,10 @@ pub record IsMessage {X : Type 0} (HasSpelling : X → Type 0) (spelling : X →
 -- whatever value the bytes are the spelling of, is what a call answers, unless memory ran out
 abbrev pub ReadsMessage : {X : Type 0} → (X → Type 0) → (X → List ℕ) → List ℕ → Result X CodecFault → Type 0
 ReadsMessage HasSpelling spelling bytes result = (x : _) → IsMessage HasSpelling spelling bytes x → IsOutcome result (Ok x)
+
+-- the same of a call that lends the value
+abbrev pub LendsMessage : {V X : Type 0} → (V → X) → (X → Type 0) → (X → List ℕ) → List ℕ → Result V CodecFault → Type 0
+LendsMessage seen HasSpelling spelling bytes result = (x : _) → IsMessage HasSpelling spelling bytes x → IsSeen seen result (Ok x)
 
 -- the bytes are the spelling of one value at most
 abbrev pub IsOneMessage : {X : Type 0} → (X → Type 0) → (X → List ℕ) → List ℕ → Type 0

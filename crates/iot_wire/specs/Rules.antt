@@ -1,6 +1,6 @@
 -- Which messages have a spelling.
 use Rattle.std.specs.Prelude.{◌≤◌}
-use Rattle.iot_codec.specs.Rules.{IsNumber, AreKnown, IsWant, IsLabel, IsAccess, AreLines, AreChanges, IsAnswer}
+use Rattle.iot_views.specs.Rules.{IsNumber, AreKnown, IsWant, IsLabel, IsAccess, AreLines, AreChanges, IsAnswer}
 use Rattle.iot_wire.specs.declared.requests.Request.{Request}
 use Rattle.iot_wire.specs.declared.requests.Request.TheVariants.{Refresh, Commit}
 use Rattle.iot_wire.specs.declared.replies.Reply.{Reply}

@@ -4,9 +4,15 @@
 //! the whole input: bytes that are left after it are a fault at the first of them.
 #![tactic(auto)]
 
+mod commits;
+mod effects;
+mod lent;
 mod messages;
 mod replies;
 mod requests;
 
+pub use commits::CommitView;
+pub use effects::Effects;
+pub use lent::{RequestView, lend_request};
 pub use replies::{Reply, read_reply, write_reply};
-pub use requests::{Request, put_commit, read_request, read_request_beside, write_request};
+pub use requests::{Request, put_commit, read_request, write_request};

@@ -1,7 +1,7 @@
 //! What requests and replies have in common.
 ghost use Rattle.std.specs.Prelude.{◌≡◌, ◌<◌, length, slice_get, Ok, IfSome};
 ghost use Rattle.iot_codec.specs.Outcomes.{IsOutcome};
-ghost use Rattle.iot_codec.specs.Decoders.{at_most};
+ghost use Rattle.iot_views.specs.Decoders.{at_most};
 ghost use Rattle.iot_wire.specs.Messages.{at_end};
 
 use iot_codec::{CodecFault, read_number};

@@ -1,8 +1,7 @@
 //! What a client asks of the server.
 ghost use Rattle.std.specs.Prelude.{◌≡◌, ◌++◌, IfOk, Ok, OnOk, [], ◌∷◌};
-ghost use Rattle.iot_tree.specs.Rows.{Rising};
 ghost use Rattle.iot_codec.specs.Outcomes.{IsOutcome};
-ghost use Rattle.iot_codec.specs.Rules.{AreLines, IsAccess, IsLabel};
+ghost use Rattle.iot_views.specs.Rules.{AreLines, IsAccess, IsLabel};
 ghost use Rattle.iot_wire.specs.Decoding.{request_at, refresh_at, commit_at};
 ghost use Rattle.iot_wire.specs.Messages.{IsMessage, ReadsMessage, IsOneMessage, whole};
 ghost use Rattle.iot_wire.specs.Rules.{IsRequest};
@@ -12,14 +11,14 @@ ghost use Rattle.iot_wire.specs.declared.requests.Request.TheVariants.{Commit};
 use crate::messages::{ROOM, finished, malformed, read_at_most, tag_of};
 use iot_codec::{
     CodecFault, put_access, put_known, put_label, put_lines, put_number, put_want, read_access,
-    read_known_beside, read_label, read_lines, read_want,
+    read_known, read_label, read_lines, read_want,
 };
-use iot_text::{NoMemory, Path, Text};
-use iot_tree::{Access, Known, Label, Lines, Node, Want};
+use iot_text::{NoMemory, Text};
+use iot_tree::{Access, Known, Label, Lines, Want};
 use std::alloc::Global;
 
 /// The greatest number of a client.
-const LAST_CLIENT: u64 = 7;
+pub(crate) const LAST_CLIENT: u64 = 7;
 
 /// How many bytes each known path has room for at first, which are enough for most of them.
 const ROOM_FOR_KNOWN: usize = 64;
@@ -110,19 +109,13 @@ pub fn write_request(alloc: Global, request: &Request) -> Result<Vec<u8>, NoMemo
     Ok(out.into_bytes())
 }
 
-/// Reads what follows the tag of a refresh, beside the rows, which rise.
+/// Reads what follows the tag of a refresh.
 #[tactic(auto, unfolding(crate::specs::Decoding::refresh_at))]
-fn read_refresh(
-    alloc: Global,
-    rows: &[(Path, Node)],
-    bytes: &[u8],
-    at: usize,
-) -> Result<(Request, usize), CodecFault>
-    requires { Rising rows.now }
+fn read_refresh(alloc: Global, bytes: &[u8], at: usize) -> Result<(Request, usize), CodecFault>
     ensures { IsOutcome result (refresh_at bytes.now at) }
 {
     let (client, at) = read_at_most(alloc, LAST_CLIENT, bytes, at)?;
-    let (known, at) = read_known_beside(alloc, rows, bytes, at)?;
+    let (known, at) = read_known(alloc, bytes, at)?;
     let (want, end) = read_want(alloc, bytes, at)?;
     let request = Request::Refresh {
         client,
@@ -148,29 +141,23 @@ fn read_commit(alloc: Global, bytes: &[u8], at: usize) -> Result<(Request, usize
     Ok((request, end))
 }
 
-/// Reads a request beside the rows, which rise, and gives the offset after it.
+/// Reads a request, and gives the offset after it.
 #[tactic(auto, unfolding(crate::specs::Decoding::request_at))]
-fn read_tagged(
-    alloc: Global,
-    rows: &[(Path, Node)],
-    bytes: &[u8],
-) -> Result<(Request, usize), CodecFault>
-    requires { Rising rows.now }
+fn read_tagged(alloc: Global, bytes: &[u8]) -> Result<(Request, usize), CodecFault>
     ensures { IsOutcome result (request_at bytes.now 0) }
 {
     match tag_of(bytes) {
-        Some(1) => read_refresh(alloc, rows, bytes, 1),
+        Some(1) => read_refresh(alloc, bytes, 1),
         Some(2) => read_commit(alloc, bytes, 1),
         _ => Err(malformed(0)),
     }
 }
 
-/// Reads the bytes as a request, beside the rows, which rise.
-fn read_whole(alloc: Global, rows: &[(Path, Node)], bytes: &[u8]) -> Result<Request, CodecFault>
-    requires { Rising rows.now }
+/// Reads the bytes as a request.
+fn read_whole(alloc: Global, bytes: &[u8]) -> Result<Request, CodecFault>
     ensures { IsOutcome result (whole request_at bytes.now) }
 {
-    let (request, end) = read_tagged(alloc, rows, bytes)?;
+    let (request, end) = read_tagged(alloc, bytes)?;
     finished(request, end, bytes)
 }
 
@@ -186,25 +173,5 @@ pub fn read_request(alloc: Global, bytes: &[u8]) -> Result<Request, CodecFault>
     ensures one { IsOneMessage IsRequest request_spelling bytes.now }
     ensures exact { IsOutcome result (whole request_at bytes.now) }
 {
-    read_whole(alloc, &[], bytes)
-}
-
-/// The request whose spelling the bytes are, as `read_request` gives it. A known path that is one of these rows, which rise, shares
-/// its names: that costs a comparison of bytes, and no memory.
-///
-/// # Errors
-///
-/// Those of `read_request`.
-pub fn read_request_beside(
-    alloc: Global,
-    rows: &[(Path, Node)],
-    bytes: &[u8],
-) -> Result<Request, CodecFault>
-    requires { Rising rows.now }
-    ensures found { IfOk result (IsMessage IsRequest request_spelling bytes.now) }
-    ensures only { ReadsMessage IsRequest request_spelling bytes.now result }
-    ensures one { IsOneMessage IsRequest request_spelling bytes.now }
-    ensures exact { IsOutcome result (whole request_at bytes.now) }
-{
-    read_whole(alloc, rows, bytes)
+    read_whole(alloc, bytes)
 }
