@@ -27,17 +27,6 @@ by_header bytes b is has_is =
     ap (λ (b : Bool). cond b (cond has (with_records (series_in 9 (drop 9 bytes))) Foreign) (Encodes [])) is
     ∙ ap (λ (b : Bool). cond b (with_records (series_in 9 (drop 9 bytes))) Foreign) has_is
 
--- bytes that encode a body are those of a started journal
-pub started_before : (bytes : List ℕ) (front later : List (List ℕ)) (body : List ℕ) → decoded bytes ≡ Encodes (front ++ body ∷ later) →
-    is_started bytes ≡ true
-started_before bytes front later body is = elim (cases_Bool (is_started bytes)) [
-  | inl holds ↦ holds
-  | inr fails ↦
-      let none : Encodes [] ≡ Encodes (front ++ body ∷ later) = sym (not_started bytes fails) ∙ is in
-      let empty : [] ≡ front ++ body ∷ later = cc in
-      absurd (omega (arith, ap length empty, length-append front (body ∷ later)))
-]
-
 -- too few bytes, or a closed gate before the header: no journal was started
 pub short_encodes : (bytes : List ℕ) → length bytes < 10 → decoded bytes ≡ Encodes []
 short_encodes bytes short = let not : is_started bytes ≡ false = grind (arith, nat_tests) in not_started bytes not

@@ -1,14 +1,16 @@
 -- Records that are spelled out, and how they are found again.
-use Rattle.std.proofs.Common.{◌≡◌, ◌≢◌, ◌≤◌, ◌<◌, inl, inr, ℕ, suc, ◌+◌, ◌-◌, ◌*◌, ◌^◌, Bool, true, false, cond, List, [], ◌∷◌, ◌++◌}
-use Rattle.std.proofs.Common.{length, get_or, take, drop, refl, sym, ◌∙◌, ap, subst, arith, append_assoc, length-append}
+use Rattle.std.proofs.Common.{◌≡◌, ◌≢◌, ◌≤◌, ◌<◌, inl, inr, ℕ, zero, suc, ◌+◌, ◌-◌, ◌*◌, ◌^◌, Bool, true, false, cond, List, [], ◌∷◌, ◌++◌}
+use Rattle.std.proofs.Common.{length, get_or, take, drop, refl, sym, ◌∙◌, ap, subst, arith, append_assoc, length-append, length-drop}
+use Rattle.std.specs.Prelude.{◌==◌, ◌&&◌}
 use Rattle.std.specs.Int.{w64, from_be_bytes, to_be_bytes}
 use Rattle.std.proofs.lemmas.Bool.{cases_lt}
 use Rattle.std.proofs.lemmas.Bool.Decides.{nat_tests}
-use Rattle.std.proofs.lemmas.List.{append-nil, take_at, drop_at, drop-drop, drop_more, take-append-drop, take_rest, length-take-le}
+use Rattle.std.proofs.lemmas.List.{append-nil, take_at, drop_at, drop-drop, drop_more, take-append-drop, length-take-le}
 use Rattle.std.proofs.lemmas.List.{get_or-take, get_or_past}
 use Rattle.std.proofs.lemmas.Nat.{be_bytes_8}
 use Rattle.iot_records.specs.Bytes.{number, number_in}
-use Rattle.iot_records.specs.Records.{Series, Whole, Cut, spelled, records, prepended, is_whole, series_from, series_in, IsSeries}
+use Rattle.iot_records.specs.Records.{Series, Whole, Cut, spelled, records, prepended, is_whole, series_from, series_in}
+use Rattle.iot_records.specs.Records.{front_from, front_bodies, IsSeries}
 use Rattle.iot_records.proofs.BytesLaws.{length-number, number_in-number}
 
 -- ---- what is spelled
@@ -64,26 +66,72 @@ after_cut steps at bytes short =
 at_shut : (steps at gate : ℕ) (bytes : List ℕ) → gate ≢ 165 → series_from (suc steps) at (gate ∷ bytes) ≡ Whole []
 at_shut steps at gate bytes shut = grind (arith, nat_tests)
 
+-- more steps than there are bytes make no difference
+front_enough : (m n : ℕ) (bytes : List ℕ) → length bytes ≤ m → length bytes ≤ n → front_from m bytes ≡ front_from n bytes
+front_enough zero zero bytes few less = refl
+front_enough zero (suc n) [] few less = refl
+front_enough (suc m) zero [] few less = refl
+front_enough (suc m) (suc n) [] few less = refl
+front_enough zero n (gate ∷ bytes) few less = absurd (omega (arith, few))
+front_enough (suc m) zero (gate ∷ bytes) few less = absurd (omega (arith, less))
+front_enough (suc m) (suc n) (gate ∷ bytes) few less =
+    let size = number_in bytes in
+    let left = length-drop (8 + size) bytes in
+    ap (λ (l : List (List ℕ)). cond (gate == 165 && is_whole bytes) (take size (drop 8 bytes) ∷ l) [])
+    (front_enough m n (drop (8 + size) bytes) (omega (arith, few, left)) (omega (arith, less, left)))
+
+-- an open gate after which no whole record stands
+front_none : (bytes : List ℕ) → front_bodies (165 ∷ bytes) ≡ [] → length bytes ≤ 8 + number_in bytes
+front_none bytes none = elim (cases_lt (8 + number_in bytes) (length bytes)) [
+  | inl whole ↦
+      let test : is_whole bytes ≡ true = grind (arith, nat_tests) in
+      let one = take (number_in bytes) (drop 8 bytes) ∷ front_from (length bytes) (drop (8 + number_in bytes) bytes) in
+      let clash : one ≡ [] = ap (λ (b : Bool). cond b one []) (sym test) ∙ none in
+      absurd cc
+  | inr short ↦ short
+]
+
 -- a record that is spelled out
-record_step : (steps at : ℕ) (body rest : List ℕ) → length body < 2 ^ 64 → 0 < length rest →
-    series_from (suc steps) at (165 ∷ (number (length body) ++ (body ++ rest)))
-    ≡ prepended body (series_from steps (at + 9 + length body) rest)
-record_step steps at body rest fits more =
-    let digits = number (length body) in
-    let long : length digits ≡ 8 = length-number (length body) in
-    let bytes = digits ++ (body ++ rest) in
-    let is : number_in bytes ≡ length body = number_in-number (length body) (body ++ rest) fits in
-    let size : length bytes
-    ≡ 8 + (length body + length rest) = omega (arith, long, length-append digits (body ++ rest), length-append body rest) in
-    let past : drop 8 bytes ≡ body ++ rest = drop_at digits (body ++ rest) 8 long in
-    let end : drop (8 + length body) bytes ≡ rest =
-    ap (λ (l : List ℕ). drop (8 + length body) l) (sym (append_assoc digits body rest))
-    ∙ drop_at (digits ++ body) rest (8 + length body) (omega (arith, long, length-append digits body)) in
-    let next : List ℕ → Series = λ l. series_from steps (at + 9 + length body) l in
-    after_open steps at (length body) bytes is (omega arith)
-    ∙ ap (λ (l : List ℕ). prepended (take (length body) l) (next (drop (8 + length body) bytes))) past
-    ∙ ap (λ (l : List ℕ). prepended l (next (drop (8 + length body) bytes))) (take_at body rest (length body) refl)
-    ∙ ap (λ (l : List ℕ). prepended body (next l)) end
+module _ (body rest : List ℕ) (fits : length body < 2 ^ 64) (more : 0 < length rest) where
+  abbrev all : List ℕ
+  all = spelled body ++ rest
+
+  all_whole : 8 + length body < length all
+  all_whole = omega (arith, length-spelled body, length-append (spelled body) rest)
+
+  all_number : number_in all ≡ length body
+  all_number =
+      ap number_in (append_assoc (number (length body)) body rest) ∙ number_in-number (length body) (body ++ rest) fits
+
+  all_body : take (length body) (drop 8 all) ≡ body
+  all_body =
+      let digits = number (length body) in
+      ap (λ (l : List ℕ). take (length body) (drop 8 l)) (append_assoc digits body rest)
+      ∙ ap (take (length body)) (drop_at digits (body ++ rest) 8 (length-number (length body)))
+      ∙ take_at body rest (length body) refl
+
+  all_rest : drop (8 + length body) all ≡ rest
+  all_rest = drop_at (spelled body) rest (8 + length body) (length-spelled body)
+
+  record_step : (steps at : ℕ) → series_from (suc steps) at (165 ∷ all) ≡ prepended body (series_from steps (at + 9 + length body) rest)
+  record_step steps at =
+      let next : List ℕ → Series = λ l. series_from steps (at + 9 + length body) l in
+      after_open steps at (length body) all all_number all_whole
+      ∙ ap (λ (l : List ℕ). prepended l (next (drop (8 + length body) all))) all_body
+      ∙ ap (λ (l : List ℕ). prepended body (next l)) all_rest
+
+  pub front_step : front_bodies (165 ∷ all) ≡ body ∷ front_bodies rest
+  front_step =
+      let next : List ℕ → List (List ℕ) = λ l. front_from (length all) l in
+      let after : ℕ → List (List ℕ) = λ n. take n (drop 8 all) ∷ next (drop (8 + n) all) in
+      let whole : 8 + number_in all < length all = omega (arith, all_whole, all_number) in
+      let test : is_whole all ≡ true = grind (arith, nat_tests) in
+      ap (λ (b : Bool). cond b (after (number_in all)) []) test
+      ∙ ap after all_number
+      ∙ ap (λ (l : List ℕ). l ∷ next (drop (8 + length body) all)) all_body
+      ∙ ap (λ (l : List ℕ). body ∷ next l) all_rest
+      ∙ ap (λ (l : List (List ℕ)). body ∷ l)
+      (front_enough (length all) (length rest) rest (omega (arith, length-append (spelled body) rest)) (omega arith))
 
 -- more bodies before the others
 abbrev all_prepended : List (List ℕ) → Series → Series
@@ -99,8 +147,17 @@ all_prepended-cut [] at = refl
 all_prepended-cut (body ∷ bodies) at = ap (prepended body) (all_prepended-cut bodies at)
 
 records_step : (body rest : List ℕ) (bodies : List (List ℕ)) →
-    records (body ∷ bodies) ++ rest ≡ 165 ∷ (number (length body) ++ (body ++ (records bodies ++ rest)))
-records_step body rest bodies = ap (λ (l : List ℕ). 165 ∷ l) (simp append_assoc)
+    records (body ∷ bodies) ++ rest ≡ 165 ∷ (spelled body ++ (records bodies ++ rest))
+records_step body rest bodies = ap (λ (l : List ℕ). 165 ∷ l) (append_assoc (spelled body) (records bodies) rest)
+
+front_records : (bodies : List (List ℕ)) (rest : List ℕ) → length (records bodies) < 2 ^ 64 → 0 < length rest →
+    front_bodies (records bodies ++ rest) ≡ bodies ++ front_bodies rest
+front_records [] rest fits more = refl
+front_records (body ∷ bodies) rest fits more =
+    let size = length-records body bodies in
+    ap front_bodies (records_step body rest bodies)
+    ∙ front_step body (records bodies ++ rest) (omega arith) (omega (arith, length-append (records bodies) rest))
+    ∙ ap (λ (l : List (List ℕ)). body ∷ l) (front_records bodies rest (omega arith) more)
 
 series_from-records : (bodies : List (List ℕ)) (steps at : ℕ) (rest : List ℕ) → length (records bodies) < 2 ^ 64 → 0 < length rest →
     series_from (length bodies + steps) at (records bodies ++ rest)
@@ -116,7 +173,7 @@ series_from-records (body ∷ bodies) steps at rest fits more =
     let place : at + 9 + length body + length (records bodies) ≡ at + length (records (body ∷ bodies)) = omega arith in
     ap (λ (n : ℕ). series_from n at (records (body ∷ bodies) ++ rest)) one
     ∙ ap (λ (l : List ℕ). series_from (suc left) at l) (records_step body rest bodies)
-    ∙ record_step left at body (records bodies ++ rest) (omega arith) (omega (arith, length-append (records bodies) rest))
+    ∙ record_step body (records bodies ++ rest) (omega arith) (omega (arith, length-append (records bodies) rest)) left at
     ∙ ap (prepended body) (series_from-records bodies steps (at + 9 + length body) rest (omega arith) more)
     ∙ ap (λ (n : ℕ). prepended body (all_prepended bodies (series_from steps n rest))) place
 
@@ -146,50 +203,64 @@ series_cut bodies at rest fits short =
     ∙ ap (all_prepended bodies) (after_cut here.0 (at + length (records bodies)) rest short)
     ∙ all_prepended-cut bodies (at + length (records bodies))
 
--- ---- reading one record after another
+-- ---- looking at one record after another
 
-module _ (bytes rest : List ℕ) (bodies : List (List ℕ)) (split : bytes ≡ records bodies ++ rest) (more : 0 < length rest) where
-  size : length bytes ≡ length (records bodies) + length rest
-  size = ap length split ∙ length-append (records bodies) rest
+-- these are left after so many records
+pub record AreLeft (bytes rest : List ℕ) (count : ℕ) : Type 0 where
+  pub front : List (List ℕ)
+  pub split : bytes ≡ records front ++ rest
+  pub number : count ≡ length front
+  pub more : 0 < length rest
 
-  first : rest ≡ get_or rest 0 0 ∷ drop 1 rest
-  first = drop_more rest 0 0 more
+module _ (bytes rest : List ℕ) (count : ℕ) (left : AreLeft bytes rest count) where
+  size : length bytes ≡ length (records left.front) + length rest
+  size = ap length left.split ∙ length-append (records left.front) rest
 
-  abbrev after : List ℕ
-  after = take (length rest - 1) (drop 1 rest)
-
-  -- an open gate before no whole record
-  pub cut_here : (at : ℕ) → get_or rest 0 0 ≡ 165 → length bytes < 2 ^ 64 → length after ≤ 8 + number_in after →
-      series_in at bytes ≡ Cut (at + (length bytes - length rest))
-  cut_here at is_open fits short =
-      let here : rest ≡ 165 ∷ drop 1 rest = first ∙ ap (λ (g : ℕ). g ∷ drop 1 rest) is_open in
-      let short' = subst (λ (l : List ℕ). length l ≤ 8 + number_in l) (take_rest rest 1) short in
-      ap (series_in at) (split ∙ ap (λ (l : List ℕ). records bodies ++ l) here)
-      ∙ series_cut bodies at (drop 1 rest) (omega (arith, size)) short'
-      ∙ ap Cut (omega (arith, size))
-
-  -- a closed gate
-  pub series_here : (at : ℕ) → get_or rest 0 0 ≢ 165 → IsSeries bytes at bodies (at + (length bytes - length rest))
-  series_here at shut = record {
-    byte = get_or rest 0 0;
-    rest = drop 1 rest;
-    is = split ∙ ap (λ (l : List ℕ). records bodies ++ l) first;
-    shut = shut;
-    place = omega (arith, size);
-  }
+  pub left_few : count ≤ length bytes
+  left_few = omega (arith, left.number, length-bodies-le left.front, size)
 
   -- one record more
-  pub next_split : (body left : List ℕ) → get_or rest 0 0 ≡ 165 → after ≡ spelled body ++ drop (8 + length body) after →
-      left ≡ drop (9 + length body) rest → bytes ≡ records (bodies ++ body ∷ []) ++ left
-  next_split body left is_open is left_is =
-      let here : rest ≡ 165 ∷ drop 1 rest = first ∙ ap (λ (g : ℕ). g ∷ drop 1 rest) is_open in
-      let is' = subst (λ (l : List ℕ). l ≡ spelled body ++ drop (8 + length body) l) (take_rest rest 1) is in
-      let past : drop (8 + length body) (drop 1 rest) ≡ left =
-      drop-drop (8 + length body) 1 rest ∙ ap (λ (n : ℕ). drop n rest) (omega arith) ∙ sym left_is in
-      split
-      ∙ ap (λ (l : List ℕ). records bodies ++ l) here
-      ∙ ap (λ (l : List ℕ). records bodies ++ 165 ∷ l) (is' ∙ ap (λ (l : List ℕ). spelled body ++ l) past)
-      ∙ sym (records-push bodies body left)
+  pub left_next : (body after : List ℕ) → rest ≡ 165 ∷ (spelled body ++ after) → 0 < length after → AreLeft bytes after (count + 1)
+  left_next body after is more = record {
+    front = left.front ++ body ∷ [];
+    split = left.split ∙ ap (λ (l : List ℕ). records left.front ++ l) is ∙ sym (records-push left.front body after);
+    number = omega (arith, left.number, length-append left.front (body ∷ []));
+    more = more;
+  }
+
+  module _ (none : front_bodies rest ≡ []) (fits : length bytes < 2 ^ 64) where
+    first : rest ≡ get_or rest 0 0 ∷ drop 1 rest
+    first = drop_more rest 0 0 left.more
+
+    all_left : front_bodies bytes ≡ left.front
+    all_left =
+        ap front_bodies left.split
+        ∙ front_records left.front rest (omega (arith, size)) left.more
+        ∙ ap (λ (l : List (List ℕ)). left.front ++ l) none
+        ∙ append-nil left.front
+
+    pub left_count : count ≡ length (front_bodies bytes)
+    left_count = left.number ∙ ap length (sym all_left)
+
+    -- an open gate before no whole record
+    pub left_cut : (at : ℕ) → get_or rest 0 0 ≡ 165 → series_in at bytes ≡ Cut (at + (length bytes - length rest))
+    left_cut at is_open =
+        let here : rest ≡ 165 ∷ drop 1 rest = first ∙ ap (λ (g : ℕ). g ∷ drop 1 rest) is_open in
+        ap (series_in at) (left.split ∙ ap (λ (l : List ℕ). records left.front ++ l) here)
+        ∙ series_cut left.front at (drop 1 rest) (omega (arith, size))
+        (front_none (drop 1 rest) (subst (λ (l : List ℕ). front_bodies l ≡ []) here none))
+        ∙ ap Cut (omega (arith, size))
+
+    -- a closed gate
+    pub left_shut : (at : ℕ) → get_or rest 0 0 ≢ 165 → IsSeries bytes at (front_bodies bytes) (at + (length bytes - length rest))
+    left_shut at shut =
+        subst (λ (bodies : List (List ℕ)). IsSeries bytes at bodies (at + (length bytes - length rest))) (sym all_left) (record {
+          byte = get_or rest 0 0;
+          rest = drop 1 rest;
+          is = left.split ∙ ap (λ (l : List ℕ). records left.front ++ l) first;
+          shut = shut;
+          place = omega (arith, size);
+        })
 
 -- the body after a number that is whole, and what is left
 pub whole_is : (bytes digits rest : List ℕ) (size : ℕ) → digits ≡ take 8 bytes → rest ≡ drop 8 bytes → 8 ≤ length bytes →

@@ -1,5 +1,5 @@
 -- Records one after another: how they are spelled, and how bytes are decoded as such.
-use Rattle.std.specs.Prelude.{◌≡◌, ◌≢◌, ℕ, suc, zero, ◌+◌, ◌==◌, Bool, nat_lt, if◌then◌else◌, List, [], ◌∷◌, ◌++◌, length, take, drop}
+use Rattle.std.specs.Prelude.{◌≡◌, ◌≢◌, ℕ, suc, zero, ◌+◌, ◌==◌, Bool, nat_lt, ◌&&◌, if◌then◌else◌, List, [], ◌∷◌, ◌++◌, length, take, drop}
 use Rattle.iot_disk.specs.declared.faults.StartFault.{StartFault}
 use Rattle.iot_disk.specs.declared.faults.StartFault.TheVariants as fault
 use Rattle.iot_records.specs.Bytes.{number, number_in}
@@ -42,6 +42,19 @@ series_from (suc steps) at (gate ∷ bytes) =
 -- the records of which these bytes, which stand at this offset, begin with the first gate
 abbrev pub series_in : (at : ℕ) → List ℕ → Series
 series_in at bytes = series_from (length bytes) at bytes
+
+-- the bodies of whole records with open gates, up to where none stands; as many steps as there are bytes are enough
+abbrev pub front_from : (steps : ℕ) → List ℕ → List (List ℕ)
+front_from zero bytes = []
+front_from (suc steps) [] = []
+front_from (suc steps) (gate ∷ bytes) =
+    if gate == 165 && is_whole bytes
+    then take (number_in bytes) (drop 8 bytes) ∷ front_from steps (drop (8 + number_in bytes) bytes)
+    else []
+
+-- the bodies of the records with which these bytes begin
+abbrev pub front_bodies : List ℕ → List (List ℕ)
+front_bodies bytes = front_from (length bytes) bytes
 
 -- The bytes are these records, a closed gate, and anything after it. They stand at `at`, and that gate at `gate`.
 pub record IsSeries (bytes : List ℕ) (at : ℕ) (bodies : List (List ℕ)) (gate : ℕ) : Type 0 where

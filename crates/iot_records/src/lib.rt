@@ -4,6 +4,8 @@
 
 mod bytes;
 mod records;
+mod views;
 
 pub use bytes::{CLOSED, OPEN, has_closed_gate, number_at, read_disk};
 pub use records::{Found, read_records, spell_record};
+pub use views::{LentRecords, RecordViews, lend_records};

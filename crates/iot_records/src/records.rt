@@ -1,9 +1,8 @@
 //! How records are spelled and read.
-ghost use Rattle.std.specs.Prelude.{◌≡◌, ◌≤◌, ◌<◌, ◌+◌, ◌^◌, [], ◌∷◌, ◌++◌, length, drop, IfOk, IfErr, OnOk, IfSome, IfNone};
-ghost use Rattle.iot_records.specs.Bytes.{number_in};
+ghost use Rattle.std.specs.Prelude.{◌≡◌, ◌≤◌, ◌<◌, ◌+◌, ◌^◌, [], ◌∷◌, ◌++◌, length, IfOk, IfErr, OnOk};
 ghost use Rattle.iot_records.specs.Records.{spelled, series_in, IsSeries, IsCutReason};
 
-use crate::{CLOSED, OPEN};
+use crate::{CLOSED, lend_records};
 use iot_disk::{Bodies, StartFault};
 use std::alloc::{AllocError, Global};
 
@@ -35,35 +34,9 @@ pub fn read_records(alloc: Global, bytes: &[u8], at: u64) -> Result<Found, Start
     ensures ok { IfOk result (λ found. IsSeries bytes.now at found.bodies found.gate) }
     ensures err { IfErr result (λ fault. IsCutReason fault (series_in at bytes.now)) }
 {
-    let mut bodies = Bodies::with_capacity(alloc, bytes.len())?;
-    let mut rest = bytes;
-    while rest[0] == OPEN {
-        let Some(body) = whole_body(&rest[1..]) else {
-            return Err(StartFault::Damaged {
-                at: at + (bytes.len() - rest.len()) as u64,
-            });
-        };
-        bodies.push(body)?;
-        rest = &rest[9 + body.len()..];
-    }
+    let found = lend_records(bytes, at)?;
     Ok(Found {
-        bodies,
-        gate: at + (bytes.len() - rest.len()) as u64,
+        bodies: found.records.copied(alloc)?,
+        gate: found.gate,
     })
-}
-
-/// The body whose number of bytes stands at the start of these, if it and the next gate are there.
-fn whole_body(bytes: &[u8]) -> Option<&[u8]>
-    ensures body { IfSome result (λ body.
-        bytes.now ≡ spelled body.now ++ drop (8 + length body.now) bytes.now) }
-    ensures gate { IfSome result (λ body. 8 + length body.now < length bytes.now) }
-    ensures none { IfNone result (length bytes.now ≤ 8 + number_in bytes.now) }
-{
-    let (number, rest) = bytes.split_first_chunk::<8>()?;
-    let size = u64::from_be_bytes(*number) as usize;
-    if size < rest.len() {
-        Some(&rest[..size])
-    } else {
-        None
-    }
 }

@@ -1,5 +1,5 @@
 mod CellsLaws
 mod DecodingLaws
-mod LayoutsLaws
+pub mod LayoutsLaws
 mod PartsLaws
 mod SlotsLaws

@@ -1,5 +1,5 @@
 //! How the bytes of a disk are decoded.
-ghost use Rattle.std.specs.Prelude.{◌≡◌, ◌≤◌, ◌<◌, ◌+◌, ◌^◌, false, true, length, IfOk, IfErr, IfSome, IfNone};
+ghost use Rattle.std.specs.Prelude.{◌≡◌, ◌≤◌, ◌<◌, ◌+◌, ◌^◌, false, true, length, IfOk, IfErr, IfSome, IfNone, IsErrOf};
 ghost use Rattle.iot_records.specs.Bytes.{number_at as spelled_at};
 ghost use Rattle.iot_slots.specs.Cells.{chosen, in_force};
 ghost use Rattle.iot_slots.specs.Decoding.{NotStarted, decoded, is_foreign, is_checkpoint, state_in};
@@ -9,35 +9,47 @@ ghost use Rattle.iot_slots.specs.declared.cell.Force.TheVariants.{Is};
 
 use crate::layout::REST;
 use crate::{Cell, Force, Layout};
-use iot_disk::{Bodies, StartFault};
-use iot_records::{OPEN, number_at, read_records};
-use std::alloc::Global;
+use iot_disk::{LIMIT, StartFault};
+use iot_records::{OPEN, RecordViews, lend_records, number_at};
 
-/// The state that bytes encode, and where its parts are.
+/// What the bytes of a disk encode, lent out of them.
 #[derive(Drop)]
-pub struct Opened {
+pub struct SlotsView<'a> {
+    /// Where the parts are.
     pub layout: Layout,
-    pub body: Vec<u8>,
-    pub bodies: Bodies,
+    /// The body of the checkpoint in force.
+    pub body: &'a [u8],
+    /// The records after it.
+    pub records: RecordViews<'a>,
 }
 
-/// Decodes the bytes of a disk that is started.
-pub fn decode(alloc: Global, header: &[u8; 8], bytes: &[u8]) -> Result<Option<Opened>, StartFault>
-    requires { length bytes.now ≤ 2 ^ 62 }
-    ensures some { IfOk result (λ found. IfSome found (λ found. IsLaidOut header.now bytes.now
-        (state_in found.body.items found.bodies found.layout.count) found.layout)) }
-    ensures none { IfOk result (λ found. IfNone found (decoded header.now bytes.now ≡ NotStarted)) }
-    ensures err { IfErr result (λ fault. IsReason fault (decoded header.now bytes.now)) }
-{
-    if has_other_header(header, bytes) {
-        return Err(StartFault::Foreign);
-    }
-    match force(bytes) {
-        Force::NoCell => Ok(None),
-        Force::Clash => Err(StartFault::Damaged { at: 26 }),
-        Force::Is(cell) => {
-            let found = decode_cell(alloc, header, bytes, cell)?;
-            Ok(Some(found))
+impl<'a> SlotsView<'a> {
+    /// Lends what these bytes encode; none if they are those of a disk that is not started. Takes no memory.
+    ///
+    /// # Errors
+    ///
+    /// `Foreign` if something else wrote them, `Damaged` with the place of what is cut short; `NoMemory` if they are more
+    /// than 2^62, which no disk is.
+    pub fn of(header: &[u8; 8], bytes: &'a [u8]) -> Result<Option<SlotsView<'a>>, StartFault>
+        ensures some { IfOk result (λ found. IfSome found (λ view. IsLaidOut header.now bytes.now
+            (state_in view.body.now view.records view.layout.count) view.layout)) }
+        ensures none { IfOk result (λ found. IfNone found (decoded header.now bytes.now ≡ NotStarted)) }
+        ensures err { IfErr result (λ fault. IsReason fault (decoded header.now bytes.now)) }
+        ensures no_memory { IsErrOf result StartFault.NoMemory → 2 ^ 62 < length bytes.now }
+    {
+        if bytes.len() as u64 > LIMIT {
+            return Err(StartFault::NoMemory);
+        }
+        if has_other_header(header, bytes) {
+            return Err(StartFault::Foreign);
+        }
+        match force(bytes) {
+            Force::NoCell => Ok(None),
+            Force::Clash => Err(StartFault::Damaged { at: 26 }),
+            Force::Is(cell) => {
+                let view = lend_cell(header, bytes, cell)?;
+                Ok(Some(view))
+            }
         }
     }
 }
@@ -116,20 +128,16 @@ fn checkpoint_size(bytes: &[u8], place: u64) -> Option<usize>
     }
 }
 
-/// Decodes the checkpoint of the cell in force, and the records after it.
-fn decode_cell(
-    alloc: Global,
-    header: &[u8; 8],
-    bytes: &[u8],
-    cell: Cell,
-) -> Result<Opened, StartFault>
+/// Lends the checkpoint of the cell in force, and the records after it.
+fn lend_cell<'a>(header: &[u8; 8], bytes: &'a [u8], cell: Cell) -> Result<SlotsView<'a>, StartFault>
     requires native { is_foreign header.now bytes.now ≡ false }
     requires force { in_force bytes.now ≡ Is cell }
     requires room { 43 ≤ length bytes.now }
     requires limit { length bytes.now ≤ 2 ^ 62 }
-    ensures ok { IfOk result (λ found. IsLaidOut header.now bytes.now
-        (state_in found.body.items found.bodies found.layout.count) found.layout) }
+    ensures ok { IfOk result (λ view. IsLaidOut header.now bytes.now
+        (state_in view.body.now view.records view.layout.count) view.layout) }
     ensures err { IfErr result (λ fault. IsReason fault (decoded header.now bytes.now)) }
+    ensures no_memory { IsErrOf result StartFault.NoMemory → ⊥ }
 {
     let at = cell.at();
     let place = number_at(bytes, at as usize + 9);
@@ -137,9 +145,8 @@ fn decode_cell(
         return Err(StartFault::Damaged { at });
     };
     let start = place as usize + 8;
-    let body = bytes[start..start + size].to_vec(alloc)?;
     let first = start + size + 8;
-    let found = read_records(alloc, &bytes[first..], first as u64)?;
+    let found = lend_records(&bytes[first..], first as u64)?;
     let layout = Layout {
         cell,
         generation: number_at(bytes, at as usize + 1),
@@ -147,11 +154,11 @@ fn decode_cell(
         first: first as u64,
         gate: found.gate,
         other: named_by(bytes, cell.other()),
-        count: number_at(bytes, start + size).wrapping_add(found.bodies.len() as u64),
+        count: number_at(bytes, start + size).wrapping_add(found.count),
     };
-    Ok(Opened {
+    Ok(SlotsView {
         layout,
-        body,
-        bodies: found.bodies,
+        body: &bytes[start..start + size],
+        records: found.records,
     })
 }

@@ -3,6 +3,7 @@
 #![tactic(auto)]
 
 mod cell;
+mod copying;
 mod decoding;
 mod layout;
 mod slots;
@@ -11,6 +12,7 @@ mod start;
 mod started;
 
 pub use cell::{Cell, Force};
+pub use decoding::SlotsView;
 pub use layout::Layout;
 pub use slots::Slots;
 pub use started::{Body, Started};

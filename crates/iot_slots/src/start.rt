@@ -9,7 +9,7 @@ ghost use Rattle.iot_slots.specs.Layouts.{IsLaidOut, fresh_layout};
 ghost use Rattle.iot_slots.specs.Start.{HasCause, EachEncodesAs, started_over};
 
 use crate::Layout;
-use crate::decoding::{Opened, decode};
+use crate::copying::{Opened, decode};
 use crate::spelling::spell_fresh;
 use iot_disk::{Bodies, Disk, DiskFault, StartFault, keep};
 use iot_records::{CLOSED, OPEN, has_closed_gate, read_disk};

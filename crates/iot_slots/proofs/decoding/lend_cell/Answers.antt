@@ -22,7 +22,7 @@ use Rattle.iot_slots.specs.declared.cell.Force.TheVariants.{Is}
 use Rattle.iot_slots.specs.declared.layout.Layout.{Layout}
 use Rattle.iot_slots.proofs.CellsLaws.{counting_inv, force_inv, opened_is, shut_is}
 use Rattle.iot_slots.proofs.DecodingLaws.{decoded_force}
-use Rattle.iot_slots.proofs.decoding.decode_cell.Goals as goal
+use Rattle.iot_slots.proofs.decoding.lend_cell.Goals as goal
 
 -- what the other cell says
 other_is : (bytes : List ℕ) (other generation : ℕ) (named : Option ℕ) (b : Bool) → is_open bytes other ≡ b →
@@ -202,23 +202,22 @@ returns-clause-ok c =
     let first = start + size + 8 in
     let place_is = c.number_at-place.ensures ∙ ap (λ (n : ℕ). number_at c.args.bytes.now (n + 9)) c.at-at.ensures in
     let exact : start + size - start ≡ size = omega arith in
-    let copied : c.in_ok-body.body.items ≡ take (start + size - start) (drop start bytes) = search rules in
     let series =
-    subst (λ (l : List ℕ). IsSeries l first c.in_ok-found.found.bodies c.in_ok-found.found.gate) (take_rest bytes first)
+    subst (λ (l : List ℕ). IsSeries l first c.in_ok-found.found.records c.in_ok-found.found.gate) (take_rest bytes first)
     c.in_ok-found.ensures.ok in
     laid_found c.args.header.now bytes c.args.cell c.requires.native c.requires.force c.told-header c.requires.limit
     (λ i. (c.type_inv.bytes i).fits) place place_is size c.in-Some.ensures.some c.in-Some.ensures.size
-    c.in_ok-body.body.items c.in_ok-found.found.bodies (record {
+    (take (start + size - start) (drop start bytes)) c.in_ok-found.found.records (record {
       cell = c.args.cell;
       generation = c.number_at.result;
       place = place;
       first = first;
       gate = c.in_ok-found.found.gate;
       other = c.named_by.result;
-      count = (c.number_at-2.result + c.len.result) % 2 ^ 64;
+      count = (c.number_at-2.result + c.in_ok-found.found.count) % 2 ^ 64;
     }) refl refl
-    (copied ∙ ap (λ (n : ℕ). take n (drop start bytes)) exact) (omega arith) series
+    (ap (λ (n : ℕ). take n (drop start bytes)) exact) (omega arith) series
     (c.number_at.ensures ∙ ap (λ (n : ℕ). number_at c.args.bytes.now (n + 1)) c.at-at.ensures) c.number_at.type_inv
-    (ap (λ (n : ℕ). (n + c.len.result) % 2 ^ 64) c.number_at-2.ensures
-    ∙ ap (λ (n : ℕ). (number_at bytes (start + size) + n) % 2 ^ 64) c.len.ensures)
+    (ap (λ (n : ℕ). (n + c.in_ok-found.found.count) % 2 ^ 64) c.number_at-2.ensures
+    ∙ ap (λ (n : ℕ). (number_at bytes (start + size) + n) % 2 ^ 64) c.in_ok-found.ensures.count)
     (c.named_by.ensures ∙ ap (λ (x : Cell). named_in c.args.bytes.now x) c.other.ensures)

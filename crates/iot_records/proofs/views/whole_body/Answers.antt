@@ -1,6 +1,6 @@
 use Rattle.std.proofs.Common.{arith}
 use Rattle.iot_records.proofs.RecordsLaws.{whole_is, not_whole}
-use Rattle.iot_records.proofs.records.whole_body.Goals as goal
+use Rattle.iot_records.proofs.views.whole_body.Goals as goal
 
 pub returns-then-size-rest-clause-body : goal.returns-then-size-rest-clause-body
 returns-then-size-rest-clause-body c =

@@ -1,7 +1,7 @@
 use Rattle.std.proofs.Common.{sym}
 use Rattle.iot_slots.specs.declared.cell.Force.TheVariants.{NoCell, Clash}
 use Rattle.iot_slots.proofs.DecodingLaws.{decoded_foreign, decoded_force}
-use Rattle.iot_slots.proofs.decoding.decode.Goals as goal
+use Rattle.iot_slots.proofs.decoding.SlotsView.of.Goals as goal
 
 pub returns-then-has_other_header-clause-err : goal.returns-then-has_other_header-clause-err
 returns-then-has_other_header-clause-err c = decoded_foreign _ _ (sym c.if-has_other_header.ensures)
