@@ -37,6 +37,13 @@ module _ {S C : Type 0} (rules : Rules S C) where
   HasCause fault.Foreign bytes before now = (decoded header bytes ≡ Foreign) × Stayed before now
   HasCause (fault.Damaged at) bytes before now = IsDamagedAt rules bytes at × Stayed before now
 
+  -- by the fault, if there is no disk that could fail
+  abbrev pub IsRefusal : StartFault → List ℕ → Type 0
+  IsRefusal fault.NoMemory bytes = Unit {0}
+  IsRefusal fault.Stopped bytes = ⊥
+  IsRefusal fault.Foreign bytes = decoded header bytes ≡ Foreign
+  IsRefusal (fault.Damaged at) bytes = IsDamagedAt rules bytes at
+
   -- why a checkpoint at this place and the records after it make no state, or memory for what they hold ran out
   abbrev pub IsReason : StartFault → (body : List ℕ) → (bodies : List (List ℕ)) → (place : ℕ) → Type 0
   IsReason fault.NoMemory body bodies place = Unit {0}

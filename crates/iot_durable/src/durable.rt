@@ -24,7 +24,7 @@ use std::alloc::Global;
 use std::mem::replace;
 
 /// What follows byte 0 of a disk.
-const HEADER: [u8; 8] = *b"IOTSLOT1";
+pub(crate) const HEADER: [u8; 8] = *b"IOTSLOT1";
 
 /// A state in memory, and on a disk to which each change is appended as one record. A checkpoint of the whole state comes before an
 /// append if the records since the last one have grown long, or if there is no room for the record.
@@ -118,7 +118,7 @@ impl<R: Recorded, D: Disk> Durable<R, D> {
         match replay(
             alloc,
             started.body.as_slice(),
-            &started.records,
+            started.records.iter(),
             layout.place,
             layout.first,
         ) {

@@ -4,9 +4,11 @@
 
 mod durable;
 mod fault;
+mod image;
 mod recorded;
 mod replay;
 
 pub use durable::Durable;
 pub use fault::NoteFault;
+pub use image::read_image;
 pub use recorded::Recorded;

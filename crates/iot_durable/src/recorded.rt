@@ -1,6 +1,6 @@
 //! What a durable state needs of that which it keeps.
-ghost use Rattle.std.specs.Prelude.{◌≡◌, List, ℕ, true, Some, IfOk, IfSome, OnOk};
-ghost use Rattle.iot_durable.specs.Rules.{Rules, IsThis, FollowsIf};
+ghost use Rattle.std.specs.Prelude.{◌≡◌, List, ℕ, true, IfOk, IfSome, OnOk};
+ghost use Rattle.iot_durable.specs.Rules.{Rules, IsThis, ReplaysIf};
 
 use iot_text::{NoMemory, Text};
 use std::alloc::Global;
@@ -55,19 +55,11 @@ pub trait Recorded: Drop {
         requires { rules.IsChange change.now }
         ensures { OnOk result (rules.IsRecord out.new change.now) };
 
-    /// Reads a change from its spelling. Gives none if the bytes are the spelling of none.
-    fn read_change(alloc: Global, body: &[u8]) -> Result<Option<Self::Change>, NoMemory>
-        ensures found { IfOk result (λ read. IfSome read (rules.IsRecord body.now)) }
-
-        // The bytes spell no other change, and if they spell one it is given.
-        ensures only { (change : Self.Change) → rules.IsRecord body.now change → IfOk result (λ read. read ≡ Some change) }
-        ensures change { IfOk result (λ read. IfSome read rules.IsChange) };
-
-    /// Makes a change if it can follow, and says whether it can. If it cannot, nothing more is said of this one.
-    fn follow(&mut self, alloc: Global, change: Self::Change) -> Result<bool, NoMemory>
-        requires sound { IsSound self.old }
-        requires change { rules.IsChange change }
-        ensures follows { IfOk result (λ follows. FollowsIf rules follows change (kept self.old) (kept self.new)) }
+    /// Makes the change that the bytes spell, if they spell one that can follow, and says whether they do. If not, nothing more is said
+    /// of this one.
+    fn follow(&mut self, alloc: Global, body: &[u8]) -> Result<bool, NoMemory>
+        requires { IsSound self.old }
+        ensures follows { IfOk result (λ follows. ReplaysIf rules follows body.now (kept self.old) (kept self.new)) }
         ensures sound { IfOk result (λ follows. follows ≡ true → IsSound self.new) }
         ensures fresh { IfOk result (λ follows. follows ≡ true → IsFresh self.old → IsFresh self.new) };
 

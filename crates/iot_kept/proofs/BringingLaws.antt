@@ -12,7 +12,7 @@ use Rattle.iot_tree.specs.declared.changes.Changes.{Changes}
 use Rattle.iot_tree.specs.declared.nodes.Node.{Node}
 use Rattle.iot_tree.proofs.EachLaws.{each_entry}
 use Rattle.iot_tree.proofs.PathLaws.{tied}
-use Rattle.iot_codec.specs.Rules.{IsRow, IsStampedNode, AreChanges, IsTreeOfRows}
+use Rattle.iot_views.specs.Rules.{IsRow, IsStampedNode, AreChanges, IsTreeOfRows}
 use Rattle.iot_text.specs.Paths.{IsPath}
 use Rattle.iot_stamp.specs.Refresh.{zeroed, joined, merged, stays}
 use Rattle.iot_stamp.specs.Stamps.{Entry, Stamps, nodes_of}

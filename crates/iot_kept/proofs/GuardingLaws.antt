@@ -33,15 +33,6 @@ module _ (test : Read → Bool) (reads : List Read) (i : ℕ) (way : SaidOnWay t
     here : list_any test reads ≡ (test read || list_any test (drop (i + 1) reads))
     here = way.same ∙ ap (list_any test) (left_is reads i read within is)
 
-    pub says_one : test read ≡ true → list_any test reads ≡ true
-    says_one passes = here ∙ or_left (test read) (list_any test (drop (i + 1) reads)) passes
-
-    pub says_not : test read ≡ false → SaidOnWay test reads (i + 1)
-    says_not fails = record { same = here ∙ ap (λ b. b || list_any test (drop (i + 1) reads)) fails }
-
-  pub says_none : length reads ≤ i → list_any test reads ≡ false
-  says_none past = way.same ∙ ap (list_any test) (drop_all i reads past)
-
 -- ---- what a read says
 
 read_is : (read : Read) (question : Question) (answer : Answer) → read.question ≡ question → read.answer ≡ answer

@@ -4,7 +4,7 @@ use Rattle.iot_tree.specs.declared.access.Access.{Access}
 use Rattle.iot_tree.specs.declared.labels.OnConflict.{OnConflict}
 use Rattle.iot_tree.specs.declared.labels.OnConflict.TheVariants as options
 use Rattle.iot_access.specs.Access.{no_access}
-use Rattle.iot_codec.specs.Rules.{IsAccess}
+use Rattle.iot_views.specs.Rules.{IsAccess}
 use Rattle.iot_queue.specs.Queues.{with_head, staged}
 use Rattle.iot_queue.specs.declared.items.Item.{Item}
 use Rattle.iot_queue.specs.declared.items.Resolution.{Resolution}

@@ -3,7 +3,7 @@ use Rattle.std.proofs.Common.{◌≡◌, List, [], ◌∷◌, Option, Some, None
 use Rattle.std.specs.List.{AllByRecursion}
 use Rattle.iot_tree.specs.declared.access.Access.{Access}
 use Rattle.iot_access.specs.Access.{no_access}
-use Rattle.iot_codec.specs.Rules.{IsAccess}
+use Rattle.iot_views.specs.Rules.{IsAccess}
 use Rattle.iot_queue.specs.declared.items.Item.{Item}
 use Rattle.iot_queue.specs.declared.items.Stage.{Stage}
 use Rattle.iot_queue.specs.declared.items.Stage.TheVariants as stages

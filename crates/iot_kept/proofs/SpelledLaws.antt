@@ -24,11 +24,12 @@ use Rattle.iot_tree.proofs.RowLaws.{root_rows, root_map}
 use Rattle.iot_access.specs.Access.{no_access}
 use Rattle.iot_acts.specs.Traces.{ActsHold, FitsIfAny, after_update, after_acts}
 use Rattle.iot_acts.proofs.TraceLaws.{tree_after}
-use Rattle.iot_codec.specs.Rules.{IsAccess, IsRow, IsUpdate, IsOptionalUpdate, IsAct, AreActs, IsTreeOfRows, IsBudget}
+use Rattle.iot_views.specs.Rules.{IsAccess, IsRow, IsUpdate, IsOptionalUpdate, IsAct, AreActs, IsTreeOfRows, IsBudget}
 use Rattle.iot_queue.specs.Queues.{with_head, staged}
 use Rattle.iot_queue.specs.declared.items.Item.{Item}
 use Rattle.iot_queue.specs.declared.items.Stage.{Stage}
 use Rattle.iot_queue.specs.declared.items.Stage.TheVariants as stages
+use Rattle.iot_bodies.proofs.TreesLaws.{root_of_rows, rows_updated}
 use Rattle.iot_changes.specs.Rules.{IsChange}
 use Rattle.iot_changes.specs.declared.changes.Change.{Change}
 use Rattle.iot_changes.specs.declared.changes.Change.TheVariants.{Held, Begun, Fetched, Acted, Ended, Cut, Conflicted, Resolved}
@@ -40,35 +41,11 @@ use Rattle.iot_kept.proofs.StatesLaws.{changed}
 
 -- ---- trees whose rows have spellings
 
-abbrev IsRowAt : Path → Node → Type 0
-IsRowAt path node = IsRow (path, node)
-
-renamed_is_path : (from to path : Path) → IsPath to → IsPath path → IsPath (renamed from to path)
-renamed_is_path from to path to_valid valid =
-    cond_both (starts_with bytes_eq path from) (to ++ drop (length from) path) path IsPath
-    (λ inside. IsPath-append to (drop (length from) path) to_valid (IsPath-drop (length from) path valid))
-    (λ outside. valid)
-
-each_updated : (t : Nodes) (update : Update) → IsUpdate update → EachNode IsRowAt t → EachNode IsRowAt (updated t update)
-each_updated t (Put path bytes) is each = each_inserted IsRowAt t path (File bytes) each (is.0, is.1)
-each_updated t (MakeDir path) is each = each_inserted IsRowAt t path Dir each (is, tt)
-each_updated t (Remove path) is each = each_removed IsRowAt t path each
-each_updated t (Move from to) is each =
-    each_moved IsRowAt from to (λ path node row. (renamed_is_path from to path is.1 row.0, row.1)) t each
-
-each_after : (t : Nodes) (update : Option Update) → IsOptionalUpdate update → EachNode IsRowAt t → EachNode IsRowAt (after_update t update)
-each_after t None is each = each
-each_after t (Some update) is each = each_updated t update is each
-
--- after an update that has a spelling and fits
+-- after an update that has a spelling and fits, if there is one
 pub rows_after : (t : Nodes) (update : Option Update) → IsOptionalUpdate update → FitsIfAny t update → IsTreeOfRows t
     → IsTreeOfRows (after_update t update)
-rows_after t update is fits rows =
-    let each : EachNode IsRowAt t = λ path node has. found_row IsRowAt (entries t) rows.each path node (sym (get-entries t path) ∙ has) in
-    record {
-      tree = tree_after t update rows.tree fits;
-      each = each_entry IsRowAt (after_update t update) (each_after t update is each);
-    }
+rows_after t None is fits rows = rows
+rows_after t (Some update) is fits rows = rows_updated t update is fits rows
 
 -- after acts that have spellings and hold
 pub rows_after_acts : (t : Nodes) (acts : List Act) → AllByRecursion IsAct acts → ActsHold t acts → IsTreeOfRows t
@@ -80,12 +57,7 @@ rows_after_acts t (act ∷ acts) are hold rows =
 
 -- the tree of which nothing is known
 pub far_root_rows : IsTreeOfRows (root_alone FarDir)
-far_root_rows =
-    let none : EachNode IsRowAt empty = λ path node has. absurd (none-some node (sym (get-empty path_cmp path) ∙ has)) in
-    record {
-      tree = subst IsTree (root_map FarDir) (root_rows FarDir refl).tree;
-      each = each_entry IsRowAt (root_alone FarDir) (each_inserted IsRowAt empty [] FarDir none (refl, tt));
-    }
+far_root_rows = root_of_rows FarDir refl tt
 
 -- ---- lists
 

@@ -21,11 +21,6 @@ hold_suit [] t hold guarded = tt
 hold_suit (act ∷ acts) t hold guarded =
     ((guarded.0, hold.1, hold.0), hold_suit acts (after_update t act.update) hold.2 guarded.1)
 
-pub after_acts_turns : (acts : List Act) (t : Nodes)
-    → after_turns (λ (t : Nodes) (act : Act). after_update t act.update) acts t ≡ after_acts t acts
-after_acts_turns [] t = refl
-after_acts_turns (act ∷ acts) t = after_acts_turns acts (after_update t act.update)
-
 -- ---- of each transaction
 
 each_hold : (items : List Item) (t : Nodes) → EachSuit items t → EachHold t items
@@ -40,11 +35,6 @@ each_suit : (items : List Item) (t : Nodes) → EachHold t items → EachGuarded
 each_suit [] t hold guarded = tt
 each_suit (item ∷ items) t hold guarded =
     (hold_suit item.acts t hold.0 guarded.0, each_suit items (after_acts t item.acts) hold.1 guarded.1)
-
-pub after_each_turns : (items : List Item) (t : Nodes)
-    → after_turns (λ (t : Nodes) (item : Item). after_acts t item.acts) items t ≡ after_each t items
-after_each_turns [] t = refl
-after_each_turns (item ∷ items) t = after_each_turns items (after_acts t item.acts)
 
 -- ---- of all
 

@@ -43,10 +43,6 @@ pub turns_wait : (items : List Item) → InTurn Waits same_unit items tt → All
 turns_wait [] turns = tt
 turns_wait (item ∷ items) turns = (turns.0, turns_wait items turns.1)
 
-pub wait_turns : (items : List Item) → AllWait items → InTurn Waits same_unit items tt
-wait_turns [] all = tt
-wait_turns (item ∷ items) all = (all.0, wait_turns items all.1)
-
 -- ---- numbers
 
 abbrev tids : List Item → List ℕ

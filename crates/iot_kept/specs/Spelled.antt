@@ -2,7 +2,7 @@
 use Rattle.std.specs.Prelude.{List, Option, Some, None}
 use Rattle.std.specs.List.{AllByRecursion}
 use Rattle.iot_text.specs.Names.{IsName}
-use Rattle.iot_codec.specs.Rules.{IsAccess, IsNumber, IsOption, IsBudget, AreActs, IsTreeOfRows}
+use Rattle.iot_views.specs.Rules.{IsAccess, IsNumber, IsOption, IsBudget, AreActs, IsTreeOfRows}
 use Rattle.iot_changes.specs.Rules.{IsResolution}
 use Rattle.iot_queue.specs.declared.items.Item.{Item}
 use Rattle.iot_queue.specs.declared.items.Stage.{Stage}

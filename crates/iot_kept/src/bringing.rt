@@ -1,6 +1,6 @@
 //! The held tree after what a reply brings.
 ghost use Rattle.std.specs.Prelude.{◌≡◌, ◌≢◌, [], IfOk, IfErr, OnOk, OnErr, IsErrOf, true};
-ghost use Rattle.iot_codec.specs.Rules.{AreChanges};
+ghost use Rattle.iot_views.specs.Rules.{AreChanges};
 ghost use Rattle.iot_slots.specs.Cells.{next};
 ghost use Rattle.iot_tree.specs.Tree.{IsTree, Nodes};
 ghost use Rattle.iot_changes.specs.Rules.{IsChange};

@@ -39,7 +39,7 @@ use std::alloc::Global;
 /// the running transaction, which no disk keeps. A checkpoint of the whole comes before a change if the records since the last one
 /// have grown long.
 ///
-/// After an `Err` of `note` or `bring` only `into_disk` says anything more: start again from the disk.
+/// After an `Err` of `note`, or of `bring` other than `NoTree`, only `into_disk` says anything more: start again from the disk.
 #[derive(Drop)]
 pub struct Kept<D: Disk> {
     pub(crate) checkpointed: Durable<Memory, D>,

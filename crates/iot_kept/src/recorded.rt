@@ -1,4 +1,6 @@
 //! What the disk keeps of a client: the whole of it in a checkpoint, and each change in a record.
+ghost use Rattle.std.specs.Prelude.{◌≡◌, Some, IfOk, IfSome};
+ghost use Rattle.iot_changes.specs.declared.changes.Change.{Change as ChangeValue};
 ghost use Rattle.iot_kept.specs.Memory.{memory_state};
 ghost use Rattle.iot_kept.specs.Rules.{rules as of_client, ChangesMemory, IsMemory, IsStarted};
 ghost use Rattle.iot_kept.specs.States.{State};
@@ -55,19 +57,29 @@ impl Recorded for Memory {
         put_change(change, out)
     }
 
-    fn read_change(alloc: Global, body: &[u8]) -> Result<Option<Change>, NoMemory> {
-        match read_change(alloc, body) {
-            Ok(change) => Ok(Some(change)),
-            Err(CodecFault::Malformed { .. }) => Ok(None),
-            Err(CodecFault::NoMemory) => Err(NoMemory),
+    fn follow(&mut self, alloc: Global, body: &[u8]) -> Result<bool, NoMemory> {
+        match read(alloc, body)? {
+            Some(change) => self.replay(alloc, change),
+            None => Ok(false),
         }
-    }
-
-    fn follow(&mut self, alloc: Global, change: Change) -> Result<bool, NoMemory> {
-        self.replay(alloc, change)
     }
 
     fn apply(&mut self, alloc: Global, change: Change) -> Result<(), NoMemory> {
         self.note(alloc, change)
+    }
+}
+
+/// The change whose spelling the body is, if it is one.
+fn read(alloc: Global, body: &[u8]) -> Result<Option<Change>, NoMemory>
+    ensures found { IfOk result (λ read. IfSome read (of_client.IsRecord body.now)) }
+
+    // The bytes spell no other change, and if they spell one it is given.
+    ensures only { (change : ChangeValue) → of_client.IsRecord body.now change → IfOk result (λ read. read ≡ Some change) }
+    ensures change { IfOk result (λ read. IfSome read of_client.IsChange) }
+{
+    match read_change(alloc, body) {
+        Ok(change) => Ok(Some(change)),
+        Err(CodecFault::Malformed { .. }) => Ok(None),
+        Err(CodecFault::NoMemory) => Err(NoMemory),
     }
 }

@@ -1,11 +1,7 @@
 -- Updates that are made one after the other, as a loop does.
 use Rattle.std.proofs.Common.{◌≡◌, ℕ, ◌+◌, ◌<◌, ◌≤◌, List, [], ◌∷◌, length, get_or, drop, sym, ap, ◌∙◌, subst}
 use Rattle.std.proofs.lemmas.List.{drop_more, drop_all}
-use Rattle.iot_tree.specs.Tree.{Nodes}
-use Rattle.iot_tree.specs.Questions.{answer_of}
-use Rattle.iot_tree.specs.declared.acts.Read.{Read}
 use Rattle.iot_access.specs.Access.{FitInTurn}
-use Rattle.iot_acts.specs.Traces.{ReadsHold}
 use Rattle.iot_tree.specs.Updates.{Fits, updated}
 use Rattle.iot_tree.specs.declared.updates.Update.{Update}
 use Rattle.iot_stamp.specs.Stamps.{Stamps, nodes_of}
@@ -43,36 +39,9 @@ module _ (updates : List Update) (stamp i : ℕ) (before now : Stamps) (way : Al
               ∙ ap (λ t. stamped_all t (drop (i + 1) updates) stamp) (sym made);
         }
 
-    pub update_stops : (Fits (nodes_of now) update → ⊥) → FitInTurn (nodes_of before) updates → ⊥
-    update_stops not fit = not (subst (FitInTurn (nodes_of now)) left_updates (way.rest fit)).0
-
   pub all_made : length updates ≤ i → FitInTurn (nodes_of before) updates × (now ≡ stamped_all before updates stamp)
   all_made past =
       let none : drop i updates ≡ [] = drop_all i updates past in (
         way.whole (subst (FitInTurn (nodes_of now)) (sym none) tt),
         sym (way.end ∙ ap (λ (l : List Update). stamped_all now l stamp) none),
       )
-
--- ---- reads
-
--- the reads from a place on hold exactly if all do
-pub record ReadsOnWay (t : Nodes) (reads : List Read) (i : ℕ) : Type 0 where
-  pub rest : ReadsHold t reads → ReadsHold t (drop i reads)
-  pub whole : ReadsHold t (drop i reads) → ReadsHold t reads
-
-module _ (t : Nodes) (reads : List Read) (i : ℕ) (way : ReadsOnWay t reads i) where
-  module _ (read : Read) (within : i < length reads) (is : read ≡ get_or reads i read) where
-    left_reads : drop i reads ≡ read ∷ drop (i + 1) reads
-    left_reads = left_is reads i read within is
-
-    pub read_next : ReadsHold t reads → answer_of t read.question ≡ read.answer
-    read_next hold = (subst (ReadsHold t) left_reads (way.rest hold)).0
-
-    pub read_holds : answer_of t read.question ≡ read.answer → ReadsOnWay t reads (i + 1)
-    read_holds same = record {
-      rest = λ hold. (subst (ReadsHold t) left_reads (way.rest hold)).1;
-      whole = λ hold. way.whole (subst (ReadsHold t) (sym left_reads) (same, hold));
-    }
-
-  pub reads_hold : length reads ≤ i → ReadsHold t reads
-  reads_hold past = way.whole (subst (ReadsHold t) (sym (drop_all i reads past)) tt)

@@ -1,5 +1,6 @@
 mod BodiesLaws
 mod CommitsLaws
+mod ImagesLaws
 mod NotingLaws
 pub mod NumbersLaws
 mod RecordsLaws

@@ -69,6 +69,16 @@ is_old_from labels client tid n is none =
     let clash : None ≡ Some n = sym (ap (option_map (λ k. k + 1)) place) ∙ is in
     absurd cc
 
+-- so it is among the labels exactly if it has a number
+pub has_number : (labels : List Label) (client tid : ℕ) (number : Option ℕ) → number ≡ number_in labels client tid
+    → is_some number ≡ list_any (is_of client tid) labels
+has_number labels client tid None is = sym (is_new_from labels client tid (sym is))
+has_number labels client tid (Some n) is = among (list_any (is_of client tid) labels) refl
+  where
+    among : (b : Bool) → list_any (is_of client tid) labels ≡ b → true ≡ b
+    among true found = refl
+    among false none = absurd (is_old_from labels client tid n (sym is) none)
+
 -- ---- the index
 
 then_is : (one other : Ordering) → is_eq (ordering_then one other) ≡ (is_eq one && is_eq other)

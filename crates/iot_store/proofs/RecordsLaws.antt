@@ -1,9 +1,26 @@
 -- Bodies that are the record of one commit.
-use Rattle.std.proofs.Common.{◌≡◌, ◌<◌, ◌^◌, List, ℕ, Option, Some, None, length, ap}
-use Rattle.iot_wire.proofs.MessagesLaws.{call_one}
+use Rattle.std.proofs.Common.{◌≡◌, ◌<◌, ◌^◌, ◌⊎◌, inl, inr, List, ℕ, Bool, true, false, true≢false, eqb, Option, Some, None, Result, Ok, Err}
+use Rattle.std.proofs.Common.{length, refl, sym, ap, ◌∙◌, subst}
+use Rattle.std.specs.Prelude.{slice_get}
+use Rattle.std.specs.Result.{result_ok}
+use Rattle.std.proofs.lemmas.Bool.{eqb-true, eq-eqb}
+use Rattle.iot_codec.specs.Places.{AreBytes}
+use Rattle.iot_durable.specs.Rules.{ReplaysIf}
+use Rattle.iot_tree.specs.declared.access.Access.{Access}
+use Rattle.iot_tree.specs.declared.labels.Label.{Label}
+use Rattle.iot_views.specs.declared.parts.Malformed.{Malformed}
+use Rattle.iot_wire.proofs.MessagesLaws.{call_found, call_one, whole_again}
 use Rattle.iot_wire.proofs.SpellingLaws.{request_laws}
+use Rattle.iot_wire.specs.Decoding.{request_at}
+use Rattle.iot_wire.specs.Lent.{IsLentWhole, request_of}
+use Rattle.iot_wire.specs.Messages.{whole}
+use Rattle.iot_wire.specs.Spelling.{request_spelling}
+use Rattle.iot_wire.specs.Submissions.{Submission}
 use Rattle.iot_wire.specs.declared.requests.Request.TheVariants.{Commit as Asks}
+use Rattle.iot_store.specs.Commits.{AddsIf}
 use Rattle.iot_store.specs.Records.{IsDecodedAs, IsRecord}
+use Rattle.iot_store.specs.Rules.{rules}
+use Rattle.iot_store.specs.States.{State, CanFollow}
 use Rattle.iot_store.specs.declared.commit.Commit.{Commit}
 
 abbrev IsRecordOf : List ℕ → Commit → Type 0
@@ -19,8 +36,75 @@ record_alone body one other short p q =
     let lines : one.lines ≡ other.lines = cc in
     λ i. record { label = label i; access = access i; lines = lines i }
 
--- whatever commit the body is the record of is decoded
-pub decoded_only : (body : List ℕ) (read : Option Commit) (commit : Commit) → length body < 2 ^ 64 → IsDecodedAs body read
-    → IsRecordOf body commit → read ≡ Some commit
-decoded_only body None commit short none is = absurd (none commit.label commit.access commit.lines is)
-decoded_only body (Some found) commit short found_is is = ap Some (record_alone body found commit short found_is is)
+-- ---- what is lent
+
+-- a record begins with the tag of a commit
+record_tag : (body : List ℕ) (label : Label) (access : Access) (lines : List (List ℕ)) → IsRecord body label access lines
+    → slice_get body 0 ≡ Some 2
+unfolding request_spelling
+record_tag body label access lines is = ap (λ (l : List ℕ). slice_get l 0) (sym is.spelled)
+
+is_two : (tag : Option ℕ) → (tag ≡ Some 2) ⊎ (tag ≡ Some 2 → ⊥)
+is_two None = inr (λ is. absurd cc)
+is_two (Some n) = by (eqb n 2) refl
+  where
+    by : (b : Bool) → eqb n 2 ≡ b → (Some n ≡ Some 2) ⊎ (Some n ≡ Some 2 → ⊥)
+    by true is = inl (ap Some (eqb-true n 2 is))
+    by false other = inr (λ is. let same : n ≡ 2 = cc in true≢false (sym (eq-eqb n 2 same) ∙ other))
+
+not_refused : (commit : Submission) (answer : Result Submission Malformed) → answer ≡ Ok commit → answer ≡ Err (record { at = 0 }) → ⊥
+not_refused commit (Ok found) is refused = absurd cc
+not_refused commit (Err fault) is refused = absurd cc
+
+-- what is lent out of a body is the commit whose record it is
+pub lent_found : (body : List ℕ) (commit : Submission) (answer : Result Submission Malformed) → answer ≡ Ok commit → AreBytes body
+    → (slice_get body 0 ≡ Some 2 → IsLentWhole request_of answer (whole request_at body))
+    → ((slice_get body 0 ≡ Some 2 → ⊥) → answer ≡ Err (record { at = 0 })) → IsRecord body commit.0 commit.1.0 commit.1.1
+lent_found body commit answer is fit lent other = by (is_two (slice_get body 0))
+  where
+    by : (slice_get body 0 ≡ Some 2) ⊎ (slice_get body 0 ≡ Some 2 → ⊥) → IsRecord body commit.0 commit.1.0 commit.1.1
+    by (inl tag) =
+        call_found _ _ _ request_laws body (Ok (request_of commit)) fit
+        (subst (λ (a : Result Submission Malformed). IsLentWhole request_of a (whole request_at body)) is (lent tag))
+    by (inr no_tag) = absurd (not_refused commit answer is (other no_tag))
+
+-- and nothing is lent only if it is the record of none
+pub lent_none : (body : List ℕ) (fault : Malformed) (answer : Result Submission Malformed) → answer ≡ Err fault → length body < 2 ^ 64
+    → (slice_get body 0 ≡ Some 2 → IsLentWhole request_of answer (whole request_at body)) → IsDecodedAs body None
+lent_none body fault answer is short lent label access lines found =
+    let fails : whole request_at body ≡ Err fault.at =
+    subst (λ (a : Result Submission Malformed). IsLentWhole request_of a (whole request_at body)) is
+    (lent (record_tag body label access lines found)) in
+    let clash : Ok (Asks label access lines) ≡ Err fault.at = sym (whole_again _ _ _ request_laws body _ short found) ∙ fails in
+    absurd cc
+
+-- what is lent, or nothing
+pub lent_as : (body : List ℕ) (answer : Result Submission Malformed) → AreBytes body → length body < 2 ^ 64
+    → (slice_get body 0 ≡ Some 2 → IsLentWhole request_of answer (whole request_at body))
+    → ((slice_get body 0 ≡ Some 2 → ⊥) → answer ≡ Err (record { at = 0 })) → IsDecodedAs body (result_ok answer)
+lent_as body (Ok commit) fit short lent other = lent_found body commit (Ok commit) refl fit lent other
+lent_as body (Err fault) fit short lent other = lent_none body fault (Err fault) refl short lent
+
+-- ---- what is replayed
+
+-- the commit whose record the body is was made if it can follow, and only then
+pub replays_if : (body : List ℕ) (commit : Submission) (follows : Bool) (old new : State) → length body < 2 ^ 64
+    → IsRecord body commit.0 commit.1.0 commit.1.1 → AddsIf follows commit.0 commit.1.0 old new → ReplaysIf rules follows body old new
+replays_if body commit true old new short is adds = record {
+  change = record { label = commit.0; access = commit.1.0; lines = commit.1.1 };
+  spells = is;
+  only = λ other spells. record_alone body other (record { label = commit.0; access = commit.1.0; lines = commit.1.1 }) short spells is;
+  follows = adds.0;
+  is = adds.1;
+}
+replays_if body commit false old new short is adds = record {
+  never = λ other spells follows.
+      let same = record_alone body other (record { label = commit.0; access = commit.1.0; lines = commit.1.1 }) short spells is in
+      adds (subst (λ (c : Commit). CanFollow old c.label c.access) same follows);
+}
+
+-- no commit can follow of which the body is no record
+pub replays_none : (body : List ℕ) (old new : State) → IsDecodedAs body None → ReplaysIf rules false body old new
+replays_none body old new none = record {
+  never = λ change spells follows. none change.label change.access change.lines spells;
+}

@@ -1,5 +1,5 @@
 -- The stamps of a tree in the order of its rows, and what is said of each row with its stamp.
-use Rattle.std.proofs.Common.{◌≡◌, ℕ, suc, ◌+◌, ◌<◌, ◌≤◌, ◌^◌, true, false, List, [], ◌∷◌, map, length, get_or, drop, IsTrue, Some, None}
+use Rattle.std.proofs.Common.{◌≡◌, ℕ, suc, ◌+◌, ◌<◌, ◌≤◌, ◌^◌, true, false, List, [], ◌∷◌, map, length, drop, IsTrue, Some, None}
 use Rattle.std.proofs.Common.{inl, inr, refl, sym, ap, ◌∙◌, subst, arith}
 use Rattle.std.proofs.lemmas.List.{drop_all}
 use Rattle.std.proofs.lemmas.Option.{none-some, same_Some}
@@ -17,7 +17,7 @@ use Rattle.iot_tree.specs.declared.nodes.Node.TheVariants.{FarDir, FarFile}
 use Rattle.iot_tree.proofs.EachLaws.{found_row}
 use Rattle.iot_tree.proofs.RowLaws.{is_tested}
 use Rattle.iot_tree.proofs.TreeLaws.{same_or_apart}
-use Rattle.iot_codec.specs.Rules.{IsNumber}
+use Rattle.iot_views.specs.Rules.{IsNumber}
 use Rattle.iot_stamp.specs.Agreement.{IsPositive, UpTo}
 use Rattle.iot_stamp.specs.Mapped.{mapped_entries}
 use Rattle.iot_stamp.specs.Pairing.{AreStamps, FarRowsZero, paired, stamps_of}
@@ -29,7 +29,6 @@ use Rattle.iot_stamp.proofs.PrunedLaws.{whole_known}
 use Rattle.iot_stamp.proofs.StampsLaws.{node_some}
 use Rattle.iot_store.specs.Bodies.{stamps_in_order}
 use Rattle.iot_store.specs.Reading.{FitStamps}
-use Rattle.iot_store.proofs.CommitsLaws.{left_is}
 
 -- ---- rows with their stamps, and the two apart
 
@@ -175,26 +174,6 @@ pub record FitOnWay (rows : List Row) (stamps : List ℕ) (commits i : ℕ) : Ty
   pub whole : FitStamps (drop i rows) (drop i stamps) commits → FitStamps rows stamps commits
 
 module _ (rows : List Row) (stamps : List ℕ) (commits i : ℕ) (way : FitOnWay rows stamps commits i) where
-  module _ (row : Row) (stamp : ℕ) (in_rows : i < length rows) (in_stamps : i < length stamps) (row_is : row ≡ get_or rows i row)
-      (stamp_is : stamp ≡ get_or stamps i stamp) where
-    left_fit : FitStamps (drop i rows) (drop i stamps) commits → FitStamps (row ∷ drop (i + 1) rows) (stamp ∷ drop (i + 1) stamps) commits
-    left_fit fit =
-        subst (λ (ss : List ℕ). FitStamps (row ∷ drop (i + 1) rows) ss commits) (left_is stamps i stamp in_stamps stamp_is)
-        (subst (λ (rs : List Row). FitStamps rs (drop i stamps) commits) (left_is rows i row in_rows row_is) fit)
-
-    pub row_fits : FitStamps rows stamps commits → (is_known row.1 ≡ true) × (0 < stamp) × (stamp ≤ commits + 1)
-    row_fits fit = let here = left_fit (way.rest fit) in (here.0, here.1, here.2)
-
-    pub fit_next : is_known row.1 ≡ true → 0 < stamp → stamp ≤ commits + 1 → FitOnWay rows stamps commits (i + 1)
-    fit_next known some within = record {
-      rest = λ fit. (left_fit (way.rest fit)).3;
-      whole = λ fit.
-          way.whole
-          (subst (λ (rs : List Row). FitStamps rs (drop i stamps) commits) (sym (left_is rows i row in_rows row_is))
-          (subst (λ (ss : List ℕ). FitStamps (row ∷ drop (i + 1) rows) ss commits) (sym (left_is stamps i stamp in_stamps stamp_is))
-          (known, some, within, fit)));
-    }
-
   pub all_fit : length rows ≤ i → length stamps ≤ i → FitStamps rows stamps commits
   all_fit rows_past stamps_past =
       way.whole

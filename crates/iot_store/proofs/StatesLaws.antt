@@ -17,7 +17,7 @@ use Rattle.iot_tree.proofs.EachLaws.{EachNode, each_inserted}
 use Rattle.iot_access.specs.Access.{FitInTurn, after_updates}
 use Rattle.iot_access.proofs.WholeLaws.{whole_after}
 use Rattle.iot_acts.proofs.TraceLaws.{tree_after}
-use Rattle.iot_codec.specs.Rules.{IsAccess, IsLabel}
+use Rattle.iot_views.specs.Rules.{IsAccess, IsLabel}
 use Rattle.iot_stamp.specs.Agreement.{Keeps}
 use Rattle.iot_stamp.specs.Stamping.{stamped}
 use Rattle.iot_stamp.specs.Stamps.{Stamps, nodes_of}

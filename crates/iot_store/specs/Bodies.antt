@@ -4,7 +4,7 @@ use Rattle.std.specs.FinMap.{entries}
 use Rattle.std.specs.List.{AllByRecursion, list_any}
 use Rattle.iot_tree.specs.Tree.{IsWhole}
 use Rattle.iot_tree.specs.declared.labels.Label.{Label}
-use Rattle.iot_codec.specs.Rules.{IsLabel, IsTreeOfRows}
+use Rattle.iot_views.specs.Rules.{IsLabel, IsTreeOfRows}
 use Rattle.iot_stamp.specs.Agreement.{IsPositive, UpTo}
 use Rattle.iot_stamp.specs.Stamps.{Entry, Stamps, nodes_of}
 use Rattle.iot_bodies.specs.Spelling.{server_spelling}

@@ -1,5 +1,6 @@
 pub mod Bodies
 pub mod Commits
+pub mod Images
 pub mod Numbers
 pub mod Reading
 pub mod Records

@@ -1,5 +1,5 @@
 -- How what a server keeps is kept behind checkpoints.
-use Rattle.iot_codec.specs.Rules.{AreLines, IsAccess, IsLabel}
+use Rattle.iot_views.specs.Rules.{AreLines, IsAccess, IsLabel}
 use Rattle.iot_durable.specs.Rules.{Rules}
 use Rattle.iot_store.specs.Bodies.{IsBody}
 use Rattle.iot_store.specs.Records.{IsRecord}

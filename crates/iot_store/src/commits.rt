@@ -7,9 +7,11 @@ ghost use Rattle.iot_tree.specs.Tree.{IsWhole};
 ghost use Rattle.iot_store.specs.Commits.{IsIndex, MakesAllIf, UpdatesIf};
 ghost use Rattle.iot_store.specs.Bodies.{AreApart};
 
+use iot_certify::{Verdict, certify_view};
 use iot_stamp::Stamped;
 use iot_text::NoMemory;
-use iot_tree::{Access, Label, Labels, Read, Tree, Update};
+use iot_tree::{Access, Label, Labels, Tree, Update};
+use iot_wire::{CommitView, Effects};
 use std::alloc::Global;
 use std::collections::BTreeMap;
 use std::marker::Model;
@@ -110,6 +112,13 @@ impl Commits {
         &self.labels
     }
 
+    /// The same, without the commits.
+    pub(crate) fn into_labels(self) -> Labels
+        ensures { result ≡ self.labels }
+    {
+        self.labels
+    }
+
     /// The number of a client's transaction, if it is among the commits.
     pub(crate) fn number_of(&self, client: u64, tid: u64) -> Option<u64>
         ensures { result ≡ number_in self.now.labels client tid }
@@ -148,28 +157,36 @@ impl Commits {
         Ok(())
     }
 
-    /// Adds a commit if it can follow, and says whether it can.
+    /// Adds the commit that is lent if it can follow, and says whether it can. Only then are its label and its updates copied.
     pub(crate) fn replay(
         &mut self,
         alloc: Global,
-        label: Label,
-        access: &Access,
+        commit: &CommitView<'_>,
     ) -> Result<bool, NoMemory>
-        ensures adds { IfOk result (λ follows. AddsIf follows label access.now self.old self.new) }
+        ensures adds { IfOk result (λ follows. AddsIf follows commit.now.0 commit.now.1.0 self.old self.new) }
         ensures few { IfOk result (λ follows. follows ≡ true → length self.old.labels + 2 < 2 ^ 64) }
     {
-        if let Some(_) = self.number_of(label.client, label.tid) {
+        if self.has(commit) {
             return Ok(false);
         }
-        if !do_hold(self.tree.tree(), access.reads.as_slice()) {
+        if !holds(alloc, self.tree(), commit)? {
             return Ok(false);
         }
         let stamp = self.next_stamp()?;
-        if !make_all(alloc, &mut self.tree, access.updates.as_slice(), stamp)? {
+        let Effects { label, updates } = commit.copy_effects(alloc)?;
+        if !make_all(alloc, &mut self.tree, updates.as_slice(), stamp)? {
             return Ok(false);
         }
         self.list(label)?;
         Ok(true)
+    }
+
+    /// Whether the transaction is among the commits.
+    fn has(&self, commit: &CommitView<'_>) -> bool
+        ensures { result ≡ list_any (is_of commit.now.0.client commit.now.0.tid) self.now.labels }
+    {
+        let label = commit.label();
+        self.number_of(label.client, label.tid).is_some()
     }
 
     /// Puts a label after the others.
@@ -244,14 +261,10 @@ fn make(alloc: Global, tree: &mut Stamped, update: &Update, stamp: u64) -> Resul
     Ok(true)
 }
 
-/// Whether each read is the tree's answer.
-fn do_hold(tree: &Tree, reads: &[Read]) -> bool
-    ensures { IsTrue result ↔ ReadsHold tree.now reads.now }
+/// Whether each base read of the commit is the tree's answer.
+fn holds(alloc: Global, tree: &Tree, commit: &CommitView<'_>) -> Result<bool, NoMemory>
+    ensures { IfOk result (λ holds. IsTrue holds ↔ ReadsHold tree.now commit.now.1.0.reads) }
 {
-    'reads: for read in reads {
-        if !tree.answers(read) {
-            return false;
-        }
-    }
-    true
+    let verdict = certify_view(alloc, tree, &commit.access())?;
+    Ok(matches!(verdict, Verdict::Holds))
 }

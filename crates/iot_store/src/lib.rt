@@ -4,10 +4,12 @@
 mod body;
 mod commit;
 mod commits;
+mod image;
 mod recorded;
 mod records;
 mod store;
 
 pub use commit::Commit;
+pub use image::{Image, ImageFault};
 pub use iot_disk::{JournalFault, StartFault};
 pub use store::Store;

@@ -6,7 +6,7 @@ ghost use Rattle.iot_store.specs.States.{State};
 use crate::Commit;
 use crate::body::read_body;
 use crate::commits::Commits;
-use crate::records::read;
+use crate::records::lend;
 use iot_bodies::put_server;
 use iot_durable::Recorded;
 use iot_text::{NoMemory, Text};
@@ -47,12 +47,11 @@ impl Recorded for Commits {
         put_commit(&commit.label, &commit.access, &commit.lines, out)
     }
 
-    fn read_change(alloc: Global, body: &[u8]) -> Result<Option<Commit>, NoMemory> {
-        read(alloc, body)
-    }
-
-    fn follow(&mut self, alloc: Global, commit: Commit) -> Result<bool, NoMemory> {
-        self.replay(alloc, commit.label, &commit.access)
+    fn follow(&mut self, alloc: Global, body: &[u8]) -> Result<bool, NoMemory> {
+        match lend(body) {
+            Some(commit) => self.replay(alloc, &commit),
+            None => Ok(false),
+        }
     }
 
     fn apply(&mut self, alloc: Global, commit: Commit) -> Result<(), NoMemory> {

@@ -1,7 +1,8 @@
 //! The store itself.
+ghost use Rattle.std.specs.List.{AllByRecursion};
 ghost use Rattle.std.specs.Prelude.{◌≡◌, ◌≢◌, ◌↔◌, ◌+◌, ℕ, length, IfOk, IfErr, OnOk, IsErrOf, IsTrue, MatchResult};
 ghost use Rattle.iot_access.specs.Access.{FitInTurn};
-ghost use Rattle.iot_codec.specs.Rules.{AreLines, IsAccess, IsLabel};
+ghost use Rattle.iot_views.specs.Rules.{AreLines, IsAccess, IsLabel};
 ghost use Rattle.iot_disk.specs.Disk.{armed_with, Only, SameImages};
 ghost use Rattle.iot_disk.specs.Faults.{CountsJournalFault};
 ghost use Rattle.iot_durable.specs.Causes.{HasCause, SaysDamaged, SaysForeign, TakesBytes};
@@ -11,16 +12,18 @@ ghost use Rattle.iot_records.specs.Records.{ChangesNothing};
 ghost use Rattle.iot_slots.specs.Cells.{next};
 ghost use Rattle.iot_slots.specs.Decoding.{Foreign, NotStarted, decoded};
 ghost use Rattle.iot_stamp.specs.Stamps.{nodes_of};
+ghost use Rattle.iot_store.specs.Images.{IsImageIn, IsImageOf, IsRefusal, TakesImage};
+ghost use Rattle.iot_store.specs.Images.{SaysDamaged as SaysImageDamaged, SaysForeign as SaysImageForeign};
 ghost use Rattle.iot_store.specs.Numbers.{number_in};
 ghost use Rattle.iot_store.specs.Records.{IsRecord};
 ghost use Rattle.iot_store.specs.Rules.{IsCommit, rules};
 ghost use Rattle.iot_store.specs.Standing.{EachStands, EachStandsEither, EachStays, StandFor};
 ghost use Rattle.iot_store.specs.States.{State, CanFollow, after_commit};
 
-use crate::Commit;
 use crate::commits::Commits;
+use crate::{Commit, Image, ImageFault};
 use iot_disk::{Disk, JournalFault, Pick, StartFault};
-use iot_durable::Durable;
+use iot_durable::{Durable, read_image};
 use iot_stamp::Stamped;
 use iot_text::NoMemory;
 use iot_tree::{Access, Duplicate, Label, Labels, Lines, Sequence, Tree, Updates};
@@ -100,6 +103,32 @@ impl<D: Disk> Store<D> {
         match Durable::start(alloc, disk) {
             Ok(durable) => Ok(Store { durable }),
             Err(refused) => Err(refused),
+        }
+    }
+
+    /// The tree and the labels that a start from a disk which reads as these bytes would give. Nothing is written, and the records are
+    /// read where they stand. Costs as much as such a start.
+    ///
+    /// # Errors
+    ///
+    /// `Foreign` if something else wrote the bytes, and `Damaged` with the place of what is cut short, spells nothing, or cannot follow
+    /// what comes before it. `NoMemory`.
+    pub fn image(alloc: Global, bytes: &[u8]) -> Result<Image, ImageFault>
+        ensures stands { IfOk result (IsImageIn bytes.now) }
+
+        // The bytes stand for no other state. If they stand for one, they are not refused.
+        ensures only { (state : State) → StandFor bytes.now state → IfOk result (λ image. IsImageOf image state) }
+        ensures never { (state : State) → StandFor bytes.now state → IfErr result TakesImage }
+        ensures state { IfOk result (λ image. AllByRecursion IsLabel image.labels) }
+
+        // What something else wrote, and what is damaged, is refused for that, unless memory runs out.
+        ensures foreign { decoded header bytes.now ≡ Foreign → MatchResult result (λ _. ⊥) SaysImageForeign }
+        ensures damaged { (at : ℕ) → IsDamagedAt rules bytes.now at → MatchResult result (λ _. ⊥) (SaysImageDamaged at) }
+        ensures cause { IfErr result (IsRefusal bytes.now) }
+    {
+        match read_image(alloc, bytes) {
+            Ok(commits) => Ok(Image::of(alloc, commits)?),
+            Err(fault) => Err(ImageFault::from(fault)),
         }
     }
 

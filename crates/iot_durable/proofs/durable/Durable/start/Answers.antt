@@ -8,9 +8,11 @@ use Rattle.iot_durable.proofs.ImagesLaws.{stands_made, made_stands, start_count}
 use Rattle.iot_durable.proofs.durable.Durable.start.Goals as goal
 
 -- what was started, by the body as it is lent
-opens_as : (d : Decoded) (first body lent : List ℕ) (records : List (List ℕ)) (count : ℕ) →
-    opened first d ≡ Encodes (state_in body records count) → lent ≡ body → opened first d ≡ Encodes (state_in lent records count)
-opens_as d first body lent records count is same = is ∙ ap (λ (l : List ℕ). Encodes (state_in l records count)) (sym same)
+opens_as : (d : Decoded) (first body lent : List ℕ) (records lent_records : List (List ℕ)) (count : ℕ) →
+    opened first d ≡ Encodes (state_in body records count) → lent ≡ body → lent_records ≡ records →
+    opened first d ≡ Encodes (state_in lent lent_records count)
+opens_as d first body lent records lent_records count is same alike =
+    is ∙ (λ i. Encodes (state_in (sym same i) (sym alike i) count))
 
 pub returns-in-Ok-replay-clause-stands : goal.returns-in-Ok-replay-clause-stands
 returns-in-Ok-replay-clause-stands g c =
@@ -18,7 +20,8 @@ returns-in-Ok-replay-clause-stands g c =
     let bytes = g.D.Disk.medium.reads c.args.disk in
     let first = c.as_bytes.result.now in
     let spells = subst (λ (l : List ℕ). rules.IsBody l rules.opening) (sym c.as_bytes.ensures) c.in-Ok.ensures in
-    let opens = opens_as (decoded header bytes) first _ c.as_slice.result.now _ _ c.in-Ok-start_with.ensures.state c.as_slice.ensures in
+    let opens = opens_as (decoded header bytes) first _ c.as_slice.result.now _ c.iter.result _
+    c.in-Ok-start_with.ensures.state c.as_slice.ensures c.iter.ensures in
     let made = c.in-Ok-replay.ensures in
     record {
       stands = record {
@@ -35,7 +38,8 @@ returns-in-Ok-replay-clause-only g c = λ state stands.
     let bytes = g.D.Disk.medium.reads c.args.disk in
     let first = c.as_bytes.result.now in
     let spells = subst (λ (l : List ℕ). rules.IsBody l rules.opening) (sym c.as_bytes.ensures) c.in-Ok.ensures in
-    let opens = opens_as (decoded header bytes) first _ c.as_slice.result.now _ _ c.in-Ok-start_with.ensures.state c.as_slice.ensures in
+    let opens = opens_as (decoded header bytes) first _ c.as_slice.result.now _ c.iter.result _
+    c.in-Ok-start_with.ensures.state c.as_slice.ensures c.iter.ensures in
     c.in-Ok-replay.ensures.only state
     (stands_made rules first spells stands.decoding _ state (ap (opened first) (sym stands.is) ∙ opens) stands.makes)
 
@@ -45,7 +49,8 @@ returns-clause-never g c = λ state stands.
     let bytes = g.D.Disk.medium.reads c.args.disk in
     let first = c.as_bytes.result.now in
     let spells = subst (λ (l : List ℕ). rules.IsBody l rules.opening) (sym c.as_bytes.ensures) c.in-Ok.ensures in
-    let opens = opens_as (decoded header bytes) first _ c.as_slice.result.now _ _ c.in-Ok-start_with.ensures.state c.as_slice.ensures in
+    let opens = opens_as (decoded header bytes) first _ c.as_slice.result.now _ c.iter.result _
+    c.in-Ok-start_with.ensures.state c.as_slice.ensures c.iter.ensures in
     c.in-Err-replay.ensures.never state
     (stands_made rules first spells stands.decoding _ state (ap (opened first) (sym stands.is) ∙ opens) stands.makes)
 
@@ -55,7 +60,8 @@ returns-clause-cause g c =
     let bytes = g.D.Disk.medium.reads c.args.disk in
     let first = c.as_bytes.result.now in
     let spells = subst (λ (l : List ℕ). rules.IsBody l rules.opening) (sym c.as_bytes.ensures) c.in-Ok.ensures in
-    let opens = opens_as (decoded header bytes) first _ c.as_slice.result.now _ _ c.in-Ok-start_with.ensures.state c.as_slice.ensures in
+    let opens = opens_as (decoded header bytes) first _ c.as_slice.result.now _ c.iter.result _
+    c.in-Ok-start_with.ensures.state c.as_slice.ensures c.iter.ensures in
     let here = λ (started : decoded header bytes ≢ NotStarted).
     c.layout-layout.ensures.place ∙ ap place_in (c.in-Ok-start_with.ensures.only_read started) in
     let stayed = ap g.D.Disk.medium.faults c.into_disk.ensures ∙ c.in-Ok-start_with.ensures.steady in
@@ -68,7 +74,8 @@ returns-clause-refused_reads g c =
     let bytes = g.D.Disk.medium.reads c.args.disk in
     let first = c.as_bytes.result.now in
     let spells = subst (λ (l : List ℕ). rules.IsBody l rules.opening) (sym c.as_bytes.ensures) c.in-Ok.ensures in
-    let opens = opens_as (decoded header bytes) first _ c.as_slice.result.now _ _ c.in-Ok-start_with.ensures.state c.as_slice.ensures in
+    let opens = opens_as (decoded header bytes) first _ c.as_slice.result.now _ c.iter.result _
+    c.in-Ok-start_with.ensures.state c.as_slice.ensures c.iter.ensures in
     let same = λ (started : decoded header bytes ≢ NotStarted).
     ap g.D.Disk.medium.reads c.into_disk.ensures ∙ c.in-Ok-start_with.ensures.only_read started in
     refused_same rules first spells c.in-Err-replay.fault (decoded header bytes) _ _ _ c.layout-layout.result.place _ opens
@@ -80,9 +87,17 @@ returns-clause-refused_images g c =
     let bytes = g.D.Disk.medium.reads c.args.disk in
     let first = c.as_bytes.result.now in
     let spells = subst (λ (l : List ℕ). rules.IsBody l rules.opening) (sym c.as_bytes.ensures) c.in-Ok.ensures in
-    let opens = opens_as (decoded header bytes) first _ c.as_slice.result.now _ _ c.in-Ok-start_with.ensures.state c.as_slice.ensures in
+    let opens = opens_as (decoded header bytes) first _ c.as_slice.result.now _ c.iter.result _
+    c.in-Ok-start_with.ensures.state c.as_slice.ensures c.iter.ensures in
     let same = λ (started : decoded header bytes ≢ NotStarted).
     subst (λ (disk : g.row.D.Denot). SameImages (g.D.Disk.medium.may_leave c.args.disk) (g.D.Disk.medium.may_leave disk))
     (sym c.into_disk.ensures) (c.in-Ok-start_with.ensures.only_read_images started) in
     refused_same rules first spells c.in-Err-replay.fault (decoded header bytes) _ _ _ c.layout-layout.result.place _ opens
     c.in-Err-replay.ensures.err same
+
+pub returns-in-Ok-replay-clause-fresh : goal.returns-in-Ok-replay-clause-fresh
+returns-in-Ok-replay-clause-fresh g c = λ not_started. record {
+  body = c.as_bytes.result.now;
+  spells = subst (λ (l : List ℕ). g.R.Recorded.rules.IsBody l g.R.Recorded.rules.opening) (sym c.as_bytes.ensures) c.in-Ok.ensures;
+  is = c.in-Ok-start_with.ensures.fresh not_started;
+}

@@ -1,0 +1,112 @@
+-- What bytes stand for, by what is lent out of them.
+use Rattle.std.proofs.Common.{◌≡◌, ℕ, List, Option, Some, refl, sym, ◌∙◌, subst}
+use Rattle.std.specs.Prelude.{IfSome}
+use Rattle.iot_disk.specs.declared.faults.StartFault.{StartFault}
+use Rattle.iot_disk.specs.declared.faults.StartFault.TheVariants as fault
+use Rattle.iot_slots.specs.Decoding.{Decoded, Encodes, NotStarted, Foreign, Damaged, State, decoded, state_in}
+use Rattle.iot_slots.specs.Layouts.{IsLaidOut, place_in}
+use Rattle.iot_slots.specs.Start as on_slots
+use Rattle.iot_slots.specs.declared.decoding.SlotsView.{SlotsView}
+use Rattle.iot_slots.proofs.LayoutsLaws.{laid_encodes, laid_place}
+use Rattle.iot_durable.specs.Rules.{Rules}
+use Rattle.iot_durable.specs.Standing.{Makes, MakesBy, StandFor, header}
+use Rattle.iot_durable.specs.Damage.{BreaksAt, DamageBy, IsDamagedAt}
+use Rattle.iot_durable.specs.Causes.{IsReason, IsRefusal, SaysDamaged, SaysForeign, TakesBytes}
+
+-- what a view lends
+abbrev pub encoded_in : SlotsView → State
+encoded_in view = state_in view.body.now view.records view.layout.count
+
+-- a view that was lent is laid out so
+pub lent_laid : (bytes : List ℕ) (found : Option SlotsView) (view : SlotsView) → found ≡ Some view →
+    IfSome found (λ lent. IsLaidOut header bytes (encoded_in lent) lent.layout) → IsLaidOut header bytes (encoded_in view) view.layout
+lent_laid bytes found view is laid =
+    subst (λ (o : Option SlotsView). IfSome o (λ lent. IsLaidOut header bytes (encoded_in lent) lent.layout)) is laid
+
+module _ {S C : Type 0} (rules : Rules S C) (bytes : List ℕ) where
+  -- what they stand for, and where they are damaged, by what they encode
+  makes_by : (d : Decoded) (now : S) → decoded header bytes ≡ d → StandFor rules bytes now → MakesBy rules d now
+  makes_by d now is stands = subst (λ (e : Decoded). MakesBy rules e now) (sym stands.is ∙ is) stands.makes
+
+  damage_by : (d : Decoded) (at : ℕ) → decoded header bytes ≡ d → IsDamagedAt rules bytes at → DamageBy rules d (place_in bytes) at
+  damage_by d at is damage = subst (λ (e : Decoded). DamageBy rules e (place_in bytes) at) (sym damage.is ∙ is) damage.damage
+
+  -- ---- bytes that encode a state
+
+  module _ (view : SlotsView) (laid : IsLaidOut header bytes (encoded_in view) view.layout) where
+    abbrev pub encoded : State
+    encoded = encoded_in view
+
+    abbrev pub place : ℕ
+    place = view.layout.place
+
+    is : decoded header bytes ≡ Encodes encoded
+    is = laid_encodes header bytes encoded view.layout laid
+
+    here : place ≡ place_in bytes
+    here = laid_place header bytes encoded view.layout laid
+
+    pub read_stands : (now : S) → Makes rules encoded.body encoded.bodies now → StandFor rules bytes now
+    read_stands now makes = record { decoding = Encodes encoded; is = is; makes = makes }
+
+    pub stands_read : (now : S) → StandFor rules bytes now → Makes rules encoded.body encoded.bodies now
+    stands_read now stands = makes_by (Encodes encoded) now is stands
+
+    pub refuses_read : (why : StartFault) → IsReason rules why encoded.body encoded.bodies place → IsRefusal rules why bytes
+    refuses_read fault.NoMemory reason = tt
+    refuses_read fault.Stopped reason = reason
+    refuses_read fault.Foreign reason = absurd reason
+    refuses_read (fault.Damaged at) reason = record {
+      decoding = Encodes encoded;
+      is = is;
+      damage = subst (λ (p : ℕ). BreaksAt rules encoded.body encoded.bodies p at) here reason;
+    }
+
+    pub damage_read : (at : ℕ) → IsDamagedAt rules bytes at → BreaksAt rules encoded.body encoded.bodies place at
+    damage_read at damage =
+        subst (λ (p : ℕ). BreaksAt rules encoded.body encoded.bodies p at) (sym here) (damage_by (Encodes encoded) at is damage)
+
+    pub read_not_foreign : decoded header bytes ≡ Foreign → ⊥
+    read_not_foreign foreign = let clash : Encodes encoded ≡ Foreign = sym is ∙ foreign in absurd cc
+
+  -- ---- bytes on which nothing was started
+
+  module _ (is : decoded header bytes ≡ NotStarted) where
+    pub fresh_stands : (now : S) → now ≡ rules.opening → StandFor rules bytes now
+    fresh_stands now opens = record { decoding = NotStarted; is = is; makes = opens }
+
+    pub stands_fresh : (now : S) → StandFor rules bytes now → now ≡ rules.opening
+    stands_fresh now stands = makes_by NotStarted now is stands
+
+    pub fresh_not_damaged : (at : ℕ) → IsDamagedAt rules bytes at → ⊥
+    fresh_not_damaged at damage = damage_by NotStarted at is damage
+
+    pub fresh_not_foreign : decoded header bytes ≡ Foreign → ⊥
+    fresh_not_foreign foreign = let clash : NotStarted ≡ Foreign = sym is ∙ foreign in absurd cc
+
+  -- ---- bytes that are refused before any record is read
+
+  pub refuses_whole : (why : StartFault) → on_slots.IsReason why (decoded header bytes) → IsRefusal rules why bytes
+  refuses_whole fault.NoMemory reason = tt
+  refuses_whole fault.Stopped reason = reason
+  refuses_whole fault.Foreign reason = reason
+  refuses_whole (fault.Damaged at) reason = record { decoding = Damaged at; is = reason; damage = refl }
+
+  pub takes_whole : (why : StartFault) (now : S) → StandFor rules bytes now → on_slots.IsReason why (decoded header bytes) → TakesBytes why
+  takes_whole fault.NoMemory now stands reason = tt
+  takes_whole fault.Stopped now stands reason = tt
+  takes_whole fault.Foreign now stands reason = makes_by Foreign now reason stands
+  takes_whole (fault.Damaged at) now stands reason = makes_by (Damaged at) now reason stands
+
+  pub says_foreign : (why : StartFault) → decoded header bytes ≡ Foreign → on_slots.IsReason why (decoded header bytes) → SaysForeign why
+  says_foreign fault.NoMemory foreign reason = tt
+  says_foreign fault.Stopped foreign reason = tt
+  says_foreign fault.Foreign foreign reason = tt
+  says_foreign (fault.Damaged at) foreign reason = let clash : Foreign ≡ Damaged at = sym foreign ∙ reason in absurd cc
+
+  pub says_damaged : (why : StartFault) (at : ℕ) → IsDamagedAt rules bytes at → on_slots.IsReason why (decoded header bytes)
+      → SaysDamaged at why
+  says_damaged fault.NoMemory at damage reason = tt
+  says_damaged fault.Stopped at damage reason = tt
+  says_damaged fault.Foreign at damage reason = damage_by Foreign at reason damage
+  says_damaged (fault.Damaged there) at damage reason = sym (damage_by (Damaged there) at reason damage)

@@ -1,0 +1,6 @@
+//! What an image of a server's disk shows.
+#![tactic(auto)]
+
+mod shown;
+
+pub use shown::show_image;

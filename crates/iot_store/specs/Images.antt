@@ -1,0 +1,55 @@
+-- What the bytes of a server's disk hold, and why they hold nothing.
+use Rattle.std.specs.Prelude.{◌≡◌, ℕ, List}
+use Rattle.iot_disk.specs.declared.faults.StartFault.{StartFault}
+use Rattle.iot_disk.specs.declared.faults.StartFault.TheVariants as start
+use Rattle.iot_durable.specs.Damage.{IsDamagedAt}
+use Rattle.iot_durable.specs.Standing.{header}
+use Rattle.iot_slots.specs.Decoding.{Foreign, decoded}
+use Rattle.iot_store.specs.Rules.{rules}
+use Rattle.iot_store.specs.Standing.{StandFor}
+use Rattle.iot_store.specs.States.{State}
+use Rattle.iot_store.specs.declared.image.Image.{Image}
+use Rattle.iot_store.specs.declared.image.ImageFault.{ImageFault}
+use Rattle.iot_store.specs.declared.image.ImageFault.TheVariants as fault
+
+-- the tree and the labels of this state
+pub record IsImageOf (image : Image) (state : State) : Type 0 where
+  pub tree : image.tree ≡ state.tree
+  pub labels : image.labels ≡ state.labels
+
+-- the tree and the labels of the state for which the bytes stand
+pub record IsImageIn (bytes : List ℕ) (image : Image) : Type 0 where
+  pub state : State
+  pub stands : StandFor bytes state
+  pub holds : IsImageOf image state
+
+-- what a start answers, if there is no disk
+abbrev pub fault_of : StartFault → ImageFault
+fault_of start.NoMemory = fault.NoMemory
+fault_of start.Stopped = fault.NoMemory
+fault_of start.Foreign = fault.Foreign
+fault_of (start.Damaged at) = fault.Damaged at
+
+-- by the fault, what the bytes are
+abbrev pub IsRefusal : List ℕ → ImageFault → Type 0
+IsRefusal bytes fault.NoMemory = Unit {0}
+IsRefusal bytes fault.Foreign = decoded header bytes ≡ Foreign
+IsRefusal bytes (fault.Damaged at) = IsDamagedAt rules bytes at
+
+-- the bytes are not refused
+abbrev pub TakesImage : ImageFault → Type 0
+TakesImage fault.NoMemory = Unit {0}
+TakesImage fault.Foreign = ⊥
+TakesImage (fault.Damaged at) = ⊥
+
+-- they are refused since something else wrote them, unless memory ran out
+abbrev pub SaysForeign : ImageFault → Type 0
+SaysForeign fault.NoMemory = Unit {0}
+SaysForeign fault.Foreign = Unit {0}
+SaysForeign (fault.Damaged at) = ⊥
+
+-- they are refused since they are damaged there, unless memory ran out
+abbrev pub SaysDamaged : (at : ℕ) → ImageFault → Type 0
+SaysDamaged at fault.NoMemory = Unit {0}
+SaysDamaged at fault.Foreign = ⊥
+SaysDamaged at (fault.Damaged there) = there ≡ at
