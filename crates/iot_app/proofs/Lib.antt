@@ -1,4 +1,5 @@
 pub mod PlayedLaws
 pub mod EndingsLaws
+pub mod ImagesLaws
 pub mod CountingLaws
 pub mod RunningLaws

@@ -24,7 +24,7 @@ use Rattle.iot_world.proofs.DisksLaws.{last_here, last_then}
 use Rattle.iot_world.proofs.HoldingLaws.{used_by, used_first, eight_spare, nine_counts, disks_hold, disks_count, world_begins, still_begins}
 use Rattle.iot_world.proofs.ListLaws.{each_length}
 use Rattle.iot_app.specs.Keeping.{DisksKeep, CountsSince, DisksStay}
-use Rattle.iot_app.specs.Played.{Reported, WroteFront, DidFirst, WroteFirst, WroteCut, CutsOpening, Played}
+use Rattle.iot_app.specs.Played.{Reported, DidFirst, WroteFirst, WroteCut, CutsOpening, Played}
 use Rattle.iot_app.specs.Running.{IsOpened, StaysIn}
 use Rattle.iot_app.specs.declared.status.Status.{Status}
 use Rattle.iot_app.specs.declared.status.Status.TheVariants as statuses
@@ -362,17 +362,6 @@ follows_more opened opening mid last before after none written text says is earl
     λ first had. appends_more first mid last before after none written text says is (earlier first had)
 
 -- ---- how it ends
-
--- only a front of what the opening says was written
-pub cuts_opening : {D : Type 0} (medium : Medium D) (handed : List Counts) (wrote : List ℕ → Type 0) (opening : List ℕ) (world : World D)
-    → IsOpened medium handed opening world → WroteFront wrote opening → CutsOpening handed wrote (StandsFor medium world)
-cuts_opening medium handed wrote opening world is front = record {
-  says = opening;
-  machine = is.machine;
-  opens = is.step;
-  front = front;
-  kept = is.stands.stands;
-}
 
 -- the machine whose server has started over disks that count this, and has not stopped in that
 abbrev started : List Counts → Machine

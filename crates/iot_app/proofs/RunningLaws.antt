@@ -1,5 +1,5 @@
 -- Runs whose events are done while nothing is written, and what is written then.
-use Rattle.std.proofs.Common.{◌≡◌, ℕ, suc, ◌<◌, ◌≤◌, List, [], ◌∷◌, ◌++◌, length, map, drop, slice_set, get_or}
+use Rattle.std.proofs.Common.{◌≡◌, ℕ, suc, ◌≤◌, List, [], ◌∷◌, ◌++◌, length, map, drop, slice_set, get_or}
 use Rattle.std.proofs.Common.{refl, sym, ap, subst, ◌∙◌, arith}
 use Rattle.std.specs.Prelude.{Result, Ok, Err, IfOk, IfErr, Option, None, Some}
 use Rattle.std.proofs.lemmas.List.{take_all}
@@ -11,8 +11,8 @@ use Rattle.iot_event.specs.declared.event.Event.{Event}
 use Rattle.iot_machine.specs.Machine.{Machine, Commit, first_of}
 use Rattle.iot_machine.specs.Nodes.{Counts}
 use Rattle.iot_machine.specs.Transcript.{Transcript}
-use Rattle.iot_words.specs.declared.jobs.Job.{Job}
-use Rattle.iot_words.specs.declared.jobs.Job.TheVariants.{Transcript as Plays, Json, Generate, Save}
+use Rattle.iot_words.specs.declared.jobs.Run.{Run}
+use Rattle.iot_words.specs.declared.jobs.Run.TheVariants.{Transcript as Plays, Json, Generate, Save}
 use Rattle.iot_world.specs.Disks.{counts_on}
 use Rattle.iot_world.specs.Holding.{DisksHold, HoldsList, KeepsClient, counts_in}
 use Rattle.iot_world.specs.World.{StandsFor, IsWorldOfSome}
@@ -105,7 +105,7 @@ module _ {D : Type 0} (medium : Medium D) (handed : List Counts) (events : List 
     ran_some = record { machine = ran.machine; stands = ran.stands }
 
     -- what the job has to say of it
-    pub ran_told : (job : Job) (text : List ℕ) → ((m : Machine) → StandsFor medium w m → text ≡ told_of job counts m)
+    pub ran_told : (job : Run) (text : List ℕ) → ((m : Machine) → StandsFor medium w m → text ≡ told_of job counts m)
         → Reported handed (λ told. text ≡ told) (StandsFor medium w) (tells job) events
     ran_told job text told = record {
       ran = record { text = ran.text; machine = ran.machine; transcript = ran.transcript; kept = ran.stands.stands };
@@ -125,7 +125,7 @@ module _ {D : Type 0} (medium : Medium D) (handed : List Counts) (events : List 
 
 module _ (handed : List Counts) (wrote : List ℕ → Type 0) (holds : Machine → Type 0) (stays : List Event → Machine → Type 0)
     (unread : Machine → Type 0) (disk : List ℕ) (events : List Event) where
-  abbrev Does : Job → Status → Type 0
+  abbrev Does : Run → Status → Type 0
   Does job status = Did handed wrote holds stays unread disk job status events
 
   -- what was to be written was written, or a front of it
@@ -137,7 +137,7 @@ module _ (handed : List Counts) (wrote : List ℕ → Type 0) (holds : Machine �
     written = subst so (told.written ∙ same told.ran.text told.ran.machine) written;
   }
 
-  pub text_did : (job : Job) (text : List ℕ) (status : Status) (f e : Counted) → IsTold job
+  pub text_did : (job : Run) (text : List ℕ) (status : Status) (f e : Counted) → IsTold job
       → Reported handed (λ told. text ≡ told) holds (tells job) events → TextEnds statuses.Done text status wrote f e
       → Does job status
   text_did Plays text status f e is told ends = absurd is
@@ -153,7 +153,7 @@ module _ (handed : List Counts) (wrote : List ℕ → Type 0) (holds : Machine �
   text_did Save text status f e is told ends = absurd is
 
   -- nothing was written, since memory ran out
-  pub nothing_did : (job : Job) → IsTold job → DidFirst handed stays events → wrote [] → Does job statuses.NoMemory
+  pub nothing_did : (job : Run) → IsTold job → DidFirst handed stays events → wrote [] → Does job statuses.NoMemory
   nothing_did Plays is did written = absurd is
   nothing_did Json is did written = record { did = did; written = written }
   nothing_did (Generate n) is did written = record { did = did; written = written }
@@ -178,10 +178,6 @@ module _ (handed : List Counts) (wrote : List ℕ → Type 0) (holds : Machine �
   played_did statuses.SaveFailed played = absurd played
 
 -- ---- reading the first disk
-
--- a world has given back at least one disk
-pub some_disk : {D : Type 0} (medium : Medium D) (handed old : List D) (m : Machine) → DisksKeep medium handed old m → 0 < length old
-some_disk {D = D} medium handed old m keeps = subst (λ (ds : List D). 0 < length ds) (sym keeps.holds.is) (omega arith)
 
 -- after a run the first disk is another one, with the same images and arms
 module _ {D : Type 0} (medium : Medium D) (handed old : List D) (was now : D) (here : was ≡ get_or old 0 was)

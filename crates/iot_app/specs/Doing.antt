@@ -5,8 +5,8 @@ use Rattle.std.specs.Prelude.{◌⊎◌, ℕ, List, []}
 use Rattle.iot_event.specs.declared.event.Event.{Event}
 use Rattle.iot_machine.specs.Machine.{Machine}
 use Rattle.iot_machine.specs.Nodes.{Counts}
-use Rattle.iot_words.specs.declared.jobs.Job.{Job}
-use Rattle.iot_words.specs.declared.jobs.Job.TheVariants.{Transcript, Save}
+use Rattle.iot_words.specs.declared.jobs.Run.{Run}
+use Rattle.iot_words.specs.declared.jobs.Run.TheVariants.{Transcript, Save}
 use Rattle.iot_app.specs.Outputs.{output_of}
 use Rattle.iot_app.specs.Played.{RanAll, Reported, WroteFront, DidFirst, WroteFirst, WroteCut, CutsOpening}
 use Rattle.iot_app.specs.declared.status.Status.{Status}
@@ -15,7 +15,7 @@ use Rattle.iot_app.specs.declared.status.Status.TheVariants.{Done, WriteFailed, 
 module _ (handed : List Counts) (wrote : List ℕ → Type 0) (holds : Machine → Type 0) (stays : List Event → Machine → Type 0)
     (unread : Machine → Type 0) (disk : List ℕ) where
   -- a write failed: of a transcript in the middle of a text, after which no event was done; else after all events
-  abbrev pub CutsOutput : Job → List Event → Type 0
+  abbrev pub CutsOutput : Run → List Event → Type 0
   CutsOutput Transcript = λ events. CutsOpening handed wrote holds ⊎ WroteCut handed wrote holds events
   CutsOutput job = Reported handed (WroteFront wrote) holds (output_of job disk)
 
@@ -25,7 +25,7 @@ module _ (handed : List Counts) (wrote : List ℕ → Type 0) (holds : Machine �
     pub written : wrote []
 
   -- some events were done, of which only a transcript is written
-  abbrev pub WritesSome : Job → List Event → Type 0
+  abbrev pub WritesSome : Run → List Event → Type 0
   WritesSome Transcript = WroteFirst handed wrote stays
   WritesSome job = WritesNothing
 
@@ -34,11 +34,11 @@ module _ (handed : List Counts) (wrote : List ℕ → Type 0) (holds : Machine �
     pub ran : RanAll handed unread events
     pub written : wrote []
 
-  abbrev pub FailsToSave : Job → List Event → Type 0
+  abbrev pub FailsToSave : Run → List Event → Type 0
   FailsToSave Save = SavesNothing
   FailsToSave job = λ events. ⊥
 
-  abbrev pub Did : Job → Status → List Event → Type 0
+  abbrev pub Did : Run → Status → List Event → Type 0
   Did job Done = Reported handed wrote holds (output_of job disk)
   Did job WriteFailed = CutsOutput job
   Did job NoMemory = WritesSome job

@@ -5,11 +5,15 @@ use Rattle.iot_machine.specs.Machine.{Machine}
 use Rattle.iot_machine.specs.Nodes.{Counts}
 use Rattle.iot_words.specs.Jobs.{job_of}
 use Rattle.iot_words.specs.declared.jobs.Job.{Job}
+use Rattle.iot_words.specs.declared.jobs.Job.TheVariants.{Run as Does, Image}
+use Rattle.iot_words.specs.declared.jobs.Run.{Run}
 use Rattle.iot_app.specs.Doing.{Did}
+use Rattle.iot_app.specs.Images.{Showed}
 use Rattle.iot_app.specs.Input.{TookSome, IsRefused}
 use Rattle.iot_app.specs.Outputs.{is_generated, GivesEvents}
 use Rattle.iot_app.specs.Played.{WroteFront}
 use Rattle.iot_app.specs.Refusals.{usage_line}
+use Rattle.iot_app.specs.declared.input.TheConstants.{INPUT_LIMIT}
 use Rattle.iot_app.specs.declared.status.Status.{Status}
 use Rattle.iot_app.specs.declared.status.Status.TheVariants.{Done, Refused, Usage, ReadFailed, WriteFailed, NoMemory, SaveFailed}
 
@@ -35,35 +39,45 @@ pub record DidNothing (it : Effects) (written : Type 0) : Type 0 where
   pub wrote : written
 
 -- the input was read in part, no event was done, and nothing was written
-pub record ReadInPart (it : Effects) (job : Job) : Type 0 where
-  pub reads : is_generated job ≡ false
-  pub some : TookSome it.took
+pub record ReadInPart (it : Effects) (run : Run) : Type 0 where
+  pub reads : is_generated run ≡ false
+  pub some : TookSome INPUT_LIMIT it.took
   pub undone : it.untouched
   pub written : it.wrote []
 
 -- the input is refused: no event was done, and so much was written of the line that says why
-pub record OnRefusal (it : Effects) (wrote : List ℕ → Type 0) (job : Job) : Type 0 where
-  pub reads : is_generated job ≡ false
+pub record OnRefusal (it : Effects) (wrote : List ℕ → Type 0) (run : Run) : Type 0 where
+  pub reads : is_generated run ≡ false
   pub text : List ℕ
   pub refused : IsRefused it.took it.at_end text
   pub undone : it.untouched
   pub written : wrote text
 
--- the job has these events, and of them and their output that much was done
-pub record OnEvents (it : Effects) (job : Job) (status : Status) : Type 0 where
+-- the run has these events, and of them and their output that much was done
+pub record OnEvents (it : Effects) (run : Run) (status : Status) : Type 0 where
   pub events : List Event
-  pub given : GivesEvents job it.took it.at_end events
-  pub did : Did it.handed it.wrote it.holds it.stays it.unread it.disk job status events
+  pub given : GivesEvents run it.took it.at_end events
+  pub did : Did it.handed it.wrote it.holds it.stays it.unread it.disk run status events
 
--- how a run ends whose words name this job
+-- how a run ends that does events
+abbrev pub RunEnds : Effects → Run → Status → Type 0
+RunEnds it run Done = OnEvents it run Done
+RunEnds it run Refused = OnRefusal it it.wrote run
+RunEnds it run Usage = ⊥
+RunEnds it run ReadFailed = ReadInPart it run
+RunEnds it run WriteFailed = OnRefusal it (WroteFront it.wrote) run ⊎ OnEvents it run WriteFailed
+RunEnds it run NoMemory = DidNothing it (it.wrote []) ⊎ ReadInPart it run ⊎ OnEvents it run NoMemory
+RunEnds it run SaveFailed = OnEvents it run SaveFailed
+
+-- how one ends that shows an image
+pub record ImageEnds (it : Effects) (status : Status) : Type 0 where
+  pub undone : it.untouched
+  pub showed : Showed it.took it.at_end it.wrote status
+
+-- how one ends whose words name this job
 abbrev pub JobEnds : Effects → Job → Status → Type 0
-JobEnds it job Done = OnEvents it job Done
-JobEnds it job Refused = OnRefusal it it.wrote job
-JobEnds it job Usage = ⊥
-JobEnds it job ReadFailed = ReadInPart it job
-JobEnds it job WriteFailed = OnRefusal it (WroteFront it.wrote) job ⊎ OnEvents it job WriteFailed
-JobEnds it job NoMemory = DidNothing it (it.wrote []) ⊎ ReadInPart it job ⊎ OnEvents it job NoMemory
-JobEnds it job SaveFailed = OnEvents it job SaveFailed
+JobEnds it (Does run) status = RunEnds it run status
+JobEnds it Image status = ImageEnds it status
 
 -- and one whose words name none
 abbrev pub UsageEnds : Effects → Status → Type 0

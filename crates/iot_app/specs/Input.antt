@@ -16,28 +16,28 @@ pub record TookInput (took : List ℕ → Type 0) (at_end : Type 0) (outcome : O
   pub within : length input ≤ INPUT_LIMIT
   pub gives : Gives input outcome
 
--- some of the input was read, within its limit
-pub record TookSome (took : List ℕ → Type 0) : Type 0 where
+-- some of the source was read, within this limit
+pub record TookSome (limit : ℕ) (took : List ℕ → Type 0) : Type 0 where
   pub front : List ℕ
   pub taken : took front
-  pub within : length front ≤ INPUT_LIMIT
+  pub within : length front ≤ limit
 
 -- more than the limit was read
-pub record TookTooMuch (took : List ℕ → Type 0) : Type 0 where
+pub record TookTooMuch (limit : ℕ) (took : List ℕ → Type 0) : Type 0 where
   pub front : List ℕ
   pub taken : took front
-  pub over : INPUT_LIMIT < length front
+  pub over : limit < length front
 
 -- the input is over its limit, or was read to its end and is no event script; this line says which
 pub data IsRefused (took : List ℕ → Type 0) (at_end : Type 0) (text : List ℕ) : Type 0 where
-  too_long : TookTooMuch took → text ≡ too_long_line → IsRefused took at_end text
+  too_long : TookTooMuch INPUT_LIMIT took → text ≡ too_long_line → IsRefused took at_end text
   no_script : (fault : EventFault) → TookInput took at_end (Fault fault) → text ≡ refusal_line fault → IsRefused took at_end text
 
 -- what was read, if there are no events
 abbrev pub TookFor : InputFault → (List ℕ → Type 0) → Type 0 → Type 0
-TookFor inputs.NoMemory took at_end = TookSome took
-TookFor inputs.Failed took at_end = TookSome took
-TookFor inputs.TooLong took at_end = TookTooMuch took
+TookFor inputs.NoMemory took at_end = TookSome INPUT_LIMIT took
+TookFor inputs.Failed took at_end = TookSome INPUT_LIMIT took
+TookFor inputs.TooLong took at_end = TookTooMuch INPUT_LIMIT took
 TookFor (inputs.NoScript fault) took at_end = TookInput took at_end (Fault fault)
 
 -- the source's count of faults rises if a read failed, and for no other fault

@@ -10,6 +10,7 @@ pub mod Running
 pub mod Saving
 pub mod Keeping
 pub mod Doing
+pub mod Images
 pub mod Endings
 pub mod Job
 pub mod Faults

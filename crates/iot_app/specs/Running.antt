@@ -7,8 +7,8 @@ use Rattle.iot_machine.specs.Machine.{Machine, handed as before_all}
 use Rattle.iot_machine.specs.Nodes.{Counts}
 use Rattle.iot_machine.specs.Texts.{line}
 use Rattle.iot_machine.specs.Transcript.{Opening, Transcript}
-use Rattle.iot_words.specs.declared.jobs.Job.{Job}
-use Rattle.iot_words.specs.declared.jobs.Job.TheVariants.{Transcript as plays, Json, Generate, Save}
+use Rattle.iot_words.specs.declared.jobs.Run.{Run}
+use Rattle.iot_words.specs.declared.jobs.Run.TheVariants.{Transcript as plays, Json, Generate, Save}
 use Rattle.iot_world.specs.Disks.{FirstBegins}
 use Rattle.iot_world.specs.Holding.{counts_in}
 use Rattle.iot_world.specs.World.{Each, IsWorldOf, client_count, script_names, disks_of}
@@ -18,14 +18,14 @@ use Rattle.iot_app.specs.Summary.{tally_of, summary_text}
 use Rattle.iot_app.specs.declared.tally.Tally.{Tally}
 
 -- what a job has to say, by the counts of the transcript and the last state; a transcript and a disk are written otherwise
-abbrev pub told_of : Job → Tally → Machine → List ℕ
+abbrev pub told_of : Run → Tally → Machine → List ℕ
 told_of plays counts m = []
 told_of Json counts m = line (json_text m)
 told_of (Generate n) counts m = summary_text counts (row_count m)
 told_of Save counts m = []
 
 -- the same by the transcript
-abbrev pub tells : Job → (transcript : List ℕ) → Machine → List ℕ
+abbrev pub tells : Run → (transcript : List ℕ) → Machine → List ℕ
 tells job transcript m = told_of job (tally_of transcript) m
 
 -- all events were done: these are the counts of their transcript, and this is the world of the machine at its end
@@ -38,7 +38,7 @@ pub record RanIn {D : Type 0} (medium : Medium D) (handed : List Counts) (events
   pub stands : IsWorldOf medium world machine
 
 -- the job has something to say after all events
-abbrev pub IsTold : Job → Type 0
+abbrev pub IsTold : Run → Type 0
 IsTold Json = Unit {0}
 IsTold (Generate n) = Unit {0}
 IsTold other = ⊥

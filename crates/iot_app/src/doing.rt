@@ -17,13 +17,13 @@ use crate::writing::write_text;
 use iot_disk::Disk;
 use iot_event::Event;
 use iot_io::Sink;
-use iot_words::Job;
+use iot_words::Run;
 use std::alloc::Global;
 
 /// Does the events on these disks, writes what the job writes of them, and gives the disks back.
 pub(crate) fn do_events<K: Sink, D: Disk>(
     alloc: Global,
-    job: Job,
+    job: Run,
     events: &[Event],
     sink: &mut K,
     disks: Vec<D>,
@@ -42,17 +42,17 @@ pub(crate) fn do_events<K: Sink, D: Disk>(
         (record { before = K.empties sink.old; after = K.empties sink.new }) }
 {
     match job {
-        Job::Transcript => play(alloc, events, sink, disks),
-        Job::Json => report(alloc, job, events, sink, disks),
-        Job::Generate(_) => report(alloc, job, events, sink, disks),
-        Job::Save => save(alloc, events, sink, disks),
+        Run::Transcript => play(alloc, events, sink, disks),
+        Run::Json => report(alloc, job, events, sink, disks),
+        Run::Generate(_) => report(alloc, job, events, sink, disks),
+        Run::Save => save(alloc, events, sink, disks),
     }
 }
 
 /// Does the events, and then writes what the job has to say of them.
 fn report<K: Sink, D: Disk>(
     alloc: Global,
-    job: Job,
+    job: Run,
     events: &[Event],
     sink: &mut K,
     disks: Vec<D>,

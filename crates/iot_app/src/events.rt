@@ -14,13 +14,13 @@ use iot_event::{Event, EventFault, parse};
 use iot_gen::generate;
 use iot_io::Source;
 use iot_text::NoMemory;
-use iot_words::Job;
+use iot_words::Run;
 use std::alloc::Global;
 
 /// The events of a job: those that are left in the source, or those of a generated text, for which nothing is read.
 pub(crate) fn events_of<S: Source>(
     alloc: Global,
-    job: Job,
+    job: Run,
     source: &mut S,
 ) -> Result<Vec<Event>, InputFault>
     ensures events { IfOk result (λ events.
@@ -33,13 +33,13 @@ pub(crate) fn events_of<S: Source>(
         InputCounts fault (record { before = S.faults source.old; after = S.faults source.new })) }
 {
     match job {
-        Job::Generate(number) => match generated_events(alloc, number) {
+        Run::Generate(number) => match generated_events(alloc, number) {
             Ok(events) => Ok(events),
             Err(NoMemory) => Err(InputFault::NoMemory),
         },
-        Job::Transcript => read_events(alloc, source),
-        Job::Json => read_events(alloc, source),
-        Job::Save => read_events(alloc, source),
+        Run::Transcript => read_events(alloc, source),
+        Run::Json => read_events(alloc, source),
+        Run::Save => read_events(alloc, source),
     }
 }
 

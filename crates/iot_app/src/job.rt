@@ -4,17 +4,18 @@ ghost use Rattle.std.specs.Io.KnownBytes.{Appends, IsAtEnd};
 ghost use Rattle.iot_io.specs.ReadAll.{Took};
 ghost use Rattle.iot_world.specs.Disks.{AreFresh, counts_on};
 ghost use Rattle.iot_app.specs.Keeping.{DisksKeep, DisksKeepUnread, DisksStay};
-ghost use Rattle.iot_app.specs.Endings.{Ends, JobEnds};
+ghost use Rattle.iot_app.specs.Endings.{Ends, JobEnds, RunEnds};
 ghost use Rattle.iot_app.specs.Saving.{first_reads};
 ghost use Rattle.iot_app.specs.Status.{HasStatus, SourceCounts, SinkCounts};
 
 use crate::doing::do_events;
 use crate::events::events_of;
+use crate::image::show_source;
 use crate::refusing::{refuse, refuse_words};
 use crate::status::Status;
 use iot_disk::Disk;
 use iot_io::{Sink, Source};
-use iot_words::{Job, read_words};
+use iot_words::{Job, Run, read_words};
 use std::alloc::Global;
 
 /// How a run ended: the status of the process, and the disks that were handed in.
@@ -35,15 +36,19 @@ pub struct Outcome<D> {
 /// - `--save`: does the same events, and writes only the bytes that the server's disk reads as then, which it reads by one device call.
 /// - `--gen N`, with a number of at most 1,000,000: reads nothing, does the events of the text that is generated from it, and writes
 ///   four lines: how many commits, conflicts and waiting transactions the events said, and how many rows the server's tree has.
+/// - `--image`: reads the source to its end as an image of a server's disk, as `--save` writes one, and writes the tree and the commits of
+///   the state for which it stands, as the events `show server` and `log` print them. An image that is not started is that of a server
+///   without a commit. A client goes by its place, 0 to 7, since an image holds no names. No disk is touched.
 ///
 /// Of the nine disks, which are empty and come back, the first is the server's, and the client at place i, counted from 0 in order
 /// of declaration, has disk i + 1.
 ///
 /// # Statuses
 ///
-/// - 0: the input was read to its end and is an event script, or none is read; all events were done, and the whole output was written.
-/// - 1: the input has more than 4,194,304 bytes, or was read to its end and is no event script. One line that says so was
-///   written.
+/// - 0: the input was read to its end and is an event script, or none is read; all events were done, and the whole output was written. Or
+///   an image was read to its end, and all that it shows was written.
+/// - 1: the input has more than 4,194,304 bytes, or was read to its end and is no event script; or an image has more than 268,435,456
+///   bytes, or was read to its end and is foreign or damaged. One line that says so was written.
 /// - 2: the words name no job, or two. Nothing was read, and the usage line was written.
 /// - 3: a read failed. Nothing was written.
 /// - 4: a write failed, or took nothing. A front of what there was to say was written. If that is a transcript, the input
@@ -57,7 +62,8 @@ pub struct Outcome<D> {
 ///
 /// # The disks
 ///
-/// If the words name no job, or the input is refused or was not read to its end, the disks are as they were, whatever the status.
+/// If the words name no job or an image is shown, or the input is refused or was not read to its end, the disks are as they were, whatever
+/// the status.
 ///
 /// Else, with the statuses 0, 4 and 6, the first disk holds the commits, and the disk of each client what it keeps, whichever of its
 /// images a crash leaves; if a record is in doubt, without it or with it. That is so after all events; or, if a transcript was cut, after
@@ -161,8 +167,39 @@ fn do_job<S: Source, K: Sink, D: Disk>(
         (record { before = K.faults sink.old; after = K.faults sink.new })
         (record { before = K.empties sink.old; after = K.empties sink.new }) }
 {
-    match events_of(alloc, job, source) {
-        Ok(events) => do_events(alloc, job, &events, sink, disks),
+    match job {
+        Job::Run(run) => do_run(alloc, run, source, sink, disks),
+        Job::Image => (show_source(alloc, source, sink), disks),
+    }
+}
+
+/// Does events, and writes something of them.
+fn do_run<S: Source, K: Sink, D: Disk>(
+    alloc: Global,
+    run: Run,
+    source: &mut S,
+    sink: &mut K,
+    disks: Vec<D>,
+) -> (Status, Vec<D>)
+    requires { AreFresh D.medium disks.items }
+    ensures ends { RunEnds (record {
+      took = Took S.left S.taken source.old source.new;
+      at_end = IsAtEnd (S.left source.new);
+      wrote = Appends (K.written sink.old) (K.written sink.new);
+      handed = map (counts_on D.medium) disks.items;
+      holds = DisksKeep D.medium disks.items result.1.items;
+      unread = DisksKeepUnread D.medium disks.items result.1.items;
+      stays = DisksStay D.medium disks.items result.1.items;
+      disk = first_reads D.medium result.1.items;
+      untouched = result.1.items ≡ disks.items;
+    }) run result.0 }
+    ensures source_faults { SourceCounts result.0 (record { before = S.faults source.old; after = S.faults source.new }) }
+    ensures sink_faults { SinkCounts result.0
+        (record { before = K.faults sink.old; after = K.faults sink.new })
+        (record { before = K.empties sink.old; after = K.empties sink.new }) }
+{
+    match events_of(alloc, run, source) {
+        Ok(events) => do_events(alloc, run, &events, sink, disks),
         Err(fault) => (refuse(alloc, fault, sink), disks),
     }
 }

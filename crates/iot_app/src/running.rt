@@ -16,7 +16,7 @@ use crate::tally::Tally;
 use iot_disk::Disk;
 use iot_event::Event;
 use iot_text::{NoMemory, Text};
-use iot_words::Job;
+use iot_words::Run;
 use iot_world::World;
 use std::alloc::Global;
 
@@ -24,7 +24,7 @@ use std::alloc::Global;
 /// events say, or what a disk holds, has nothing more to say.
 pub(crate) fn run_events<D: Disk>(
     alloc: Global,
-    job: Job,
+    job: Run,
     events: &[Event],
     disks: Vec<D>,
 ) -> (Result<Text, NoMemory>, Vec<D>)
@@ -49,7 +49,7 @@ pub(crate) fn run_events<D: Disk>(
 /// The same in a new world, whose opening said this.
 fn run_in<D: Disk>(
     alloc: Global,
-    job: Job,
+    job: Run,
     opening: Text,
     events: &[Event],
     world: &mut World<D>,
@@ -97,7 +97,7 @@ fn do_all<D: Disk>(
 /// What the job has to say of a run with these counts that came to this world.
 fn tell<D: Disk>(
     alloc: Global,
-    job: Job,
+    job: Run,
     counts: &Tally,
     world: &World<D>,
 ) -> Result<Text, NoMemory>
@@ -106,10 +106,10 @@ fn tell<D: Disk>(
         → StandsFor D.medium world.now m → text ≡ told_of job counts.now m) }
 {
     match job {
-        Job::Transcript => Ok(Text::new(alloc)),
-        Job::Save => Ok(Text::new(alloc)),
-        Job::Json => json_line(alloc, world),
-        Job::Generate(_) => sum_up(alloc, counts, world.server_rows()),
+        Run::Transcript => Ok(Text::new(alloc)),
+        Run::Save => Ok(Text::new(alloc)),
+        Run::Json => json_line(alloc, world),
+        Run::Generate(_) => sum_up(alloc, counts, world.server_rows()),
     }
 }
 

@@ -5,7 +5,7 @@ ghost use Rattle.iot_disk.specs.Disk.{CountsFault, SameImages};
 ghost use Rattle.iot_event.specs.Declarations.{AreDeclared};
 ghost use Rattle.iot_world.specs.Disks.{AreFresh, counts_on};
 ghost use Rattle.iot_app.specs.Keeping.{DisksKeep, DisksKeepUnread, DisksStay};
-ghost use Rattle.iot_words.specs.declared.jobs.Job.TheVariants.{Save};
+ghost use Rattle.iot_words.specs.declared.jobs.Run.TheVariants.{Save};
 ghost use Rattle.iot_app.specs.Doing.{Did};
 ghost use Rattle.iot_app.specs.Saving.{first_reads};
 ghost use Rattle.iot_app.specs.Status.{SinkCounts};
@@ -16,7 +16,7 @@ use crate::writing::write_text;
 use iot_disk::{Disk, DiskFault};
 use iot_event::Event;
 use iot_io::Sink;
-use iot_words::Job;
+use iot_words::Run;
 use std::alloc::Global;
 
 /// Does the events, and then writes what the first disk reads as.
@@ -39,7 +39,7 @@ pub(crate) fn save<K: Sink, D: Disk>(
         (record { before = K.faults sink.old; after = K.faults sink.new })
         (record { before = K.empties sink.old; after = K.empties sink.new }) }
 {
-    let (told, mut disks) = run_events(alloc, Job::Save, events, disks);
+    let (told, mut disks) = run_events(alloc, Run::Save, events, disks);
     match told {
         Ok(_) => match read_whole(alloc, &mut disks[0]) {
             Ok(bytes) => (write_text(sink, &bytes, Status::Done), disks),

@@ -12,9 +12,10 @@ use Rattle.clap.specs.Lexer.{long_of, long_of_rest, name_and_value, short_of}
 use Rattle.clap.specs.Walk.{Text, has_row}
 use Rattle.iot_words.specs.Jobs.{chosen, generate_of, job_of, named, without_end}
 use Rattle.iot_words.specs.declared.jobs.Job.{Job}
-use Rattle.iot_words.specs.declared.jobs.Job.TheVariants.{Transcript, Json, Generate, Save}
-use Rattle.iot_words.proofs.Uses.{Kind, Use, Wait, add, bind, by_kind, ends, gen, given, is_last, json, kind, name_kind, names, nothing}
-use Rattle.iot_words.proofs.Uses.{plain, row, save, short_kind}
+use Rattle.iot_words.specs.declared.jobs.Job.TheVariants.{Run, Image}
+use Rattle.iot_words.specs.declared.jobs.Run.TheVariants.{Transcript, Json, Generate, Save}
+use Rattle.iot_words.proofs.Uses.{Flag, Kind, Use, Wait, add, bind, by_kind, ends, flag, gen, given, image, is_last, json, kind, name_kind}
+use Rattle.iot_words.proofs.Uses.{name_of, names, nothing, plain, row, save, short_kind}
 use Rattle.iot_words.proofs.Uses.{settle, spelled, unknown, wanting, wants}
 use Rattle.iot_words.proofs.WalksLaws.{Apart}
 use Rattle.iot_words.proofs.MatchesLaws.{gen_in, has}
@@ -81,31 +82,36 @@ short_word (x ∷ t) flags e = go (x == 45) refl
 
 abbrev WordIs : Text → Kind → Type 0
 WordIs word ends = word ≡ codes "--"
-WordIs word (names json) = word ≡ codes "--json"
-WordIs word (names save) = word ≡ codes "--save"
+WordIs word (names (flag f)) = word ≡ 45 ∷ 45 ∷ name_of f
 WordIs word (names (gen v)) = word ≡ codes "--gen=" ++ v
 WordIs word wants = word ≡ codes "--gen"
 WordIs word (unknown fault) = Hyphen word
 WordIs word plain = ⊤
 
 name_is : (word name : Text) (v : Option Text) → word ≡ 45 ∷ 45 ∷ (name ++ tail v) → WordIs word (name_kind name v)
-name_is word name None is = go (bytes_eq (codes "json") name) refl (bytes_eq (codes "gen") name) refl (bytes_eq (codes "save") name) refl
+name_is word name None is = go (bytes_eq (codes "json") name) refl (bytes_eq (codes "gen") name) refl
+    (bytes_eq (codes "save") name) refl (bytes_eq (codes "image") name) refl
   where
     go : (j : Bool) → bytes_eq (codes "json") name ≡ j → (g : Bool) → bytes_eq (codes "gen") name ≡ g
-        → (s : Bool) → bytes_eq (codes "save") name ≡ s → WordIs word (name_kind name None)
-    go true ej g eg s es = rw ej (is ∙ ap (λ (n : Text). 45 ∷ 45 ∷ (n ++ [])) (sym (same (codes "json") name ej)))
-    go false ej true eg s es = rw (ej, eg) (is ∙ ap (λ (n : Text). 45 ∷ 45 ∷ (n ++ [])) (sym (same (codes "gen") name eg)))
-    go false ej false eg true es = rw (ej, eg, es) (is ∙ ap (λ (n : Text). 45 ∷ 45 ∷ (n ++ [])) (sym (same (codes "save") name es)))
-    go false ej false eg false es = rw (ej, eg, es) (45 ∷ (name ++ []), is)
+        → (s : Bool) → bytes_eq (codes "save") name ≡ s → (i : Bool) → bytes_eq (codes "image") name ≡ i
+        → WordIs word (name_kind name None)
+    go true ej g eg s es i ei = rw ej (is ∙ ap (λ (n : Text). 45 ∷ 45 ∷ (n ++ [])) (sym (same (codes "json") name ej)))
+    go false ej true eg s es i ei = rw (ej, eg) (is ∙ ap (λ (n : Text). 45 ∷ 45 ∷ (n ++ [])) (sym (same (codes "gen") name eg)))
+    go false ej false eg true es i ei = rw (ej, eg, es) (is ∙ ap (λ (n : Text). 45 ∷ 45 ∷ (n ++ [])) (sym (same (codes "save") name es)))
+    go false ej false eg false es true ei =
+        rw (ej, eg, es, ei) (is ∙ ap (λ (n : Text). 45 ∷ 45 ∷ (n ++ [])) (sym (same (codes "image") name ei)))
+    go false ej false eg false es false ei = rw (ej, eg, es, ei) (45 ∷ (name ++ []), is)
 name_is word name (Some v) is = go (bytes_eq (codes "json") name) refl (bytes_eq (codes "gen") name) refl
-    (bytes_eq (codes "save") name) refl
+    (bytes_eq (codes "save") name) refl (bytes_eq (codes "image") name) refl
   where
     go : (j : Bool) → bytes_eq (codes "json") name ≡ j → (g : Bool) → bytes_eq (codes "gen") name ≡ g
-        → (s : Bool) → bytes_eq (codes "save") name ≡ s → WordIs word (name_kind name (Some v))
-    go true ej g eg s es = rw ej (45 ∷ (name ++ 61 ∷ v), is)
-    go false ej true eg s es = rw (ej, eg) (is ∙ ap (λ (n : Text). 45 ∷ 45 ∷ (n ++ 61 ∷ v)) (sym (same (codes "gen") name eg)))
-    go false ej false eg true es = rw (ej, eg, es) (45 ∷ (name ++ 61 ∷ v), is)
-    go false ej false eg false es = rw (ej, eg, es) (45 ∷ (name ++ 61 ∷ v), is)
+        → (s : Bool) → bytes_eq (codes "save") name ≡ s → (i : Bool) → bytes_eq (codes "image") name ≡ i
+        → WordIs word (name_kind name (Some v))
+    go true ej g eg s es i ei = rw ej (45 ∷ (name ++ 61 ∷ v), is)
+    go false ej true eg s es i ei = rw (ej, eg) (is ∙ ap (λ (n : Text). 45 ∷ 45 ∷ (n ++ 61 ∷ v)) (sym (same (codes "gen") name eg)))
+    go false ej false eg true es i ei = rw (ej, eg, es) (45 ∷ (name ++ 61 ∷ v), is)
+    go false ej false eg false es true ei = rw (ej, eg, es, ei) (45 ∷ (name ++ 61 ∷ v), is)
+    go false ej false eg false es false ei = rw (ej, eg, es, ei) (45 ∷ (name ++ 61 ∷ v), is)
 
 short_is : (word : Text) (flags : Option Text) → short_of word ≡ flags → WordIs word (short_kind flags)
 short_is word None e = tt
@@ -132,6 +138,7 @@ word_is word = go (bytes_eq word (codes "--")) refl (long_of word) refl
 record Unnamed (word : Text) : Type 0 where
   json : bytes_eq word (codes "--json") ≡ false
   save : bytes_eq word (codes "--save") ≡ false
+  image : bytes_eq word (codes "--image") ≡ false
   gen : bytes_eq word (codes "--gen") ≡ false
   prefix : starts_with nat_eq word (codes "--gen=") ≡ false
 
@@ -140,14 +147,15 @@ from_prefix word e = (starts_is Decides-eqb word (codes "--gen=") _ refl).0 e
 
 unnamed : (word : Text) → ((u : Use) → kind word ≡ names u → ⊥) → (kind word ≡ wants → ⊥) → Unnamed word
 unnamed word no_use no_wants = record {
-  json = false_from_ne_true _ (λ e. no_use json (ap kind (same word (codes "--json") e)));
-  save = false_from_ne_true _ (λ e. no_use save (ap kind (same word (codes "--save") e)));
+  json = false_from_ne_true _ (λ e. no_use (flag json) (ap kind (same word (codes "--json") e)));
+  save = false_from_ne_true _ (λ e. no_use (flag save) (ap kind (same word (codes "--save") e)));
+  image = false_from_ne_true _ (λ e. no_use (flag image) (ap kind (same word (codes "--image") e)));
   gen = false_from_ne_true _ (λ e. no_wants (ap kind (same word (codes "--gen") e)));
   prefix = false_from_ne_true _ (λ e. no_use (gen (drop 6 word)) (ap kind (from_prefix word e)));
 }
 
 named-Unnamed : (word : Text) (more : List Text) → Unnamed word → named (word ∷ more) ≡ None
-named-Unnamed word [] un = rw (un.json, un.save, un.prefix) refl
+named-Unnamed word [] un = rw (un.json, un.save, un.image, un.prefix) refl
 named-Unnamed word (next ∷ []) un = rw un.gen refl
 named-Unnamed word (next ∷ other ∷ more) un = refl
 
@@ -160,26 +168,37 @@ abbrev is_nil : List Text → Bool
 is_nil [] = true
 is_nil (word ∷ more) = false
 
+abbrev flag_job : Flag → Job
+flag_job json = Run Json
+flag_job save = Run Save
+flag_job image = Image
+
 abbrev use_job : Use → Option Job
-use_job json = Some Json
-use_job save = Some Save
+use_job (flag f) = Some (flag_job f)
 use_job (gen v) = generate_of v
 
 -- the job of one use, or of none
 abbrev pub pick : Option (List Use) → Option Job
 pick None = None
-pick (Some []) = Some Transcript
+pick (Some []) = Some (Run Transcript)
 pick (Some (u ∷ [])) = use_job u
 pick (Some (u ∷ v ∷ us)) = None
 
 named_use : (u : Use) (word : Text) (more : List Text) → WordIs word (names u) → named (word ∷ more)
     ≡ (if is_nil more then use_job u else None)
-named_use json word [] is = subst (λ (w : Text). named (w ∷ []) ≡ Some Json) (sym is) refl
-named_use json word (next ∷ []) is = subst (λ (w : Text). named (w ∷ next ∷ []) ≡ None) (sym is) refl
-named_use json word (next ∷ other ∷ more) is = refl
-named_use save word [] is = subst (λ (w : Text). named (w ∷ []) ≡ Some Save) (sym is) refl
-named_use save word (next ∷ []) is = subst (λ (w : Text). named (w ∷ next ∷ []) ≡ None) (sym is) refl
-named_use save word (next ∷ other ∷ more) is = refl
+named_use (flag f) word [] is = subst (λ (w : Text). named (w ∷ []) ≡ Some (flag_job f)) (sym is) (alone f)
+  where
+    alone : (f : Flag) → named ((45 ∷ 45 ∷ name_of f) ∷ []) ≡ Some (flag_job f)
+    alone json = refl
+    alone save = refl
+    alone image = refl
+named_use (flag f) word (next ∷ []) is = subst (λ (w : Text). named (w ∷ next ∷ []) ≡ None) (sym is) (no_gen f)
+  where
+    no_gen : (f : Flag) → named ((45 ∷ 45 ∷ name_of f) ∷ next ∷ []) ≡ None
+    no_gen json = refl
+    no_gen save = refl
+    no_gen image = refl
+named_use (flag f) word (next ∷ other ∷ more) is = refl
 named_use (gen v) word [] is = subst (λ (w : Text). named (w ∷ []) ≡ generate_of v) (sym is) refl
 named_use (gen v) word (next ∷ []) is = subst (λ (w : Text). named (w ∷ next ∷ []) ≡ None) (sym is) refl
 named_use (gen v) word (next ∷ other ∷ more) is = refl
@@ -188,7 +207,7 @@ named_gen : (value : Text) (more : List Text) → named (codes "--gen" ∷ value
 named_gen value [] = refl
 named_gen value (next ∷ more) = refl
 
-refused : (some first small : Bool) (n : ℕ) → option_map Generate (if some && false && first && small then Some n else None) ≡ None
+refused : (some first small : Bool) (n : ℕ) → option_map Run (option_map Generate (if some && false && first && small then Some n else None)) ≡ None
 refused true first small n = refl
 refused false first small n = refl
 
@@ -343,8 +362,7 @@ value_kind : (word : Text) (rest : List Text) (k : Kind) → kind word ≡ k →
     ≡ named (codes "--gen" ∷ without_end (word ∷ rest))
 value_kind word [] ends e is = end_hyphen word [] is
 value_kind word (next ∷ rest) ends e is = end_hyphen word (next ∷ rest) is
-value_kind word rest (names json) e is = flag_value word rest (names json) e (λ h. cc) (codes "-json", is)
-value_kind word rest (names save) e is = flag_value word rest (names save) e (λ h. cc) (codes "-save", is)
+value_kind word rest (names (flag f)) e is = flag_value word rest (names (flag f)) e (λ h. cc) (45 ∷ name_of f, is)
 value_kind word rest (names (gen v)) e is = flag_value word rest (names (gen v)) e (λ h. cc) (codes "-gen=" ++ v, is)
 value_kind word rest wants e is = flag_value word rest wants e (λ h. cc) (codes "-gen", is)
 value_kind word rest (unknown fault) e is = flag_value word rest (unknown fault) e (λ h. cc) is
@@ -362,7 +380,7 @@ job_kept : (word : Text) (rest : List Text) (k : Kind) → kind word ≡ k → (
 job_kept word rest k e no_end = ap named (kept word rest (not_ends word (λ h. no_end (sym e ∙ h))))
 
 first_end : (word : Text) (rest : List Text) → word ≡ codes "--" → job_of (word ∷ rest) ≡ pick (if is_last rest then Some [] else None)
-first_end word [] is = subst (λ (w : Text). job_of (w ∷ []) ≡ Some Transcript) (sym is) refl
+first_end word [] is = subst (λ (w : Text). job_of (w ∷ []) ≡ Some (Run Transcript)) (sym is) refl
 first_end word (next ∷ rest) is = subst (λ (w : Text). named (w ∷ without_end (next ∷ rest)) ≡ None) (sym is)
     (none (without_end (next ∷ rest)))
   where
@@ -375,12 +393,8 @@ first_kind : (word : Text) (rest : List Text) (k : Kind) → kind word ≡ k →
     ≡ pick (by_kind k [] nothing (is_last rest) (λ more. spelled more nothing rest) (λ more. spelled more wanting rest)
     (spelled [] (given word) rest))
 first_kind word rest ends e is = first_end word rest is
-first_kind word rest (names json) e is = job_kept word rest (names json) e (λ h. cc) ∙ named_use json word (without_end rest) is
-    ∙ sym (one_use (json ∷ []) nothing json refl rest)
-first_kind word rest (names save) e is = job_kept word rest (names save) e (λ h. cc) ∙ named_use save word (without_end rest) is
-    ∙ sym (one_use (save ∷ []) nothing save refl rest)
-first_kind word rest (names (gen v)) e is = job_kept word rest (names (gen v)) e (λ h. cc) ∙ named_use (gen v) word (without_end rest) is
-    ∙ sym (one_use (gen v ∷ []) nothing (gen v) refl rest)
+first_kind word rest (names u) e is = job_kept word rest (names u) e (λ h. cc) ∙ named_use u word (without_end rest) is
+    ∙ sym (one_use (u ∷ []) nothing u refl rest)
 first_kind word rest wants e is = job_kept word rest wants e (λ h. cc)
     ∙ ap (λ (w : Text). named (w ∷ without_end rest)) is ∙ sym (gen_value rest)
 first_kind word rest (unknown fault) e is = job_kept word rest (unknown fault) e (λ h. cc)
@@ -396,29 +410,54 @@ job_is (word ∷ rest) = first_kind word rest (kind word) refl (word_is word)
 
 -- ---- the job by flags
 
-two_flags : (text : Option Text) → None ≡ chosen true true text
-two_flags None = refl
-two_flags (Some v) = refl
+json_and_image : (s : Bool) (text : Option Text) → None ≡ chosen true s true text
+json_and_image true text = refl
+json_and_image false text = refl
 
-save_and_gen : (j : Bool) (v : Text) → None ≡ chosen j true (Some v)
-save_and_gen true v = refl
-save_and_gen false v = refl
+save_and_image : (j : Bool) (text : Option Text) → None ≡ chosen j true true text
+save_and_image true text = refl
+save_and_image false text = refl
 
-json_and_gen : (s : Bool) (v : Text) → None ≡ chosen true s (Some v)
-json_and_gen true v = refl
-json_and_gen false v = refl
+json_and_gen : (s i : Bool) (v : Text) → None ≡ chosen true s i (Some v)
+json_and_gen true i v = refl
+json_and_gen false true v = refl
+json_and_gen false false v = refl
 
-pub chosen_is : (us : List Use) → Apart us → pick (Some us) ≡ chosen (has (codes "json") us) (has (codes "save") us) (gen_in us)
+save_and_gen : (j i : Bool) (v : Text) → None ≡ chosen j true i (Some v)
+save_and_gen true i v = refl
+save_and_gen false true v = refl
+save_and_gen false false v = refl
+
+image_and_gen : (j s : Bool) (v : Text) → None ≡ chosen j s true (Some v)
+image_and_gen true s v = json_and_image s (Some v)
+image_and_gen false true v = refl
+image_and_gen false false v = refl
+
+-- two uses that are apart name no job
+two_uses : (u v : Use) (us : List Use) → Apart (u ∷ v ∷ us) → None ≡ chosen (has (codes "json") (u ∷ v ∷ us))
+    (has (codes "save") (u ∷ v ∷ us)) (has (codes "image") (u ∷ v ∷ us)) (gen_in (u ∷ v ∷ us))
+two_uses (flag json) (flag json) us apart = absurd cc
+two_uses (flag json) (flag save) us apart = refl
+two_uses (flag json) (flag image) us apart = json_and_image (has (codes "save") us) (gen_in us)
+two_uses (flag json) (gen v) us apart = json_and_gen (has (codes "save") us) (has (codes "image") us) v
+two_uses (flag save) (flag json) us apart = refl
+two_uses (flag save) (flag save) us apart = absurd cc
+two_uses (flag save) (flag image) us apart = save_and_image (has (codes "json") us) (gen_in us)
+two_uses (flag save) (gen v) us apart = save_and_gen (has (codes "json") us) (has (codes "image") us) v
+two_uses (flag image) (flag json) us apart = json_and_image (has (codes "save") us) (gen_in us)
+two_uses (flag image) (flag save) us apart = save_and_image (has (codes "json") us) (gen_in us)
+two_uses (flag image) (flag image) us apart = absurd cc
+two_uses (flag image) (gen v) us apart = image_and_gen (has (codes "json") us) (has (codes "save") us) v
+two_uses (gen v) (flag json) us apart = json_and_gen (has (codes "save") us) (has (codes "image") us) v
+two_uses (gen v) (flag save) us apart = save_and_gen (has (codes "json") us) (has (codes "image") us) v
+two_uses (gen v) (flag image) us apart = image_and_gen (has (codes "json") us) (has (codes "save") us) v
+two_uses (gen v) (gen w) us apart = absurd cc
+
+pub chosen_is : (us : List Use) → Apart us
+    → pick (Some us) ≡ chosen (has (codes "json") us) (has (codes "save") us) (has (codes "image") us) (gen_in us)
 chosen_is [] apart = refl
-chosen_is (json ∷ []) apart = refl
-chosen_is (save ∷ []) apart = refl
+chosen_is (flag json ∷ []) apart = refl
+chosen_is (flag save ∷ []) apart = refl
+chosen_is (flag image ∷ []) apart = refl
 chosen_is (gen v ∷ []) apart = refl
-chosen_is (json ∷ json ∷ us) apart = absurd cc
-chosen_is (json ∷ save ∷ us) apart = two_flags (gen_in us)
-chosen_is (json ∷ gen v ∷ us) apart = json_and_gen (has (codes "save") us) v
-chosen_is (save ∷ json ∷ us) apart = two_flags (gen_in us)
-chosen_is (save ∷ save ∷ us) apart = absurd cc
-chosen_is (save ∷ gen v ∷ us) apart = save_and_gen (has (codes "json") us) v
-chosen_is (gen v ∷ json ∷ us) apart = json_and_gen (has (codes "save") us) v
-chosen_is (gen v ∷ save ∷ us) apart = save_and_gen (has (codes "json") us) v
-chosen_is (gen v ∷ gen w ∷ us) apart = absurd cc
+chosen_is (u ∷ v ∷ us) apart = two_uses u v us apart

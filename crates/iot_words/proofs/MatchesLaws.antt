@@ -4,6 +4,7 @@ use Rattle.std.proofs.Common.{cond, ◌||◌}
 use Rattle.std.specs.Prelude.{fold, find, if◌then◌else◌, option_and_then, slice_get}
 use Rattle.std.specs.Str.{bytes_eq}
 use Rattle.std.proofs.lemmas.Bool.{or_parts, false≢true}
+use Rattle.std.proofs.lemmas.Slice.Eq.{bytes_eq-Decides}
 use Rattle.clap.specs.Kinds.{Kinds, or_else}
 use Rattle.clap.specs.Faults.{default_fault, defaults_fault, entered_fault, fault_of, settle_fault, walk_fault}
 use Rattle.clap.specs.Simple.{built, entered, matches_of}
@@ -11,7 +12,7 @@ use Rattle.clap.specs.Walk.{Row, Text, Held, first_of, has_row, more_values, one
 use Rattle.clap.specs.declared.builder.value_parser.Reading.TheVariants.{AsWritten}
 use Rattle.clap.specs.declared.parser.matches.ValueSource.TheVariants.{DefaultValue}
 use Rattle.iot_words.specs.Command.{command}
-use Rattle.iot_words.proofs.Uses.{Use, gen, held, json, nothing, row, rule, save, state, top}
+use Rattle.iot_words.proofs.Uses.{Flag, Use, flag, flag_rule, gen, held, image, json, name_of, nothing, row, rule, save, state, top}
 use Rattle.iot_words.proofs.TurnsLaws.{or_else-nil, rules}
 use Rattle.iot_words.proofs.WalksLaws.{ended, no_row, total}
 
@@ -25,10 +26,10 @@ no_entry_fault : (stop : Option (Text × List Text)) → entered_fault (built co
 no_entry_fault None = refl
 no_entry_fault (Some p) = refl
 
-json_default : (rows : List Row) → default_fault rows (rule json) ≡ []
-json_default rows = go (has_row (codes "json") rows) refl
+flag_default : (name : Text) (rows : List Row) → default_fault rows (flag_rule name) ≡ []
+flag_default name rows = go (has_row name rows) refl
   where
-    go : (has : Bool) → has_row (codes "json") rows ≡ has → default_fault rows (rule json) ≡ []
+    go : (has : Bool) → has_row name rows ≡ has → default_fault rows (flag_rule name) ≡ []
     go true e = rw e refl
     go false e = rw e refl
 
@@ -39,20 +40,18 @@ gen_default rows = go (has_row (codes "gen") rows) refl
     go true e = rw e refl
     go false e = rw e refl
 
-save_default : (rows : List Row) → default_fault rows (rule save) ≡ []
-save_default rows = go (has_row (codes "save") rows) refl
-  where
-    go : (has : Bool) → has_row (codes "save") rows ≡ has → default_fault rows (rule save) ≡ []
-    go true e = rw e refl
-    go false e = rw e refl
-
 defaults_pass : (rows : List Row) → defaults_fault rows rules ≡ []
 unfolding defaults_fault
-defaults_pass rows = rw (
-  json_default rows,
-  gen_default (with_default rows (rule json)),
-  save_default (with_default (with_default rows (rule json)) (rule (gen []))),
-) refl
+defaults_pass rows =
+    let first = with_default rows (rule (flag json)) in
+    let second = with_default first (rule (gen [])) in
+    let third = with_default second (rule (flag save)) in
+    rw (
+      flag_default (codes "json") rows,
+      gen_default first,
+      flag_default (codes "save") second,
+      flag_default (codes "image") third,
+    ) refl
 
 pub fault_is : (words : List Text) → fault_of command words ≡ total (state [] nothing) words
 fault_is words =
@@ -96,19 +95,12 @@ default_row id = record { id = id; values = codes "false" ∷ []; count = None; 
 abbrev defaulted : Text → List Row → List Row
 defaulted id rows = if has_row id rows then rows else rows ++ default_row id ∷ []
 
-json_defaulted : (rows : List Row) → with_default rows (rule json) ≡ defaulted (codes "json") rows
-json_defaulted rows = go (has_row (codes "json") rows) refl
+flag_defaulted : (name : Text) (rows : List Row) → with_default rows (flag_rule name) ≡ defaulted name rows
+flag_defaulted name rows = go (has_row name rows) refl
   where
-    go : (has : Bool) → has_row (codes "json") rows ≡ has → with_default rows (rule json) ≡ defaulted (codes "json") rows
+    go : (has : Bool) → has_row name rows ≡ has → with_default rows (flag_rule name) ≡ defaulted name rows
     go true e = rw e refl
-    go false e = rw e (no_row (codes "json") (more_values DefaultValue (codes "false" ∷ [])) _ rows e)
-
-save_defaulted : (rows : List Row) → with_default rows (rule save) ≡ defaulted (codes "save") rows
-save_defaulted rows = go (has_row (codes "save") rows) refl
-  where
-    go : (has : Bool) → has_row (codes "save") rows ≡ has → with_default rows (rule save) ≡ defaulted (codes "save") rows
-    go true e = rw e refl
-    go false e = rw e (no_row (codes "save") (more_values DefaultValue (codes "false" ∷ [])) _ rows e)
+    go false e = rw e (no_row name (more_values DefaultValue (codes "false" ∷ [])) _ rows e)
 
 gen_defaulted : (rows : List Row) → with_default rows (rule (gen [])) ≡ rows
 gen_defaulted rows = go (has_row (codes "gen") rows) refl
@@ -118,13 +110,17 @@ gen_defaulted rows = go (has_row (codes "gen") rows) refl
     go false e = rw e refl
 
 abbrev pub finally : List Row → List Row
-finally rows = defaulted (codes "save") (defaulted (codes "json") rows)
+finally rows = defaulted (codes "image") (defaulted (codes "save") (defaulted (codes "json") rows))
 
 finally_is : (rows : List Row) → fold with_default rows rules ≡ finally rows
 finally_is rows =
-    ap (λ (r : List Row). with_default (with_default r (rule (gen []))) (rule save)) (json_defaulted rows)
-    ∙ ap (λ (r : List Row). with_default r (rule save)) (gen_defaulted (defaulted (codes "json") rows))
-    ∙ save_defaulted (defaulted (codes "json") rows)
+    let first = defaulted (codes "json") rows in
+    let second = defaulted (codes "save") first in
+    ap (λ (r : List Row). with_default (with_default (with_default r (rule (gen []))) (rule (flag save))) (rule (flag image)))
+    (flag_defaulted (codes "json") rows)
+    ∙ ap (λ (r : List Row). with_default (with_default r (rule (flag save))) (rule (flag image))) (gen_defaulted first)
+    ∙ ap (λ (r : List Row). with_default r (rule (flag image))) (flag_defaulted (codes "save") first)
+    ∙ flag_defaulted (codes "image") second
 
 find_defaulted : (id other : Text) (rows : List Row) → bytes_eq other id ≡ false
     → find (has_id id) (defaulted other rows) ≡ find (has_id id) rows
@@ -142,56 +138,63 @@ has id us = has_row id (map row us)
 abbrev pub gen_in : List Use → Option Text
 gen_in [] = None
 gen_in (gen v ∷ us) = Some v
-gen_in (json ∷ us) = gen_in us
-gen_in (save ∷ us) = gen_in us
+gen_in (flag f ∷ us) = gen_in us
 
 gen_first : (us : List Use) → first_of (codes "gen") (map row us) ≡ gen_in us
 gen_first [] = refl
 gen_first (gen v ∷ us) = refl
-gen_first (json ∷ us) = gen_first us
-gen_first (save ∷ us) = gen_first us
+gen_first (flag json ∷ us) = gen_first us
+gen_first (flag save ∷ us) = gen_first us
+gen_first (flag image ∷ us) = gen_first us
 
-json_true : (us : List Use) → has (codes "json") us ≡ true → one_of (codes "json") (map row us) ≡ Some (codes "true")
-json_true [] h = absurd (false≢true h)
-json_true (json ∷ us) h = refl
-json_true (save ∷ us) h = json_true us h
-json_true (gen v ∷ us) h = json_true us h
-
-save_true : (us : List Use) → has (codes "save") us ≡ true → one_of (codes "save") (map row us) ≡ Some (codes "true")
-save_true [] h = absurd (false≢true h)
-save_true (save ∷ us) h = refl
-save_true (json ∷ us) h = save_true us h
-save_true (gen v ∷ us) h = save_true us h
+flag_true : (f : Flag) (us : List Use) → has (name_of f) us ≡ true → one_of (name_of f) (map row us) ≡ Some (codes "true")
+flag_true f [] h = absurd (false≢true h)
+flag_true f (flag g ∷ us) h = go (bytes_eq (name_of g) (name_of f)) h (flag_true f us)
+  where
+    go : (hit : Bool) → (hit || has (name_of f) us) ≡ true
+        → (has (name_of f) us ≡ true → one_of (name_of f) (map row us) ≡ Some (codes "true"))
+        → option_and_then row_text (cond hit (Some (row (flag g))) (find (has_id (name_of f)) (map row us))) ≡ Some (codes "true")
+    go true h more = refl
+    go false h more = more h
+flag_true json (gen v ∷ us) h = flag_true json us h
+flag_true save (gen v ∷ us) h = flag_true save us h
+flag_true image (gen v ∷ us) h = flag_true image us h
 
 abbrev pub flag_text : Bool → Text
 flag_text given = if given then codes "true" else codes "false"
 
-pub json_of : (us : List Use) → one_of (codes "json") (finally (map row us)) ≡ Some (flag_text (has (codes "json") us))
-json_of us = ap (option_and_then row_text) (find_defaulted (codes "json") (codes "save") (defaulted (codes "json") (map row us)) refl)
-    ∙ go (has (codes "json") us) refl
+-- a flag in rows in which it is found as among the uses
+flag_in : (f : Flag) (us : List Use) (rows : List Row) → find (has_id (name_of f)) rows ≡ find (has_id (name_of f)) (map row us)
+    → one_of (name_of f) (defaulted (name_of f) rows) ≡ Some (flag_text (has (name_of f) us))
+flag_in f us rows same = go (has (name_of f) us) refl
   where
-    go : (b : Bool) → has (codes "json") us ≡ b → one_of (codes "json") (defaulted (codes "json") (map row us))
-        ≡ Some (flag_text (has (codes "json") us))
-    go true e = rw e (json_true us e)
-    go false e = rw e (ap (option_and_then row_text) (find_added (codes "json") (default_row (codes "json")) (map row us) e refl))
+    has_same : has_row (name_of f) rows ≡ has (name_of f) us
+    has_same = has-find (name_of f) rows ∙ ap is_some same ∙ sym (has-find (name_of f) (map row us))
 
-pub save_of : (us : List Use) → one_of (codes "save") (finally (map row us)) ≡ Some (flag_text (has (codes "save") us))
-save_of us = go (has (codes "save") us) refl
-  where
-    same : find (has_id (codes "save")) (defaulted (codes "json") (map row us)) ≡ find (has_id (codes "save")) (map row us)
-    same = find_defaulted (codes "save") (codes "json") (map row us) refl
-
-    has_same : has_row (codes "save") (defaulted (codes "json") (map row us)) ≡ has (codes "save") us
-    has_same = has-find (codes "save") (defaulted (codes "json") (map row us)) ∙ ap is_some same
-        ∙ sym (has-find (codes "save") (map row us))
-
-    go : (b : Bool) → has (codes "save") us ≡ b → one_of (codes "save") (finally (map row us)) ≡ Some (flag_text (has (codes "save") us))
-    go true e = rw (has_same ∙ e, e) (ap (option_and_then row_text) same ∙ save_true us e)
+    go : (b : Bool) → has (name_of f) us ≡ b → one_of (name_of f) (defaulted (name_of f) rows) ≡ Some (flag_text (has (name_of f) us))
+    go true e = rw (has_same ∙ e, e) (ap (option_and_then row_text) same ∙ flag_true f us e)
     go false e = rw (has_same ∙ e, e) (ap (option_and_then row_text)
-        (find_added (codes "save") (default_row (codes "save")) (defaulted (codes "json") (map row us)) (has_same ∙ e) refl))
+        (find_added (name_of f) (default_row (name_of f)) rows (has_same ∙ e) ((bytes_eq-Decides (name_of f) (name_of f)).1 refl)))
+
+pub flag_of : (f : Flag) (us : List Use) → one_of (name_of f) (finally (map row us)) ≡ Some (flag_text (has (name_of f) us))
+flag_of json us =
+    let first = defaulted (codes "json") (map row us) in
+    ap (option_and_then row_text) (find_defaulted (codes "json") (codes "image") (defaulted (codes "save") first) refl
+    ∙ find_defaulted (codes "json") (codes "save") first refl) ∙ flag_in json us (map row us) refl
+flag_of save us =
+    let first = defaulted (codes "json") (map row us) in
+    ap (option_and_then row_text) (find_defaulted (codes "save") (codes "image") (defaulted (codes "save") first) refl)
+    ∙ flag_in save us first (find_defaulted (codes "save") (codes "json") (map row us) refl)
+flag_of image us =
+    let first = defaulted (codes "json") (map row us) in
+    flag_in image us (defaulted (codes "save") first) (find_defaulted (codes "image") (codes "save") first refl
+    ∙ find_defaulted (codes "image") (codes "json") (map row us) refl)
 
 pub gen_of : (us : List Use) → first_of (codes "gen") (finally (map row us)) ≡ gen_in us
-gen_of us = ap first_text (find_defaulted (codes "gen") (codes "save") (defaulted (codes "json") (map row us)) refl
+gen_of us =
+    let first = defaulted (codes "json") (map row us) in
+    ap first_text (find_defaulted (codes "gen") (codes "image") (defaulted (codes "save") first) refl
+    ∙ find_defaulted (codes "gen") (codes "save") first refl
     ∙ find_defaulted (codes "gen") (codes "json") (map row us) refl) ∙ gen_first us
   where
     first_text : Option Row → Option Text

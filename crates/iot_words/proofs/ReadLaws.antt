@@ -13,9 +13,9 @@ use Rattle.iot_words.specs.Jobs.{chosen, job_of}
 use Rattle.iot_words.specs.declared.faults.WordsFault.{WordsFault}
 use Rattle.iot_words.specs.declared.faults.WordsFault.TheVariants.{NoMemory, Refused}
 use Rattle.iot_words.specs.declared.jobs.Job.{Job}
-use Rattle.iot_words.proofs.Uses.{Use, nothing, row, spelled, state}
+use Rattle.iot_words.proofs.Uses.{Flag, Use, image, json, name_of, nothing, row, save, spelled, state}
 use Rattle.iot_words.proofs.WalksLaws.{Apart, WalkAgrees, walk-Agrees}
-use Rattle.iot_words.proofs.MatchesLaws.{fault_is, finally, flag_text, gen_in, gen_of, has, json_of, matches_are, save_of}
+use Rattle.iot_words.proofs.MatchesLaws.{fault_is, finally, flag_of, flag_text, gen_in, gen_of, has, matches_are}
 use Rattle.iot_words.proofs.JobsLaws.{chosen_is, job_is, pick}
 
 -- ---- what the parse of the command says
@@ -74,23 +74,29 @@ flag_is : (text : Option Text) (given result : Bool) → text ≡ Some (flag_tex
 flag_is text true result is yes' no' = yes' is
 flag_is text false result is yes' no' = no' is
 
+-- what the getter of a flag says of its result
+abbrev pub Gives : ArgMatches → Text → Bool → Type 0
+Gives m name result = (one_text (found_of m) name ≡ Some (codes "true") → result ≡ true)
+    × (one_text (found_of m) name ≡ Some (codes "false") → result ≡ false)
+
+given_is : (m : ArgMatches) (us : List Use) → rows_of (found_of m) ≡ finally (map row us) → (f : Flag) (result : Bool)
+    → Gives m (name_of f) result → result ≡ has (name_of f) us
+given_is m us rows f result gives = flag_is (one_text (found_of m) (name_of f)) _ result
+    (one_text-rows (found_of m) (name_of f) ∙ ap (one_of (name_of f)) rows ∙ flag_of f us) gives.0 gives.1
+
 -- what the getters give of the matches names the job of the words
-pub read_job : (app : App) → app ≡ command → (words : List Text) (m : ArgMatches) (json save : Bool) (text : Option Text)
+pub read_job : (app : App) → app ≡ command → (words : List Text) (m : ArgMatches) (j s i : Bool) (text : Option Text)
     → (is_simple_and_free app ≡ true → fault_of app words ≡ []) → HasMatchesOf app words m
-    → (one_text (found_of m) (codes "json") ≡ Some (codes "true") → json ≡ true)
-    → (one_text (found_of m) (codes "json") ≡ Some (codes "false") → json ≡ false)
-    → (one_text (found_of m) (codes "save") ≡ Some (codes "true") → save ≡ true)
-    → (one_text (found_of m) (codes "save") ≡ Some (codes "false") → save ≡ false)
-    → text ≡ first_value (found_of m) (codes "gen") → chosen json save text ≡ job_of words
-read_job app made words m json save text kinds matches json_given json_other save_given save_other text_given =
+    → Gives m (codes "json") j → Gives m (codes "save") s → Gives m (codes "image") i
+    → text ≡ first_value (found_of m) (codes "gen") → chosen j s i text ≡ job_of words
+read_job app made words m j s i text kinds matches gives_json gives_save gives_image text_given =
     let t = taken words (no_fault app made words kinds) in
     let rows = rows_are app made words m matches ∙ t.matches in
-    let json_is : json ≡ has (codes "json") t.uses = flag_is (one_text (found_of m) (codes "json")) _ json
-    (one_text-rows (found_of m) (codes "json") ∙ ap (one_of (codes "json")) rows ∙ json_of t.uses) json_given json_other in
-    let save_is : save ≡ has (codes "save") t.uses = flag_is (one_text (found_of m) (codes "save")) _ save
-    (one_text-rows (found_of m) (codes "save") ∙ ap (one_of (codes "save")) rows ∙ save_of t.uses) save_given save_other in
     let text_is : text ≡ gen_in t.uses =
     text_given ∙ first_value-rows (found_of m) (codes "gen") ∙ ap (first_of (codes "gen")) rows ∙ gen_of t.uses in
-    ap (λ (b : Bool). chosen b save text) json_is ∙ ap (λ (b : Bool). chosen (has (codes "json") t.uses) b text) save_is
-    ∙ ap (chosen (has (codes "json") t.uses) (has (codes "save") t.uses)) text_is
+    ap (λ (b : Bool). chosen b s i text) (given_is m t.uses rows json j gives_json)
+    ∙ ap (λ (b : Bool). chosen (has (codes "json") t.uses) b i text) (given_is m t.uses rows save s gives_save)
+    ∙ ap (λ (b : Bool). chosen (has (codes "json") t.uses) (has (codes "save") t.uses) b text)
+    (given_is m t.uses rows image i gives_image)
+    ∙ ap (chosen (has (codes "json") t.uses) (has (codes "save") t.uses) (has (codes "image") t.uses)) text_is
     ∙ sym (chosen_is t.uses t.apart) ∙ sym t.job

@@ -34,21 +34,27 @@ LongIs name v plain = ⊥
 
 long_is : (name : Text) (v : Option Text) → LongIs name v (name_kind name v)
 long_is name None = go (bytes_eq (codes "json") name) refl (bytes_eq (codes "gen") name) refl (bytes_eq (codes "save") name) refl
+    (bytes_eq (codes "image") name) refl
   where
     go : (j : Bool) → bytes_eq (codes "json") name ≡ j → (g : Bool) → bytes_eq (codes "gen") name ≡ g
-        → (s : Bool) → bytes_eq (codes "save") name ≡ s → LongIs name None (name_kind name None)
-    go true ej g eg s es = rw ej λ h. (rw ej refl, rw ej refl)
-    go false ej true eg s es = rw (ej, eg) λ h. (rw (ej, eg) refl, rw (ej, eg) refl)
-    go false ej false eg true es = rw (ej, eg, es) λ h. (rw (ej, eg, es) refl, rw (ej, eg, es) refl)
-    go false ej false eg false es = rw (ej, eg, es) λ h. rw (ej, eg, es) refl
+        → (s : Bool) → bytes_eq (codes "save") name ≡ s → (i : Bool) → bytes_eq (codes "image") name ≡ i
+        → LongIs name None (name_kind name None)
+    go true ej g eg s es i ei = rw ej λ h. (rw ej refl, rw ej refl)
+    go false ej true eg s es i ei = rw (ej, eg) λ h. (rw (ej, eg) refl, rw (ej, eg) refl)
+    go false ej false eg true es i ei = rw (ej, eg, es) λ h. (rw (ej, eg, es) refl, rw (ej, eg, es) refl)
+    go false ej false eg false es true ei = rw (ej, eg, es, ei) λ h. (rw (ej, eg, es, ei) refl, rw (ej, eg, es, ei) refl)
+    go false ej false eg false es false ei = rw (ej, eg, es, ei) λ h. rw (ej, eg, es, ei) refl
 long_is name (Some v) = go (bytes_eq (codes "json") name) refl (bytes_eq (codes "gen") name) refl (bytes_eq (codes "save") name) refl
+    (bytes_eq (codes "image") name) refl
   where
     go : (j : Bool) → bytes_eq (codes "json") name ≡ j → (g : Bool) → bytes_eq (codes "gen") name ≡ g
-        → (s : Bool) → bytes_eq (codes "save") name ≡ s → LongIs name (Some v) (name_kind name (Some v))
-    go true ej g eg s es = rw ej λ h. rw ej refl
-    go false ej true eg s es = rw (ej, eg) λ h. (rw (ej, eg) refl, rw (ej, eg) refl)
-    go false ej false eg true es = rw (ej, eg, es) λ h. rw (ej, eg, es) refl
-    go false ej false eg false es = rw (ej, eg, es) λ h. rw (ej, eg, es) refl
+        → (s : Bool) → bytes_eq (codes "save") name ≡ s → (i : Bool) → bytes_eq (codes "image") name ≡ i
+        → LongIs name (Some v) (name_kind name (Some v))
+    go true ej g eg s es i ei = rw ej λ h. rw ej refl
+    go false ej true eg s es i ei = rw (ej, eg) λ h. (rw (ej, eg) refl, rw (ej, eg) refl)
+    go false ej false eg true es i ei = rw (ej, eg, es) λ h. rw (ej, eg, es) refl
+    go false ej false eg false es true ei = rw (ej, eg, es, ei) λ h. rw (ej, eg, es, ei) refl
+    go false ej false eg false es false ei = rw (ej, eg, es, ei) λ h. rw (ej, eg, es, ei) refl
 
 -- ---- a word that is not `--`
 

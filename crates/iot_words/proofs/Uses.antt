@@ -4,18 +4,23 @@ use Rattle.std.specs.Prelude.{Bool, true, false, List, [], ◌∷◌, ◌++◌, 
 use Rattle.std.specs.Str.{bytes_eq, chars}
 use Rattle.clap.specs.Lexer.{long_of, short_of}
 use Rattle.clap.specs.Walk.{Held, Row, Rule, Text, Waiting, Walk, idle, option, has_row}
-use Rattle.clap.specs.Simple.{Shape, built, filled}
+use Rattle.clap.specs.Simple.{Shape, built, filled, new_rule}
+use Rattle.clap.specs.declared.builder.action.ArgAction.TheVariants.{SetTrue}
 use Rattle.clap.specs.declared.builder.value_parser.Reading.TheVariants.{AsWritten}
 use Rattle.clap.specs.declared.error.kind.ErrorKind.{ErrorKind}
 use Rattle.clap.specs.declared.error.kind.ErrorKind.TheVariants.{TooManyValues, UnknownArgument}
 use Rattle.clap.specs.declared.parser.matches.ValueSource.TheVariants.{CommandLine}
-use Rattle.iot_words.specs.Command.{command, gen_rule, json_rule, save_rule}
+use Rattle.iot_words.specs.Command.{command, gen_rule}
 
 -- ---- uses
 
+pub data Flag : Type 0 where
+  json : Flag
+  save : Flag
+  image : Flag
+
 pub data Use : Type 0 where
-  json : Use
-  save : Use
+  flag : Flag → Use
   gen : Text → Use
 
 -- what waits for the next word: nothing; `--gen`, for its value; or nothing, where its value was just given
@@ -27,23 +32,29 @@ pub data Wait : Type 0 where
 abbrev pub top : Shape
 top = (built command).top
 
+abbrev pub name_of : Flag → Text
+name_of json = codes "json"
+name_of save = codes "save"
+name_of image = codes "image"
+
+-- what building makes of a flag
+abbrev pub flag_rule : Text → Rule
+flag_rule name = filled (record (new_rule name) { long = Some name; action = Some SetTrue })
+
 abbrev pub rule : Use → Rule
-rule json = filled json_rule
-rule save = filled save_rule
+rule (flag f) = flag_rule (name_of f)
 rule (gen v) = filled gen_rule
 
 -- the values that the words give it
 abbrev pub given_to : Use → List Text
-given_to json = []
-given_to save = []
+given_to (flag f) = []
 given_to (gen v) = v ∷ []
 
 abbrev pub row_with : Text → Text → Row
 row_with id v = record { id = id; values = v ∷ []; count = None; source = Some CommandLine; reading = AsWritten }
 
 abbrev pub row : Use → Row
-row json = row_with (codes "json") (codes "true")
-row save = row_with (codes "save") (codes "true")
+row (flag f) = row_with (name_of f) (codes "true")
 row (gen v) = row_with (codes "gen") v
 
 -- the uses with one more, which may not be a second one
@@ -70,14 +81,16 @@ pub data Kind : Type 0 where
 
 abbrev pub name_kind : Text → Option Text → Kind
 name_kind name None =
-    if bytes_eq (codes "json") name then names json
+    if bytes_eq (codes "json") name then names (flag json)
     else if bytes_eq (codes "gen") name then wants
-    else if bytes_eq (codes "save") name then names save
+    else if bytes_eq (codes "save") name then names (flag save)
+    else if bytes_eq (codes "image") name then names (flag image)
     else unknown UnknownArgument
 name_kind name (Some v) =
     if bytes_eq (codes "json") name then unknown TooManyValues
     else if bytes_eq (codes "gen") name then names (gen v)
     else if bytes_eq (codes "save") name then unknown TooManyValues
+    else if bytes_eq (codes "image") name then unknown TooManyValues
     else unknown UnknownArgument
 
 abbrev pub short_kind : Option Text → Kind

@@ -13,9 +13,9 @@ use Rattle.clap.specs.declared.builder.value_parser.Reading.TheVariants.{AsWritt
 use Rattle.clap.specs.declared.error.kind.ErrorKind.{ErrorKind}
 use Rattle.clap.specs.declared.error.kind.ErrorKind.TheVariants.{ArgumentConflict, InvalidValue, UnknownArgument}
 use Rattle.clap.specs.declared.parser.matches.ValueSource.TheVariants.{CommandLine}
-use Rattle.iot_words.proofs.Uses.{Kind, Use, Wait, add, bind, by_kind, ends, gen, given, given_to, held, is_last, json, kind, names}
-use Rattle.iot_words.proofs.Uses.{nothing, plain}
-use Rattle.iot_words.proofs.Uses.{row, rule, save, settle, spelled, state, top, unknown, walk_at, wanting, wants}
+use Rattle.iot_words.proofs.Uses.{Kind, Use, Wait, add, bind, by_kind, ends, flag, gen, given, given_to, held, is_last, kind}
+use Rattle.iot_words.proofs.Uses.{name_of, names, nothing, plain}
+use Rattle.iot_words.proofs.Uses.{row, rule, settle, spelled, state, top, unknown, walk_at, wanting, wants}
 use Rattle.iot_words.proofs.TurnsLaws.{TurnIs, rules, turns}
 
 -- ---- first faults
@@ -73,27 +73,16 @@ holding rows = record { rows = rows; pending = None; skip = 0 }
 
 use-Agrees : (u : Use) (us : List Use) → Apart us
     → Agrees (add u us) (use_fault false (rule u) (given_to u) (map row us)) (holding (used (rule u) (given_to u) (map row us)))
-use-Agrees json us apart = go (has_row (codes "json") (map row us)) refl
+use-Agrees (flag f) us apart = go (has_row (name_of f) (map row us)) refl
   where
-    go : (again : Bool) → has_row (codes "json") (map row us) ≡ again
-        → Agrees (add json us) (use_fault false (rule json) (given_to json) (map row us))
-        (holding (used (rule json) (given_to json) (map row us)))
+    go : (again : Bool) → has_row (name_of f) (map row us) ≡ again
+        → Agrees (add (flag f) us) (use_fault false (rule (flag f)) (given_to (flag f)) (map row us))
+        (holding (used (rule (flag f)) (given_to (flag f)) (map row us)))
     go true e = rw e (some_kind ArgumentConflict [])
     go false e = rw e (
       refl,
-      ap holding (new_row (codes "json") (codes "true") (map row us) e ∙ sym (map-append row us (json ∷ []))),
-      add-Apart us json apart e,
-    )
-use-Agrees save us apart = go (has_row (codes "save") (map row us)) refl
-  where
-    go : (again : Bool) → has_row (codes "save") (map row us) ≡ again
-        → Agrees (add save us) (use_fault false (rule save) (given_to save) (map row us))
-        (holding (used (rule save) (given_to save) (map row us)))
-    go true e = rw e (some_kind ArgumentConflict [])
-    go false e = rw e (
-      refl,
-      ap holding (new_row (codes "save") (codes "true") (map row us) e ∙ sym (map-append row us (save ∷ []))),
-      add-Apart us save apart e,
+      ap holding (new_row (name_of f) (codes "true") (map row us) e ∙ sym (map-append row us (flag f ∷ []))),
+      add-Apart us (flag f) apart e,
     )
 use-Agrees (gen v) us apart = go (has_row (codes "gen") (map row us)) refl
   where

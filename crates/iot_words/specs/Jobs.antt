@@ -4,17 +4,19 @@ use Rattle.std.specs.List.{starts_with}
 use Rattle.std.specs.Str.{bytes_eq}
 use Rattle.iot_words.specs.Numbers.{number_of}
 use Rattle.iot_words.specs.declared.jobs.Job.{Job}
-use Rattle.iot_words.specs.declared.jobs.Job.TheVariants.{Transcript, Json, Generate, Save}
+use Rattle.iot_words.specs.declared.jobs.Job.TheVariants.{Run, Image}
+use Rattle.iot_words.specs.declared.jobs.Run.TheVariants.{Transcript, Json, Generate, Save}
 
 abbrev pub generate_of : List ℕ → Option Job
-generate_of text = option_map Generate (number_of text)
+generate_of text = option_map Run (option_map Generate (number_of text))
 
--- the words name one job or none: `--json`, `--save`, `--gen N` or `--gen=N`, each alone
+-- the words name one job or none: `--json`, `--save`, `--image`, `--gen N` or `--gen=N`, each alone
 abbrev pub named : List (List ℕ) → Option Job
-named [] = Some Transcript
+named [] = Some (Run Transcript)
 named (word ∷ []) =
-    if bytes_eq word (codes "--json") then Some Json
-    else if bytes_eq word (codes "--save") then Some Save
+    if bytes_eq word (codes "--json") then Some (Run Json)
+    else if bytes_eq word (codes "--save") then Some (Run Save)
+    else if bytes_eq word (codes "--image") then Some Image
     else if starts_with nat_eq word (codes "--gen=") then generate_of (drop 6 word)
     else None
 named (word ∷ number ∷ []) = if bytes_eq word (codes "--gen") then generate_of number else None
@@ -31,11 +33,10 @@ abbrev pub job_of : List (List ℕ) → Option Job
 job_of words = named (without_end words)
 
 -- the job, by which flags were given and the text that `--gen` was given
-abbrev pub chosen : (json save : Bool) → (text : Option (List ℕ)) → Option Job
-chosen false false None = Some Transcript
-chosen true false None = Some Json
-chosen false true None = Some Save
-chosen true true None = None
-chosen false false (Some text) = generate_of text
-chosen false true (Some text) = None
-chosen true save (Some text) = None
+abbrev pub chosen : (json save image : Bool) → (text : Option (List ℕ)) → Option Job
+chosen false false false None = Some (Run Transcript)
+chosen true false false None = Some (Run Json)
+chosen false true false None = Some (Run Save)
+chosen false false true None = Some Image
+chosen false false false (Some text) = generate_of text
+chosen json save image text = None

@@ -28,6 +28,7 @@ pub fn read_words(alloc: Global, words: &[&str]) -> Result<Job, WordsFault>
     match chosen(
         matches.get_flag("json"),
         matches.get_flag("save"),
+        matches.get_flag("image"),
         matches.get_str("gen"),
     ) {
         Some(job) => Ok(job),
@@ -46,12 +47,16 @@ fn command<'a>(alloc: Global) -> Result<Command<'a>, AllocError>
     let save = Arg::new(alloc, "save")
         .long("save")
         .action(ArgAction::SetTrue);
+    let image = Arg::new(alloc, "image")
+        .long("image")
+        .action(ArgAction::SetTrue);
     Command::new(alloc, "iot")
         .no_binary_name(true)
         .disable_help_flag(true)
         .arg(json)?
         .arg(number)?
-        .arg(save)
+        .arg(save)?
+        .arg(image)
 }
 
 /// The fault that a failed parse is.

@@ -7,28 +7,39 @@ use crate::numbers::number_of;
 /// What the program is asked to do.
 #[derive(Clone, Copy, Debug, PartialEq, Eq)]
 pub enum Job {
-    /// Do the events of the input, and write their transcript.
+    /// Do events, and write something of them.
+    Run(Run),
+
+    /// Write the tree and the log of the state for which the input stands, which is an image of a server's disk.
+    Image,
+}
+
+/// Which events are done, and what is written of them.
+#[derive(Clone, Copy, Debug, PartialEq, Eq)]
+pub enum Run {
+    /// Those of the input, and their transcript.
     Transcript,
 
-    /// Do the events of the input, and write the last state as JSON.
+    /// Those of the input, and the last state as JSON.
     Json,
 
-    /// Do the events of the text that is generated from this number, at most 1,000,000, and write a summary.
+    /// Those of the text that is generated from this number, at most 1,000,000, and a summary.
     Generate(u64),
 
-    /// Do the events of the input, and write the bytes of the server's disk.
+    /// Those of the input, and the bytes of the server's disk.
     Save,
 }
 
 /// The job, by which flags were given and the text that `--gen` was given.
-pub(crate) fn chosen(json: bool, save: bool, text: Option<&str>) -> Option<Job>
-    ensures { result ≡ chosen json save (option_map (λ s. s.now) text.entry) }
+pub(crate) fn chosen(json: bool, save: bool, image: bool, text: Option<&str>) -> Option<Job>
+    ensures { result ≡ chosen json save image (option_map (λ s. s.now) text.entry) }
 {
-    match (json, save, text) {
-        (false, false, None) => Some(Job::Transcript),
-        (true, false, None) => Some(Job::Json),
-        (false, true, None) => Some(Job::Save),
-        (false, false, Some(text)) => number_of(text).map(Job::Generate),
+    match (json, save, image, text) {
+        (false, false, false, None) => Some(Job::Run(Run::Transcript)),
+        (true, false, false, None) => Some(Job::Run(Run::Json)),
+        (false, true, false, None) => Some(Job::Run(Run::Save)),
+        (false, false, true, None) => Some(Job::Image),
+        (false, false, false, Some(text)) => number_of(text).map(Run::Generate).map(Job::Run),
         _ => None,
     }
 }

@@ -8,4 +8,4 @@ mod numbers;
 
 pub use command::read_words;
 pub use faults::WordsFault;
-pub use jobs::Job;
+pub use jobs::{Job, Run};

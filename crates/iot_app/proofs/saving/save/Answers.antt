@@ -1,6 +1,6 @@
 use Rattle.std.proofs.Common.{◌≡◌, ℕ, List, Vec, Global, map, ◌∙◌, slice_set}
 use Rattle.std.specs.Io.KnownBytes.{Appends}
-use Rattle.iot_words.specs.declared.jobs.Job.TheVariants.{Save}
+use Rattle.iot_words.specs.declared.jobs.Run.TheVariants.{Save}
 use Rattle.iot_world.specs.Disks.{counts_on}
 use Rattle.iot_app.specs.Keeping.{DisksKeep, DisksKeepUnread, DisksStay}
 use Rattle.iot_app.specs.Played.{Reported, DidFirst}
