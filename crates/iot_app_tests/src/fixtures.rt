@@ -19,6 +19,13 @@ use std::test::Fail;
 pub(crate) struct Failing {
     pub(crate) read: u64,
     pub(crate) write: u64,
+
+    /// This call of the sink takes nothing.
+    pub(crate) empty: u64,
+
+    /// The sink takes nothing after so many bytes.
+    pub(crate) room: usize,
+
     pub(crate) place: usize,
     pub(crate) device: u64,
     pub(crate) pick: Pick,
@@ -28,6 +35,8 @@ pub(crate) struct Failing {
 pub(crate) const NONE: Failing = Failing {
     read: 0,
     write: 0,
+    empty: 0,
+    room: 4096,
     place: 0,
     device: 0,
     pick: Pick::New,
@@ -54,7 +63,8 @@ pub(crate) fn ran(
     let reads = Vec::from_slice(alloc, &[failing.read])?;
     let mut source = MemSource::new(Vec::from_slice(alloc, input)?, reads);
     let writes = Vec::from_slice(alloc, &[failing.write])?;
-    let mut sink = MemSink::new(alloc, 4096, writes, Vec::new(alloc))?;
+    let empties = Vec::from_slice(alloc, &[failing.empty])?;
+    let mut sink = MemSink::new(alloc, failing.room, writes, empties)?;
     let disks = armed_disks(alloc, failing)?;
     let ended = run(alloc, words, &mut source, &mut sink, disks);
     Ok((ended, Vec::from_slice(alloc, sink.written())?))
@@ -83,9 +93,4 @@ pub(crate) fn client_on(alloc: Global, disk: Option<MemDisk>) -> Result<Client<M
         Ok(client) => Ok(client),
         Err(_) => Err(Fail::new("a client")),
     }
-}
-
-/// How many lines were written.
-pub(crate) fn lines_in(written: &[u8]) -> usize {
-    written.iter().filter(|byte| **byte == b'\n').count()
 }

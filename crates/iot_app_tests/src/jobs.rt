@@ -5,7 +5,7 @@ use std::test::Fail;
 
 /// What the server's disk has before any commit: the header; the cell in force, with generation 1 and the place 43; the other cell, closed;
 /// and at 43 a checkpoint with a body of 41 bytes, before and behind which there is no record: the root, no labels, and the root's stamp.
-const STARTED: &[u8] = b"\xa5IOTSLOT1\
+pub(crate) const STARTED: &[u8] = b"\xa5IOTSLOT1\
     \xa5\0\0\0\0\0\0\0\x01\0\0\0\0\0\0\0\x2b\
     \0\0\0\0\0\0\0\0\0\0\0\0\0\0\0\0\0\
     \0\0\0\0\0\0\0\x29\
@@ -16,9 +16,9 @@ const STARTED: &[u8] = b"\xa5IOTSLOT1\
     \0";
 
 /// What no events leave.
-const NOTHING: &[u8] = b"{\"clients\":[],\"commits\":[],\"server\":[[\"/\",\"dir\"]]}\n";
+pub(crate) const NOTHING: &[u8] = b"{\"clients\":[],\"commits\":[],\"server\":[[\"/\",\"dir\"]]}\n";
 
-const USAGE: &[u8] = b"usage: iot [--json | --gen N | --save | --image]\n";
+pub(crate) const USAGE: &[u8] = b"usage: iot [--json | --gen N | --save | --image]\n";
 
 /// A client that has crashed with a transaction that waits, and a server that is down.
 const DOWN: &[u8] = b"client laptop\nclient desk\nscript s {\necho a\n}\ndisconnect desk\n\
@@ -71,20 +71,6 @@ fn a_generated_run_is_summed_up_and_reads_nothing(rt: HostRuntime) -> Result<(),
         let (ended, written) = ran(rt.alloc(), b"no event", &words, failing)?;
         assert_eq!(rt; ended.status, 0);
         assert_eq!(rt; written.as_slice(), COUNTED);
-    }
-    Ok(())
-}
-
-#[test]
-fn a_job_that_fails_writes_nothing(rt: HostRuntime) -> Result<(), Fail> {
-    let read = Failing { read: 1, ..NONE };
-    let write = Failing { write: 1, ..NONE };
-    for words in ["--json", "--save"] {
-        for (failing, status) in [(read, 3), (write, 4)] {
-            let (ended, written) = ran(rt.alloc(), CRASH, &[words], failing)?;
-            assert_eq!(rt; ended.status, status);
-            assert!(rt; written.is_empty());
-        }
     }
     Ok(())
 }

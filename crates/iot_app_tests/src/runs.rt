@@ -1,5 +1,5 @@
-//! Runs on sources, sinks and disks that fail, and some on which nothing fails; and what nodes find on their disks after one.
-use crate::fixtures::{Failing, NONE, client_on, lines_in, ran, store_on};
+//! Runs on disks that fail, and some on which nothing fails; and what nodes find on their disks after one.
+use crate::fixtures::{Failing, NONE, client_on, ran, store_on};
 use iot_disk::{MemDisk, Pick};
 use iot_text::Path;
 use iot_tree::Kind;
@@ -167,28 +167,6 @@ fn a_transaction_waits_until_a_verdict_comes(rt: HostRuntime) -> Result<(), Fail
         let (ended, written) = ran(rt.alloc(), input, &[], NONE)?;
         assert_eq!(rt; ended.status, 0);
         assert_eq!(rt; written.as_slice(), says);
-    }
-    Ok(())
-}
-
-#[test]
-fn a_read_or_a_write_that_fails_ends_the_run(rt: HostRuntime) -> Result<(), Fail> {
-    let (plain, unknown): (&[&str], &[&str]) = (&[], &["--frob"]);
-    for (words, read, write, status, lines) in [
-        (plain, 1, 0, 3, 0),
-        (plain, 0, 1, 4, 0),
-        (plain, 0, 2, 4, 1),
-        (unknown, 1, 0, 2, 1),
-        (unknown, 0, 1, 4, 0),
-    ] {
-        let failing = Failing {
-            read,
-            write,
-            ..NONE
-        };
-        let (ended, written) = ran(rt.alloc(), CRASH, words, failing)?;
-        assert_eq!(rt; ended.status, status);
-        assert_eq!(rt; lines_in(&written), lines);
     }
     Ok(())
 }

@@ -31,3 +31,5 @@ mod slots;
 mod stamps;
 #[cfg(test)]
 mod trees;
+#[cfg(test)]
+mod views;

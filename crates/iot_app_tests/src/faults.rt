@@ -1,0 +1,162 @@
+//! Runs whose source or sink fails at each of their calls in turn: how they end, and what they have written by then.
+use crate::fixtures::{Failing, NONE, ran};
+use crate::jobs::{NOTHING, STARTED, USAGE};
+use std::alloc::Global;
+use std::process::Abort;
+use std::test::Fail;
+
+/// A transaction, and the server's tree.
+const ONE: &[u8] =
+    b"client laptop\nscript init {\nmkdir /src\nwrite /src/a \"one\\n\"\ncat /src/a\n}\nrun laptop init abort\nshow server\n";
+
+/// A transaction whose verdict is lost, and comes when it is submitted again.
+const TWO: &[u8] = b"client laptop\nclient desk\nscript init {\nmkdir /d\nwrite /d/n 1\n}\n\
+    run laptop init abort\nhoard laptop /d\nhoard desk /d\nscript two {\nwrite /d/n 2\n}\n\
+    begin laptop two abort\nstep laptop\nlose laptop reply\nend laptop\nconnect laptop\nsync laptop\n";
+
+/// Words and an input, how often it is read, what is written by each call, and the status. An input is read until a read gives nothing.
+const CASES: [(&[&str], &[u8], u64, &[&[u8]], u8); 5] = [
+    (
+        &[],
+        ONE,
+        2,
+        &[
+            b"client laptop\n",
+            b"end laptop.1\ncommit 1 laptop.1 certified\n|one\nsettled laptop.1 1\n",
+            b"dir /\ndir /src\nfile /src/a \"one\\n\"\n",
+        ],
+        0,
+    ),
+    (
+        &[],
+        TWO,
+        2,
+        &[
+            b"client laptop\n",
+            b"client desk\n",
+            b"end laptop.1\ncommit 1 laptop.1 certified\nsettled laptop.1 1\n",
+            b"hoard laptop /d\n",
+            b"hoard desk /d\n",
+            b"begin laptop.2 two first\n",
+            b"step laptop.2 1 acts, at end\n",
+            b"lose laptop reply\n",
+            b"end laptop.2\ncommit 2 laptop.2 certified\naway\npending laptop.2\n",
+            b"connect laptop\n",
+            b"settled laptop.2 2\n",
+        ],
+        0,
+    ),
+    (&["--json"], b"", 1, &[NOTHING], 0),
+    (&["--save"], b"", 1, &[STARTED], 0),
+    (&["--frob"], ONE, 0, &[USAGE], 2),
+];
+
+/// A run on this input whose calls fail so ends with this status, and has written this.
+fn ends(
+    rt: &impl Abort,
+    alloc: Global,
+    words: &[&str],
+    input: &[u8],
+    failing: Failing,
+    status: u8,
+    says: &[u8],
+) -> Result<(), Fail> {
+    let (ended, written) = ran(alloc, input, words, failing)?;
+    assert_eq!(rt; ended.status, status);
+    assert_eq!(rt; written.as_slice(), says);
+    Ok(())
+}
+
+/// All these texts, one after the other.
+fn joined(alloc: Global, texts: &[&[u8]]) -> Result<Vec<u8>, Fail> {
+    let mut whole = Vec::new(alloc);
+    for text in texts {
+        whole.extend_from_slice(text)?;
+    }
+    Ok(whole)
+}
+
+#[test]
+fn a_read_that_fails_ends_a_run(rt: HostRuntime) -> Result<(), Fail> {
+    let alloc = rt.alloc();
+    for (words, input, reads, texts, status) in CASES {
+        for before in 0..reads {
+            let failing = Failing {
+                read: before.wrapping_add(1),
+                ..NONE
+            };
+            ends(&rt, alloc, words, input, failing, 3, b"")?;
+        }
+
+        // No more reads are made.
+        let failing = Failing {
+            read: reads.wrapping_add(1),
+            ..NONE
+        };
+        let whole = joined(alloc, texts)?;
+        ends(&rt, alloc, words, input, failing, status, &whole)?;
+    }
+    Ok(())
+}
+
+#[test]
+fn a_write_that_fails_or_takes_nothing_ends_a_run(rt: HostRuntime) -> Result<(), Fail> {
+    let alloc = rt.alloc();
+    for (words, input, _, texts, status) in CASES {
+        for before in 0..texts.len() {
+            let call = (before as u64).wrapping_add(1);
+            let says = joined(alloc, &texts[..before])?;
+            let fails = Failing {
+                write: call,
+                ..NONE
+            };
+            ends(&rt, alloc, words, input, fails, 4, &says)?;
+            let empty = Failing {
+                empty: call,
+                ..NONE
+            };
+            ends(&rt, alloc, words, input, empty, 4, &says)?;
+        }
+
+        // No more writes are made.
+        let call = (texts.len() as u64).wrapping_add(1);
+        let failing = Failing {
+            write: call,
+            empty: call,
+            ..NONE
+        };
+        let whole = joined(alloc, texts)?;
+        ends(&rt, alloc, words, input, failing, status, &whole)?;
+    }
+    Ok(())
+}
+
+#[test]
+fn a_sink_that_is_full_ends_a_run(rt: HostRuntime) -> Result<(), Fail> {
+    let alloc = rt.alloc();
+    for (words, input, _, texts, status) in CASES {
+        let whole = joined(alloc, texts)?;
+        for room in 0..whole.len() {
+            ends(
+                &rt,
+                alloc,
+                words,
+                input,
+                Failing { room, ..NONE },
+                4,
+                &whole[..room],
+            )?;
+        }
+        let room = whole.len();
+        ends(
+            &rt,
+            alloc,
+            words,
+            input,
+            Failing { room, ..NONE },
+            status,
+            &whole,
+        )?;
+    }
+    Ok(())
+}
