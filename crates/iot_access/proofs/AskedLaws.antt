@@ -47,11 +47,6 @@ same_asked f g same (base ∷ bases) =
 -- ---- one base read more
 
 module _ (f g : Question → Bool) (base : Base) (rest : List Base) (noted : (q : Question) → g q ≡ or_asked f base.1.question q) where
-  pub asked_again : f base.1.question ≡ true → first_asked g rest ≡ first_asked f (base ∷ rest)
-  asked_again is =
-      same_asked g (or_asked f base.1.question) noted rest
-      ∙ sym (ap (λ (b : Bool). cons_unless b base (first_asked (or_asked f base.1.question) rest)) is)
-
   pub asked_first : f base.1.question ≡ false → base ∷ first_asked g rest ≡ first_asked f (base ∷ rest)
   asked_first is =
       ap (λ (bases : List Base). base ∷ bases) (same_asked g (or_asked f base.1.question) noted rest)

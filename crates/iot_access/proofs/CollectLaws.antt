@@ -31,11 +31,6 @@ zip_more (p ∷ places) [] place read rest even = absurd (omega (arith, even))
 zip_more (p ∷ places) (r ∷ reads) place read rest even =
     ap (λ (rest : List Base). (p, r) ∷ rest) (zip_more places reads place read rest (omega (arith, even)))
 
--- and one number more
-pub numbers_more : (places : List ℕ) (place : ℕ) → AreNumbers places → place < 2 ^ 64 → AreNumbers (places ++ place ∷ [])
-numbers_more [] place are is = (is, tt)
-numbers_more (first ∷ places) place are is = (are.0, numbers_more places place are.1 is)
-
 -- places beside their base reads are all of them
 places_beside : (places : List ℕ) (reads : List Read) → length places ≡ length reads → map (λ base. base.0) (zip places reads) ≡ places
 places_beside [] reads even = refl

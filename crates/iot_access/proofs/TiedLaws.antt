@@ -75,9 +75,6 @@ no_source o is = cc
 same_by : (a b c d : Nodes) (j k : Path) → get c j ≡ get a k → get d j ≡ get b k → SameKind a b k → SameKind c d j
 same_by a b c d j k left right same = ap row_kind left ∙ same ∙ sym (ap row_kind right)
 
-kind_of_row : (a b : Option Node) → a ≡ b → row_kind a ≡ row_kind b
-kind_of_row a b is = ap row_kind is
-
 iff_by : (a b c d : Nodes) (j k : Path) (G : Type 0) → get c j ≡ get a k → get d j ≡ get b k → SameKind a b k ↔ G → SameKind c d j ↔ G
 iff_by a b c d j k G left right iff = (
   (λ same. iff.0 (same_by c d a b k j (sym left) (sym right) same)),

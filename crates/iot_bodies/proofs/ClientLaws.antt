@@ -6,9 +6,9 @@ use Rattle.iot_tree.specs.Tree.{Nodes}
 use Rattle.iot_tree.specs.declared.acts.Act.{Act}
 use Rattle.iot_tree.specs.declared.labels.OnConflict.{OnConflict}
 use Rattle.iot_codec.specs.Places.{LiesAt, IsSpelling}
-use Rattle.iot_codec.specs.Decoders.{Decoder, done, number_at, list_at}
-use Rattle.iot_codec.specs.Decoding.{name_at, option_at, acts_at, tree_at}
-use Rattle.iot_codec.specs.Rules.{IsNumber, IsOption, AreActs, IsTreeOfRows}
+use Rattle.iot_views.specs.Decoders.{Decoder, done, number_at, list_at}
+use Rattle.iot_views.specs.Decoding.{name_at, option_at, acts_at, tree_at}
+use Rattle.iot_views.specs.Rules.{IsNumber, IsOption, AreActs, IsTreeOfRows}
 use Rattle.iot_codec.specs.Spelling.{number_spelling, name_spelling, option_spelling, acts_spelling, list_spelling, tree_spelling}
 use Rattle.iot_codec.specs.Laws.Fields.{last_field, next_field, all_fields}
 use Rattle.iot_codec.specs.Laws.Lists.{list_laws}

@@ -4,9 +4,9 @@ use Rattle.std.specs.List.{AllByRecursion}
 use Rattle.iot_tree.specs.Tree.{Nodes}
 use Rattle.iot_tree.specs.declared.labels.Label.{Label}
 use Rattle.iot_codec.specs.Places.{IsSpelling}
-use Rattle.iot_codec.specs.Decoders.{number_at, list_at}
-use Rattle.iot_codec.specs.Decoding.{tree_at, label_at}
-use Rattle.iot_codec.specs.Rules.{IsNumber, IsLabel, IsTreeOfRows}
+use Rattle.iot_views.specs.Decoders.{number_at, list_at}
+use Rattle.iot_views.specs.Decoding.{tree_at, label_at}
+use Rattle.iot_views.specs.Rules.{IsNumber, IsLabel, IsTreeOfRows}
 use Rattle.iot_codec.specs.Spelling.{number_spelling, label_spelling, list_spelling, tree_spelling}
 use Rattle.iot_codec.specs.Laws.Fields.{last_field, next_field, all_fields}
 use Rattle.iot_codec.specs.Laws.Labels.{label_laws}

@@ -17,7 +17,7 @@ use Rattle.iot_tree.proofs.EachLaws.{EachNode, found_row, each_entry, each_inser
 use Rattle.iot_tree.proofs.RowLaws.{root_rows, root_map}
 use Rattle.iot_tree.proofs.UpdateLaws.{tree_updated}
 use Rattle.iot_access.specs.Access.{FitInTurn, after_updates}
-use Rattle.iot_codec.specs.Rules.{AreUpdates, IsNode, IsRow, IsTreeOfRows, IsUpdate}
+use Rattle.iot_views.specs.Rules.{AreUpdates, IsNode, IsRow, IsTreeOfRows, IsUpdate}
 
 abbrev IsRowAt : Path → Node → Type 0
 IsRowAt path node = IsRow (path, node)

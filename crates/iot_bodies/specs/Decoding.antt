@@ -2,8 +2,8 @@
 use Rattle.std.specs.Prelude.{[], ◌∷◌, Option, Some, None}
 use Rattle.iot_tree.specs.declared.access.Access.{Access}
 use Rattle.iot_access.specs.Access.{no_access}
-use Rattle.iot_codec.specs.Decoders.{Decoder, ◌>>=◌, done, number_at, list_at, tagged}
-use Rattle.iot_codec.specs.Decoding.{access_at, name_at, option_at, budget_at, acts_at, tree_at, label_at}
+use Rattle.iot_views.specs.Decoders.{Decoder, ◌>>=◌, done, number_at, list_at, tagged}
+use Rattle.iot_views.specs.Decoding.{access_at, name_at, option_at, budget_at, acts_at, tree_at, label_at}
 use Rattle.iot_queue.specs.declared.items.Stage.{Stage}
 use Rattle.iot_queue.specs.declared.items.Stage.TheVariants.{Waiting as Waits, Conflict, Manual, Resolved}
 use Rattle.iot_changes.specs.Decoding.{resolution_at}

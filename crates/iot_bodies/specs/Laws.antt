@@ -6,9 +6,9 @@ use Rattle.iot_tree.specs.declared.acts.Act.{Act}
 use Rattle.iot_tree.specs.declared.labels.OnConflict.{OnConflict}
 use Rattle.iot_access.specs.Access.{no_access}
 use Rattle.iot_codec.specs.Places.{LiesAt, IsSpelling}
-use Rattle.iot_codec.specs.Decoders.{Decoder, done, number_at}
-use Rattle.iot_codec.specs.Decoding.{access_at, name_at, option_at, budget_at, acts_at}
-use Rattle.iot_codec.specs.Rules.{IsAccess, IsNumber, IsOption, IsBudget, AreActs}
+use Rattle.iot_views.specs.Decoders.{Decoder, done, number_at}
+use Rattle.iot_views.specs.Decoding.{access_at, name_at, option_at, budget_at, acts_at}
+use Rattle.iot_views.specs.Rules.{IsAccess, IsNumber, IsOption, IsBudget, AreActs}
 use Rattle.iot_codec.specs.Spelling.{number_spelling, name_spelling, option_spelling, access_spelling, acts_spelling}
 use Rattle.iot_codec.specs.Laws.Bases.{access_laws}
 use Rattle.iot_codec.specs.Laws.Fields.{last_field, next_field, all_fields}

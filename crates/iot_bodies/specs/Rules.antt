@@ -6,7 +6,7 @@ use Rattle.iot_tree.specs.declared.access.Access.{Access}
 use Rattle.iot_tree.specs.declared.acts.Act.{Act}
 use Rattle.iot_tree.specs.declared.labels.OnConflict.{OnConflict}
 use Rattle.iot_access.specs.Access.{no_access}
-use Rattle.iot_codec.specs.Rules.{IsAccess, IsNumber, IsLabel, IsOption, IsBudget, AreActs, IsTreeOfRows}
+use Rattle.iot_views.specs.Rules.{IsAccess, IsNumber, IsLabel, IsOption, IsBudget, AreActs, IsTreeOfRows}
 use Rattle.iot_queue.specs.declared.items.Item.{Item}
 use Rattle.iot_queue.specs.declared.items.Stage.{Stage}
 use Rattle.iot_queue.specs.declared.items.Stage.TheVariants.{Waiting as Waits, Conflict, Manual, Resolved}

@@ -2,9 +2,9 @@
 use Rattle.std.proofs.Common.{◌≡◌, ℕ, ◌<◌, ◌^◌, List, [], ◌++◌, length, Ok, refl, ◌∙◌, arith}
 use Rattle.iot_text.specs.Names.{IsName}
 use Rattle.iot_codec.specs.Places.{LiesAt, IsSpelling}
-use Rattle.iot_codec.specs.Decoders.{done, number_at}
-use Rattle.iot_codec.specs.Decoding.{access_at, name_at, option_at, act_at, tree_at}
-use Rattle.iot_codec.specs.Rules.{IsAccess, IsNumber, IsOption, IsAct, IsTreeOfRows}
+use Rattle.iot_views.specs.Decoders.{done, number_at}
+use Rattle.iot_views.specs.Decoding.{access_at, name_at, option_at, act_at, tree_at}
+use Rattle.iot_views.specs.Rules.{IsAccess, IsNumber, IsOption, IsAct, IsTreeOfRows}
 use Rattle.iot_codec.specs.Spelling.{access_spelling, number_spelling, name_spelling, option_spelling, act_spelling, tree_spelling}
 use Rattle.iot_codec.specs.Laws.Bases.{access_laws}
 use Rattle.iot_codec.specs.Laws.Options.{option_laws}

@@ -4,8 +4,8 @@ use Rattle.iot_text.specs.Names.{IsName}
 use Rattle.iot_tree.specs.declared.acts.Act.{Act}
 use Rattle.iot_queue.specs.declared.items.Resolution.{Resolution}
 use Rattle.iot_codec.specs.Places.{IsSpelling}
-use Rattle.iot_codec.specs.Decoding.{name_at, budget_at, files_at, acts_at}
-use Rattle.iot_codec.specs.Rules.{IsBudget, AreFiles, AreActs}
+use Rattle.iot_views.specs.Decoding.{name_at, budget_at, files_at, acts_at}
+use Rattle.iot_views.specs.Rules.{IsBudget, AreFiles, AreActs}
 use Rattle.iot_codec.specs.Spelling.{number_spelling, name_spelling, files_spelling, acts_spelling}
 use Rattle.iot_codec.specs.Laws.Fields.{last_field, next_field, all_fields}
 use Rattle.iot_codec.specs.Laws.Options.{budget_laws}

@@ -1,8 +1,8 @@
 -- Decoding changes, with the first fault from the left.
 use Rattle.std.specs.Prelude.{ℕ, List, [], ◌∷◌}
 use Rattle.iot_queue.specs.declared.items.Resolution.{Resolution}
-use Rattle.iot_codec.specs.Decoders.{Decoder, ◌>>=◌, done, number_at, tagged}
-use Rattle.iot_codec.specs.Decoding.{access_at, name_at, option_at, budget_at, files_at, acts_at, act_at, tree_at}
+use Rattle.iot_views.specs.Decoders.{Decoder, ◌>>=◌, done, number_at, tagged}
+use Rattle.iot_views.specs.Decoding.{access_at, name_at, option_at, budget_at, files_at, acts_at, act_at, tree_at}
 use Rattle.iot_changes.specs.declared.changes.Change.{Change}
 use Rattle.iot_changes.specs.declared.changes.Change.TheVariants.{Held, Begun, Fetched, Acted, Ended, Cut, Conflicted, Resolved}
 use Rattle.iot_changes.specs.declared.changes.Change.TheVariants.{Repaired, Left}

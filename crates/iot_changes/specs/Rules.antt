@@ -1,7 +1,7 @@
 -- Which changes have a spelling.
 use Rattle.iot_queue.specs.declared.items.Resolution.{Resolution}
 use Rattle.iot_text.specs.Names.{IsName}
-use Rattle.iot_codec.specs.Rules.{IsAccess, IsNumber, IsOption, IsBudget, AreFiles, AreActs, IsAct, IsTreeOfRows}
+use Rattle.iot_views.specs.Rules.{IsAccess, IsNumber, IsOption, IsBudget, AreFiles, AreActs, IsAct, IsTreeOfRows}
 use Rattle.iot_changes.specs.declared.changes.Change.{Change}
 use Rattle.iot_changes.specs.declared.changes.Change.TheVariants.{Held, Begun, Fetched, Acted, Ended, Cut, Conflicted, Resolved}
 use Rattle.iot_changes.specs.declared.changes.Change.TheVariants.{Repaired, Left}

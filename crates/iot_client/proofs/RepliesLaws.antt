@@ -5,7 +5,7 @@ use Rattle.iot_queue.specs.declared.items.Item.{Item}
 use Rattle.iot_stamp.specs.Stamps.{Stamps, nodes_of}
 use Rattle.iot_tree.specs.Tree.{Nodes, IsTree, root_alone}
 use Rattle.iot_tree.specs.declared.nodes.Node.TheVariants.{FarDir}
-use Rattle.iot_codec.specs.Rules.{IsTreeOfRows}
+use Rattle.iot_views.specs.Rules.{IsTreeOfRows}
 use Rattle.iot_stamp.proofs.StampsLaws.{nodes_with}
 use Rattle.iot_kept.proofs.BringingLaws.{brought_spelled}
 use Rattle.iot_kept.proofs.SpelledLaws.{far_root_rows}
@@ -34,11 +34,6 @@ only_objects bytes short changes is = ap objects (whole_again _ _ _ reply_laws b
 
 pub only_noted : (bytes : List ℕ) → length bytes < 2 ^ 64 → ReadsNoted bytes
 only_noted bytes short said is = ap noted (whole_again _ _ _ reply_laws bytes said short is)
-
--- a change that brings a tree says nothing of stamps
-pub tells_nothing : (purpose : Purpose) (t : Nodes) (items : List Item) (old new : Stamps) → StampsBy (brought_for purpose t) items old new
-tells_nothing Hold t items old new = tt
-tells_nothing Fetch t items old new = tt
 
 -- ---- how a call ends
 

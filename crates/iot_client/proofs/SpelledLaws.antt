@@ -21,7 +21,7 @@ use Rattle.iot_tree.specs.declared.nodes.Node.TheVariants.{Dir, File, FarDir, Fa
 use Rattle.iot_tree.proofs.EachLaws.{each_entry, found_row}
 use Rattle.iot_acts.specs.Guards.{AllGuarded}
 use Rattle.iot_acts.specs.Traces.{ActsHold, after_update, after_acts}
-use Rattle.iot_codec.specs.Rules.{IsContents, AreRising, IsNode, IsRow, IsOption, IsAct, IsTreeOfRows}
+use Rattle.iot_views.specs.Rules.{IsContents, AreRising, IsNode, IsRow, IsOption, IsAct, IsTreeOfRows}
 use Rattle.iot_lang.specs.Code.{Code}
 use Rattle.iot_lang.specs.Scripts.{IsScript}
 use Rattle.iot_exec.specs.Commands.{Kept, kept_files}
@@ -34,6 +34,7 @@ use Rattle.iot_exec.specs.declared.ran.Ran.{Ran}
 use Rattle.iot_exec.proofs.FindingLaws.{are_found}
 use Rattle.iot_exec.proofs.PlaceLaws.{exec_from_start}
 use Rattle.iot_limits.specs.Spelled.{IsSpelledNode, IsSpelledRow, IsSpelledTree, AreSpelledFiles}
+use Rattle.iot_limits.proofs.TreesLaws.{tree_spelled}
 use Rattle.iot_limits.proofs.SpelledLaws.{run_is_spelled, no_files_are_spelled}
 use Rattle.iot_queue.specs.Queues.{head_of}
 use Rattle.iot_queue.specs.declared.items.Item.{Item}
@@ -54,26 +55,6 @@ use Rattle.iot_client.specs.Ties.{IsRun, IsRunIfAny}
 use Rattle.iot_client.specs.declared.interpreter.Done.{Done}
 use Rattle.iot_client.specs.declared.interpreter.Interpreter.{Interpreter}
 use Rattle.iot_client.proofs.TiesLaws.{RunsIn}
-
--- ---- trees whose rows have spellings
-
-abbrev IsRowAt : Path → Node → Type 0
-IsRowAt path node = IsRow (path, node)
-
-node_spelled : (node : Node) → IsNode node → IsSpelledNode node
-node_spelled Dir is = tt
-node_spelled (File bytes) is = is
-node_spelled FarDir is = tt
-node_spelled FarFile is = tt
-
-row_spelled : (path : Path) (node : Node) → IsRowAt path node → IsSpelledRow path node
-row_spelled path node row = record { is_path = row.0; is_node = node_spelled node row.1 }
-
-pub tree_spelled : (t : Nodes) → IsTreeOfRows t → IsSpelledTree t
-tree_spelled t rows = record {
-  each = λ path node has.
-      row_spelled path node (found_row IsRowAt (entries t) rows.each path node (sym (get-entries t path) ∙ has));
-}
 
 pub items_rows : (items : List Item) (t : Nodes) → AreSpelledItems items → EachHold t items → IsTreeOfRows t
     → IsTreeOfRows (after_each t items)

@@ -67,9 +67,6 @@ pub not_idle : (running : Option Transaction) → None ≡ idle running → IsSo
 not_idle None is = absurd cc
 not_idle (Some running) is = refl
 
-pub not_full : (n : ℕ) (full : Bool) → (IsTrue full ↔ (ACT_LIMIT ≤ n)) → full ≡ false → n < ACT_LIMIT
-not_full n full iff is = grind (arith, nat_tests)
-
 not_begun : (running : Option Transaction) → IsSome running → IsBegunIfAny running None → ⊥
 not_begun None some begun = absurd cc
 not_begun (Some running) some begun = begun

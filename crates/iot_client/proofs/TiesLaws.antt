@@ -76,11 +76,6 @@ pub runs_held : (state : State) (class : Option Bool) (i : Option Interpreter) (
     → RunsIn state class i → RunsIn (after state (Held tree)) class i
 runs_held state class i tree follows runs = none_runs state.running state (after state (Held tree)) class i follows.0 runs
 
-pub none_lives : (running : Option Transaction) (state : State) (class : Option Bool) (i : Option Interpreter) → running ≡ None
-    → IsRunIfAny state running class i → live class i ≡ None
-none_lives None state class i is runs = ap (λ (class : Option Bool). live class i) runs.0
-none_lives (Some running) state class i is runs = absurd cc
-
 pub runs_begun : (state : State) (number : ℕ) (script : List ℕ) (option : OnConflict) (first : Bool) (code : Code) (new : Interpreter)
     → new.script.value ≡ code → Starts code new → IsScript code → (first ≡ true → state.items ≡ [])
     → RunsIn (after state (Begun number script option)) (Some first) (Some new)
@@ -125,13 +120,6 @@ runs_fetched state class i j tree follows runs again =
     again_runs state.running state (after state (Fetched tree)) class i j follows.0 runs again
     (ap (after_acts (after_each tree state.items)) (none_done state.running)) follows.1
 
-pub lives_again : (class : Option Bool) (i j : Option Interpreter) → IsAgainIfAny i j → live class j ≡ live class i
-lives_again None i j again = refl
-lives_again (Some first) None None again = refl
-lives_again (Some first) None (Some j) again = absurd again
-lives_again (Some first) (Some i) None again = absurd again
-lives_again (Some first) (Some i) (Some j) again = ap (λ (code : Code). Some (record { first = first; code = code })) again.same
-
 -- ---- an act
 
 one_more : (running : Transaction) (a : State) (first : Bool) (i j : Interpreter) (done : Done) → IsRun a running first i
@@ -169,9 +157,6 @@ runs_acted state class i j done follows runs did =
     acted_runs state.running state class i j done follows.0 follows.1 runs did (view_after state (Acted done.act) follows)
 
 -- ---- the end, and a cut
-
-pub runs_ended : (state : State) → RunsIn (after state Ended) None None
-runs_ended state = (refl, refl)
 
 pub runs_cut : (state : State) → RunsIn (after state Cut) None None
 runs_cut state = (refl, refl)
@@ -296,9 +281,3 @@ class_is (Some running) state None None runs = absurd cc
 class_is (Some running) state (Some first) None runs = runs
 class_is (Some running) state None (Some i) runs = absurd cc
 class_is (Some running) state (Some first) (Some i) runs = refl
-
--- what a start finds runs without one
-pub found_runs : (running : Option Running) (state : State) → IsSecond (class_of running)
-    → IsRunIfAny state (transaction_of running) (class_of running) None
-found_runs None state second = (refl, refl)
-found_runs (Some running) state second = ap Some second

@@ -151,8 +151,8 @@ pub record Notes {D : Type 0} (change : Change) (old new : Client D) : Type 0 wh
 abbrev pub Stays : {D : Type 0} → Medium D → (old new : Client D) → Type 0
 Stays medium old new = EachStands (medium.may_leave (disk_of new)) (records_of old) (state_of old)
 
--- a call was stopped while it appended the record of this change, which has a spelling and could follow: each image stands for the state
--- before, with so many records, or for the one after it, with one more
+-- a call was stopped while it appended the record of this change, or made a checkpoint before it; the change has a spelling and could
+-- follow. Each image stands for the state before, with so many records, or for the one after it, with one more.
 pub record CutsOff (change : Change) (state : State) (records : ℕ) (images : List ℕ → Type 0) : Type 0 where
   pub spelled : IsChange change
   pub follows : CanFollow state change

@@ -17,7 +17,7 @@ use std::alloc::Global;
 impl<D: Disk> Client<D> {
     ghost use Rattle.iot_client.specs.Ties.{state_of, disk_of, records_of, class_in, live_of, IsTied};
 
-    /// Makes a change that can follow: appends its record first.
+    /// Makes a change that can follow, and appends its record.
     pub(crate) fn note(&mut self, alloc: Global, change: Change) -> Result<(), ClientFault>
         requires synced { IsSynced D.medium self.old.kept }
         requires change { IsChange change }

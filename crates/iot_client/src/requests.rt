@@ -4,7 +4,7 @@ ghost use Rattle.std.specs.List.{AllByRecursion};
 ghost use Rattle.iot_access.specs.Access.{lines_of};
 ghost use Rattle.iot_acts.specs.Guards.{AllGuarded};
 ghost use Rattle.iot_acts.specs.Traces.{ActsHold};
-ghost use Rattle.iot_codec.specs.Rules.{AreKnown, IsAccess, IsAct, IsLabel, IsTreeOfRows, IsWant};
+ghost use Rattle.iot_views.specs.Rules.{AreKnown, IsAccess, IsAct, IsLabel, IsTreeOfRows, IsWant};
 ghost use Rattle.iot_stamp.specs.Refresh.{known_with_stamps};
 ghost use Rattle.iot_stamp.specs.Stamps.{Stamps};
 ghost use Rattle.iot_changes.specs.Rules.{IsResolution};

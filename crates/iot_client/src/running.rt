@@ -1,6 +1,6 @@
 //! The calls on the transaction that runs.
 ghost use Rattle.std.specs.Prelude.{◌≡◌, ◌≤◌, ◌+◌, Bool, [], true, None, Some, IsSome, IfOk, IfErr, OnOk, IfSome, IfNone, IsErrOf};
-ghost use Rattle.iot_codec.specs.Rules.{IsOption};
+ghost use Rattle.iot_views.specs.Rules.{IsOption};
 ghost use Rattle.iot_text.specs.Names.{IsName};
 ghost use Rattle.iot_kept.specs.Changes.{CanFollow};
 ghost use Rattle.iot_kept.specs.States.{view};

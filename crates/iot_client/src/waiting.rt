@@ -3,7 +3,7 @@ ghost use Rattle.std.specs.Prelude.{◌≡◌, ◌≤◌, Ok, IfOk, IfErr, OnOk,
 ghost use Rattle.iot_acts.specs.Guards.{AllGuarded};
 ghost use Rattle.iot_acts.specs.Traces.{ActsHold, after_acts};
 ghost use Rattle.iot_changes.specs.Rules.{IsResolution};
-ghost use Rattle.iot_codec.specs.Rules.{IsTreeOfRows};
+ghost use Rattle.iot_views.specs.Rules.{IsTreeOfRows};
 ghost use Rattle.iot_stamp.specs.Acting.{UpdatesFit};
 ghost use Rattle.iot_kept.specs.Changes.{HeadIs, IsSubmitted};
 ghost use Rattle.iot_kept.specs.States.{view};

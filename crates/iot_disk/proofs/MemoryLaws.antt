@@ -122,16 +122,6 @@ module _ (written bytes : List ℕ) (marks : List Bool) (at : ℕ)
     from = λ image left. (origin synced image left, origin_image synced image left, origin_torn synced image left);
   }
 
--- bytes that are all synced are sound
-pub sound_synced : (bytes : List ℕ) → length bytes ≤ 2 ^ 62 → IsSound bytes bytes (replicate (length bytes) false)
-sound_synced bytes limit = record {
-  marks = length-replicate (length bytes) false;
-  limit = limit;
-  grown = omega arith;
-  alike = λ k below clean. refl;
-  past = λ k past below. absurd (omega arith);
-}
-
 -- and the only image
 pub only_synced : (bytes : List ℕ) → Only bytes (IsImage bytes bytes (replicate (length bytes) false))
 only_synced bytes = record {
@@ -151,13 +141,6 @@ get_or-filled_clean byte [] bytes k clean = refl
 get_or-filled_clean byte (mark ∷ marks) [] k clean = refl
 get_or-filled_clean byte (mark ∷ marks) (x ∷ bytes) zero clean = ap (λ (b : Bool). cond b byte x) clean
 get_or-filled_clean byte (mark ∷ marks) (x ∷ bytes) (suc k) clean = get_or-filled_clean byte marks bytes k clean
-
-pub length-picked : (pick : Option Pick) (written synced : List ℕ) (marks : List Bool) → length synced ≤ length written →
-    length (picked pick written synced marks) ≤ length written
-length-picked None written synced marks grown = omega arith
-length-picked (Some Old) written synced marks grown = grown
-length-picked (Some New) written synced marks grown = omega arith
-length-picked (Some (Fill byte)) written synced marks grown = omega (arith, length-filled byte marks written)
 
 -- what a restart leaves is an image
 pub picked_image : (pick : Option Pick) (written synced : List ℕ) (marks : List Bool) → IsSound written synced marks →

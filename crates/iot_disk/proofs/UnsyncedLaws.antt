@@ -81,13 +81,6 @@ module _ (marks cleared : List Bool) (a e : ℕ) (ordered : a ≤ e) (inside : e
         subst (λ (l : List Bool). AreAlike l (replaced synced a e copied) written) marks_are
         (subst (λ (l : List ℕ). AreAlike now l written) synced_is alike_over)
 
--- once a span is synced, the marks that are left lie in the others
-pub hold_step : (span rest : Span) (spans : List Span) (old new : List Bool) →
-    Hold (span ∷ spans) rest old → Clears span old new → Hold spans rest new
-hold_step span rest spans old new hold gone = record {
-  each = λ k h. elim (hold.each k (gone.other k h)) [ inl within ↦ absurd (gone.gone k h within) | inr other ↦ other ];
-}
-
 -- once the rest is synced too, none is left
 pub none_left : (rest : Span) (old new : List Bool) → Hold [] rest old → Clears rest old new → (k : ℕ) → is_marked new k ≡ false
 none_left rest old new hold gone k = false_from_ne_true (is_marked new k) (λ h. gone.gone k h (hold.each k (gone.other k h)))

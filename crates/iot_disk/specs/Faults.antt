@@ -1,4 +1,4 @@
--- What a journal answers when its disk fails.
+-- What a start and an append answer when their disk fails.
 use Rattle.std.specs.Prelude.{ℕ, Result, Ok, Err}
 use Rattle.iot_count.specs.Counts.{Rose, Stayed}
 use Rattle.iot_disk.specs.declared.disk.DiskFault.{DiskFault}

@@ -1,4 +1,4 @@
-//! How the start and the append of a journal end if they do not succeed.
+//! How a start and an append end if they do not succeed.
 ghost use Rattle.std.specs.Prelude.{◌≡◌};
 ghost use Rattle.iot_disk.specs.Faults.{start_fault_of, journal_fault_of};
 ghost use Rattle.iot_disk.specs.declared.faults.StartFault.TheVariants.{NoMemory as StartNoMemory};
@@ -8,7 +8,7 @@ use crate::DiskFault;
 use std::alloc::AllocError;
 use thiserror::Error;
 
-/// Why a start gives no journal.
+/// Why a start gives nothing.
 #[derive(Clone, Copy, Debug, PartialEq, Eq, Error)]
 pub enum StartFault {
     #[error("out of memory")]
@@ -17,14 +17,14 @@ pub enum StartFault {
     #[error("the disk failed")]
     Stopped,
     /// Something else wrote the disk.
-    #[error("no journal of this program")]
+    #[error("no disk of this program")]
     Foreign,
-    /// A record that counts is no record, or cannot follow the ones before it. `at` is the place of its gate.
+    /// A cell, a checkpoint or a record is cut short, spells nothing, or cannot follow what comes before it. `at` is where.
     #[error("damaged at {at}")]
     Damaged { at: u64 },
 }
 
-/// Why it is not certain that a record was appended.
+/// Why a record or a checkpoint may not be on the disk.
 #[derive(Clone, Copy, Debug, PartialEq, Eq, Error)]
 pub enum JournalFault {
     #[error("out of memory")]

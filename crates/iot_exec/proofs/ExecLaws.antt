@@ -89,10 +89,6 @@ miss_is kept t s rest frames env done code is was =
     ∙ at_statement s rest frames env in
     ap (λ (act : Act). first_away act.reads) (sym was.act) ∙ ap (λ place. next_miss kept place t) (sym placed)
 
-pub no_miss : (kept : Kept) (t : Nodes) (frames : List Frame) (env : Env) (code : Code) → code ≡ End
-    → None ≡ next_miss kept (place_at code frames env) t
-no_miss kept t frames env code is = ap (λ code. next_miss kept (place_at code frames env) t) (sym is)
-
 -- one act more of the run
 pub runs_on : (script : Code) (kept : Kept) (t0 : Nodes) (n : ℕ) (acts : List Act) (place : Place) (t : Nodes) (act : Act) (after : Place)
     (u : Nodes)
@@ -112,14 +108,6 @@ runs_on script kept t0 n acts (At code frames env) t act after u is next =
     (sym next.tree) more))
 
 -- ---- the first question that is answered `Away`
-
-pub next_read : (reads : List Read) (i : ℕ) (read : Read) (away : Bool) → i < length reads → read ≡ get_or reads i read
-    → is_away read.answer ≡ away
-    → first_away (drop i reads) ≡ (if away then Some (path_of_question read.question) else first_away (drop (i + 1) reads))
-next_read reads i read away lt is test =
-    let front : drop i reads
-    ≡ read ∷ drop (i + 1) reads = rw add-one (drop-cons reads i read lt ∙ ap (λ (read : Read). read ∷ drop (suc i) reads) (sym is)) in
-    ap first_away front ∙ ap (λ away. if away then Some (path_of_question read.question) else first_away (drop (i + 1) reads)) test
 
 pub no_read : (reads : List Read) (i : ℕ) → length reads ≤ i → first_away (drop i reads) ≡ None
 no_read reads i over = ap first_away (drop_past reads i over)

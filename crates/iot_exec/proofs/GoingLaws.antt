@@ -128,50 +128,6 @@ module _ (kept : Kept) (t : Nodes) (variable : List ℕ) (path : List Piece) (bo
   abbrev begin : Turns → Place
   begin turns = reached (Again variable turns.names body ∷ Rest rest ∷ frames) turns.env
 
-  looped : perform t (mapped (going_on begin) (plan_of_loop env path))
-      ≡ with_result (λ names. going_on begin (loop_ending env names)) (perform t (turns env path))
-  looped =
-      perform-mapped (going_on begin) (plan_of_loop env path) t
-      ∙ ap (with_result (going_on begin)) (perform-mapped (loop_ending env) (turns env path) t)
-
-  loop_act : (reads : List Read) (names : Result (List (List ℕ)) Refusal)
-      → act_of (record { reads = reads; result = going_on begin (loop_ending env names) }) ≡ (loop_done variable reads names).act
-  loop_act reads (Ok names) = refl
-  loop_act reads (Err refusal) = refl
-
-  loop_place : (reads : List Read) (names : Result (List (List ℕ)) Refusal)
-      → (going_on begin (loop_ending env names)).result
-      ≡ goes_to (For variable path body rest) frames env (loop_done variable reads names).goes
-  loop_place reads (Ok names) = refl
-  loop_place reads (Err refusal) = refl
-
-  pub loop_done_is : (done : Done) → done ≡ loop_done variable (perform t (turns env path)).reads (perform t (turns env path)).result
-      → IsDone kept t (statements.For variable path body) rest frames env done
-  loop_done_is done is =
-      subst (λ (done : Done). IsDone kept t (statements.For variable path body) rest frames env done) (sym is)
-      (record {
-        act = ap act_of looped ∙ loop_act (perform t (turns env path)).reads (perform t (turns env path)).result;
-        place =
-            ap (λ (performed : Performed (Effect Place)). performed.result.result) looped
-            ∙ loop_place (perform t (turns env path)).reads (perform t (turns env path)).result;
-      })
-
--- what the calls find
-pub condition_came : (a b : Asking) (env : Env) (condition : Cond) (holds : Bool) (t : Nodes)
-    → Leads a (truth env condition) b (Ended holds) → a.reads ≡ [] → a.tree.now ≡ t
-    → record { act = silent_act b.reads; goes = Branches holds } ≡ branch_done (perform t (truth env condition))
-condition_came a b env condition holds t leads none tree =
-    ap branch_done (sym (came_to a b (truth env condition) holds leads none))
-    ∙ ap (λ (t : Nodes). branch_done (perform t (truth env condition))) tree
-
-pub loop_came : (a b : Asking) (env : Env) (variable : List ℕ) (path : List Piece) (names : Result (List (List ℕ)) Refusal) (t : Nodes)
-    → Leads a (turns env path) b (Ended names) → a.reads ≡ [] → a.tree.now ≡ t
-    → loop_done variable b.reads names ≡ loop_done variable (perform t (turns env path)).reads (perform t (turns env path)).result
-loop_came a b env variable path names t leads none tree =
-    ap (λ (performed : Performed (Result (List (List ℕ)) Refusal)). loop_done variable performed.reads performed.result)
-    (sym (came_to a b (turns env path) names leads none))
-    ∙ ap (λ (t : Nodes). loop_done variable (perform t (turns env path)).reads (perform t (turns env path)).result) tree
-
 -- what is done of a command that came to this end
 abbrev AllDone : Kept → Nodes → Stmt → Env → Done → Type 0
 AllDone kept t statement env done = (rest : Code) (frames : List Frame) → IsDone kept t statement rest frames env done

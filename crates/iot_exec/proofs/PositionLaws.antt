@@ -44,10 +44,6 @@ skip_more (suc at) code =
     let more : suc at + 1 ≡ suc (at + 1) = omega arith in
     ap (λ at. skip at code) more ∙ skip_more at (rest_of code)
 
--- after the end
-pub rest_past : (ss : List Stmt) (at : ℕ) → length ss ≤ at → skip at (code_of_statements ss) ≡ rest_of (skip at (code_of_statements ss))
-rest_past ss at over = skipped_all ss at over ∙ ap rest_of (sym (skipped_all ss at over))
-
 -- ---- the innermost block
 
 pub left_in_last : (script : Code) (outer : List Open) (opened : Open) (code : Code)
@@ -66,15 +62,6 @@ pub open_weight_last : (outer : List Open) (opened : Open)
     → open_weight (outer ++ opened ∷ []) ≡ open_weight outer + role_weight opened.role
 open_weight_last [] opened = omega arith
 open_weight_last (first ∷ outer) opened = omega (arith, open_weight_last outer opened)
-
--- one block more of those round it
-pub outer_step : (script : Code) (outer : List Open) (i : ℕ) (opened : Open) (code : Code) → i < length outer
-    → opened ≡ get_or outer i opened → left_in script (drop i outer) code ≡ left_in script (drop (i + 1) outer) (rest_in script code opened)
-outer_step script outer i opened code lt is =
-    let front : drop i outer
-    ≡ opened ∷ drop (i + 1) outer =
-    rw add-one (drop-cons outer i opened lt ∙ ap (λ (first : Open). first ∷ drop (suc i) outer) (sym is)) in
-    ap (λ outer. left_in script outer code) front
 
 -- ---- a position is the blocks round it and the innermost one
 

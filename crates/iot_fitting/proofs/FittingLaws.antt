@@ -17,14 +17,6 @@ pub record AreMade (updates left undo : List Update) (now start : Nodes) : Type 
   pub undoes : Undoes undo now start
   pub fit : FitInTurn now left ↔ FitInTurn start updates
 
-pub none_made : (updates : List Update) (start : Nodes) → IsTree start → IsWhole start → AreMade updates updates [] start start
-none_made updates start tree whole = record {
-  tree = tree;
-  whole = whole;
-  undoes = record { fit = tt; back = refl };
-  fit = (λ fit. fit, λ fit. fit);
-}
-
 pub one_made : (updates left later undo : List Update) (update : Update) (now start : Nodes) → left ≡ update ∷ later
     → AreMade updates left undo now start → Fits now update → AreMade updates later (undoing now update ++ undo) (updated now update) start
 one_made updates left later undo update now start is made fits =

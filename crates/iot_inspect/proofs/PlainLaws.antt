@@ -38,9 +38,6 @@ queue_plain client (item ∷ items) = queue_plain client items
 pub live_plain : (name : List ℕ) (items : List Item) (tree : Nodes) → has_float (live_data name items tree) ≡ false
 live_plain name items tree = neither _ _ (queue_plain name items) (neither _ _ (tree_plain tree) refl)
 
-pub down_plain : (name : List ℕ) → has_float (down_data name) ≡ false
-down_plain name = refl
-
 commits_plain : (names : List (List ℕ)) (place : ℕ) (labels : List Label)
     → items_have_float (items_of (commits_from names place labels)) ≡ false
 commits_plain names place [] = refl

@@ -110,10 +110,6 @@ abbrev pub act_at : Kept → Place → Nodes → Option Act
 act_at kept Over t = None
 act_at kept (At code frames env) t = Some (act_of (perform t (plan_at kept code frames env)))
 
-miss_of : (kept : Kept) (at : Place) (t : Nodes) → next_miss kept at t ≡ option_and_then (λ act. first_away act.reads) (act_at kept at t)
-miss_of kept Over t = refl
-miss_of kept (At code frames env) t = refl
-
 next_of : (kept : Kept) (at : Place) (t u : Nodes) (act : Act) (after : Place) → IsNextAt kept at t act after u
     → act_at kept at t ≡ Some act
 next_of kept Over t u act after is = absurd is
@@ -159,20 +155,7 @@ module _ (it : Running) (t now : Nodes) (acts : List Act) (exec : Exec)
       next_found it.script.code empty t it.acts acts (place exec) now running.after
       ∙ ap (λ (kept : Kept). act_at kept (place exec) now) (sym running.kept_same)
 
-  -- what is away of its next act
-  pub away_is : next_miss (kept_by exec) (place exec) now ≡ next_away t it
-  away_is =
-      miss_of (kept_by exec) (place exec) now ∙ ap (option_and_then (λ (act : Act). first_away act.reads)) (sym next_at)
-
   module _ (act : Act) (new : Exec) (u : Nodes) where
     -- the act that it does is the next one
     pub next_is : IsNextAt (kept_by exec) (place exec) now act (place new) u → next_act t it ≡ Some act
     next_is is = next_at ∙ next_of (kept_by exec) (place exec) now u act (place new) is
-
-    -- after an act it has done one more
-    pub runs_more : RunsOn exec now act new u → IsRunning it.script.code empty t (one_more it).acts (acts ++ act ∷ []) new u
-    runs_more runs = runs it.script.code empty t it.acts acts running
-
-    pub so_far_more : RunsOn exec now act new u
-        → so_far t (one_more it) ≡ record { acts = acts ++ act ∷ []; tree = u; ended = is_over (place new) }
-    so_far_more runs = (runs_more runs).after.is_run

@@ -14,7 +14,7 @@ use Rattle.iot_machine.specs.Clients.{joined, end, leave, leave_by, AtEnd, AtLim
 use Rattle.iot_machine.specs.Clients.{begin, fetch, anew, act_once, one_more, plain_run}
 use Rattle.iot_machine.specs.Clients.{Stage, with_first, at_stage, reach, resolved_by, repair}
 use Rattle.iot_machine.specs.Options.{OnConflict}
-use Rattle.iot_judging.proofs.BudgetLaws.{ended_stays, nothing_done, tree_is, so_far_more}
+use Rattle.iot_judging.proofs.BudgetLaws.{ended_stays, nothing_done, tree_is}
 
 -- ---- the next step
 
@@ -62,42 +62,10 @@ base_stays s = by s.items refl
     by [] is = refl
     by (item ∷ items) is = ap (after_items s.held) (sym is)
 
--- how far the first one is, and what becomes of it, is no matter to what is seen, nor to what the later ones read
-pub view_reached : (s : ClientState) (stage : Stage) → view (reach stage s) ≡ view s
-view_reached s stage = ap (λ (t : Nodes). view_by t s.running) (by s.items)
-  where
-    by : (items : List Item) → after_items s.held (with_first (at_stage stage) items) ≡ after_items s.held items
-    by [] = refl
-    by (item ∷ items) = refl
-
-pub view_repaired : (s : ClientState) (script : Declared) → view (repair script s) ≡ view s
-view_repaired s script = ap (λ (t : Nodes). view_by t s.running) (by s.items)
-  where
-    by : (items : List Item) → after_items s.held (with_first (resolved_by script) items) ≡ after_items s.held items
-    by [] = refl
-    by (item ∷ items) = refl
-
 -- ---- the view
-
--- one that begins has not changed it
-pub view_begun : (s : ClientState) (script : Declared) (option : OnConflict Declared) → view (begin script option s) ≡ base s
-view_begun s script option = nothing_done script.code empty (base s)
-
--- nor one that begins anew
-pub view_anew : (s : ClientState) (t : Nodes) → view (fetch t s) ≡ after_items t s.items
-view_anew s t = by s.running
-  where
-    by : (running : Option Running) → view_by (after_items t s.items) (option_map anew running) ≡ after_items t s.items
-    by None = refl
-    by (Some it) = nothing_done it.script.code empty (after_items t s.items)
 
 -- it is the tree of the interpreter
 module _ (s : ClientState) (it : Running) (runs : s.running ≡ Some it) (acts : List Act) (exec : Exec) (now : Nodes)
     (running : IsRunning it.script.code empty (base s) it.acts acts exec now) where
   pub view_is : view s ≡ now
   view_is = ap (view_by (base s)) runs ∙ sym (tree_is it (base s) now acts exec running)
-
-  pub view_more : (act : Act) (new : Exec) (u : Nodes) → RunsOn exec now act new u → view (act_once s) ≡ u
-  view_more act new u more =
-      ap (λ (running : Option Running). view_by (base s) (option_map one_more running)) runs
-      ∙ ap (λ (ran : Ran). ran.tree) (so_far_more it (base s) now acts exec running act new u more)

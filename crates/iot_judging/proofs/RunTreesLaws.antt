@@ -30,21 +30,6 @@ use Rattle.iot_judging.proofs.SpelledTreesLaws.{run_spelled}
 
 -- ---- a client's
 
--- what the acts of one that waits make of the tree
-pub local_made : (t : Nodes) (item : Item) (acts : List Act) → IsTree t → acts ≡ (local_run t item).acts
-    → (local_run t item).tree ≡ after_acts t acts
-local_made t item acts tree is = (own_acts item.script.code empty t item.budget tree).made ∙ ap (after_acts t) (sym is)
-
-pub items_tree : (items : List Item) (t : Nodes) → IsTree t → IsTree (after_items t items)
-items_tree [] t tree = tree
-items_tree (item ∷ items) t tree = items_tree items (local_run t item).tree (run_tree item.script.code empty t item.budget tree)
-
-pub items_spelled : (items : List Item) (t : Nodes) → AllByRecursion (λ item. IsScript item.script.code) items → IsSpelledTree t
-    → IsSpelledTree (after_items t items)
-items_spelled [] t scripts tree = tree
-items_spelled (item ∷ items) t scripts tree =
-    items_spelled items (local_run t item).tree scripts.1 (run_spelled item.script.code t item.budget scripts.0 tree)
-
 -- ---- the server's
 
 from_tree : (entries : List (Entry Way)) (t : Nodes) → IsTree t → IsTree (tree_from entries t)

@@ -41,10 +41,6 @@ pruned_spelled s k tree = record {
 }
 
 module _ (held : Nodes) (want : Want) (server : Nodes) where
-  -- what a client gets of the server's tree is a tree, and has a spelling if that has one
-  pub snapshot_tree : IsTree server → IsTree (snapshot held want server)
-  snapshot_tree tree = pruned_tree server (widen (has (known held)) server want) tree
-
   pub snapshot_spelled : IsSpelledTree server → IsSpelledTree (snapshot held want server)
   snapshot_spelled tree = pruned_spelled server (widen (has (known held)) server want) tree
 

@@ -8,9 +8,6 @@ pub either : (a b : Bool) → (a || b) ≡ true → (a ≡ true) ⊎ (b ≡ true
 either true b h = inl refl
 either false b h = inr h
 
-pub blank_is : (b : ℕ) → is_blank b ≡ true → (b ≡ 32) ⊎ (b ≡ 9)
-blank_is b h = grind (arith, nat_tests)
-
 pub blank_not_plain : (b : ℕ) → is_blank b ≡ true → is_plain_byte b ≡ false
 blank_not_plain b h = grind (arith, nat_tests)
 

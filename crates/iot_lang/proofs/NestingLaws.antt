@@ -59,16 +59,6 @@ adds_stop old new h = record {
   stack = rw h.same_open refl;
 }
 
-opened_if : (st st' : List Bool) (b : Bool) → length st < DEPTH_LIMIT → st' ≡ b ∷ st
-    → cond (ltb (length st) DEPTH_LIMIT) (Some (b ∷ st)) None ≡ Some st'
-opened_if st st' b room e = let t : ltb (length st) DEPTH_LIMIT ≡ true = grind (arith, nat_tests) in rw (t, e) refl
-
-pub opens_if : (old new : Nesting) (condition : Cond) → Opens old (heads.If condition) new → Moves old (says.If condition) new
-opens_if old new condition h = record { lines = h.lines; stack = opened_if (stack_of old) (stack_of new) true h.room h.stack }
-
-pub opens_for : (old new : Nesting) (x : List ℕ) (p : List Piece) → Opens old (heads.For x p) new → Moves old (says.For x p) new
-opens_for old new x p h = record { lines = h.lines; stack = opened_if (stack_of old) (stack_of new) false h.room h.stack }
-
 pub opens_at : (old new : Nesting) (o : Open) (head : Head) → new.open.items ≡ old.open.items ++ o ∷ []
     → o.before.items ≡ old.statements.items → o.head ≡ head → new.statements.items ≡ [] → length old.open.items < DEPTH_LIMIT
     → Opens old head new

@@ -166,9 +166,6 @@ says_line text line h =
     (λ (l, kept, is, same). let e : l ≡ line = cc in record { kept = kept; spells = line_of-is text line (is ∙ ap Some e) })
     (said_is (is_skipped text) (line_of text) (Some line) h)
 
-pub says_nothing : (text : List ℕ) → said_by text ≡ Some None → is_skipped text ≡ true
-says_nothing text h = ⊎_elim (λ k. k.0) (λ (l, kept, is, same). absurd cc) (said_is (is_skipped text) (line_of text) None h)
-
 pub record SaysBad (text : List ℕ) : Type 0 where
   pub kept : is_skipped text ≡ false
   pub none : line_of text ≡ None

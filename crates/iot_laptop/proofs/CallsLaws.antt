@@ -16,7 +16,7 @@ use Rattle.iot_laptop.specs.Below.{may_end, verdict_change, CanAct, next_acts, S
 use Rattle.iot_laptop.specs.Below.{transaction_name, acts_output, Gone, Act, Step, Item, Spells, reads_of, head_of, Stamps, nodes_of}
 use Rattle.iot_laptop.specs.Below.{stamps_of, brought, nothing_held}
 use Rattle.iot_client.specs.Messages.{ReadsObjects, ReadsNoted, noted_in, objects_in, Makes, no_tree, no_changes}
-use Rattle.iot_codec.specs.Rules.{IsTreeOfRows}
+use Rattle.iot_views.specs.Rules.{IsTreeOfRows}
 use Rattle.iot_kept.specs.Bringing.{brought_for, bringing}
 use Rattle.iot_kept.specs.declared.bringing.Purpose.{Purpose}
 use Rattle.iot_kept.proofs.BringingLaws.{brought_spelled}
@@ -37,7 +37,7 @@ use Rattle.iot_client.specs.Calls.{CutsOffNextIfAny, CutsOffNext, StepIsIfAny, C
 use Rattle.iot_client.specs.Faults.{CountsFault, MayFail}
 use Rattle.iot_machine.specs.Nodes.{changed}
 use Rattle.iot_node.specs.Steps.{EndsBy}
-use Rattle.iot_client.proofs.SpelledLaws.{tree_spelled}
+use Rattle.iot_limits.proofs.TreesLaws.{tree_spelled}
 use Rattle.iot_client.specs.declared.noted.Noted.{Noted as NotedIn}
 use Rattle.iot_tree.specs.declared.questions.Answer.{Answer}
 use Rattle.iot_wire.specs.Messages.{IsOneMessage}

@@ -43,7 +43,7 @@ use Rattle.iot_laptop.specs.Laptops.{state_by, fallen, Stands, Relinked, IsSecon
 use Rattle.iot_standing.specs.Scripts.{AreNamed}
 use Rattle.iot_laptop.specs.Seats.{seating, Besides, besides, none_besides, IsClientImage}
 use Rattle.iot_laptop.proofs.CallsLaws.{keeps_post, Behaves, Before, Fits, goes_at, halts_at, fits_with}
-use Rattle.iot_standing.proofs.KeptLaws.{live_with, cut_live, live_then, second_live, idle_is, idle_runs}
+use Rattle.iot_standing.proofs.KeptLaws.{live_with, cut_live, live_then, idle_is, idle_runs}
 use Rattle.iot_laptop.proofs.NodesLaws.{Posted, not_both, kept_up, node_stands, fallen_stands, awake_stands, awake_at, fallen_at, at_node}
 use Rattle.iot_laptop.proofs.NodesLaws.{same_name, same_link, may_be_named}
 use Rattle.iot_laptop.specs.Alone.{OpensClient}
@@ -89,28 +89,6 @@ module _ {D : Type 0} (medium : Medium D) (laptop : Laptop D) where
     wrote ∙ ap (λ (n : List ℕ). x ++ disconnect_line n) (cut.name ∙ same_name medium scripts laptop m here),
     cut.stands scripts m here,
   )))
-
-  -- ---- second class
-
-  module _ (was now : Client D) (state : state_of now ≡ state_of was) (stamps : stamps_of now ≡ stamps_of was)
-      (place : place_of now ≡ place_of was)
-      (disk : disk_of now ≡ disk_of was) (records : records_of now ≡ records_of was) (live : live_of now ≡ second_class (live_of was))
-      (tied : IsTied medium now) where
-    second_stands : (scripts : List Declared) (m : machine.Client)
-        → LaptopStands medium scripts (record laptop { post = Up (record { client = was }) }) m
-        → LaptopStands medium scripts (record laptop { post = Up (record { client = now }) }) (record m { first = false })
-    second_stands scripts m here =
-        let up = here.node in
-        let counts : counts_on medium (disk_of now) ≡ m.node.counts = ap (counts_on medium) disk ∙ up.counts in
-        let placed : place_of now ≡ laptop.place = place ∙ up.stands.place_is in
-        let counted : records_of now ≡ up.count = records ∙ up.stands.counted in
-        let kept : StateKept (state_of now) m.node.durable = rw state up.stands.kept in
-        awake_at medium scripts laptop m here.name here.link (Up (record { client = now })) m.node
-        (record { alive = up.alive; sure = up.sure; counts = counts; count = up.count; stands = search rules }) here.alive false
-        (live
-        ∙ ap second_class (live_then (state_of was).running (live_of was) m.first m.node.durable.running here.state.running)
-        ∙ second_live m.first m.node.durable.running)
-        here.named
 
   -- ---- an exchange that does not get through
 

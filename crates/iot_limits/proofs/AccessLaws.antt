@@ -19,7 +19,7 @@ use Rattle.iot_access.specs.Asked.{cons_unless, first_asked, none_asked, or_aske
 use Rattle.iot_access.specs.BaseReads.{Base, path_of, base_names, settled, base_from, base_of, cons_base, based_reads, based, done_more}
 use Rattle.iot_access.specs.Sources.{source, hidden}
 use Rattle.iot_access.proofs.AccessLaws.{as_many_places}
-use Rattle.iot_codec.specs.Rules.{IsAccess, IsAct, IsAnswer, IsOptionalUpdate, IsQuestion, IsRead, IsUpdate, AreLines, AreReads, AreUpdates}
+use Rattle.iot_views.specs.Rules.{IsAccess, IsAct, IsAnswer, IsOptionalUpdate, IsQuestion, IsRead, IsUpdate, AreLines, AreReads, AreUpdates}
 use Rattle.iot_limits.specs.Spelled.{IsSpelledTree}
 use Rattle.iot_limits.proofs.AnswerLaws.{tree_answers}
 

@@ -28,7 +28,7 @@ use Rattle.iot_tree.specs.declared.nodes.Node.TheVariants.{Dir, File, FarDir, Fa
 use Rattle.iot_tree.specs.declared.questions.Question.TheVariants as asks
 use Rattle.iot_tree.proofs.EachLaws.{EachRow, each_entry, sorted_rows}
 use Rattle.iot_tree.proofs.WithinLaws.{same_front}
-use Rattle.iot_codec.specs.Rules.{IsObject, IsAnswer, rises, AreRising, AreChildren}
+use Rattle.iot_views.specs.Rules.{IsObject, IsAnswer, rises, AreRising, AreChildren}
 use Rattle.iot_limits.specs.Spelled.{IsSpelledRow, IsSpelledTree}
 use Rattle.iot_limits.proofs.PlanLaws.{HasAnswers}
 

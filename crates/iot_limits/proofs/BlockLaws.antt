@@ -17,7 +17,7 @@ use Rattle.iot_exec.specs.Plans.{Plan, Done, mapped, Effect, silent, going_on}
 use Rattle.iot_exec.specs.Commands.{given, names_or, names, when, is_file_at, is_dir_at, are_same_at, path_if_any, truth}
 use Rattle.iot_exec.specs.Commands.{plan_of_condition, Turns, name_of, loop_ending, plan_of_loop}
 use Rattle.iot_exec.specs.declared.env.Env.{Env}
-use Rattle.iot_codec.specs.Rules.{IsAnswer, IsObject}
+use Rattle.iot_views.specs.Rules.{IsAnswer, IsObject}
 use Rattle.iot_limits.proofs.ByteLaws.{IsPathIfAny, parsed_is_path}
 use Rattle.iot_limits.proofs.PlanLaws.{IsSpelledEnv, IsSpelledEffect, IsSpelledPlan, mapped_plan}
 use Rattle.iot_limits.proofs.CommandLaws.{refused_line, failed}

@@ -10,7 +10,7 @@ use Rattle.iot_text.specs.Names.{is_name_byte, is_name, IsName}
 use Rattle.iot_text.specs.Paths.{is_slash, IsPath, names_text, path_text, slash_parts, names_of, path_of}
 use Rattle.iot_lines.specs.Lines.{onto_line, lines}
 use Rattle.iot_lang.specs.Bytes.{is_plain_byte, is_quoted_byte}
-use Rattle.iot_codec.specs.Rules.{is_printable, is_content_byte, IsLine, AreLines}
+use Rattle.iot_views.specs.Rules.{is_printable, is_content_byte, IsLine, AreLines}
 
 -- ---- single bytes
 

@@ -32,7 +32,7 @@ use Rattle.iot_exec.specs.Commands.{contents, names_or, names, in_parent, ask_pa
 use Rattle.iot_exec.specs.Commands.{with_more, append, copy, join, concat, at_file, remove_file, when_empty, empty_dir, remove_dir}
 use Rattle.iot_exec.specs.Commands.{at_dir_target, dir_target, at_moved, move, at_kept, keep, table, command_name, plan_of_command}
 use Rattle.iot_exec.specs.declared.env.Env.{Env}
-use Rattle.iot_codec.specs.Rules.{is_printable, is_content_byte, IsAnswer, IsContents, IsLine, AreLines, IsObject, IsUpdate}
+use Rattle.iot_views.specs.Rules.{is_printable, is_content_byte, IsAnswer, IsContents, IsLine, AreLines, IsObject, IsUpdate}
 use Rattle.iot_limits.specs.Spelled.{AreSpelledFiles}
 use Rattle.iot_limits.proofs.ByteLaws.{AreContentBytes, IsPathIfAny, joined, name_is_line, path_is_line, lines_are_lines, parsed_is_path}
 use Rattle.iot_limits.proofs.PlanLaws.{IsSpelledEnv, IsSpelledEffect, IsSpelledPlan, mapped_plan}

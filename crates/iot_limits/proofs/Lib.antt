@@ -8,3 +8,4 @@ pub mod AnswerLaws
 pub mod RunLaws
 pub mod SpelledLaws
 pub mod AccessLaws
+pub mod TreesLaws

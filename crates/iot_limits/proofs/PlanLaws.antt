@@ -5,7 +5,7 @@ use Rattle.iot_tree.specs.Tree.{Nodes}
 use Rattle.iot_tree.specs.Questions.{answer_of}
 use Rattle.iot_tree.specs.declared.questions.Question.{Question}
 use Rattle.iot_tree.specs.declared.questions.Answer.{Answer}
-use Rattle.iot_codec.specs.Rules.{IsQuestion, IsAnswer, AreReads, IsAct, IsOptionalUpdate, AreLines}
+use Rattle.iot_views.specs.Rules.{IsQuestion, IsAnswer, AreReads, IsAct, IsOptionalUpdate, AreLines}
 use Rattle.iot_exec.specs.Plans.{Plan, Done, Ask, mapped, Performed, perform, Effect, act_of}
 use Rattle.iot_exec.specs.declared.env.Env.{Env}
 use Rattle.iot_limits.proofs.ByteLaws.{AreContentBytes}

@@ -16,7 +16,7 @@ use Rattle.iot_exec.specs.Values.{with_variable}
 use Rattle.iot_exec.specs.Commands.{Kept, plan_of_command, plan_of_condition, plan_of_loop}
 use Rattle.iot_exec.specs.Runs.{Outcome, Done, Cut, Stopped, with_acts, after, act_then, each_turn, run_code, ran_of}
 use Rattle.iot_exec.specs.declared.env.Env.{Env}
-use Rattle.iot_codec.specs.Rules.{IsAct}
+use Rattle.iot_views.specs.Rules.{IsAct}
 use Rattle.iot_limits.specs.Spelled.{IsSpelledTree, AreSpelledFiles, SpelledRun}
 use Rattle.iot_limits.proofs.ByteLaws.{printed, name_is_line}
 use Rattle.iot_limits.proofs.PlanLaws.{IsSpelledEnv, IsSpelledEffect, IsSpelledPlan, SpelledPerformed, performed_plan, performed_act}

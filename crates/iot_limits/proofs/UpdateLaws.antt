@@ -13,7 +13,7 @@ use Rattle.iot_tree.specs.declared.updates.Update.{Update}
 use Rattle.iot_tree.specs.declared.updates.Update.TheVariants.{Put, MakeDir, Remove, Move}
 use Rattle.iot_tree.proofs.EachLaws.{EachNode, each_inserted, each_removed, each_moved}
 use Rattle.iot_acts.specs.Traces.{after_update}
-use Rattle.iot_codec.specs.Rules.{IsUpdate, IsOptionalUpdate}
+use Rattle.iot_views.specs.Rules.{IsUpdate, IsOptionalUpdate}
 use Rattle.iot_limits.specs.Spelled.{IsSpelledRow, IsSpelledTree}
 
 renamed_is_path : (from to path : Path) → IsPath to → IsPath path → IsPath (renamed from to path)

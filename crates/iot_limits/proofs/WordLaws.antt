@@ -15,7 +15,7 @@ use Rattle.iot_lang.specs.declared.words.Piece.TheVariants.{Plain, Quoted, Var}
 use Rattle.iot_exec.specs.Values.{fresh, with_variable, piece_value, word_value}
 use Rattle.iot_exec.specs.Operands.{is_too_large}
 use Rattle.iot_exec.specs.declared.env.Env.{Env}
-use Rattle.iot_codec.specs.Rules.{is_content_byte, IsContents}
+use Rattle.iot_views.specs.Rules.{is_content_byte, IsContents}
 use Rattle.iot_limits.proofs.ByteLaws.{AreContentBytes, weaker, joined, plain_byte, quoted_byte}
 use Rattle.iot_limits.proofs.PlanLaws.{IsSpelledEnv}
 

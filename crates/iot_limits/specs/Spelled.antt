@@ -6,7 +6,7 @@ use Rattle.iot_text.specs.Paths.{IsPath}
 use Rattle.iot_tree.specs.Tree.{Path, Nodes}
 use Rattle.iot_tree.specs.declared.nodes.Node.{Node}
 use Rattle.iot_tree.specs.declared.nodes.Node.TheVariants.{File}
-use Rattle.iot_codec.specs.Rules.{IsContents, IsAct}
+use Rattle.iot_views.specs.Rules.{IsContents, IsAct}
 use Rattle.iot_exec.specs.Commands.{Kept}
 use Rattle.iot_exec.specs.declared.ran.Ran.{Ran}
 

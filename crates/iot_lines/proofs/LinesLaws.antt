@@ -98,9 +98,6 @@ pub record Passed (text rest : List ℕ) : Type 0 where
   pub split : text ≡ front ++ rest
   pub apart : (rest ≡ []) ⊎ ((more : List ℕ) → lines (front ++ more) ≡ lines front ++ lines more)
 
-pub nothing_passed : (text : List ℕ) → Passed text text
-nothing_passed text = record { front = []; split = refl; apart = inr (λ more. refl) }
-
 pub Passed-lines : (text rest : List ℕ) (passed : Passed text rest) → lines text ≡ lines passed.front ++ lines rest
 Passed-lines text rest passed = elim passed.apart [
   | inl none ↦

@@ -111,9 +111,6 @@ since_server b m n clients spare server since = record {
   spare = spare ∙ since.spare;
 }
 
-pub since_same : (b m n : Machine) → n.clients ≡ m.clients → n.spare ≡ m.spare → n.server ≡ m.server → Since b m → Since b n
-since_same b m n clients spare server since = since_server b m n clients spare (rw server since.server) since
-
 -- what is so of the node at a place, there and in another machine, is so with another client in that place
 pub put_at : (P : Client → Client → Type 0) (b m : Machine) (c k : ℕ) (client : Client)
     → (P (client_in b c) (client_in m c) → P (client_in b c) client) → P (client_in b k) (client_in m k)
@@ -132,14 +129,3 @@ since_put b m c client goes since = record {
   count = length-set m.clients c client ∙ since.count;
   spare = since.spare;
 }
-
-pub since_same_node : (b m : Machine) (c : ℕ) (client : Client) → client.node ≡ (client_in m c).node → Since b m
-    → Since b (put_client c client m)
-since_same_node b m c client same since = since_put b m c client (λ it. rw same it) since
-
--- at this place nothing has stopped
-pub steady_put : (b m : Machine) (c : ℕ) (client : Client)
-    → (IsSteady (client_in b c).node (client_in m c).node → IsSteady (client_in b c).node client.node)
-    → IsSteady (client_in b c).node (client_in m c).node
-    → IsSteady (client_in b c).node (client_in (put_client c client m) c).node
-steady_put b m c client goes it = put_at (λ one other. IsSteady one.node other.node) b m c c client goes it

@@ -42,11 +42,6 @@ module _ {S : Type 0} {P : S → Type 0} where
   pub stays_says : {text : S → List ℕ} → Stays P (Says text)
   stays_says = keeps_does (λ m here. here)
 
-  -- from less, and to less
-  pub keeps_to : {A : Type 0} {call : Call S A} {Q R : A → S → Type 0} → ((a : A) (m : S) → Q a m → R a m) → Keeps P call Q
-      → Keeps P call R
-  keeps_to less it = record { at = λ m n text a here step. less a n (it.at m n text a here step) }
-
   pub keeps_from : {A : Type 0} {P_ : S → Type 0} {call : Call S A} {Q : A → S → Type 0} → ((m : S) → P m → P_ m) → Keeps P_ call Q
       → Keeps P call Q
   keeps_from less it = record { at = λ m n text a here step. it.at m n text a (less m here) step }

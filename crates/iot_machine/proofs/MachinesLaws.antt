@@ -28,10 +28,6 @@ sound_from m n clients within sound = record {
   once = within.each AreOnce sound.once;
 }
 
--- the same server too
-pub sound_same : (m n : Machine) → n.clients ≡ m.clients → n.server ≡ m.server → IsSound m → IsSound n
-sound_same m n clients server sound = sound_from m n clients (within_itself m.server n.server server) sound
-
 -- another machine with this commit in its list, whose client knows of it too
 pub listed_by : (m n : Machine) (commit : Commit) → (commit.entry.client < length m.clients → commit.entry.client < length n.clients)
     → (Possibly (Knows commit) (client_in m commit.entry.client).node → Possibly (Knows commit) (client_in n commit.entry.client).node)

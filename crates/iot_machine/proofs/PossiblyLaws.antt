@@ -46,9 +46,6 @@ module _ {S : Type 0} where
     pub durable : n.durable ≡ node.durable
     pub doubt : n.doubt ≡ node.doubt
 
-  pub same_states : (node : Node S) → SameStates node node
-  same_states node = record { durable = refl; doubt = refl }
-
   pub possibly_same : {P : S → Type 0} (node n : Node S) → SameStates node n → Possibly P node → Possibly P n
   possibly_same {P} node n same it =
       record { is = subst P (sym same.durable) it.is; may_be = subst (λ (o : Option S). IfSome o P) (sym same.doubt) it.may_be }

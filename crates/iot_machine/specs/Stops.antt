@@ -27,7 +27,7 @@ Appends name change node text on n =
     ((text ≡ []) × (on ≡ true) × (n ≡ changed change node))
     ⊎ ((text ≡ stopped_line name) × (on ≡ false) × IsStopped (doubting change node) n)
 
--- Its journal was read: it is alive, with what is durable. If a record was in doubt, it was kept or it was lost, and what `says` tells of
+-- Its disk was read: it is alive, with what is durable. If a record was in doubt, it was kept or it was lost, and what `says` tells of
 -- the states before and after it follows a kept one.
 abbrev pub ComesBackWith : {S : Type 0} → List ℕ → (S → S → List ℕ) → Option S → Node S → List ℕ → Node S → Type 0
 ComesBackWith name says None node text n = (text ≡ line (codes "restart " ++ name)) × (n ≡ back node.durable node)

@@ -6,7 +6,7 @@ ghost use Rattle.iot_node.specs.Keeping.{Keeping, EachIs, Comes, Fails, Armed};
 use iot_disk::{Disk, Pick, StartFault};
 use std::alloc::Global;
 
-/// What keeps a node's state on a disk: a server's store, or a client's journal and what it made of it.
+/// What keeps a node's state on a disk: a server's store, or what is kept of a client.
 pub trait Keeper<D: Disk> {
     /// The state that it keeps, for a reader.
     ghost Kept: { Type 0 };

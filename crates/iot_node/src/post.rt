@@ -19,7 +19,7 @@ use iot_text::{NoMemory, Text};
 use std::alloc::Global;
 use std::mem;
 
-/// A record that is in doubt, since its node stopped in the append.
+/// A record that is in doubt, since its node stopped in the append, or in a checkpoint before it.
 #[derive(Drop)]
 pub struct Doubt {
     /// How many there are before it, modulo 2^64.

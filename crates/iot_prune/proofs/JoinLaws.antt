@@ -26,10 +26,6 @@ or_twice : (a b c : Bool) → (a || (b || c)) ≡ ((a || b) || (a || c))
 or_twice true b c = refl
 or_twice false b c = refl
 
-or_none : (a : Bool) → (a || false) ≡ a
-or_none true = refl
-or_none false = refl
-
 module _ (p : Path) (rest : List Path → List Path) (q : Path) (found : Bool)
     (in_rest : (second : List Path) → has (rest second) q ≡ (found || has second q)) where
   has_joined_at : (second : List Path) → has (joined_at p rest second) q ≡ ((eq_by_cmp path_cmp q p || found) || has second q)

@@ -82,9 +82,6 @@ module _ (acts : List Act) (stamp i : ℕ) (before now : Stamps) (way : ActsOnWa
           ∙ ap (λ t. stamped_acts t (drop (i + 1) acts) stamp) (sym made);
     }
 
-  pub acts_made : length acts ≤ i → now ≡ stamped_acts before acts stamp
-  acts_made past = sym (way.end ∙ ap (λ (l : List Act). stamped_acts now l stamp) (drop_all i acts past))
-
 -- ---- updates without their acts
 
 module _ (stamp : ℕ) where

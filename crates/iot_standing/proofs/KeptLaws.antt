@@ -116,11 +116,6 @@ same_live : (acts : ℕ → ℕ) (first : Bool) (o : Option clients.Running)
 same_live acts first None = refl
 same_live acts first (Some it) = refl
 
--- it is second class now
-pub second_live : (first : Bool) (o : Option clients.Running) → second_class (live_with first o) ≡ live_with false o
-second_live first None = refl
-second_live first (Some it) = refl
-
 -- ---- the transactions that wait
 
 -- if none waits, that is so on each tree

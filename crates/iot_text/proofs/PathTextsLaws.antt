@@ -130,13 +130,6 @@ spelled_back (name ∷ names) valid =
 pub path_of-spelled : (text : List ℕ) (path : List (List ℕ)) → IsPathText text path → path_of text ≡ Some path
 path_of-spelled text path is = ap path_of (sym is.spelled) ∙ spelled_back path is.names
 
--- no two paths have one text
-pub path_text-injective : (p q : List (List ℕ)) → IsPath p → IsPath q → path_text p ≡ path_text q → p ≡ q
-path_text-injective p q vp vq e =
-    ap (λ o. unwrap_or o [])
-    (sym (path_of-spelled (path_text p) p (record { names = vp; spelled = refl }))
-    ∙ path_of-spelled (path_text p) q (record { names = vq; spelled = sym e }))
-
 -- the parts give the text back
 names_text-extended : (b : ℕ) (parts : List (List ℕ)) (rest : List ℕ) → names_text parts ≡ 47 ∷ rest
     → names_text (extended b parts) ≡ 47 ∷ (b ∷ rest)

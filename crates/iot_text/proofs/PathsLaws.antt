@@ -114,9 +114,6 @@ is_below-of path other below =
     (pointwise_decides bytes_decides other (take (length other) path)).1 front in
     λ i. lt-ltb (length other) (length path) shorter i && same i
 
-pub is_below-decides : (path other : List (List ℕ)) → Decides (is_below path other) (IsBelow path other)
-is_below-decides path other = (is_below-tells path other, is_below-of path other)
-
 -- ---- parents and last names
 
 slice_get-end : (path : List (List ℕ)) (name : List ℕ) → slice_get (path ++ name ∷ []) (length path) ≡ Some name
@@ -139,16 +136,3 @@ parent_of-push (first ∷ names) name =
 pub record WithLast (path parent : List (List ℕ)) : Type 0 where
   pub last : List ℕ
   pub split : path ≡ parent ++ last ∷ []
-
-with_last : (path rest : List (List ℕ)) (n : ℕ) → path ≡ take n path ++ rest → length rest ≡ 1 → WithLast path (take n path)
-with_last path [] n e one = absurd (omega arith)
-with_last path (last ∷ []) n e one = record { last = last; split = e }
-with_last path (last ∷ (more ∷ rest)) n e one = absurd (omega arith)
-
-pub parent_of-some : (path parent : List (List ℕ)) → parent_of path ≡ Some parent → WithLast path parent
-parent_of-some [] parent e = absurd (cc)
-parent_of-some (first ∷ names) parent e =
-    let path : List (List ℕ) = first ∷ names in
-    let rest : List (List ℕ) = drop (length names) path in
-    subst (WithLast path) (ap (λ o. unwrap_or o []) e)
-    (with_last path rest (length names) (sym (take-append-drop (length names) path)) (omega (arith, length-drop (length names) path)))

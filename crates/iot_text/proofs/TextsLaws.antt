@@ -59,24 +59,9 @@ part_of_list spelling xs i x head old mid new within is so_far p =
 pub extends_by : (old new more : List ℕ) → new ≡ old ++ more → Extends old new
 extends_by old new more is = record { more = more; extended = is }
 
--- with nothing behind it
-pub extends_none : (old new : List ℕ) → new ≡ old → Extends old new
-extends_none old new same = extends_by old new [] (same ∙ sym (append-nil old))
-
 -- since it has no byte
 pub extends_nothing : (old new : List ℕ) → old ≡ [] → Extends old new
 extends_nothing old new nothing = extends_by old new new (ap (λ t. t ++ new) (sym nothing))
-
--- with one piece behind it, and with what stands behind that
-pub extends_after : (old mid new first : List ℕ) → mid ≡ old ++ first → Extends mid new → Extends old new
-extends_after old mid new first is e =
-    extends_by old new (first ++ e.more) (e.extended ∙ ap (λ t. t ++ e.more) is ∙ append_assoc old first e.more)
-
--- whichever the answer is
-pub extends_either : {T E : Type 0} (old new more : List ℕ) (r : Result T E) → OnOk r (new ≡ old ++ more) → OnErr r (new ≡ old) → Extends
-    old new
-extends_either old new more (Ok x) ok err = extends_by old new more ok
-extends_either old new more (Err e) ok err = extends_none old new err
 
 -- ---- a whole that is appended piece by piece
 

@@ -27,10 +27,6 @@ use Rattle.iot_tree.proofs.TreeLaws.{none_not_some, ancestors}
 is_mapped : (t : Nodes) (p : Path) (node : Node) → get t p ≡ Some node → IsSome (get t p)
 is_mapped t p node is = rw is refl
 
-not_below_root : (q : Path) → path_cmp q [] ≡ Less → ⊥
-not_below_root [] is = cc
-not_below_root (name ∷ rest) is = cc
-
 module _ (front : List Row) (last row : Row) (all : AreTreeRows (front ++ last ∷ [])) where
   -- all rows come before a path that the last one comes before
   rows_before : (p : Path) → path_cmp last.0 p ≡ Less → AllBefore p (front ++ last ∷ [])

@@ -78,18 +78,6 @@ pub record IsStage {K V : Type 0} (old now : List (K × V)) (keys left : List K)
       → (now ≡ stage f a b c (length left)) × (left ≡ map (λ (item : K × V). f item.0) (take (length left) b))
 
 module _ {K V : Type 0} where
-  pub first_stage : (old : List (K × V)) (keys : List K) (at : ℕ) → IsStage old old keys keys at
-  first_stage old keys at = record {
-    by = λ f a b c whole from are.
-        let all : length keys ≡ length b = ap length are ∙ length-map b (λ (item : K × V). f item.0) in (
-          whole
-              ∙ sym
-              (ap (stage f a b c) all
-              ∙ (λ i. a ++ (take-length b i ++ (map (λ (item : K × V). (f item.0, item.1)) (drop-length b i) ++ c)))),
-          are ∙ ap (map (λ (item : K × V). f item.0)) (sym (ap (λ n. take n b) all ∙ take-length b)),
-        );
-  }
-
   pub next_stage : (old now : List (K × V)) (keys left : List K) (key : K) (at : ℕ) → IsStage old now keys (left ++ key ∷ []) at
       → (e : K × V) → e ≡ get_or now (at + length left) e → IsStage old (set now (at + length left) (key, e.1)) keys left at
   next_stage old now keys left key at so_far e is = record {

@@ -86,9 +86,6 @@ module _ (x m y : List Row) (p q : Path) (all : AreTreeRows (x ++ (m ++ y))) (in
   got : (k : Path) → get (map_of old) k ≡ find path_cmp k old
   got k = get_rows old all.rising k
 
-  find_from : (rest : Path) → find path_cmp (p ++ rest) old ≡ find path_cmp (p ++ rest) m
-  find_from rest = find_last (p ++ rest) x (m ++ y) (find_outside p rest x left) ∙ find_front (p ++ rest) m y (find_outside p rest y right)
-
   find_rest : (k : Path) → IsOutside p k → find path_cmp k old ≡ find path_cmp k (x ++ y)
   find_rest k apart =
       find_join k x (m ++ y) ∙ ap (option_or (find path_cmp k x)) (find_last k m y (find_inside p k m apart ins)) ∙ sym (find_join k x y)

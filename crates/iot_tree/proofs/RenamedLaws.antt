@@ -39,13 +39,6 @@ same_end p q rest row end is =
     ap (path_cmp (q ++ rest)) (renamed_inside p q row.0 end is) ∙ same_front q rest end
     ∙ sym (ap (path_cmp (p ++ rest)) is ∙ same_front p rest end)
 
--- a moved row is found if its end is the same
-pub find_moved : (p q rest : Path) (rows : List Row) → Inside p rows
-    → find path_cmp (q ++ rest) (map (renamed_row p q) rows) ≡ find path_cmp (p ++ rest) rows
-find_moved p q rest [] ins = refl
-find_moved p q rest (row ∷ rows) ins =
-    λ i. cond (is_eq (same_end p q rest row ins.0.0 ins.0.1 i)) (Some row.1) (find_moved p q rest rows ins.1 i)
-
 below_moved : (p q rest : Path) (rows : List Row) → Inside p rows
     → below_all path_cmp (q ++ rest) (map (renamed_row p q) rows) ≡ below_all path_cmp (p ++ rest) rows
 below_moved p q rest [] ins = refl

@@ -212,10 +212,6 @@ before_all q (row ∷ a) b c before ins below = (
   before_all q a b c before.1 ins below,
 )
 
--- two paths of which neither is at or below the other have no path at or below both
-tails : (n : List ℕ) (q p a b : Path) → n ∷ q ++ a ≡ n ∷ p ++ b → q ++ a ≡ p ++ b
-tails n q p a b is = cc
-
 heads : (m n : List ℕ) (a b : Path) → m ∷ a ≡ n ∷ b → m ≡ n
 heads m n a b is = cc
 

@@ -1,9 +1,9 @@
 use Rattle.std.proofs.Common.{subst, sym}
 use Rattle.iot_access.specs.Access.{AreNumbers}
-use Rattle.iot_codec.specs.Rules.{IsAccess}
+use Rattle.iot_views.specs.Rules.{IsAccess}
 use Rattle.iot_limits.proofs.AccessLaws.{access_spelled}
 use Rattle.iot_tree.specs.declared.access.Access.{Access}
-use Rattle.iot_client.proofs.SpelledLaws.{tree_spelled}
+use Rattle.iot_limits.proofs.TreesLaws.{tree_spelled}
 use Rattle.iot_client.proofs.requests.commit.Goals as goal
 
 pub submission-requires-clause-access : goal.submission-requires-clause-access

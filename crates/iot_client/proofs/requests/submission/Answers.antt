@@ -1,5 +1,5 @@
 use Rattle.std.proofs.Common.{◌≡◌, ℕ, ◌++◌, List, ap, subst, sym, ◌∙◌}
-use Rattle.iot_codec.specs.Rules.{AreLines}
+use Rattle.iot_views.specs.Rules.{AreLines}
 use Rattle.iot_limits.proofs.AccessLaws.{lines_spelled}
 use Rattle.iot_wire.specs.Spelling.{request_spelling}
 use Rattle.iot_wire.specs.declared.requests.Request.TheVariants.{Commit}

@@ -2,7 +2,7 @@ use Rattle.std.proofs.Common.{◌≡◌, Some, IfOk, sym, ap, subst, ◌∙◌}
 use Rattle.std.proofs.lemmas.Result.{IfOk-weaker}
 use Rattle.iot_tree.specs.Tree.{Nodes}
 use Rattle.iot_acts.specs.Traces.{after_acts}
-use Rattle.iot_codec.specs.Rules.{IsTreeOfRows}
+use Rattle.iot_views.specs.Rules.{IsTreeOfRows}
 use Rattle.iot_stamp.specs.Acting.{UpdatesFit}
 use Rattle.iot_lang.specs.Scripts.{IsScript}
 use Rattle.iot_queue.specs.Queues.{head_of}

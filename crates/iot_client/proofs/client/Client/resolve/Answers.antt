@@ -1,5 +1,5 @@
 use Rattle.std.proofs.Common.{arith, sym, subst, Option}
-use Rattle.iot_codec.specs.Rules.{IsTreeOfRows}
+use Rattle.iot_views.specs.Rules.{IsTreeOfRows}
 use Rattle.iot_client.specs.Calls.{RefusesReply}
 use Rattle.iot_client.specs.Messages.{MakesWhole}
 use Rattle.iot_client.specs.declared.fault.ClientFault.{ClientFault}

@@ -2,13 +2,13 @@ use Rattle.std.proofs.Common.{◌≡◌, ℕ, List, subst, sym}
 use Rattle.std.proofs.lemmas.Result.{on_ok_weaker}
 use Rattle.iot_access.specs.Access.{AreNumbers}
 use Rattle.iot_changes.specs.declared.changes.Change.TheVariants.{Resolved}
-use Rattle.iot_codec.specs.Rules.{IsAccess}
+use Rattle.iot_views.specs.Rules.{IsAccess}
 use Rattle.iot_kept.specs.States.{State}
 use Rattle.iot_limits.proofs.AccessLaws.{access_spelled}
 use Rattle.iot_queue.specs.declared.items.Resolution.{Resolution}
 use Rattle.iot_tree.specs.declared.access.Access.{Access}
 use Rattle.iot_client.specs.Calls.{CutsOff, Notes}
-use Rattle.iot_client.proofs.SpelledLaws.{tree_spelled}
+use Rattle.iot_limits.proofs.TreesLaws.{tree_spelled}
 use Rattle.iot_client.proofs.client.Client.run_again.Goals as goal
 
 pub change_head-requires-clause-change : goal.change_head-requires-clause-change

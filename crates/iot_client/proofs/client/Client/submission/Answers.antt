@@ -1,6 +1,6 @@
 use Rattle.std.proofs.Common.{ap, subst, sym, ◌∙◌}
 use Rattle.iot_acts.specs.Traces.{ActsHold}
-use Rattle.iot_codec.specs.Rules.{IsAccess, IsTreeOfRows}
+use Rattle.iot_views.specs.Rules.{IsAccess, IsTreeOfRows}
 use Rattle.iot_queue.specs.Queues.{head_of}
 use Rattle.iot_tree.specs.Tree.{Nodes}
 use Rattle.iot_kept.specs.Spelled.{IsSpelledState}
