@@ -2,9 +2,9 @@
 
 from collections import namedtuple
 
-# The input's lines, what its units of work are, and how many of them there are; and how many of its first lines only
-# prepare, so that what they cost alone is no part of the units' cost.
-Work = namedtuple('Work', 'lines what units prepare', defaults=[0])
+# The input's lines, what its units of work are, and how many of them there are; how many of its first lines only prepare, so that what they
+# cost alone is no part of the units' cost; and how many of its transactions are given up.
+Work = namedtuple('Work', 'lines what units prepare aborts', defaults=[0, 0])
 
 LEVELS = 32
 RUNS_PER_SIZE = 64
@@ -19,6 +19,8 @@ FILES_IN_EACH = 250
 ROUNDS = 4
 QUEUED_FILES = 250
 RECORDS_OF_A_RUN = 100
+PARTS = 256
+BYTES_OF_A_PART = 256
 
 
 def script(name, statements):
@@ -175,6 +177,27 @@ def rereads(size):
     return Work(lines + ['sync laptop'], 'reads', reads, len(lines))
 
 
+def submission(size, *meanwhile):
+    """The submission of one transaction, whose request has more and more bytes; before it comes what the desk does meanwhile."""
+    paths = [f'/f{i:04}' for i in range(PARTS * size)]
+    # A part of the request is the read of a path, of 31 bytes, and the update there, of 30 bytes and what is written.
+    contents = 'x' * (BYTES_OF_A_PART - 61)
+    lines = ['client laptop', 'client desk', *script('init', [f'write {path} y' for path in paths])]
+    lines += [*script('work', [f'write {path} {contents}' for path in paths]), *script('drop', [f'rm {paths[-1]}']), run('init')]
+    lines += ['disconnect laptop', 'begin laptop work abort', f'step laptop {len(paths)}', 'end laptop', *meanwhile, 'connect laptop']
+    return Work(lines + ['sync laptop'], 'bytes', len(paths) * BYTES_OF_A_PART, len(lines), len(meanwhile))
+
+
+def submissions(size):
+    """One that is committed."""
+    return submission(size)
+
+
+def conflicts(size):
+    """One that is not, since the last path that it has read is gone."""
+    return submission(size, run('drop', 'desk'))
+
+
 # The cases in the order of the table, and those that need no more than `mkdir`, `write` and `cat`.
-CASES = [transactions, tree, loops, moves, text, journal, clients, steps, acts, queue, looking, restarts, rereads]
+CASES = [transactions, tree, loops, moves, text, journal, clients, steps, acts, queue, looking, restarts, rereads, submissions, conflicts]
 FIRST = [transactions, tree]

@@ -16,8 +16,9 @@ ROOT = Path(__file__).resolve().parent.parent
 BUILT = ROOT / 'crates' / 'iot' / 'out' / 'iot'
 # GNU time has a small memory of its own; what wait4 tells is never less than this Python's.
 TIME = shutil.which('time')
-ROW = '{:<13} {:>4}  {:<18} {:>9} {:>17} {:>12} {:>15}'
-HEAD = ROW.format('case', 'size', 'units', 'seconds', 'instructions/unit', 'peak KiB', 'peak bytes/unit')
+ROW = '{:<13} {:>4}  {:<18} {:>9} {:>17} {:>16} {:>12} {:>15}'
+HEAD = ROW.format('case', 'size', 'units', 'seconds', 'instructions/unit', 'allocations/unit', 'peak KiB', 'peak bytes/unit')
+ALLOCATORS = {'malloc', 'calloc', 'realloc', 'aligned_alloc', 'posix_memalign'}
 
 
 def words():
@@ -58,22 +59,37 @@ def timed(program, source, transcript):
     return seconds, int(peak.read_text()) if TIME else usage.ru_maxrss
 
 
+def allocations(profile):
+    """How often memory was asked for in the run of this profile. What is called has a number, which stands beside its name at first."""
+    names, called, total = {}, '', 0
+    for kind, number, name, calls in re.findall(r'^(c?fn)=\((\d+)\)(?: (.*))?$|^calls=(\d+)', profile.read_text(), re.M):
+        if calls:
+            total += int(calls) if called in ALLOCATORS else 0
+        elif name:
+            names[number] = name
+        if kind == 'cfn':
+            called = names[number]
+    return total
+
+
 def counted(program, source):
-    """The instructions of one run, by callgrind."""
-    command = ['valgrind', '--tool=callgrind', '--callgrind-out-file=/dev/null', program]
+    """The instructions and the allocations of one run, by callgrind."""
+    profile = source.with_suffix('.profile')
+    command = ['valgrind', '--tool=callgrind', f'--callgrind-out-file={profile}', program]
     with open(source, 'rb') as given:
         ran = subprocess.run(command, stdin=given, stdout=subprocess.DEVNULL, stderr=subprocess.PIPE, text=True)
     found = re.search(r'Collected : (\d+)', ran.stderr)
     if ran.returncode != 0 or not found:
         sys.exit(f'bench/run: callgrind ended with {ran.returncode} on {source.name}: {ran.stderr[-400:]}')
-    return int(found[1])
+    return int(found[1]), allocations(profile)
 
 
-def check(transcript, runs):
-    """Each `run` and each `sync` of the input has to have settled a transaction."""
-    settled = sum(line.startswith(b'settled ') for line in transcript.read_bytes().split(b'\n'))
-    if settled != runs:
-        sys.exit(f'bench/run: {settled} of {runs} transactions settled in {transcript.name}')
+def check(transcript, runs, aborts):
+    """Each `run` and each `sync` of the input has to have settled a transaction, but for so many that have given theirs up."""
+    lines = transcript.read_bytes().split(b'\n')
+    settled, aborted = (sum(line.startswith(word) for line in lines) for word in (b'settled ', b'abort '))
+    if (settled, aborted) != (runs - aborts, aborts):
+        sys.exit(f'bench/run: {settled} of {runs} transactions settled in {transcript.name}, and {aborted} were given up')
 
 
 def measure(program, count, source, transcript):
@@ -81,22 +97,29 @@ def measure(program, count, source, transcript):
     return seconds, peak, counted(program, source) if count else None
 
 
+def per_unit(counts, before, units):
+    """What is counted per unit, above what was counted before; nothing if nothing is counted."""
+    if counts is None:
+        return '', ''
+    instructions, asked = ((count - fixed) / units for count, fixed in zip(counts, before))
+    return f'{instructions:,.1f}', f'{asked:,.3f}'
+
+
 def row(case, size, work, measured, base):
-    """One line of the table; instructions and memory are those above what the input's preparation costs alone."""
-    seconds, peak, instructions = measured
-    per_unit = '' if instructions is None else f'{(instructions - base[2]) / work.units:,.1f}'
+    """One line of the table; what is counted, and memory, are those above what the input's preparation costs alone."""
+    seconds, peak, counts = measured
     memory = max(peak - base[1], 0) * 1024 / work.units
     units = f'{work.units:,} {work.what}'
-    return ROW.format(case, f'{size}x', units, f'{seconds:.3f}', per_unit, f'{peak:,}', f'{memory:,.1f}')
+    return ROW.format(case, f'{size}x', units, f'{seconds:.3f}', *per_unit(counts, base[2], work.units), f'{peak:,}', f'{memory:,.1f}')
 
 
-def ran(directory, name, program, count, lines):
-    """What a run on these lines costs, where each of its transactions settles."""
+def ran(directory, name, program, count, lines, aborts=0):
+    """What a run on these lines costs, where each of its transactions settles, but for so many that are given up."""
     source = directory / f'{name}.events'
     source.write_text(''.join(f'{line}\n' for line in lines))
     transcript = source.with_suffix('.out')
     measured = measure(program, count, source, transcript)
-    check(transcript, sum(line.startswith(('run ', 'sync ')) for line in lines))
+    check(transcript, sum(line.startswith(('run ', 'sync ')) for line in lines), aborts)
     return measured
 
 
@@ -104,14 +127,14 @@ def bench(directory, program, options):
     count = not options.no_count and shutil.which('valgrind') is not None
     empty = ran(directory, 'empty', program, count, [])
     print(HEAD)
-    fixed = '' if empty[2] is None else f'{empty[2]:,}'
-    print(ROW.format('empty', '', '', f'{empty[0]:.3f}', fixed, f'{empty[1]:,}', ''), flush=True)
+    fixed = ('', '') if empty[2] is None else (f'{count:,}' for count in empty[2])
+    print(ROW.format('empty', '', '', f'{empty[0]:.3f}', *fixed, f'{empty[1]:,}', ''), flush=True)
     for make in FIRST if options.first else CASES:
         for size in map(int, options.sizes.split(',')):
             work = make(size)
             name = f'{make.__name__}-{size}'
             base = ran(directory, f'{name}-before', program, count, work.lines[:work.prepare]) if work.prepare else empty
-            measured = ran(directory, name, program, count, work.lines)
+            measured = ran(directory, name, program, count, work.lines, work.aborts)
             print(row(make.__name__, size, work, measured, base), flush=True)
 
 
