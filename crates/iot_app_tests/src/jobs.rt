@@ -3,10 +3,11 @@ use crate::fixtures::{Failing, NONE, ran};
 use crate::runs::{CRASH, RECORDED};
 use std::test::Fail;
 
-/// What the server's disk has before any commit: the header; the cell in force, with generation 1 and the place 43; the other cell, closed;
-/// and at 43 a checkpoint with a body of 41 bytes, before and behind which there is no record: the root, no labels, and the root's stamp.
+/// What the server's disk has before any commit: the header; the cell in force, with generation 1 and 2^63 + 43, which marks version 2 and
+/// names the place 43; the other cell, closed; and at 43 a checkpoint with a body of 41 bytes, before and behind which there is no record:
+/// the root, no labels, and the root's stamp.
 pub(crate) const STARTED: &[u8] = b"\xa5IOTSLOT1\
-    \xa5\0\0\0\0\0\0\0\x01\0\0\0\0\0\0\0\x2b\
+    \xa5\0\0\0\0\0\0\0\x01\x80\0\0\0\0\0\0\x2b\
     \0\0\0\0\0\0\0\0\0\0\0\0\0\0\0\0\0\
     \0\0\0\0\0\0\0\x29\
     \0\0\0\0\0\0\0\x01\0\0\0\0\0\0\0\0\x01\

@@ -21,7 +21,7 @@ const CRASHED: &[u8] = b"crash server\naway\ndown\nrestart server\nup\ndir /\ndi
 /// What it leaves on the server's disk: one record behind the checkpoint of the start, of 181 bytes. It has the label of client 0's
 /// transaction 1, of the script `e`, certified, with nothing kept; what it asked of the tree before it, its update and its line.
 pub(crate) const RECORDED: &[u8] = b"\xa5IOTSLOT1\
-    \xa5\0\0\0\0\0\0\0\x01\0\0\0\0\0\0\0\x2b\
+    \xa5\0\0\0\0\0\0\0\x01\x80\0\0\0\0\0\0\x2b\
     \0\0\0\0\0\0\0\0\0\0\0\0\0\0\0\0\0\
     \0\0\0\0\0\0\0\x29\
     \0\0\0\0\0\0\0\x01\0\0\0\0\0\0\0\0\x01\

@@ -1,12 +1,12 @@
 -- Bytes stand for one state at most.
 use Rattle.std.proofs.Common.{◌≡◌, ◌≤◌, ◌<◌, ℕ, suc, zero, ◌+◌, ◌%◌, ◌^◌, ◌==◌, Bool, true, false, cond, List, [], ◌∷◌, length, take, drop}
-use Rattle.std.proofs.Common.{refl, sym, ap, ◌∙◌, subst, arith, length-drop}
+use Rattle.std.proofs.Common.{◌&&◌, refl, sym, ap, ◌∙◌, subst, arith, length-drop}
 use Rattle.std.proofs.lemmas.List.{length-take}
 use Rattle.std.specs.List.{AllByRecursion}
 use Rattle.iot_records.specs.Bytes.{number_at, number_in}
 use Rattle.iot_records.specs.Records.{Series, Whole, Cut, prepended, is_whole, series_from, series_in}
 use Rattle.iot_durable.specs.Standing.{Leads, Makes, MakesBy, header}
-use Rattle.iot_slots.specs.Cells.{in_force, cell_at}
+use Rattle.iot_slots.specs.Cells.{in_force, cell_at, place_named, is_version_2}
 use Rattle.iot_slots.specs.Decoding.{Decoded, Encodes, NotStarted, Foreign, Damaged, State as Encoded, with_records, checkpoint_at}
 use Rattle.iot_slots.specs.Decoding.{state_of, is_checkpoint, decoded_by, is_foreign, decoded}
 use Rattle.iot_slots.specs.declared.cell.Force.{Force}
@@ -90,8 +90,9 @@ force_short : (force : Force) (n : ℕ) (bytes : List ℕ) (encoded : Encoded) �
 force_short NoCell n bytes encoded less e = absurd cc
 force_short Clash n bytes encoded less e = absurd cc
 force_short (Is cell) n bytes encoded less e =
-    let place = number_at bytes (cell_at cell + 9) in
-    named_short (is_checkpoint place bytes) place (cell_at cell) n bytes encoded less e
+    let number = number_at bytes (cell_at cell + 9) in
+    let place = place_named number in
+    named_short (is_version_2 number && is_checkpoint place bytes) place (cell_at cell) n bytes encoded less e
 
 foreign_short : (b : Bool) (other : Decoded) (encoded : Encoded) (n : ℕ) → (other ≡ Encodes encoded → IsShort encoded n)
     → cond b Foreign other ≡ Encodes encoded → IsShort encoded n

@@ -1,10 +1,10 @@
--- Where the cells stand, and which of them is in force.
-use Rattle.std.proofs.Common.{◌≡◌, ◌≢◌, ◌≤◌, ◌⊎◌, inl, inr, ℕ, ◌+◌, Bool, true, false, cond, List, get_or}
+-- Where the cells stand, how they name a place, and which of them is in force.
+use Rattle.std.proofs.Common.{◌≡◌, ◌≢◌, ◌≤◌, ◌<◌, ◌⊎◌, inl, inr, ℕ, ◌+◌, ◌^◌, Bool, true, false, cond, List, get_or}
 use Rattle.std.proofs.Common.{refl, sym, subst, arith}
 use Rattle.std.proofs.lemmas.Bool.{cases_eq}
 use Rattle.std.proofs.lemmas.Bool.Decides.{nat_tests}
 use Rattle.iot_records.specs.Bytes.{number_at, is_open}
-use Rattle.iot_slots.specs.Cells.{cell_at, other_of, next, chosen, counting}
+use Rattle.iot_slots.specs.Cells.{cell_at, naming, place_named, is_version_2, other_of, next, chosen, counting}
 use Rattle.iot_slots.specs.Parts.{Outranks}
 use Rattle.iot_slots.specs.declared.cell.Cell.{Cell}
 use Rattle.iot_slots.specs.declared.cell.Cell.TheVariants.{First, Second}
@@ -24,6 +24,20 @@ cells_apart Second = inl (omega arith)
 pub other_other : (cell : Cell) → other_of (other_of cell) ≡ cell
 other_other First = refl
 other_other Second = refl
+
+-- ---- how they name a place
+
+pub naming_marks : (place : ℕ) → is_version_2 (naming place) ≡ true
+naming_marks place = grind (arith, nat_tests)
+
+pub naming_back : (place : ℕ) → place < 2 ^ 63 → place_named (naming place) ≡ place
+naming_back place low = omega (arith, low)
+
+-- a number that marks version 2 is the one that names its place
+pub naming_again : (number : ℕ) → number < 2 ^ 64 → is_version_2 number ≡ true → number ≡ naming (place_named number)
+naming_again number fits marked =
+    let high : 2 ^ 63 ≤ number = grind (arith, nat_tests) in
+    omega (arith, fits, high)
 
 -- ---- gates
 

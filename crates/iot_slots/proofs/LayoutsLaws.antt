@@ -6,13 +6,13 @@ use Rattle.std.proofs.lemmas.Bool.{cases_lt}
 use Rattle.std.proofs.lemmas.Bool.Decides.{nat_tests}
 use Rattle.iot_disk.specs.Disk.{Torn}
 use Rattle.iot_records.proofs.BytesLaws.{byte_torn, number_torn}
-use Rattle.iot_slots.specs.Cells.{next, counting, in_force, has_cells}
+use Rattle.iot_slots.specs.Cells.{place_named, next, counting, in_force, has_cells}
 use Rattle.iot_slots.specs.Decoding.{Encodes, State, decoded}
 use Rattle.iot_slots.specs.Layouts.{IsOther, IsLaidOut, place_by, place_in, next_place, renewed_layout, reaches, MakesRoom}
 use Rattle.iot_slots.specs.declared.cell.Force.{Force}
 use Rattle.iot_slots.specs.declared.cell.Force.TheVariants.{NoCell, Is}
 use Rattle.iot_slots.specs.declared.layout.Layout.{Layout}
-use Rattle.iot_slots.proofs.CellsLaws.{counting_is}
+use Rattle.iot_slots.proofs.CellsLaws.{naming_back, counting_is}
 use Rattle.iot_slots.proofs.PartsLaws.{encodes, shut_torn}
 
 -- what is laid out is decoded as its state
@@ -31,7 +31,11 @@ laid_place header bytes state layout laid =
     let force : in_force bytes ≡ Is layout.cell =
     ap (λ (b : Bool). cond b (counting bytes) NoCell) room
     ∙ counting_is bytes layout.cell layout.generation cell.gate cell.generation laid.in_force.outranks in
-    sym (ap (λ (f : Force). place_by f bytes) force ∙ cell.place)
+    let checkpoint = laid.in_force.checkpoint in
+    sym (
+    ap (λ (f : Force). place_by f bytes) force
+    ∙ ap place_named cell.place
+    ∙ naming_back layout.place (omega (arith, checkpoint.end, checkpoint.limit)))
 
 -- a write after the cells leaves what the other cell says
 pub other_torn : (at end : ℕ) (old new : List ℕ) (other generation : ℕ) (named : Option ℕ) → Torn at end old new →
@@ -40,7 +44,7 @@ other_torn at end old new other generation None torn past room is = shut_torn at
 other_torn at end old new other generation (Some place) torn past room is = (
   byte_torn at end old new torn other (inl (omega arith)) (omega arith) ∙ is.0,
   is.1 ∙ ap next (sym (number_torn at end old new torn (other + 1) (inl (omega arith)) (omega arith))),
-  number_torn at end old new torn (other + 9) (inl (omega arith)) (omega arith) ∙ is.2,
+  ap place_named (number_torn at end old new torn (other + 9) (inl (omega arith)) (omega arith)) ∙ is.2,
 )
 
 -- ---- the next checkpoint

@@ -11,13 +11,13 @@ use Rattle.iot_records.specs.Bytes.{Has, number, number_at, is_open}
 use Rattle.iot_records.specs.Records.{Whole, records, spelled, series_in}
 use Rattle.iot_records.proofs.BytesLaws.{length-number, has_split, has_right, has_number_first, has_torn, byte_torn, number_torn}
 use Rattle.iot_records.proofs.RecordsLaws.{length-spelled, series_whole}
-use Rattle.iot_slots.specs.Cells.{cell_at, other_of, next, counting, in_force, has_cells}
-use Rattle.iot_slots.specs.Decoding.{Encodes, Damaged, State, with_records, is_checkpoint, checkpoint_at, named_by, decoded}
+use Rattle.iot_slots.specs.Cells.{cell_at, naming, place_named, other_of, next, counting, in_force, has_cells}
+use Rattle.iot_slots.specs.Decoding.{Encodes, Damaged, Decoded, State, with_records, is_checkpoint, checkpoint_at, named_by, decoded}
 use Rattle.iot_slots.specs.Decoding.{is_foreign}
 use Rattle.iot_slots.specs.Parts.{HasCell, HasCheckpoint, Outranks, IsInForce}
 use Rattle.iot_slots.specs.declared.cell.Force.TheVariants.{NoCell, Is}
 use Rattle.iot_slots.specs.declared.layout.Layout.{Layout}
-use Rattle.iot_slots.proofs.CellsLaws.{cell_range, counting_is}
+use Rattle.iot_slots.proofs.CellsLaws.{cell_range, naming_marks, naming_back, counting_is}
 use Rattle.iot_slots.proofs.DecodingLaws.{decoded_force}
 
 -- ---- what they encode
@@ -60,9 +60,14 @@ module _ (bytes : List ℕ) (layout : Layout) (state : State) (has : HasCheckpoi
       let end : place + 16 + number_at bytes place < length bytes = omega (arith, size_is, has.end, has.inside) in
       grind (arith, nat_tests)
 
-  named_encodes : get_or bytes layout.gate 0 ≢ 165 → named_by layout.cell place bytes ≡ Encodes state
+  abbrev found_at : (at : ℕ) (b : Bool) → Decoded
+  found_at at b = cond b (checkpoint_at at (number_at bytes at) bytes) (Damaged (cell_at layout.cell))
+
+  named_encodes : get_or bytes layout.gate 0 ≢ 165 → named_by layout.cell (naming place) bytes ≡ Encodes state
   named_encodes shut =
-      ap (λ (b : Bool). cond b (checkpoint_at place (number_at bytes place) bytes) (Damaged (cell_at layout.cell))) is_there
+      ap (λ (b : Bool). found_at (place_named (naming place)) (b && is_checkpoint (place_named (naming place)) bytes)) (naming_marks place)
+      ∙ ap (λ (n : ℕ). found_at n (is_checkpoint n bytes)) (naming_back place (omega (arith, has.end, has.limit)))
+      ∙ ap (found_at place) is_there
       ∙ ap (λ (n : ℕ). checkpoint_at place n bytes) size_is
       ∙ ap (λ (l : List ℕ). with_records l (number_at bytes (place + 8 + size)) (series_in first (drop first bytes))) body_is
       ∙ ap (with_records state.body (number_at bytes (place + 8 + size))) (series_is shut)

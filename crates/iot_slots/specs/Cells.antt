@@ -6,10 +6,26 @@ use Rattle.iot_slots.specs.declared.cell.Cell.TheVariants.{First, Second}
 use Rattle.iot_slots.specs.declared.cell.Force.{Force}
 use Rattle.iot_slots.specs.declared.cell.Force.TheVariants.{NoCell, Clash, Is}
 
--- where the gate of a cell is; its generation and the place of its checkpoint follow as two numbers
+-- where the gate of a cell is; two numbers follow it: its generation, and the one that names the place of its checkpoint
 abbrev pub cell_at : Cell → ℕ
 cell_at First = 9
 cell_at Second = 26
+
+-- what is added to a place in a cell: it marks version 2 of the format
+abbrev pub version_mark : ℕ
+version_mark = 2 ^ 63
+
+-- the number with which a cell names the checkpoint at this place
+abbrev pub naming : (place : ℕ) → ℕ
+naming place = place + version_mark
+
+-- the place that such a number names
+abbrev pub place_named : ℕ → ℕ
+place_named number = number % version_mark
+
+-- whether a number marks version 2
+abbrev pub is_version_2 : ℕ → Bool
+is_version_2 number = nat_le version_mark number
 
 abbrev pub other_of : Cell → Cell
 other_of First = Second

@@ -3,7 +3,7 @@ use Rattle.std.specs.Prelude.{ℕ, ◌+◌, ◌%◌, ◌^◌, Bool, nat_eq, nat_
 use Rattle.std.specs.List.{starts_with}
 use Rattle.iot_records.specs.Bytes.{number_at, is_open}
 use Rattle.iot_records.specs.Records.{Series, Whole, Cut, series_in}
-use Rattle.iot_slots.specs.Cells.{cell_at, in_force}
+use Rattle.iot_slots.specs.Cells.{cell_at, place_named, is_version_2, in_force}
 use Rattle.iot_slots.specs.declared.cell.Cell.{Cell}
 use Rattle.iot_slots.specs.declared.cell.Force.{Force}
 use Rattle.iot_slots.specs.declared.cell.Force.TheVariants.{NoCell, Clash, Is}
@@ -36,10 +36,13 @@ checkpoint_at place size bytes =
     let first = place + 16 + size in
     with_records (take size (drop (place + 8) bytes)) (number_at bytes (place + 8 + size)) (series_in first (drop first bytes))
 
--- the checkpoint that a cell names
-abbrev pub named_by : Cell → (place : ℕ) → List ℕ → Decoded
-named_by cell place bytes =
-    if is_checkpoint place bytes then checkpoint_at place (number_at bytes place) bytes else Damaged (cell_at cell)
+-- the checkpoint that a cell names with this number
+abbrev pub named_by : Cell → (number : ℕ) → List ℕ → Decoded
+named_by cell number bytes =
+    let place = place_named number in
+    if is_version_2 number && is_checkpoint place bytes
+    then checkpoint_at place (number_at bytes place) bytes
+    else Damaged (cell_at cell)
 
 -- the checkpoint in force
 abbrev pub decoded_by : Force → List ℕ → Decoded

@@ -3,7 +3,7 @@ use Rattle.std.specs.Prelude.{◌≡◌, ◌≢◌, ◌≤◌, ◌<◌, ℕ, ◌
 use Rattle.std.specs.Prelude.{List, [], ◌∷◌, length, slice_index, Option, Some, None}
 use Rattle.iot_records.specs.Bytes.{number_at, is_open}
 use Rattle.iot_records.specs.Records.{records}
-use Rattle.iot_slots.specs.Cells.{cell_at, other_of, next, in_force}
+use Rattle.iot_slots.specs.Cells.{cell_at, place_named, other_of, next, in_force}
 use Rattle.iot_slots.specs.Decoding.{State}
 use Rattle.iot_slots.specs.Parts.{IsInForce}
 use Rattle.iot_slots.specs.declared.cell.Cell.{Cell}
@@ -17,13 +17,15 @@ use Rattle.iot_slots.specs.declared.layout.TheConstants.{MANY, SPARE}
 
 -- the place that a cell names, if its gate is open
 abbrev pub named_in : List ℕ → Cell → Option ℕ
-named_in bytes cell = if is_open bytes (cell_at cell) then Some (number_at bytes (cell_at cell + 9)) else None
+named_in bytes cell = if is_open bytes (cell_at cell) then Some (place_named (number_at bytes (cell_at cell + 9))) else None
 
 -- what the cell at this offset says beside one of this generation: nothing that counts, or the generation before and a place
 abbrev pub IsOther : List ℕ → (other generation : ℕ) → Option ℕ → Type 0
 IsOther bytes other generation None = slice_index bytes other ≢ 165
 IsOther bytes other generation (Some place) =
-    (slice_index bytes other ≡ 165) × (generation ≡ next (number_at bytes (other + 1))) × (number_at bytes (other + 9) ≡ place)
+    (slice_index bytes other ≡ 165)
+    × (generation ≡ next (number_at bytes (other + 1)))
+    × (place_named (number_at bytes (other + 9)) ≡ place)
 
 -- the bytes encode the state, and their parts are where the layout says
 pub record IsLaidOut (header bytes : List ℕ) (state : State) (layout : Layout) : Type 0 where
@@ -39,7 +41,7 @@ pub record IsLaidOut (header bytes : List ℕ) (state : State) (layout : Layout)
 abbrev pub place_by : Force → List ℕ → ℕ
 place_by NoCell bytes = 0
 place_by Clash bytes = 0
-place_by (Is cell) bytes = number_at bytes (cell_at cell + 9)
+place_by (Is cell) bytes = place_named (number_at bytes (cell_at cell + 9))
 
 -- where the checkpoint in force is
 abbrev pub place_in : List ℕ → ℕ

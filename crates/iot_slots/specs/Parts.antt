@@ -2,11 +2,12 @@
 use Rattle.std.specs.Prelude.{◌≡◌, ◌≢◌, ◌≤◌, ◌<◌, ◌⊎◌, ℕ, ◌+◌, ◌%◌, ◌^◌, List, length, slice_index}
 use Rattle.iot_records.specs.Bytes.{Has, number_at}
 use Rattle.iot_records.specs.Records.{records, spelled}
-use Rattle.iot_slots.specs.Cells.{cell_at, other_of, next}
+use Rattle.iot_slots.specs.Cells.{cell_at, naming, other_of, next}
 use Rattle.iot_slots.specs.Decoding.{State}
 use Rattle.iot_slots.specs.declared.layout.Layout.{Layout}
 
--- byte 0 is open and the header follows it, and the gate of the layout's cell is open and its generation and place follow it
+-- byte 0 is open and the header follows it, and the gate of the layout's cell is open, and its generation and the number that names its
+-- place follow it
 pub record HasCell (header bytes : List ℕ) (layout : Layout) : Type 0 where
   pub header_size : length header ≡ 8
   pub room : 43 ≤ length bytes
@@ -14,7 +15,7 @@ pub record HasCell (header bytes : List ℕ) (layout : Layout) : Type 0 where
   pub front : Has bytes 1 header
   pub gate : slice_index bytes (cell_at layout.cell) ≡ 165
   pub generation : number_at bytes (cell_at layout.cell + 1) ≡ layout.generation
-  pub place : number_at bytes (cell_at layout.cell + 9) ≡ layout.place
+  pub place : number_at bytes (cell_at layout.cell + 9) ≡ naming layout.place
 
 -- at the layout's place is a checkpoint with the state's body, the state's records follow it, and then comes the gate
 pub record HasCheckpoint (bytes : List ℕ) (layout : Layout) (state : State) : Type 0 where

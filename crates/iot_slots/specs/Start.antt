@@ -6,6 +6,7 @@ use Rattle.iot_disk.specs.declared.faults.StartFault.TheVariants as fault
 use Rattle.iot_records.specs.Bytes.{number}
 use Rattle.iot_records.specs.Images.{Each}
 use Rattle.iot_records.specs.Records.{spelled}
+use Rattle.iot_slots.specs.Cells.{naming}
 use Rattle.iot_slots.specs.Decoding.{Decoded, Foreign, Damaged, decoded, opened}
 
 -- each image encodes what these bytes encode, if a disk that is not started encodes this body with no records
@@ -26,10 +27,10 @@ IsReason fault.Stopped decoding = ⊥
 IsReason fault.Foreign decoding = decoding ≡ Foreign
 IsReason (fault.Damaged at) decoding = decoding ≡ Damaged at
 
--- what follows the gate of cell 0 on a disk that was just started: generation 1 and place 43, cell 1 closed, a checkpoint of this body with
--- no record before it, and a closed gate
+-- what follows the gate of cell 0 on a disk that was just started: generation 1 and the number that names place 43, cell 1 closed, a
+-- checkpoint of this body with no record before it, and a closed gate
 abbrev pub after_gate : (body : List ℕ) → List ℕ
-after_gate body = number 1 ++ (number 43 ++ (replicate 17 0 ++ (spelled body ++ (number 0 ++ 0 ∷ []))))
+after_gate body = number 1 ++ (number (naming 43) ++ (replicate 17 0 ++ (spelled body ++ (number 0 ++ 0 ∷ []))))
 
 -- what follows its byte 0 before the gate of cell 0 is opened
 abbrev pub fresh : (header body : List ℕ) → List ℕ

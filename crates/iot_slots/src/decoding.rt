@@ -7,6 +7,7 @@ ghost use Rattle.iot_slots.specs.Layouts.{IsLaidOut, named_in};
 ghost use Rattle.iot_slots.specs.Start.{IsReason};
 ghost use Rattle.iot_slots.specs.declared.cell.Force.TheVariants.{Is};
 
+use crate::cell::{place_named, place_of_version_2};
 use crate::layout::REST;
 use crate::{Cell, Force, Layout};
 use iot_disk::{LIMIT, StartFault};
@@ -103,7 +104,7 @@ fn named_by(bytes: &[u8], cell: Cell) -> Option<u64>
 {
     let at = cell.at() as usize;
     if bytes[at] == OPEN {
-        Some(number_at(bytes, at + 9))
+        Some(place_named(number_at(bytes, at + 9)))
     } else {
         None
     }
@@ -140,7 +141,9 @@ fn lend_cell<'a>(header: &[u8; 8], bytes: &'a [u8], cell: Cell) -> Result<SlotsV
     ensures no_memory { IsErrOf result StartFault.NoMemory → ⊥ }
 {
     let at = cell.at();
-    let place = number_at(bytes, at as usize + 9);
+    let Some(place) = place_of_version_2(number_at(bytes, at as usize + 9)) else {
+        return Err(StartFault::Damaged { at });
+    };
     let Some(size) = checkpoint_size(bytes, place) else {
         return Err(StartFault::Damaged { at });
     };

@@ -1,10 +1,12 @@
 //! How checkpoints and cells are spelled.
-ghost use Rattle.std.specs.Prelude.{◌≡◌, [], ◌∷◌, ◌++◌, OnOk};
+ghost use Rattle.std.specs.Prelude.{◌≡◌, ◌<◌, ◌^◌, [], ◌∷◌, ◌++◌, OnOk};
 ghost use Rattle.iot_records.specs.Bytes.{number};
 ghost use Rattle.iot_records.specs.Records.{spelled};
+ghost use Rattle.iot_slots.specs.Cells.{naming};
 ghost use Rattle.iot_slots.specs.Layouts.{closing_of};
 ghost use Rattle.iot_slots.specs.Start.{fresh};
 
+use crate::cell::naming;
 use crate::layout::REST;
 use iot_records::CLOSED;
 use std::alloc::AllocError;
@@ -38,13 +40,14 @@ pub fn spell_fresh(out: &mut Vec<u8>, header: &[u8; 8], body: &[u8]) -> Result<(
     Ok(())
 }
 
-/// Spells what follows the gate of a cell.
+/// Spells what follows the gate of a cell: its generation, and the number that names the place of its checkpoint.
 pub fn spell_cell(generation: u64, place: u64) -> [u8; 16]
-    ensures { result ≡ number generation ++ number place }
+    requires { place < 2 ^ 63 }
+    ensures { result ≡ number generation ++ number (naming place) }
 {
     let mut bytes = [0; 16];
     bytes[..8].copy_from_slice(&generation.to_be_bytes());
-    bytes[8..].copy_from_slice(&place.to_be_bytes());
+    bytes[8..].copy_from_slice(&naming(place).to_be_bytes());
     bytes
 }
 

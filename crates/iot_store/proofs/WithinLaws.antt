@@ -1,10 +1,11 @@
 -- What bytes encode is no longer than they are.
-use Rattle.std.proofs.Common.{◌≤◌, ◌+◌, ◌==◌, ℕ, suc, zero, Bool, true, false, cond, List, [], ◌∷◌, length, take, drop, arith, length-drop}
+use Rattle.std.proofs.Common.{◌≤◌, ◌+◌, ◌==◌, ◌&&◌, ℕ, suc, zero, Bool, true, false, cond, List, [], ◌∷◌, length, take, drop}
+use Rattle.std.proofs.Common.{arith, length-drop}
 use Rattle.std.proofs.lemmas.List.{length-take}
 use Rattle.std.specs.List.{AllByRecursion}
 use Rattle.iot_records.specs.Bytes.{number_at, number_in}
 use Rattle.iot_records.specs.Records.{Series, Whole, Cut, is_whole, prepended, series_from, series_in}
-use Rattle.iot_slots.specs.Cells.{cell_at, in_force}
+use Rattle.iot_slots.specs.Cells.{cell_at, place_named, is_version_2, in_force}
 use Rattle.iot_slots.specs.Decoding.{Decoded, Encodes, NotStarted, Foreign, Damaged, decoded, decoded_by, is_checkpoint, is_foreign}
 use Rattle.iot_slots.specs.Decoding.{checkpoint_at, with_records}
 use Rattle.iot_slots.specs.declared.cell.Force.{Force}
@@ -85,9 +86,10 @@ force_within : (force : Force) (bytes : List ℕ) → IsWithin (length bytes) (d
 force_within NoCell bytes = tt
 force_within Clash bytes = tt
 force_within (Is cell) bytes =
-    let place : ℕ = number_at bytes (cell_at cell + 9) in
-    test_within (length bytes) (is_checkpoint place bytes) (checkpoint_at place (number_at bytes place) bytes) (Damaged (cell_at cell))
-    (checkpoint_within place (number_at bytes place) bytes) tt
+    let number : ℕ = number_at bytes (cell_at cell + 9) in
+    let place : ℕ = place_named number in
+    test_within (length bytes) (is_version_2 number && is_checkpoint place bytes) (checkpoint_at place (number_at bytes place) bytes)
+    (Damaged (cell_at cell)) (checkpoint_within place (number_at bytes place) bytes) tt
 
 pub decoded_within : (header bytes : List ℕ) → IsWithin (length bytes) (decoded header bytes)
 unfolding decoded

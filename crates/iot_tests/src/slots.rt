@@ -1,4 +1,4 @@
-//! A start that stops at every device call, and checkpoints that come when they are due.
+//! A start that stops at every device call, disks that something else wrote, and checkpoints that come when they are due.
 ghost use Rattle.std.specs.Prelude.{◌≡◌, false, IfOk, OnOk};
 ghost use Rattle.iot_slots.specs.Layouts.{is_due};
 ghost use Rattle.iot_slots.specs.Slots.{IsSynced, layout_of, state_on};
@@ -14,7 +14,7 @@ const PICKS: [Pick; 3] = [Pick::Old, Pick::New, Pick::Fill(165)];
 
 /// A disk that was started with the body "ab".
 const FRESH: [u8; 62] =
-    *b"\xa5IOTSLOT1\xa5\0\0\0\0\0\0\0\x01\0\0\0\0\0\0\0\x2b\0\0\0\0\0\0\0\0\0\0\0\0\0\0\0\0\0\0\0\0\0\0\0\0\x02ab\0\0\0\0\0\0\0\0\0";
+    *b"\xa5IOTSLOT1\xa5\0\0\0\0\0\0\0\x01\x80\0\0\0\0\0\0\x2b\0\0\0\0\0\0\0\0\0\0\0\0\0\0\0\0\0\0\0\0\0\0\0\0\x02ab\0\0\0\0\0\0\0\0\0";
 
 /// Slots that are started after a restart.
 fn restarted<D: Disk + Drop>(alloc: Global, mut disk: D) -> Result<(Slots<D>, Started), StartFault>
@@ -64,6 +64,27 @@ fn a_start_can_stop_and_start_again(rt: HostRuntime) -> Result<(), Fail> {
                 assert_eq!(rt; slots.into_disk().bytes(), FRESH.as_slice(), "call {calls}");
             }
         }
+    }
+    Ok(())
+}
+
+#[test]
+fn other_bytes_are_refused(rt: HostRuntime) -> Result<(), Fail> {
+    let alloc = rt.alloc();
+    for at in 0..53 {
+        let mut bytes = FRESH;
+        bytes[at] ^= 128;
+        let flipped = MemDisk::of(alloc, bytes.to_vec(alloc)?)?;
+        let want = match at {
+            0 | 9 => Ok((0, 0, 0)),
+            1..=8 => Err(StartFault::Foreign),
+            // The number in the cell in force is 43, as it was in version 1.
+            18 => Err(StartFault::Damaged { at: 9 }),
+            // No whole checkpoint is at the place that the cell names.
+            19..=25 | 43..=50 => Err(StartFault::Damaged { at: 9 }),
+            _ => Ok((2, 0, 0)),
+        };
+        assert_eq!(rt; found(alloc, flipped), want, "flipped at {at}");
     }
     Ok(())
 }

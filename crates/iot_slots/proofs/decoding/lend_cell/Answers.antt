@@ -12,21 +12,22 @@ use Rattle.iot_records.specs.Bytes.{Has, number_in, number_at, is_open}
 use Rattle.iot_records.specs.Records.{spelled, records, series_in, IsSeries, IsCutReason}
 use Rattle.iot_records.proofs.BytesLaws.{split_has}
 use Rattle.iot_records.proofs.RecordsLaws.{whole_is}
-use Rattle.iot_slots.specs.Cells.{counting, in_force, cell_at, other_of, has_cells}
-use Rattle.iot_slots.specs.Decoding.{Damaged, with_records, state_in, is_checkpoint, checkpoint_at, named_by, is_foreign, decoded}
+use Rattle.iot_slots.specs.Cells.{counting, in_force, cell_at, naming, place_named, is_version_2, other_of, has_cells}
+use Rattle.iot_slots.specs.Decoding.{Decoded, Damaged, with_records, state_in, is_checkpoint, checkpoint_at, named_by, is_foreign, decoded}
 use Rattle.iot_slots.specs.Layouts.{IsOther, IsLaidOut, named_in}
 use Rattle.iot_slots.specs.Parts.{Outranks}
 use Rattle.iot_slots.specs.Start.{IsReason}
 use Rattle.iot_slots.specs.declared.cell.Cell.{Cell}
 use Rattle.iot_slots.specs.declared.cell.Force.TheVariants.{Is}
 use Rattle.iot_slots.specs.declared.layout.Layout.{Layout}
-use Rattle.iot_slots.proofs.CellsLaws.{counting_inv, force_inv, opened_is, shut_is}
+use Rattle.iot_slots.proofs.CellsLaws.{naming_again, counting_inv, force_inv, opened_is, shut_is}
 use Rattle.iot_slots.proofs.DecodingLaws.{decoded_force}
 use Rattle.iot_slots.proofs.decoding.lend_cell.Goals as goal
 
 -- what the other cell says
 other_is : (bytes : List ℕ) (other generation : ℕ) (named : Option ℕ) (b : Bool) → is_open bytes other ≡ b →
-    named ≡ cond b (Some (number_at bytes (other + 9))) None → Outranks bytes other generation → IsOther bytes other generation named
+    named ≡ cond b (Some (place_named (number_at bytes (other + 9)))) None → Outranks bytes other generation →
+    IsOther bytes other generation named
 other_is bytes other generation named true is named_is outranks =
     let gate : get_or bytes other 0 ≡ 165 = opened_is bytes other is in
     subst (λ (n : Option ℕ). IsOther bytes other generation n) (sym named_is)
@@ -35,8 +36,8 @@ other_is bytes other generation named false is named_is outranks =
     subst (λ (n : Option ℕ). IsOther bytes other generation n) (sym named_is) (shut_is bytes other is)
 
 module _ (header bytes : List ℕ) (cell : Cell) (native : is_foreign header bytes ≡ false) (force : in_force bytes ≡ Is cell)
-    (eight : length header ≡ 8) (limit : length bytes ≤ 2 ^ 62) (small : (i : ℕ) → get_or bytes i 0 < 256) (place : ℕ)
-    (place_is : place ≡ number_at bytes (cell_at cell + 9)) where
+    (eight : length header ≡ 8) (limit : length bytes ≤ 2 ^ 62) (small : (i : ℕ) → get_or bytes i 0 < 256) (number : ℕ)
+    (number_is : number ≡ number_at bytes (cell_at cell + 9)) (place : ℕ) (place_is : place ≡ place_named number) where
   inv : (has_cells bytes ≡ true) × (counting bytes ≡ Is cell)
   inv = force_inv (has_cells bytes) (counting bytes) cell force
 
@@ -62,14 +63,22 @@ module _ (header bytes : List ℕ) (cell : Cell) (native : is_foreign header byt
       split_has bytes 1 header (drop (length header) (drop 1 bytes)) (omega (arith, room))
       ((starts_is Decides-eqb (drop 1 bytes) header (starts_with nat_eq (drop 1 bytes) header) refl).0 starts)
 
-  named : (b : Bool) → is_checkpoint place bytes ≡ b →
-      decoded header bytes ≡ cond b (checkpoint_at place (number_at bytes place) bytes) (Damaged (cell_at cell))
-  named b is =
-      decoded_force header bytes (Is cell) native force
-      ∙ ap (λ (n : ℕ). named_by cell n bytes) (sym place_is)
-      ∙ ap (λ (b : Bool). cond b (checkpoint_at place (number_at bytes place) bytes) (Damaged (cell_at cell))) is
+  abbrev found_at : (at : ℕ) (b : Bool) → Decoded
+  found_at at b = cond b (checkpoint_at at (number_at bytes at) bytes) (Damaged (cell_at cell))
 
-  module _ (size : ℕ) (there : is_checkpoint place bytes ≡ true) (size_is : size ≡ number_at bytes place) where
+  -- of version 2, or not
+  numbered : (b : Bool) → is_version_2 number ≡ b → decoded header bytes ≡ found_at place (b && is_checkpoint place bytes)
+  numbered b is =
+      decoded_force header bytes (Is cell) native force
+      ∙ ap (λ (n : ℕ). named_by cell n bytes) (sym number_is)
+      ∙ ap (λ (n : ℕ). found_at n (is_version_2 number && is_checkpoint n bytes)) (sym place_is)
+      ∙ ap (λ (b : Bool). found_at place (b && is_checkpoint place bytes)) is
+
+  named : is_version_2 number ≡ true → (b : Bool) → is_checkpoint place bytes ≡ b → decoded header bytes ≡ found_at place b
+  named marked b is = numbered true marked ∙ ap (found_at place) is
+
+  module _ (marked : is_version_2 number ≡ true) (fits : number < 2 ^ 64) (size : ℕ) (there : is_checkpoint place bytes ≡ true)
+      (size_is : size ≡ number_at bytes place) where
     past : 43 ≤ place
     past = let is = there in grind (arith, nat_tests)
 
@@ -80,7 +89,7 @@ module _ (header bytes : List ℕ) (cell : Cell) (native : is_foreign header byt
     end = omega (arith, size_is, bound)
 
     sized : decoded header bytes ≡ checkpoint_at place size bytes
-    sized = named true there ∙ ap (λ (n : ℕ). checkpoint_at place n bytes) (sym size_is)
+    sized = named marked true there ∙ ap (λ (n : ℕ). checkpoint_at place n bytes) (sym size_is)
 
     -- records that are cut short
     cut_reason : (why : StartFault) (first : ℕ) (tail : List ℕ) → first ≡ place + 16 + size → tail ≡ drop first bytes →
@@ -147,7 +156,8 @@ module _ (header bytes : List ℕ) (cell : Cell) (native : is_foreign header byt
             front = has_header;
             gate = at_cell (λ x. get_or bytes (cell_at x) 0 ≡ 165) (counting_inv bytes cell inv.1).0;
             generation = at_cell (λ x. number_at bytes (cell_at x + 1) ≡ layout.generation) (sym generation_is);
-            place = at_cell (λ x. number_at bytes (cell_at x + 9) ≡ layout.place) (sym (layout_place ∙ place_is));
+            place = at_cell (λ x. number_at bytes (cell_at x + 9) ≡ naming layout.place)
+                (sym number_is ∙ naming_again number fits marked ∙ ap naming (sym (layout_place ∙ place_is)));
           };
           checkpoint = record {
             past = omega (arith, layout_place, past);
@@ -177,18 +187,28 @@ module _ (header bytes : List ℕ) (cell : Cell) (native : is_foreign header byt
 
 pub returns-in_default-clause-err : goal.returns-in_default-clause-err
 returns-in_default-clause-err c =
-    let place_is = c.number_at-place.ensures ∙ ap (λ (n : ℕ). number_at c.args.bytes.now (n + 9)) c.at-at.ensures in
+    let number_is = c.number_at.ensures ∙ ap (λ (n : ℕ). number_at c.args.bytes.now (n + 9)) c.at-at.ensures in
+    numbered c.args.header.now c.args.bytes.now c.args.cell c.requires.native c.requires.force c.told-header c.requires.limit
+    (λ i. (c.type_inv.bytes i).fits) c.number_at.result number_is (place_named c.number_at.result) refl false c.in_default.ensures.none
+    ∙ ap Damaged (sym c.at-at.ensures)
+
+pub returns-in_default-checkpoint_size-clause-err : goal.returns-in_default-checkpoint_size-clause-err
+returns-in_default-checkpoint_size-clause-err c =
+    let number_is = c.number_at.ensures ∙ ap (λ (n : ℕ). number_at c.args.bytes.now (n + 9)) c.at-at.ensures in
     named c.args.header.now c.args.bytes.now c.args.cell c.requires.native c.requires.force c.told-header c.requires.limit
-    (λ i. (c.type_inv.bytes i).fits) c.number_at-place.result place_is false c.in_default.ensures.none
+    (λ i. (c.type_inv.bytes i).fits) c.number_at.result number_is c.in-Some.place c.in-Some.ensures.place c.in-Some.ensures.some false
+    c.in_default-checkpoint_size.ensures.none
     ∙ ap Damaged (sym c.at-at.ensures)
 
 pub returns-in_err-found-clause-err : goal.returns-in_err-found-clause-err
 returns-in_err-found-clause-err c =
     let bytes = c.args.bytes.now in
-    let first = c.number_at-place.result + 8 + c.in-Some.size + 8 in
-    let place_is = c.number_at-place.ensures ∙ ap (λ (n : ℕ). number_at c.args.bytes.now (n + 9)) c.at-at.ensures in
+    let there = c.in-Some-checkpoint_size in
+    let first = c.in-Some.place + 8 + there.size + 8 in
+    let number_is = c.number_at.ensures ∙ ap (λ (n : ℕ). number_at c.args.bytes.now (n + 9)) c.at-at.ensures in
     let reason = cut_reason c.args.header.now bytes c.args.cell c.requires.native c.requires.force c.told-header c.requires.limit
-    (λ i. (c.type_inv.bytes i).fits) c.number_at-place.result place_is c.in-Some.size c.in-Some.ensures.some c.in-Some.ensures.size
+    (λ i. (c.type_inv.bytes i).fits) c.number_at.result number_is c.in-Some.place c.in-Some.ensures.place c.in-Some.ensures.some
+    c.number_at.type_inv there.size there.ensures.some there.ensures.size
     c.in_err-found.field-0.0 first (take (length bytes - first) (drop first bytes)) (omega arith) (take_rest bytes first)
     c.in_err-found.ensures.err in
     search (rules, reason)
@@ -196,28 +216,30 @@ returns-in_err-found-clause-err c =
 pub returns-clause-ok : goal.returns-clause-ok
 returns-clause-ok c =
     let bytes = c.args.bytes.now in
-    let place = c.number_at-place.result in
-    let size = c.in-Some.size in
+    let place = c.in-Some.place in
+    let there = c.in-Some-checkpoint_size in
+    let size = there.size in
     let start = place + 8 in
     let first = start + size + 8 in
-    let place_is = c.number_at-place.ensures ∙ ap (λ (n : ℕ). number_at c.args.bytes.now (n + 9)) c.at-at.ensures in
+    let number_is = c.number_at.ensures ∙ ap (λ (n : ℕ). number_at c.args.bytes.now (n + 9)) c.at-at.ensures in
     let exact : start + size - start ≡ size = omega arith in
     let series =
     subst (λ (l : List ℕ). IsSeries l first c.in_ok-found.found.records c.in_ok-found.found.gate) (take_rest bytes first)
     c.in_ok-found.ensures.ok in
     laid_found c.args.header.now bytes c.args.cell c.requires.native c.requires.force c.told-header c.requires.limit
-    (λ i. (c.type_inv.bytes i).fits) place place_is size c.in-Some.ensures.some c.in-Some.ensures.size
+    (λ i. (c.type_inv.bytes i).fits) c.number_at.result number_is place c.in-Some.ensures.place c.in-Some.ensures.some
+    c.number_at.type_inv size there.ensures.some there.ensures.size
     (take (start + size - start) (drop start bytes)) c.in_ok-found.found.records (record {
       cell = c.args.cell;
-      generation = c.number_at.result;
+      generation = c.number_at-2.result;
       place = place;
       first = first;
       gate = c.in_ok-found.found.gate;
       other = c.named_by.result;
-      count = (c.number_at-2.result + c.in_ok-found.found.count) % 2 ^ 64;
+      count = (c.number_at-3.result + c.in_ok-found.found.count) % 2 ^ 64;
     }) refl refl
     (ap (λ (n : ℕ). take n (drop start bytes)) exact) (omega arith) series
-    (c.number_at.ensures ∙ ap (λ (n : ℕ). number_at c.args.bytes.now (n + 1)) c.at-at.ensures) c.number_at.type_inv
-    (ap (λ (n : ℕ). (n + c.in_ok-found.found.count) % 2 ^ 64) c.number_at-2.ensures
+    (c.number_at-2.ensures ∙ ap (λ (n : ℕ). number_at c.args.bytes.now (n + 1)) c.at-at.ensures) c.number_at-2.type_inv
+    (ap (λ (n : ℕ). (n + c.in_ok-found.found.count) % 2 ^ 64) c.number_at-3.ensures
     ∙ ap (λ (n : ℕ). (number_at bytes (start + size) + n) % 2 ^ 64) c.in_ok-found.ensures.count)
     (c.named_by.ensures ∙ ap (λ (x : Cell). named_in c.args.bytes.now x) c.other.ensures)

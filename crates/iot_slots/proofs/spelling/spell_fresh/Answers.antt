@@ -1,5 +1,6 @@
 use Rattle.std.proofs.Common.{◌≡◌, ℕ, List, [], ◌∷◌, ◌++◌, ◌∙◌, ap, append_assoc}
 use Rattle.iot_records.specs.Bytes.{number}
+use Rattle.iot_slots.specs.Cells.{naming}
 use Rattle.iot_slots.proofs.spelling.spell_fresh.Goals as goal
 
 regrouped : (h n1 n43 z nl b n0 last : List ℕ)
@@ -24,7 +25,7 @@ joined v0 v1 v2 v3 v4 v5 v6 v7 v8 h d3 n1 n43 z d5 nl b d7 n0 last e0 e1 e2 f3 e
 pub returns : goal.returns
 unfolding number
 returns c =
-    joined _ _ _ _ _ _ _ _ _ _ _ (number 1) (number 43) _ _ _ _ _ _ _ c.clear.ensures.items c.in_ok-extend_from_slice.ensures.items
+    joined _ _ _ _ _ _ _ _ _ _ _ (number 1) (number (naming 43)) _ _ _ _ _ _ _ c.clear.ensures.items c.in_ok-extend_from_slice.ensures.items
     c.in_ok-push.ensures.items c.spell_cell.ensures c.in_ok-extend_from_slice-2.ensures.items c.in_ok-extend_from_slice-3.ensures.items
     c.to_be_bytes.ensures c.in_ok-extend_from_slice-4.ensures.items c.in_ok-extend_from_slice-5.ensures.items c.to_be_bytes-2.ensures
     c.in_ok-extend_from_slice-6.ensures.items c.in_ok-push-2.ensures.items

@@ -14,6 +14,7 @@ use Rattle.iot_records.proofs.BytesLaws.{closed_more, closed_shut, length-number
 use Rattle.iot_records.proofs.BytesLaws.{has_number_first, has_torn, has_written, byte_torn, torn_written}
 use Rattle.iot_records.proofs.ImagesLaws.{each_only, each_so, each_torn}
 use Rattle.iot_records.proofs.RecordsLaws.{length-spelled}
+use Rattle.iot_slots.specs.Cells.{naming}
 use Rattle.iot_slots.specs.Decoding.{Encodes, NotStarted, decoded, opened, state_in}
 use Rattle.iot_slots.specs.Layouts.{IsLaidOut, fresh_layout}
 use Rattle.iot_slots.specs.Parts.{IsInForce}
@@ -66,7 +67,7 @@ module _ (header body first second third buffer : List ℕ) (eight : length head
   second_cell_on = replicate 17 0 ++ checkpoint_on
 
   abbrev place_on : List ℕ
-  place_on = number 43 ++ second_cell_on
+  place_on = number (naming 43) ++ second_cell_on
 
   abbrev generation_on : List ℕ
   generation_on = number 1 ++ place_on
@@ -97,7 +98,7 @@ module _ (header body first second third buffer : List ℕ) (eight : length head
       let generation = kept 10 generation_on (omega arith) (has_torn 9 10 second third torn_third 10 generation_on (inr (omega arith))
       (has_right second 9 10 (0 ∷ []) generation_on refl gate_there)) in
       let place = has_right image 10 18 (number 1) place_on (omega (arith, length-number 1)) generation in
-      let second_cell = has_right image 18 26 (number 43) second_cell_on (omega (arith, length-number 43)) place in
+      let second_cell = has_right image 18 26 (number (naming 43)) second_cell_on (omega (arith, length-number (naming 43))) place in
       let checkpoint = has_right image 26 43 (replicate 17 0) checkpoint_on refl second_cell in
       let count = has_right image 43 (51 + length body) (spelled body) count_on (omega (arith, length-spelled body)) checkpoint in
       let last = has_right image (51 + length body) (59 + length body) (number 0) (0 ∷ []) (omega (arith, length-number 0)) count in
@@ -112,7 +113,7 @@ module _ (header body first second third buffer : List ℕ) (eight : length head
             front = front;
             gate = has_byte image 9 165 gate;
             generation = has_number_first image 10 1 place_on (omega arith) generation;
-            place = has_number_first image 18 43 second_cell_on (omega arith) place;
+            place = has_number_first image 18 (naming 43) second_cell_on (omega arith) place;
           };
           checkpoint = record {
             past = omega arith;

@@ -9,13 +9,13 @@ use Rattle.iot_records.proofs.BytesLaws.{length-number, has_left, has_right, has
 use Rattle.iot_records.proofs.BytesLaws.{has_written, torn_written}
 use Rattle.iot_records.proofs.ImagesLaws.{each_only, each_same, each_so, each_torn}
 use Rattle.iot_records.proofs.RecordsLaws.{length-spelled}
-use Rattle.iot_slots.specs.Cells.{next, cell_at, other_of}
+use Rattle.iot_slots.specs.Cells.{next, cell_at, naming, place_named, other_of}
 use Rattle.iot_slots.specs.Decoding.{Encodes, State, decoded, state_of}
 use Rattle.iot_slots.specs.Layouts.{IsOther, IsLaidOut, renewed_layout, closing_of}
 use Rattle.iot_slots.specs.Parts.{Outranks, IsInForce}
 use Rattle.iot_slots.specs.Slots.{renewed, EachEncodesEither}
 use Rattle.iot_slots.specs.declared.layout.Layout.{Layout}
-use Rattle.iot_slots.proofs.CellsLaws.{cell_range, cells_apart, other_other}
+use Rattle.iot_slots.proofs.CellsLaws.{cell_range, cells_apart, other_other, naming_back}
 use Rattle.iot_slots.proofs.LayoutsLaws.{IsFree, laid_encodes, next_place_free, makes_room}
 use Rattle.iot_slots.proofs.PartsLaws.{encodes, shut_torn, cell_torn, outranks_number, outranks_torn, in_force_torn, in_force_aside}
 use Rattle.iot_slots.proofs.SlotsLaws.{synced, each_laid, either_before, either_after}
@@ -157,16 +157,21 @@ module _ (header bytes : List ℕ) (state : State) (layout new : Layout) (body :
   -- all is there but the open gate
   record IsReady (image : List ℕ) : Type 0 where
     alone : IsAlone image
-    cell : Has image (gate + 1) (number new.generation ++ number new.place)
+    cell : Has image (gate + 1) (number new.generation ++ number (naming new.place))
     checkpoint : Has image new.place (spelled body ++ (number layout.count ++ 0 ∷ []))
     limit : length image ≤ 2 ^ 62
 
-  module _ (named first : List ℕ) (named_is : named ≡ number new.generation ++ number new.place) (alone : IsAlone first)
+  module _ (named first : List ℕ) (named_is : named ≡ number new.generation ++ number (naming new.place)) (alone : IsAlone first)
       (same_length : length first ≡ length bytes) where
     wide : length named ≡ 16
     wide =
         ap length named_is
-        ∙ omega (arith, length-append (number new.generation) (number new.place), length-number new.generation, length-number new.place)
+        ∙ omega (
+          arith,
+          length-append (number new.generation) (number (naming new.place)),
+          length-number new.generation,
+          length-number (naming new.place),
+        )
 
     each_staging : (two three : List ℕ → Type 0) → Only first two → IsTornFrom (gate + 1) (gate + 1 + length named) two three
         → Each IsAlone three
@@ -208,7 +213,7 @@ module _ (header bytes : List ℕ) (state : State) (layout new : Layout) (body :
                 (alone_torn (gate + 1) (gate + 1 + length named) first second (omega arith) (omega (arith, wide)) second_torn alone);
             cell =
                 has_torn new.place (new.place + length buffer) second third third_torn (gate + 1)
-                (number new.generation ++ number new.place)
+                (number new.generation ++ number (naming new.place))
                 (inl (omega (arith, ap length named_is, wide, range.1, free.0))) cell_there;
             checkpoint =
                 subst (λ (l : List ℕ). Has third new.place l) buffer_is (has_written second new.place buffer third third_is third_in);
@@ -233,9 +238,9 @@ module _ (header bytes : List ℕ) (state : State) (layout new : Layout) (body :
       let cell = cell_torn gate (gate + 1) i j torn header layout (omega (arith, range.0))
       (elim apart [ inl before ↦ inl (omega arith) | inr after ↦ inr (omega arith) ]) is.cell in
       let cell_there =
-      has_torn gate (gate + 1) i j torn (gate + 1) (number new.generation ++ number new.place) (inr (omega arith)) ready.cell in
+      has_torn gate (gate + 1) i j torn (gate + 1) (number new.generation ++ number (naming new.place)) (inr (omega arith)) ready.cell in
       let place_there =
-      has_right j (gate + 1) (gate + 9) (number new.generation) (number new.place) (omega (arith, length-number new.generation))
+      has_right j (gate + 1) (gate + 9) (number new.generation) (number (naming new.place)) (omega (arith, length-number new.generation))
       cell_there in
       let all =
       has_torn gate (gate + 1) i j torn new.place (spelled body ++ (number layout.count ++ 0 ∷ []))
@@ -260,9 +265,10 @@ module _ (header bytes : List ℕ) (state : State) (layout new : Layout) (body :
             gate = ap (λ (n : ℕ). get_or j n 0) new_cell ∙ is_open;
             generation =
                 ap (λ (n : ℕ). number_at j (n + 1)) new_cell
-                ∙ has_number_first j (gate + 1) new.generation (number new.place) (omega (arith, generation)) cell_there;
+                ∙ has_number_first j (gate + 1) new.generation (number (naming new.place)) (omega (arith, generation)) cell_there;
             place =
-                ap (λ (n : ℕ). number_at j (n + 9)) new_cell ∙ has_number j (gate + 9) new.place (omega (arith, end, limit)) place_there;
+                ap (λ (n : ℕ). number_at j (n + 9)) new_cell
+                ∙ has_number j (gate + 9) (naming new.place) (omega (arith, end, limit)) place_there;
           };
           checkpoint = record {
             past = free.0;
@@ -317,8 +323,12 @@ module _ (header bytes : List ℕ) (state : State) (layout new : Layout) (body :
         ap (λ (l : Layout). cell_at (other_of l.cell)) way.is ∙ ap cell_at (other_other layout.cell) in
         let generation : new.generation ≡ next layout.generation = ap (λ (l : Layout). l.generation) way.is in
         let count : new.count ≡ layout.count = ap (λ (l : Layout). l.count) way.is in
-        let named : IsOther now (cell_at layout.cell) new.generation (Some layout.place) =
-        (cell.gate, generation ∙ ap next (sym cell.generation), cell.place) in
+        let checkpoint = laid.in_force.checkpoint in
+        let named : IsOther now (cell_at layout.cell) new.generation (Some layout.place) = (
+          cell.gate,
+          generation ∙ ap next (sym cell.generation),
+          ap place_named cell.place ∙ naming_back layout.place (omega (arith, checkpoint.end, checkpoint.limit)),
+        ) in
         record {
           in_force = new_one;
           first = ap (λ (l : Layout). l.first) way.is ∙ ap (λ (l : Layout). l.place + 16 + length body) (sym way.is);
