@@ -1,16 +1,15 @@
 -- What is damaged is refused for that, and nothing else is.
-use Rattle.std.proofs.Common.{◌≡◌, ◌≢◌, ℕ, List, [], inl, inr, refl, sym, ap, ◌∙◌, subst}
+use Rattle.std.proofs.Common.{◌≡◌, ◌≢◌, ℕ, List, [], inl, inr, refl, ap, ◌∙◌, subst}
 use Rattle.iot_count.specs.Counts.{Stayed}
 use Rattle.iot_disk.specs.declared.faults.StartFault.{StartFault}
 use Rattle.iot_disk.specs.declared.faults.StartFault.TheVariants as fault
 use Rattle.iot_records.specs.Records.{ChangesNothing}
-use Rattle.iot_slots.specs.Decoding.{Decoded, Encodes, NotStarted, Foreign, Damaged, State, decoded, opened, state_in, state_of}
+use Rattle.iot_slots.specs.Decoding.{Decoded, Encodes, NotStarted, Foreign, Damaged, decoded, opened, state_in, state_of}
 use Rattle.iot_slots.specs.Layouts.{place_in}
-use Rattle.iot_slots.specs.Start as on_slots
 use Rattle.iot_durable.specs.Rules.{Rules}
 use Rattle.iot_durable.specs.Standing.{header}
-use Rattle.iot_durable.specs.Damage.{BreaksAt, DamageBy, IsDamagedAt}
-use Rattle.iot_durable.specs.Causes.{HasCause, IsReason, SaysForeign, SaysDamaged}
+use Rattle.iot_durable.specs.Damage.{BreaksAt, IsDamagedAt}
+use Rattle.iot_durable.specs.Causes.{HasCause, IsReason}
 use Rattle.iot_durable.proofs.ImagesLaws.{not_both}
 use Rattle.iot_durable.proofs.StandingLaws.{no_split}
 

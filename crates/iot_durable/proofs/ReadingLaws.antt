@@ -1,17 +1,16 @@
 -- What bytes stand for, by what is lent out of them.
-use Rattle.std.proofs.Common.{◌≡◌, ℕ, List, Option, Some, refl, sym, ◌∙◌, subst}
+use Rattle.std.proofs.Common.{◌≡◌, ℕ, List, Option, Some, sym, ◌∙◌, subst}
 use Rattle.std.specs.Prelude.{IfSome}
 use Rattle.iot_disk.specs.declared.faults.StartFault.{StartFault}
 use Rattle.iot_disk.specs.declared.faults.StartFault.TheVariants as fault
-use Rattle.iot_slots.specs.Decoding.{Decoded, Encodes, NotStarted, Foreign, Damaged, State, decoded, state_in}
+use Rattle.iot_slots.specs.Decoding.{Decoded, Encodes, Foreign, State, decoded, state_in}
 use Rattle.iot_slots.specs.Layouts.{IsLaidOut, place_in}
-use Rattle.iot_slots.specs.Start as on_slots
 use Rattle.iot_slots.specs.declared.decoding.SlotsView.{SlotsView}
 use Rattle.iot_slots.proofs.LayoutsLaws.{laid_encodes, laid_place}
 use Rattle.iot_durable.specs.Rules.{Rules}
 use Rattle.iot_durable.specs.Standing.{Makes, MakesBy, StandFor, header}
 use Rattle.iot_durable.specs.Damage.{BreaksAt, DamageBy, IsDamagedAt}
-use Rattle.iot_durable.specs.Causes.{IsReason, IsRefusal, SaysDamaged, SaysForeign, TakesBytes}
+use Rattle.iot_durable.specs.Causes.{IsReason, IsRefusal}
 
 -- what a view lends
 abbrev pub encoded_in : SlotsView → State
@@ -68,45 +67,3 @@ module _ {S C : Type 0} (rules : Rules S C) (bytes : List ℕ) where
 
     pub read_not_foreign : decoded header bytes ≡ Foreign → ⊥
     read_not_foreign foreign = let clash : Encodes encoded ≡ Foreign = sym is ∙ foreign in absurd cc
-
-  -- ---- bytes on which nothing was started
-
-  module _ (is : decoded header bytes ≡ NotStarted) where
-    pub fresh_stands : (now : S) → now ≡ rules.opening → StandFor rules bytes now
-    fresh_stands now opens = record { decoding = NotStarted; is = is; makes = opens }
-
-    pub stands_fresh : (now : S) → StandFor rules bytes now → now ≡ rules.opening
-    stands_fresh now stands = makes_by NotStarted now is stands
-
-    pub fresh_not_damaged : (at : ℕ) → IsDamagedAt rules bytes at → ⊥
-    fresh_not_damaged at damage = damage_by NotStarted at is damage
-
-    pub fresh_not_foreign : decoded header bytes ≡ Foreign → ⊥
-    fresh_not_foreign foreign = let clash : NotStarted ≡ Foreign = sym is ∙ foreign in absurd cc
-
-  -- ---- bytes that are refused before any record is read
-
-  pub refuses_whole : (why : StartFault) → on_slots.IsReason why (decoded header bytes) → IsRefusal rules why bytes
-  refuses_whole fault.NoMemory reason = tt
-  refuses_whole fault.Stopped reason = reason
-  refuses_whole fault.Foreign reason = reason
-  refuses_whole (fault.Damaged at) reason = record { decoding = Damaged at; is = reason; damage = refl }
-
-  pub takes_whole : (why : StartFault) (now : S) → StandFor rules bytes now → on_slots.IsReason why (decoded header bytes) → TakesBytes why
-  takes_whole fault.NoMemory now stands reason = tt
-  takes_whole fault.Stopped now stands reason = tt
-  takes_whole fault.Foreign now stands reason = makes_by Foreign now reason stands
-  takes_whole (fault.Damaged at) now stands reason = makes_by (Damaged at) now reason stands
-
-  pub says_foreign : (why : StartFault) → decoded header bytes ≡ Foreign → on_slots.IsReason why (decoded header bytes) → SaysForeign why
-  says_foreign fault.NoMemory foreign reason = tt
-  says_foreign fault.Stopped foreign reason = tt
-  says_foreign fault.Foreign foreign reason = tt
-  says_foreign (fault.Damaged at) foreign reason = let clash : Foreign ≡ Damaged at = sym foreign ∙ reason in absurd cc
-
-  pub says_damaged : (why : StartFault) (at : ℕ) → IsDamagedAt rules bytes at → on_slots.IsReason why (decoded header bytes)
-      → SaysDamaged at why
-  says_damaged fault.NoMemory at damage reason = tt
-  says_damaged fault.Stopped at damage reason = tt
-  says_damaged fault.Foreign at damage reason = damage_by Foreign at reason damage
-  says_damaged (fault.Damaged there) at damage reason = sym (damage_by (Damaged there) at reason damage)
