@@ -6,6 +6,7 @@ use Rattle.std.specs.List.{zip}
 use Rattle.iot_acts.specs.Traces.{ReadsHold}
 use Rattle.iot_tree.specs.Tree.{Nodes, Path, IsWhole}
 use Rattle.iot_tree.specs.Questions.{answer_of, kind_answer, kind_at, content_answer, names_answer, children_of, is_far_above, is_far_dir}
+use Rattle.iot_tree.specs.declared.nodes.Mode.{Mode}
 use Rattle.iot_tree.specs.declared.nodes.Node.{Node}
 use Rattle.iot_tree.specs.declared.nodes.Node.TheVariants.{Dir, File, FarDir, FarFile}
 use Rattle.iot_tree.specs.declared.acts.Read.{Read}
@@ -17,6 +18,7 @@ use Rattle.iot_tree.proofs.AncestorLaws.{none_above}
 use Rattle.iot_tree.proofs.ReadLaws.{names_row}
 use Rattle.iot_access.specs.BaseReads.{Base, path_of, base_at, settled, base_from}
 use Rattle.iot_tree.proofs.ChildKindLaws.{Child, same_names}
+use Rattle.iot_access.proofs.ModelessLaws.{told, kind_told, content_told, names_told}
 use Rattle.iot_access.proofs.TiedLaws.{Sources, Tied}
 
 -- ---- base reads with their places
@@ -38,8 +40,8 @@ reads_beside (place ∷ places) (read ∷ reads) even =
 near : (o : Option Node) → o ≢ Some FarDir → is_far_dir o ≡ false
 near (Some FarDir) no_far = absurd (no_far refl)
 near (Some Dir) no_far = refl
-near (Some (File bytes)) no_far = refl
-near (Some FarFile) no_far = refl
+near (Some (File bytes mode)) no_far = refl
+near (Some (FarFile mode)) no_far = refl
 near None no_far = refl
 
 not_far : (t : Nodes) → IsWhole t → (p : Path) → is_far_above t p ≡ false
@@ -57,22 +59,22 @@ whole_names t whole p = ap (λ far. names_answer (get t p) far (children_of t p)
 pub kind_not_away : (o : Option Node) → kind_answer (kind_at o false) ≢ Away
 kind_not_away (Some Dir) is = cc
 kind_not_away (Some FarDir) is = cc
-kind_not_away (Some (File bytes)) is = cc
-kind_not_away (Some FarFile) is = cc
+kind_not_away (Some (File bytes mode)) is = cc
+kind_not_away (Some (FarFile mode)) is = cc
 kind_not_away None is = cc
 
-pub content_not_away : (o : Option Node) → o ≢ Some FarFile → content_answer o false ≢ Away
+pub content_not_away : (o : Option Node) → ((mode : Mode) → o ≢ Some (FarFile mode)) → content_answer o false ≢ Away
 content_not_away (Some Dir) no_far is = cc
 content_not_away (Some FarDir) no_far is = cc
-content_not_away (Some (File bytes)) no_far is = cc
-content_not_away (Some FarFile) no_far is = no_far refl
+content_not_away (Some (File bytes mode)) no_far is = cc
+content_not_away (Some (FarFile mode)) no_far is = no_far mode refl
 content_not_away None no_far is = cc
 
 pub names_not_away : (o : Option Node) (names : List Child) → o ≢ Some FarDir → names_answer o false names ≢ Away
 names_not_away (Some Dir) names no_far is = cc
 names_not_away (Some FarDir) names no_far is = no_far refl
-names_not_away (Some (File bytes)) names no_far is = cc
-names_not_away (Some FarFile) names no_far is = cc
+names_not_away (Some (File bytes mode)) names no_far is = cc
+names_not_away (Some (FarFile mode)) names no_far is = cc
 names_not_away None names no_far is = cc
 
 never_away : (t : Nodes) → IsWhole t → (question : Question) → answer_of t question ≢ Away
@@ -92,8 +94,8 @@ near_content : (o : Option Node) (far : Bool) → content_answer o far ≢ Away 
 near_content o true known = near_it o known
   where
     near_it : (o : Option Node) → content_answer o true ≢ Away → content_answer o true ≡ content_answer o false
-    near_it (Some (File bytes)) known = refl
-    near_it (Some FarFile) known = refl
+    near_it (Some (File bytes mode)) known = refl
+    near_it (Some (FarFile mode)) known = refl
     near_it (Some Dir) known = absurd (known refl)
     near_it (Some FarDir) known = absurd (known refl)
     near_it None known = absurd (known refl)
@@ -106,8 +108,8 @@ near_names o true names known = near_it o known
     near_it : (o : Option Node) → names_answer o true names ≢ Away → names_answer o true names ≡ names_answer o false names
     near_it (Some Dir) known = refl
     near_it (Some FarDir) known = refl
-    near_it (Some (File bytes)) known = absurd (known refl)
-    near_it (Some FarFile) known = absurd (known refl)
+    near_it (Some (File bytes mode)) known = absurd (known refl)
+    near_it (Some (FarFile mode)) known = absurd (known refl)
     near_it None known = absurd (known refl)
 near_names o false names known = refl
 
@@ -116,8 +118,8 @@ pub other_names : (o : Option Node) (far : Bool) (c d : List Child) (answer : An
     → names_answer o far c ≡ answer → names_answer o far d ≡ answer
 other_names (Some Dir) far c d answer no_names is = absurd (no_names c (sym is))
 other_names (Some FarDir) far c d answer no_names is = is
-other_names (Some (File bytes)) far c d answer no_names is = is
-other_names (Some FarFile) far c d answer no_names is = is
+other_names (Some (File bytes mode)) far c d answer no_names is = is
+other_names (Some (FarFile mode)) far c d answer no_names is = is
 other_names None far c d answer no_names is = is
 
 dir_names : (t : Nodes) (p : Path) → get t p ≡ Some Dir → answer_of t (AskNames p) ≡ Names (children_of t p)
@@ -187,14 +189,16 @@ module _ (s : Sources) (t1 u1 t2 u2 : Nodes) (tied : Tied s t1 u1 t2 u2) (whole_
   own_answer : (question : Question) → s (path_of question) ≡ None → answer_of u1 question ≢ Away
       → answer_of u2 question ≡ answer_of u1 question
   own_answer (Kind k) is known =
-      whole_kind u2 whole_u k ∙ ap (λ o. kind_answer (kind_at o false)) (sym (tied.own k is))
+      whole_kind u2 whole_u k ∙ told (λ o. kind_answer (kind_at o false)) kind_told u2 u1 k (sym (tied.own k is))
       ∙ sym (near_kind (get u1 k) (is_far_above u1 k) known)
   own_answer (Content k) is known =
-      whole_content u2 whole_u k ∙ ap (λ o. content_answer o false) (sym (tied.own k is))
+      whole_content u2 whole_u k ∙ told (λ o. content_answer o false) content_told u2 u1 k (sym (tied.own k is))
       ∙ sym (near_content (get u1 k) (is_far_above u1 k) known)
   own_answer (AskNames k) is known =
       let same : children_of u1 k ≡ children_of u2 k = (same_names u1 u2 k k).1 (λ n. tied.own_child k n is) in
-      whole_names u2 whole_u k ∙ (λ i. names_answer (sym (tied.own k is) i) false (sym same i))
+      whole_names u2 whole_u k
+      ∙ told (λ o. names_answer o false (children_of u2 k)) (names_told (children_of u2 k)) u2 u1 k (sym (tied.own k is))
+      ∙ ap (names_answer (get u1 k) false) (sym same)
       ∙ sym (near_names (get u1 k) (is_far_above u1 k) (children_of u1 k) known)
 
   own_row : (question : Question) (answer : Answer) → s (path_of question) ≡ None → answer_of u1 question ≡ answer → answer ≢ Away

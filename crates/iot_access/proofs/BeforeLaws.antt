@@ -6,7 +6,8 @@ use Rattle.std.specs.FinMap.{get, insert, remove}
 use Rattle.std.specs.List.{zip}
 use Rattle.iot_tree.specs.Tree.{Nodes, IsTree, Path}
 use Rattle.iot_tree.specs.Questions.{answer_of, kind_answer, kind_at, content_answer, names_answer, children_of, is_far_above, is_far_dir}
-use Rattle.iot_tree.specs.Updates.{Fits, IsLeaf, moved, updated}
+use Rattle.iot_tree.specs.Updates.{Fits, IsLeaf, mode_in, moved, updated}
+use Rattle.iot_tree.specs.declared.nodes.Mode.{Mode}
 use Rattle.iot_tree.specs.declared.nodes.Node.{Node}
 use Rattle.iot_tree.specs.declared.nodes.Node.TheVariants.{Dir, File, FarDir, FarFile}
 use Rattle.iot_tree.specs.declared.acts.Act.{Act}
@@ -39,22 +40,22 @@ use Rattle.iot_access.proofs.FarLaws.{any_under, far_same, far_moved, above_outs
 -- a row that is not far, or none
 pub record IsNear (o : Option Node) : Type 0 where
   pub no_far_dir : o ≢ Some FarDir
-  pub no_far_file : o ≢ Some FarFile
+  pub no_far_file : (mode : Mode) → o ≢ Some (FarFile mode)
 
 near_none : (o : Option Node) → o ≡ None → IsNear o
-near_none o is = record { no_far_dir = λ far. cc; no_far_file = λ far. cc }
+near_none o is = record { no_far_dir = λ far. cc; no_far_file = λ mode far. cc }
 
 near_dir : (o : Option Node) → o ≡ Some Dir → IsNear o
-near_dir o is = record { no_far_dir = λ far. cc; no_far_file = λ far. cc }
+near_dir o is = record { no_far_dir = λ far. cc; no_far_file = λ mode far. cc }
 
-near_file : (o : Option Node) (bytes : List ℕ) → o ≡ Some (File bytes) → IsNear o
-near_file o bytes is = record { no_far_dir = λ far. cc; no_far_file = λ far. cc }
+near_file : (o : Option Node) (bytes : List ℕ) (mode : Mode) → o ≡ Some (File bytes mode) → IsNear o
+near_file o bytes mode is = record { no_far_dir = λ far. cc; no_far_file = λ mode far. cc }
 
 near_test : (o : Option Node) → IsNear o → is_far_dir o ≡ false
 near_test (Some FarDir) near = absurd (near.no_far_dir refl)
 near_test (Some Dir) near = refl
-near_test (Some (File bytes)) near = refl
-near_test (Some FarFile) near = refl
+near_test (Some (File bytes mode)) near = refl
+near_test (Some (FarFile mode)) near = refl
 near_test None near = refl
 
 -- what the run made is known
@@ -145,7 +146,9 @@ not_back p q name tail is rest same =
 
 module _ (done : List Update) (t u : Nodes) (tree : IsTree u) (sound : Sound done t u) where
   far_after : (update : Update) → Fits u update → FarTied (source (update ∷ done)) t (updated u update)
-  far_after (Put p bytes) fits = far_hidden (source done) t u (insert u p (File bytes)) p sound.far (put_else u p (File bytes))
+  far_after (Put p bytes) fits =
+      let new : Node = File bytes (mode_in (get u p)) in
+      far_hidden (source done) t u (insert u p new) p sound.far (put_else u p new)
   far_after (MakeDir p) fits = far_hidden (source done) t u (insert u p Dir) p sound.far (put_else u p Dir)
   far_after (Remove p) fits = far_hidden (source done) t u (remove u p) p sound.far (λ k out. other_stays u p k (not_at p k out))
   far_after (Move p q) fits =
@@ -154,10 +157,12 @@ module _ (done : List Update) (t u : Nodes) (tree : IsTree u) (sound : Sound don
 
   own_after : (update : Update) → Fits u update → OwnKnown (source (update ∷ done)) (updated u update)
   own_after (Put p bytes) fits =
-      let v : Nodes = insert u p (File bytes) in
-      own_hidden (source done) u v p sound.own (put_else u p (File bytes))
-      (above_row v (tree_updated u (Put p bytes) tree fits) p (mapped_by v p (File bytes) (put_here u p (File bytes))))
-      (put_near u p (File bytes) (near_file (Some (File bytes)) bytes refl) (leaf_of u tree p fits.no_dir))
+      let mode : Mode = mode_in (get u p) in
+      let new : Node = File bytes mode in
+      let v : Nodes = insert u p new in
+      own_hidden (source done) u v p sound.own (put_else u p new)
+      (above_row v (tree_updated u (Put p bytes) tree fits) p (mapped_by v p new (put_here u p new)))
+      (put_near u p new (near_file (Some new) bytes mode refl) (leaf_of u tree p fits.no_dir))
   own_after (MakeDir p) fits =
       let v : Nodes = insert u p Dir in
       own_hidden (source done) u v p sound.own (put_else u p Dir)

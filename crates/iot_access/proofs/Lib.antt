@@ -1,3 +1,4 @@
+pub mod ModelessLaws
 pub mod TiedLaws
 pub mod BaseReadsLaws
 pub mod StepLaws

@@ -1,5 +1,5 @@
 -- A guarded update leaves two trees tied.
-use Rattle.std.proofs.Common.{◌≡◌, ◌≢◌, ℕ, cond, List, [], ◌∷◌, ◌++◌, Option, Some, None, refl, sym, ap, ◌∙◌}
+use Rattle.std.proofs.Common.{◌≡◌, ◌≢◌, ℕ, cond, List, [], ◌∷◌, ◌++◌, Option, Some, None, option_map, refl, sym, ap, ◌∙◌}
 use Rattle.std.proofs.Common.{inl, inr}
 use Rattle.std.proofs.lemmas.List.{append-nil}
 use Rattle.std.specs.Cmp.{tied_itself}
@@ -7,7 +7,7 @@ use Rattle.std.specs.Ordering.{is_eq}
 use Rattle.std.specs.FinMap.{get, insert, remove, get-insert}
 use Rattle.iot_tree.specs.Tree.{Nodes, IsTree, Path}
 use Rattle.iot_tree.specs.Questions.{is_far_above, children_of}
-use Rattle.iot_tree.specs.Updates.{Fits, FitsPut, FitsRemove, FitsMove, IsLeaf, moved, updated}
+use Rattle.iot_tree.specs.Updates.{Fits, FitsPut, FitsRemove, FitsMove, IsLeaf, mode_in, moved, updated}
 use Rattle.iot_tree.specs.declared.nodes.Node.{Node}
 use Rattle.iot_tree.specs.declared.nodes.Node.TheVariants.{Dir, File}
 use Rattle.iot_tree.specs.declared.acts.Read.{Read}
@@ -26,6 +26,7 @@ use Rattle.iot_tree.proofs.ReadLaws.{leaf_of}
 use Rattle.iot_access.specs.Sources.{source}
 use Rattle.iot_access.specs.BaseReads.{done_more}
 use Rattle.iot_tree.proofs.ChildKindLaws.{row_kind, SameKind}
+use Rattle.iot_access.proofs.ModelessLaws.{modeless, row_at}
 use Rattle.iot_access.proofs.TiedLaws.{Tied, tied_hidden, tied_carried}
 use Rattle.iot_tree.proofs.UpdateLaws.{longer, other_stays, is_gone, to_outside, from_outside, moved_at, moved_gone, moved_else}
 use Rattle.iot_tree.specs.declared.kinds.Kind.TheVariants as kinds
@@ -34,8 +35,8 @@ use Rattle.iot_tree.specs.declared.questions.Answer.TheVariants as answers
 -- ---- kinds that a read tells
 
 file_kind : (o : Option Node) → IsFileRow o → row_kind o ≡ Some kinds.IsFile
-file_kind o (known bytes is) = ap row_kind is
-file_kind o (far is) = ap row_kind is
+file_kind o (known bytes mode is) = ap row_kind is
+file_kind o (far mode is) = ap row_kind is
 
 dir_kind : (o : Option Node) → IsDirRow o → row_kind o ≡ Some kinds.IsDir
 dir_kind o (known_dir is) = ap row_kind is
@@ -106,16 +107,22 @@ put_else t p node k out = get-insert_other t p node k (apart k p (not_at p k out
 pub put_here : (t : Nodes) (p : Path) (node : Node) → get (insert t p node) p ≡ Some node
 put_here t p node = get-insert path_total t p node p ∙ ap (λ r. cond (is_eq r) (Some node) (get t p)) (tied_itself path_total p)
 
-put_inside : (t u : Nodes) (p : Path) (node : Node) → IsLeaf t p → IsLeaf u p → (rest : Path)
-    → get (insert t p node) (p ++ rest) ≡ get (insert u p node) (p ++ rest)
-put_inside t u p node leaf leaf' [] =
-    ap (get (insert t p node)) (append-nil p) ∙ put_here t p node ∙ sym (ap (get (insert u p node)) (append-nil p) ∙ put_here u p node)
-put_inside t u p node leaf leaf' (name ∷ names) =
+put_row : (t : Nodes) (p : Path) (node : Node) → get (insert t p node) (p ++ []) ≡ Some node
+put_row t p node = ap (get (insert t p node)) (append-nil p) ∙ put_here t p node
+
+put_below : (t : Nodes) (p : Path) (node : Node) → IsLeaf t p → (name : List ℕ) (names : Path)
+    → get (insert t p node) (p ++ name ∷ names) ≡ None
+put_below t p node leaf name names =
     get-insert_other t p node (p ++ name ∷ names) (apart (p ++ name ∷ names) p (longer p name names))
     ∙ leaf (p ++ name ∷ names) (name, names, refl)
-    ∙ sym
-    (get-insert_other u p node (p ++ name ∷ names) (apart (p ++ name ∷ names) p (longer p name names))
-    ∙ leaf' (p ++ name ∷ names) (name, names, refl))
+
+-- two nodes that are the same without their modes
+put_inside : (t u : Nodes) (p : Path) (one other : Node) → modeless one ≡ modeless other → IsLeaf t p → IsLeaf u p → (rest : Path)
+    → row_at (insert t p one) (p ++ rest) ≡ row_at (insert u p other) (p ++ rest)
+put_inside t u p one other same leaf leaf' [] =
+    ap (option_map modeless) (put_row t p one) ∙ ap Some same ∙ sym (ap (option_map modeless) (put_row u p other))
+put_inside t u p one other same leaf leaf' (name ∷ names) =
+    ap (option_map modeless) (put_below t p one leaf name names ∙ sym (put_below u p other leaf' name names))
 
 pub removed_inside : (t : Nodes) (p : Path) → IsLeaf t p → (rest : Path) → get (remove t p) (p ++ rest) ≡ None
 removed_inside t p leaf [] = ap (get (remove t p)) (append-nil p) ∙ is_gone t p
@@ -125,19 +132,20 @@ removed_inside t p leaf (name ∷ names) =
 module _ (done : List Update) (t1 u1 t2 u2 : Nodes) (tied : Tied (source done) t1 u1 t2 u2) (tree1 : IsTree u1) (tree2 : IsTree u2)
     (reads : List Read) (hold1 : ReadsHold u1 reads) (hold2 : ReadsHold u2 reads) where
   step_put : (p : Path) (bytes : List ℕ) → GuardsPut reads p → FitsPut u1 p → FitsPut u2 p
-      → Tied (source (Put p bytes ∷ done)) t1 (insert u1 p (File bytes)) t2 (insert u2 p (File bytes))
+      → Tied (source (Put p bytes ∷ done)) t1 (updated u1 (Put p bytes)) t2 (updated u2 (Put p bytes))
   step_put p bytes guard fits1 fits2 =
-      tied_hidden (source done) t1 u1 t2 u2 tied p (insert u1 p (File bytes)) (insert u2 p (File bytes))
-      (put_kind u1 u2 reads hold1 hold2 p guard)
-      (put_else u1 p (File bytes)) (put_else u2 p (File bytes))
-      (put_inside u1 u2 p (File bytes) (leaf_of u1 tree1 p fits1.no_dir) (leaf_of u2 tree2 p fits2.no_dir))
+      let one : Node = File bytes (mode_in (get u1 p)) in
+      let other : Node = File bytes (mode_in (get u2 p)) in
+      tied_hidden (source done) t1 u1 t2 u2 tied p (insert u1 p one) (insert u2 p other) (put_kind u1 u2 reads hold1 hold2 p guard)
+      (put_else u1 p one) (put_else u2 p other)
+      (put_inside u1 u2 p one other refl (leaf_of u1 tree1 p fits1.no_dir) (leaf_of u2 tree2 p fits2.no_dir))
 
   step_make : (p : Path) → AskedFree reads p → Fits u1 (MakeDir p) → Fits u2 (MakeDir p)
       → Tied (source (MakeDir p ∷ done)) t1 (insert u1 p Dir) t2 (insert u2 p Dir)
   step_make p free fits1 fits2 =
       tied_hidden (source done) t1 u1 t2 u2 tied p (insert u1 p Dir) (insert u2 p Dir) (both_free u1 u2 reads hold1 hold2 p free)
       (put_else u1 p Dir) (put_else u2 p Dir)
-      (put_inside u1 u2 p Dir (leaf_of u1 tree1 p (λ is. none_not_some (get u1 p) Dir fits1.absent is))
+      (put_inside u1 u2 p Dir Dir refl (leaf_of u1 tree1 p (λ is. none_not_some (get u1 p) Dir fits1.absent is))
       (leaf_of u2 tree2 p (λ is. none_not_some (get u2 p) Dir fits2.absent is)))
 
   step_remove : (p : Path) → GuardsRemove reads p → FitsRemove u1 p → FitsRemove u2 p
@@ -145,7 +153,7 @@ module _ (done : List Update) (t1 u1 t2 u2 : Nodes) (tied : Tied (source done) t
   step_remove p guard fits1 fits2 =
       tied_hidden (source done) t1 u1 t2 u2 tied p (remove u1 p) (remove u2 p) (remove_kind u1 u2 reads hold1 hold2 p guard)
       (λ k out. other_stays u1 p k (not_at p k out)) (λ k out. other_stays u2 p k (not_at p k out))
-      (λ rest. removed_inside u1 p fits1.leaf rest ∙ sym (removed_inside u2 p fits2.leaf rest))
+      (λ rest. ap (option_map modeless) (removed_inside u1 p fits1.leaf rest ∙ sym (removed_inside u2 p fits2.leaf rest)))
 
   step_move : (p q : Path) → GuardsMove reads p q → FitsMove u1 p q → FitsMove u2 p q
       → Tied (source (Move p q ∷ done)) t1 (moved u1 p q) t2 (moved u2 p q)

@@ -1,5 +1,6 @@
 -- Two trees before a run, the trees after it, and where their rows come from.
-use Rattle.std.proofs.Common.{◌≡◌, ◌↔◌, [], ◌∷◌, ◌++◌, Option, Some, None, length, drop, if◌then◌else◌, sym, ap, subst, ◌∙◌, append_assoc}
+use Rattle.std.proofs.Common.{◌≡◌, ◌↔◌, [], ◌∷◌, ◌++◌, Option, Some, None, option_map, length, drop, if◌then◌else◌}
+use Rattle.std.proofs.Common.{sym, ap, subst, ◌∙◌, append_assoc}
 use Rattle.std.proofs.lemmas.List.{append-nil}
 use Rattle.std.proofs.Math.Seq.{drop-append_seam}
 use Rattle.std.specs.FinMap.{get}
@@ -8,6 +9,7 @@ use Rattle.iot_tree.specs.declared.nodes.Node.{Node}
 use Rattle.iot_tree.proofs.AncestorLaws.{ends, at_root, in_name}
 use Rattle.iot_tree.proofs.WithinLaws.{IsOutside, side, inside, outside, test_is}
 use Rattle.iot_access.specs.Sources.{hidden, carried}
+use Rattle.iot_access.proofs.ModelessLaws.{modeless, row_at, same_kind_of}
 use Rattle.iot_tree.proofs.ChildKindLaws.{Name, SameKind, row_kind}
 use Rattle.iot_tree.proofs.UpdateLaws.{front_outside, same_front_of}
 
@@ -15,12 +17,12 @@ use Rattle.iot_tree.proofs.UpdateLaws.{front_outside, same_front_of}
 abbrev pub Sources : Type 0
 Sources = Path → Option Path
 
--- rows with a source are those of the trees before, and the others are the same; and the kinds of a child are the same after
+-- rows with a source are those of the trees before, and the others are the same but for their modes; and the kinds of a child are the same after
 -- exactly if they were the same before
 pub record Tied (s : Sources) (t1 u1 t2 u2 : Nodes) : Type 0 where
   pub first : (k o : Path) → s k ≡ Some o → get u1 k ≡ get t1 o
   pub second : (k o : Path) → s k ≡ Some o → get u2 k ≡ get t2 o
-  pub own : (k : Path) → s k ≡ None → get u1 k ≡ get u2 k
+  pub own : (k : Path) → s k ≡ None → row_at u1 k ≡ row_at u2 k
   pub child : (x : Path) (n : Name) (o : Path) → s x ≡ Some o → SameKind u1 u2 (x ++ n ∷ []) ↔ SameKind t1 t2 (o ++ n ∷ [])
   pub own_child : (x : Path) (n : Name) → s x ≡ None → SameKind u1 u2 (x ++ n ∷ [])
 
@@ -71,6 +73,10 @@ at_edge p x n rest out is = elim (ends rest) [
 pub no_source : (o : Path) → ◌≡◌ {A = Option Path} None (Some o) → ⊥
 no_source o is = cc
 
+-- a row, carried over, is the same without its mode
+row_by : (a b : Nodes) (j k : Path) → get a j ≡ get b k → row_at a j ≡ row_at b k
+row_by a b j k same = ap (option_map modeless) same
+
 -- the same kind, carried over
 same_by : (a b c d : Nodes) (j k : Path) → get c j ≡ get a k → get d j ≡ get b k → SameKind a b k → SameKind c d j
 same_by a b c d j k left right same = ap row_kind left ∙ same ∙ sym (ap row_kind right)
@@ -85,7 +91,7 @@ module _ (s : Sources) (t1 u1 t2 u2 : Nodes) (tied : Tied s t1 u1 t2 u2) where
   -- ---- what is at or below a path is new, and the same in both trees
   module _ (p : Path) (v1 v2 : Nodes) (guard : SameKind u1 u2 p)
       (else1 : (k : Path) → IsOutside p k → get v1 k ≡ get u1 k) (else2 : (k : Path) → IsOutside p k → get v2 k ≡ get u2 k)
-      (alike : (rest : Path) → get v1 (p ++ rest) ≡ get v2 (p ++ rest)) where
+      (alike : (rest : Path) → row_at v1 (p ++ rest) ≡ row_at v2 (p ++ rest)) where
     hidden_first : (k o : Path) → hidden p s k ≡ Some o → get v1 k ≡ get t1 o
     hidden_first k o is = elim (side p k) [
       | inside rest at test ↦ absurd (no_source o (sym (hidden_inside p s k rest at) ∙ is))
@@ -98,13 +104,14 @@ module _ (s : Sources) (t1 u1 t2 u2 : Nodes) (tied : Tied s t1 u1 t2 u2) where
       | outside out test ↦ else2 k out ∙ tied.second k o (sym (hidden_outside p s k out) ∙ is)
     ]
 
-    alike_at : (k rest : Path) → k ≡ p ++ rest → get v1 k ≡ get v2 k
-    alike_at k rest is = ap (get v1) is ∙ alike rest ∙ sym (ap (get v2) is)
+    alike_at : (k rest : Path) → k ≡ p ++ rest → row_at v1 k ≡ row_at v2 k
+    alike_at k rest is = ap (row_at v1) is ∙ alike rest ∙ sym (ap (row_at v2) is)
 
-    hidden_own : (k : Path) → hidden p s k ≡ None → get v1 k ≡ get v2 k
+    hidden_own : (k : Path) → hidden p s k ≡ None → row_at v1 k ≡ row_at v2 k
     hidden_own k is = elim (side p k) [
       | inside rest at test ↦ alike_at k rest at
-      | outside out test ↦ else1 k out ∙ tied.own k (sym (hidden_outside p s k out) ∙ is) ∙ sym (else2 k out)
+      | outside out test ↦
+          row_by v1 u1 k k (else1 k out) ∙ tied.own k (sym (hidden_outside p s k out) ∙ is) ∙ sym (row_by v2 u2 k k (else2 k out))
     ]
 
     hidden_child : (x : Path) (n : Name) (o : Path) → hidden p s x ≡ Some o → SameKind v1 v2 (x ++ n ∷ []) ↔ SameKind t1 t2 (o ++ n ∷ [])
@@ -115,7 +122,7 @@ module _ (s : Sources) (t1 u1 t2 u2 : Nodes) (tied : Tied s t1 u1 t2 u2) where
           elim (side p (x ++ n ∷ [])) [
             | inside rest at test ↦ (
               (λ _. old.0 (subst (λ (path : Path). SameKind u1 u2 path) (sym (at_edge p x n rest out at)) guard)),
-              (λ _. ap row_kind (alike_at (x ++ n ∷ []) rest at)),
+              (λ _. same_kind_of v1 v2 (x ++ n ∷ []) (alike_at (x ++ n ∷ []) rest at)),
             )
             | outside away test ↦
                 iff_by u1 u2 v1 v2 (x ++ n ∷ []) (x ++ n ∷ []) (SameKind t1 t2 (o ++ n ∷ [])) (else1 (x ++ n ∷ []) away)
@@ -125,7 +132,7 @@ module _ (s : Sources) (t1 u1 t2 u2 : Nodes) (tied : Tied s t1 u1 t2 u2) where
 
     hidden_own_child : (x : Path) (n : Name) → hidden p s x ≡ None → SameKind v1 v2 (x ++ n ∷ [])
     hidden_own_child x n is = elim (side p (x ++ n ∷ [])) [
-      | inside rest at test ↦ ap row_kind (alike_at (x ++ n ∷ []) rest at)
+      | inside rest at test ↦ same_kind_of v1 v2 (x ++ n ∷ []) (alike_at (x ++ n ∷ []) rest at)
       | outside away test ↦
           same_by u1 u2 v1 v2 (x ++ n ∷ []) (x ++ n ∷ []) (else1 (x ++ n ∷ []) away) (else2 (x ++ n ∷ []) away)
           (tied.own_child x n (sym (hidden_outside p s x (front_outside p x n away)) ∙ is))
@@ -179,11 +186,14 @@ module _ (s : Sources) (t1 u1 t2 u2 : Nodes) (tied : Tied s t1 u1 t2 u2) where
       | stayed out_p out_q same ↦ else2 k out_p out_q ∙ tied.second k o (sym same ∙ is)
     ]
 
-    carried_own : (k : Path) → carried p q s k ≡ None → get v1 k ≡ get v2 k
+    carried_own : (k : Path) → carried p q s k ≡ None → row_at v1 k ≡ row_at v2 k
     carried_own k is = elim (place k) [
-      | came rest at from ↦ came1 k rest at ∙ tied.own (p ++ rest) (sym from ∙ is) ∙ sym (came2 k rest at)
-      | went rest at out none ↦ both_gone k rest at
-      | stayed out_p out_q same ↦ else1 k out_p out_q ∙ tied.own k (sym same ∙ is) ∙ sym (else2 k out_p out_q)
+      | came rest at from ↦
+          row_by v1 u1 k (p ++ rest) (came1 k rest at) ∙ tied.own (p ++ rest) (sym from ∙ is)
+          ∙ sym (row_by v2 u2 k (p ++ rest) (came2 k rest at))
+      | went rest at out none ↦ row_by v1 v2 k k (both_gone k rest at)
+      | stayed out_p out_q same ↦
+          row_by v1 u1 k k (else1 k out_p out_q) ∙ tied.own k (sym same ∙ is) ∙ sym (row_by v2 u2 k k (else2 k out_p out_q))
     ]
 
     deeper : (x rest : Path) (n : Name) → x ≡ q ++ rest → x ++ n ∷ [] ≡ q ++ (rest ++ n ∷ [])

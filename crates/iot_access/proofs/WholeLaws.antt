@@ -5,7 +5,8 @@ use Rattle.std.specs.FinMap.{get, insert, remove, get-insert}
 use Rattle.iot_text.specs.Paths.{path_cmp}
 use Rattle.iot_text.proofs.PathsLaws.{path_total}
 use Rattle.iot_tree.specs.Tree.{Nodes, IsTree, IsWhole, Path}
-use Rattle.iot_tree.specs.Updates.{Fits, FitsRemove, FitsMove, moved, updated}
+use Rattle.iot_tree.specs.Updates.{Fits, FitsRemove, FitsMove, mode_in, moved, updated}
+use Rattle.iot_tree.specs.declared.nodes.Mode.{Mode}
 use Rattle.iot_tree.specs.declared.nodes.Node.{Node}
 use Rattle.iot_tree.specs.declared.nodes.Node.TheVariants.{Dir, File, FarDir, FarFile}
 use Rattle.iot_tree.specs.declared.updates.Update.{Update}
@@ -18,27 +19,27 @@ use Rattle.iot_access.proofs.StepLaws.{not_at, removed_inside}
 -- a row of a tree, or one that is known, or none
 data Kept (t : Nodes) (o : Option Node) : Type 0 where
   old : (k : Path) → o ≡ get t k → Kept t o
-  file : (bytes : List ℕ) → o ≡ Some (File bytes) → Kept t o
+  file : (bytes : List ℕ) (mode : Mode) → o ≡ Some (File bytes mode) → Kept t o
   dir : o ≡ Some Dir → Kept t o
   none : o ≡ None → Kept t o
 
 kept_whole : (t v : Nodes) → IsWhole t → ((k : Path) → Kept t (get v k)) → IsWhole v
 kept_whole t v whole kept = record {
   no_far_dir = λ k is. by_dir k (get v k) (kept k) is;
-  no_far_file = λ k is. by_file k (get v k) (kept k) is;
+  no_far_file = λ k mode is. by_file k mode (get v k) (kept k) is;
 }
   where
     by_dir : (k : Path) (o : Option Node) → Kept t o → o ≢ Some FarDir
     by_dir k o (old j same) is = whole.no_far_dir j (sym same ∙ is)
-    by_dir k o (file bytes same) is = cc
+    by_dir k o (file bytes mode same) is = cc
     by_dir k o (dir same) is = cc
     by_dir k o (none same) is = cc
 
-    by_file : (k : Path) (o : Option Node) → Kept t o → o ≢ Some FarFile
-    by_file k o (old j same) is = whole.no_far_file j (sym same ∙ is)
-    by_file k o (file bytes same) is = cc
-    by_file k o (dir same) is = cc
-    by_file k o (none same) is = cc
+    by_file : (k : Path) (mode : Mode) (o : Option Node) → Kept t o → o ≢ Some (FarFile mode)
+    by_file k mode o (old j same) is = whole.no_far_file j mode (sym same ∙ is)
+    by_file k m o (file bytes mode same) is = cc
+    by_file k mode o (dir same) is = cc
+    by_file k mode o (none same) is = cc
 
 put_kept : (t : Nodes) (p k : Path) (node : Node) → Kept t (Some node) → Kept t (get (insert t p node) k)
 put_kept t p k node new = subst (Kept t) (sym (get-insert path_total t p node k)) (by (eq_by_cmp path_cmp k p))
@@ -64,7 +65,8 @@ moved_kept t tree p q k fits = elim (side q k) [
 
 whole_updated : (t : Nodes) → IsTree t → IsWhole t → (update : Update) → Fits t update → IsWhole (updated t update)
 whole_updated t tree whole (Put p bytes) fits =
-    kept_whole t (insert t p (File bytes)) whole (λ k. put_kept t p k (File bytes) (file bytes refl))
+    let mode : Mode = mode_in (get t p) in
+    kept_whole t (updated t (Put p bytes)) whole (λ k. put_kept t p k (File bytes mode) (file bytes mode refl))
 whole_updated t tree whole (MakeDir p) fits = kept_whole t (insert t p Dir) whole (λ k. put_kept t p k Dir (dir refl))
 whole_updated t tree whole (Remove p) fits = kept_whole t (remove t p) whole (λ k. removed_kept t p k fits)
 whole_updated t tree whole (Move p q) fits = kept_whole t (moved t p q) whole (λ k. moved_kept t tree p q k fits)

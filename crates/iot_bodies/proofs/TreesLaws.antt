@@ -3,12 +3,12 @@ use Rattle.std.proofs.Common.{List, [], ◌∷◌, ◌++◌, length, drop, IsTru
 use Rattle.std.proofs.lemmas.Bool.{cond_both}
 use Rattle.std.proofs.lemmas.Option.{none-some}
 use Rattle.std.specs.List.{starts_with}
-use Rattle.std.specs.FinMap.{empty, entries, get-empty, get-entries}
+use Rattle.std.specs.FinMap.{empty, entries, get, get-empty, get-entries}
 use Rattle.iot_text.specs.Paths.{IsPath, path_cmp}
 use Rattle.iot_text.proofs.PathsLaws.{IsPath-drop, IsPath-append}
 use Rattle.iot_tree.specs.Questions.{is_dir}
 use Rattle.iot_tree.specs.Tree.{Path, Nodes, IsTree, root_alone}
-use Rattle.iot_tree.specs.Updates.{Fits, renamed, updated}
+use Rattle.iot_tree.specs.Updates.{Fits, mode_in, renamed, updated}
 use Rattle.iot_tree.specs.declared.nodes.Node.{Node}
 use Rattle.iot_tree.specs.declared.nodes.Node.TheVariants.{Dir, File}
 use Rattle.iot_tree.specs.declared.updates.Update.{Update}
@@ -29,7 +29,7 @@ renamed_is_path from to path to_valid valid =
     (λ outside. valid)
 
 each_updated : (t : Nodes) (update : Update) → IsUpdate update → EachNode IsRowAt t → EachNode IsRowAt (updated t update)
-each_updated t (Put path bytes) is each = each_inserted IsRowAt t path (File bytes) each (is.0, is.1)
+each_updated t (Put path bytes) is each = each_inserted IsRowAt t path (File bytes (mode_in (get t path))) each (is.0, is.1)
 each_updated t (MakeDir path) is each = each_inserted IsRowAt t path Dir each (is, tt)
 each_updated t (Remove path) is each = each_removed IsRowAt t path each
 each_updated t (Move from to) is each =

@@ -56,11 +56,11 @@ fn is_content(node: &Node, answer: &AnswerView<'_>) -> bool
     ensures { IsTrue result ↔ (content_answer (Some node.now) false ≡ answer_seen answer.now) }
 {
     match node {
-        Node::File(bytes) => match answer {
+        Node::File(bytes, _) => match answer {
             AnswerView::Bytes(others) => bytes.as_slice() == *others,
             _ => false,
         },
-        Node::FarFile => matches!(answer, AnswerView::Away),
+        Node::FarFile(_) => matches!(answer, AnswerView::Away),
         Node::Dir | Node::FarDir => matches!(answer, AnswerView::Absent),
     }
 }
@@ -78,7 +78,7 @@ fn is_names(rows: &[(Path, Node)], at: usize, path: &PathView<'_>, answer: &Answ
             is_listed(&rows[at..at + count], names, answer)
         }
         Node::FarDir => is_kind(Kind::Away, answer),
-        Node::File(_) | Node::FarFile => is_kind(Kind::Absent, answer),
+        Node::File(..) | Node::FarFile(_) => is_kind(Kind::Absent, answer),
     }
 }
 

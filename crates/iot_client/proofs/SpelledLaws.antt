@@ -151,10 +151,10 @@ AreGood files = AllByRecursion (λ (file : OneFile). IsPath file.0 × IsContents
 -- those of the rows of a tree that has a spelling
 rows_good : (rows : List Row) → AllByRecursion (λ (row : Row). IsSpelledRow row.0 row.1) rows → AreGood (filter_map file_of rows)
 rows_good [] each = tt
-rows_good ((p, File bytes) ∷ rows) each = ((each.0.is_path, each.0.is_node), rows_good rows each.1)
+rows_good ((p, File bytes mode) ∷ rows) each = ((each.0.is_path, each.0.is_node), rows_good rows each.1)
 rows_good ((p, Dir) ∷ rows) each = rows_good rows each.1
 rows_good ((p, FarDir) ∷ rows) each = rows_good rows each.1
-rows_good ((p, FarFile) ∷ rows) each = rows_good rows each.1
+rows_good ((p, FarFile mode) ∷ rows) each = rows_good rows each.1
 
 pub tree_files_good : (t : Nodes) → IsSpelledTree t → AreGood (files_of t)
 tree_files_good t spelled = rows_good (entries t) (each_entry IsSpelledRow t spelled.each)

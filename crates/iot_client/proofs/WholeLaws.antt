@@ -56,7 +56,7 @@ not_far node far known = absurd cc
 pub whole : (t : Nodes) → is_whole t ≡ true → IsWhole t
 whole t all = record {
   no_far_dir = λ p is. not_far FarDir refl (there t p FarDir all is);
-  no_far_file = λ p is. not_far FarFile refl (there t p FarFile all is);
+  no_far_file = λ p mode is. not_far (FarFile mode) refl (there t p (FarFile mode) all is);
 }
 
 -- and a whole tree has none

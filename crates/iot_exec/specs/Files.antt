@@ -7,10 +7,10 @@ use Rattle.iot_tree.specs.declared.nodes.Node.TheVariants.{Dir, File, FarDir, Fa
 
 -- the file of a row whose contents are known; nothing of any other row
 abbrev pub file_of : Row → Option (Path × List ℕ)
-file_of (path, File bytes) = Some (path, bytes)
+file_of (path, File bytes mode) = Some (path, bytes)
 file_of (path, Dir) = None
 file_of (path, FarDir) = None
-file_of (path, FarFile) = None
+file_of (path, FarFile mode) = None
 
 -- the files of a tree whose contents are known, in the order of their paths
 abbrev pub files_of : Nodes → List (Path × List ℕ)

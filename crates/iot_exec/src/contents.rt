@@ -26,7 +26,7 @@ fn contents_in(node: &Node) -> Option<&Blob>
     ensures { option_copied result ≡ content_at (Some node.now) }
 {
     match node {
-        Node::File(bytes) => Some(bytes),
+        Node::File(bytes, _) => Some(bytes),
         _ => None,
     }
 }

@@ -1,11 +1,12 @@
 -- Trees after runs: those of a client, and the one of a list of commits.
-use Rattle.std.proofs.Common.{◌≡◌, ◌≢◌, ℕ, List, [], ◌∷◌, Option, Some, None, refl, sym, ap, subst, ◌∙◌}
+use Rattle.std.proofs.Common.{◌≡◌, ℕ, List, true, false, [], ◌∷◌, Option, Some, None, refl, sym, ap, subst, ◌∙◌}
 use Rattle.std.proofs.lemmas.Option.{none-some}
-use Rattle.std.specs.FinMap.{empty, get-empty}
+use Rattle.std.specs.FinMap.{empty, get, get-empty}
 use Rattle.std.specs.List.{AllByRecursion}
 use Rattle.iot_text.specs.Paths.{path_cmp}
 use Rattle.iot_tree.specs.Tree.{Path, Nodes, IsTree, IsWhole, root_alone}
-use Rattle.iot_tree.specs.Updates.{updated}
+use Rattle.iot_tree.specs.Snapshots.{is_known}
+use Rattle.iot_tree.specs.Updates.{mode_in, updated}
 use Rattle.iot_tree.specs.declared.acts.Act.{Act}
 use Rattle.iot_tree.specs.declared.labels.Way.{Way}
 use Rattle.iot_tree.specs.declared.nodes.Node.{Node}
@@ -14,6 +15,7 @@ use Rattle.iot_tree.specs.declared.updates.Update.{Update}
 use Rattle.iot_tree.specs.declared.updates.Update.TheVariants.{Put, MakeDir, Remove, Move}
 use Rattle.iot_tree.proofs.EachLaws.{EachNode, each_inserted, each_removed, each_moved}
 use Rattle.iot_tree.proofs.RowLaws.{root_rows, root_map}
+use Rattle.iot_stamp.proofs.PrunedLaws.{whole_known}
 use Rattle.iot_lang.specs.Code.{Code}
 use Rattle.iot_lang.specs.Scripts.{IsScript}
 use Rattle.iot_acts.specs.Traces.{after_acts, after_update}
@@ -55,17 +57,11 @@ list_spelled commits all = from_spelled (entries_of commits) (root_alone Dir) al
 -- ---- whole trees
 
 abbrev IsNear : Path → Node → Type 0
-IsNear path node = (node ≢ FarDir) × (node ≢ FarFile)
-
-file_is_near : (path : Path) (bytes : List ℕ) → IsNear path (File bytes)
-file_is_near path bytes = ((λ is. cc), (λ is. cc))
-
-dir_is_near : (path : Path) → IsNear path Dir
-dir_is_near path = ((λ is. cc), (λ is. cc))
+IsNear path node = is_known node ≡ true
 
 update_near : (t : Nodes) (update : Update) → EachNode IsNear t → EachNode IsNear (updated t update)
-update_near t (Put path bytes) each = each_inserted IsNear t path (File bytes) each (file_is_near path bytes)
-update_near t (MakeDir path) each = each_inserted IsNear t path Dir each (dir_is_near path)
+update_near t (Put path bytes) each = each_inserted IsNear t path (File bytes (mode_in (get t path))) each refl
+update_near t (MakeDir path) each = each_inserted IsNear t path Dir each refl
 update_near t (Remove path) each = each_removed IsNear t path each
 update_near t (Move from to) each = each_moved IsNear from to (λ path node near. near) t each
 
@@ -77,12 +73,17 @@ acts_near (act ∷ acts) t each = acts_near acts (after_update t act.update) (by
     by None = each
     by (Some update) = update_near t update each
 
+not_known : false ≡ true → ⊥
+not_known is = cc
+
 near_whole : (t : Nodes) → EachNode IsNear t → IsWhole t
-near_whole t each = record { no_far_dir = λ p is. (each p FarDir is).0 refl; no_far_file = λ p is. (each p FarFile is).1 refl }
+near_whole t each = record {
+  no_far_dir = λ p is. not_known (each p FarDir is);
+  no_far_file = λ p mode is. not_known (each p (FarFile mode) is);
+}
 
 whole_near : (t : Nodes) → IsWhole t → EachNode IsNear t
-whole_near t whole p node is =
-    ((λ far. whole.no_far_dir p (is ∙ ap Some far)), (λ far. whole.no_far_file p (is ∙ ap Some far)))
+whole_near t whole p node is = whole_known t whole p node is
 
 -- after acts on a whole tree it is whole
 pub acts_whole : (acts : List Act) (t : Nodes) → IsWhole t → IsWhole (after_acts t acts)
@@ -101,7 +102,7 @@ from_whole (entry ∷ entries) t tree whole =
 root_is_whole : IsWhole (root_alone Dir)
 root_is_whole =
     near_whole (root_alone Dir)
-    (each_inserted IsNear empty [] Dir (λ path node is. absurd (none-some node (sym (get-empty path_cmp path) ∙ is))) (dir_is_near []))
+    (each_inserted IsNear empty [] Dir (λ path node is. absurd (none-some node (sym (get-empty path_cmp path) ∙ is))) refl)
 
 pub list_whole : (commits : List Commit) → IsWhole (tree_after commits)
 list_whole commits = from_whole (entries_of commits) (root_alone Dir) root_is_tree root_is_whole

@@ -22,9 +22,9 @@ use Rattle.iot_machine.specs.Clients.{snapshot}
 seen_spelled : (inside : Bool) (node : Node) → IsSpelledNode node → IsSpelledNode (seen inside node)
 seen_spelled true node is = is
 seen_spelled false Dir is = tt
-seen_spelled false (File bytes) is = tt
+seen_spelled false (File bytes mode) is = tt
 seen_spelled false FarDir is = tt
-seen_spelled false FarFile is = tt
+seen_spelled false (FarFile mode) is = tt
 
 left_spelled : (path : Path) (reached inside : Bool) (o : Option Node) → ((node : Node) → o ≡ Some node → IsSpelledRow path node)
     → (node : Node) → cond reached (option_map (seen inside) o) None ≡ Some node → IsSpelledRow path node

@@ -162,8 +162,8 @@ module _ (t : Nodes) (tree : IsSpelledTree t) where
       record { rising = names_rise above (entries t) rows (sorted_rows t) None tt; each = each_child above (entries t) rows }
 
   content_is_answer : (path : Path) (node : Option Node) (far : Bool) → get t path ≡ node → IsAnswer (content_answer node far)
-  content_is_answer path (Some (File bytes)) far is = (tree.each path (File bytes) is).is_node
-  content_is_answer path (Some FarFile) far is = tt
+  content_is_answer path (Some (File bytes mode)) far is = (tree.each path (File bytes mode) is).is_node
+  content_is_answer path (Some (FarFile mode)) far is = tt
   content_is_answer path _ far is = none_is_answer far
 
   names_are_answer : (path : Path) (node : Option Node) (far : Bool) → IsAnswer (names_answer node far (children_of t path))

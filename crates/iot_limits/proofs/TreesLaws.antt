@@ -13,9 +13,9 @@ IsRowAt path node = IsRow (path, node)
 
 node_spelled : (node : Node) → IsNode node → IsSpelledNode node
 node_spelled Dir is = tt
-node_spelled (File bytes) is = is
+node_spelled (File bytes mode) is = is
 node_spelled FarDir is = tt
-node_spelled FarFile is = tt
+node_spelled (FarFile mode) is = tt
 
 row_spelled : (path : Path) (node : Node) → IsRowAt path node → IsSpelledRow path node
 row_spelled path node row = record { is_path = row.0; is_node = node_spelled node row.1 }

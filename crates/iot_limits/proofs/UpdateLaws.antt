@@ -3,11 +3,11 @@ use Rattle.std.proofs.Common.{◌++◌, [], drop, length, Option, Some, None, re
 use Rattle.std.proofs.lemmas.Bool.{cond_both}
 use Rattle.std.proofs.lemmas.Option.{none-some}
 use Rattle.std.specs.List.{starts_with}
-use Rattle.std.specs.FinMap.{empty, get-empty}
+use Rattle.std.specs.FinMap.{empty, get, get-empty}
 use Rattle.iot_text.specs.Paths.{IsPath, path_cmp}
 use Rattle.iot_text.proofs.PathsLaws.{IsPath-drop, IsPath-append}
 use Rattle.iot_tree.specs.Tree.{Path, Nodes, root_alone}
-use Rattle.iot_tree.specs.Updates.{renamed, updated}
+use Rattle.iot_tree.specs.Updates.{mode_in, renamed, updated}
 use Rattle.iot_tree.specs.declared.nodes.Node.TheVariants.{Dir, File}
 use Rattle.iot_tree.specs.declared.updates.Update.{Update}
 use Rattle.iot_tree.specs.declared.updates.Update.TheVariants.{Put, MakeDir, Remove, Move}
@@ -23,7 +23,8 @@ renamed_is_path from to path to_valid valid =
     (λ outside. valid)
 
 each_updated : (t : Nodes) (update : Update) → IsUpdate update → EachNode IsSpelledRow t → EachNode IsSpelledRow (updated t update)
-each_updated t (Put path bytes) is each = each_inserted IsSpelledRow t path (File bytes) each (record { is_path = is.0; is_node = is.1 })
+each_updated t (Put path bytes) is each =
+    each_inserted IsSpelledRow t path (File bytes (mode_in (get t path))) each (record { is_path = is.0; is_node = is.1 })
 each_updated t (MakeDir path) is each = each_inserted IsSpelledRow t path Dir each (record { is_path = is; is_node = tt })
 each_updated t (Remove path) is each = each_removed IsSpelledRow t path each
 each_updated t (Move from to) is each =

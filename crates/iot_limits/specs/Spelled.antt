@@ -11,7 +11,7 @@ use Rattle.iot_exec.specs.Commands.{Kept}
 use Rattle.iot_exec.specs.declared.ran.Ran.{Ran}
 
 abbrev pub IsSpelledNode : Node → Type 0
-IsSpelledNode (File bytes) = IsContents bytes
+IsSpelledNode (File bytes mode) = IsContents bytes
 IsSpelledNode _ = Unit {0}
 
 -- the path is one, and the contents of the node, if it has any, have a spelling

@@ -5,6 +5,7 @@ use Rattle.iot_tree.specs.Questions.{is_far_above, content_answer, names_answer}
 use Rattle.iot_tree.specs.Snapshots.{is_away}
 use Rattle.iot_tree.specs.Tree.{Path, Nodes, IsTree}
 use Rattle.iot_tree.specs.declared.kinds.Kind.{Kind}
+use Rattle.iot_tree.specs.declared.nodes.Mode.{Mode}
 use Rattle.iot_tree.specs.declared.nodes.Node.{Node}
 use Rattle.iot_tree.specs.declared.nodes.Node.TheVariants.{Dir, File, FarDir, FarFile}
 use Rattle.iot_tree.proofs.TreeLaws.{no_far_above}
@@ -14,14 +15,14 @@ module _ (t : Nodes) (tree : IsTree t) (p : Path) (node : Node) (here : get t p 
   near = no_far_above t tree p (rw here refl)
 
   -- an object that is there has contents, or is known to have none, unless it is a far file
-  pub content_known : node ≢ FarFile → false ≡ is_away (content_answer (get t p) (is_far_above t p))
+  pub content_known : ((mode : Mode) → node ≢ FarFile mode) → false ≡ is_away (content_answer (get t p) (is_far_above t p))
   content_known known = rw (near, here) (by node known)
     where
-      by : (n : Node) → n ≢ FarFile → false ≡ is_away (content_answer (Some n) false)
+      by : (n : Node) → ((mode : Mode) → n ≢ FarFile mode) → false ≡ is_away (content_answer (Some n) false)
       by Dir is = refl
-      by (File bytes) is = refl
+      by (File bytes mode) is = refl
       by FarDir is = refl
-      by FarFile is = absurd (is refl)
+      by (FarFile mode) is = absurd (is mode refl)
 
   -- it has names, or is known to have none, unless it is a far directory
   pub names_known : (names : List (List ℕ × Kind)) → node ≢ FarDir → false ≡ is_away (names_answer (get t p) (is_far_above t p) names)
@@ -29,6 +30,6 @@ module _ (t : Nodes) (tree : IsTree t) (p : Path) (node : Node) (here : get t p 
     where
       by : (n : Node) → n ≢ FarDir → false ≡ is_away (names_answer (Some n) false names)
       by Dir is = refl
-      by (File bytes) is = refl
+      by (File bytes mode) is = refl
       by FarDir is = absurd (is refl)
-      by FarFile is = refl
+      by (FarFile mode) is = refl

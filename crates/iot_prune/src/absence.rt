@@ -15,7 +15,7 @@ pub fn away(t: &Tree, q: &Question) -> bool
     match q {
         Question::Kind(path) => is_below_far(t, path),
         Question::Content(path) => match t.node(path.names()) {
-            Some(node) => matches!(node, Node::FarFile),
+            Some(node) => matches!(node, Node::FarFile(_)),
             None => is_below_far(t, path),
         },
         Question::Names(path) => match t.node(path.names()) {

@@ -42,18 +42,18 @@ no_more rows i row lt is none =
 
 below : (p : Path) (rows : List Row) → IsTrue (below_all path_cmp p rows) → IsTrue (below_all path_cmp p (filter_map file_of rows))
 below p [] h = refl
-below p ((q, File bytes) ∷ rows) h = both_true (first_so (is_lt (path_cmp p q)) _ h) (below p rows (second_so (is_lt (path_cmp p q)) _ h))
+below p ((q, File bytes mode) ∷ rows) h = both_true (first_so (is_lt (path_cmp p q)) _ h) (below p rows (second_so (is_lt (path_cmp p q)) _ h))
 below p ((q, Dir) ∷ rows) h = below p rows (second_so (is_lt (path_cmp p q)) _ h)
 below p ((q, FarDir) ∷ rows) h = below p rows (second_so (is_lt (path_cmp p q)) _ h)
-below p ((q, FarFile) ∷ rows) h = below p rows (second_so (is_lt (path_cmp p q)) _ h)
+below p ((q, FarFile mode) ∷ rows) h = below p rows (second_so (is_lt (path_cmp p q)) _ h)
 
 rise : (rows : List Row) → IsTrue (is_sorted path_cmp rows) → IsTrue (is_sorted path_cmp (filter_map file_of rows))
 rise [] h = refl
-rise ((q, File bytes) ∷ rows) h =
+rise ((q, File bytes mode) ∷ rows) h =
     both_true (below q rows (first_so (below_all path_cmp q rows) _ h)) (rise rows (second_so (below_all path_cmp q rows) _ h))
 rise ((q, Dir) ∷ rows) h = rise rows (second_so (below_all path_cmp q rows) _ h)
 rise ((q, FarDir) ∷ rows) h = rise rows (second_so (below_all path_cmp q rows) _ h)
-rise ((q, FarFile) ∷ rows) h = rise rows (second_so (below_all path_cmp q rows) _ h)
+rise ((q, FarFile mode) ∷ rows) h = rise rows (second_so (below_all path_cmp q rows) _ h)
 
 -- ---- what is found at a path
 
@@ -85,18 +85,18 @@ passed q p node rows none h rest = elim (same_or_apart q p) [
 found : (q : Path) (rows : List Row) → IsTrue (is_sorted path_cmp rows)
     → find path_cmp q (filter_map file_of rows) ≡ content_at (find path_cmp q rows)
 found q [] h = refl
-found q ((p, File bytes) ∷ rows) h = by (eq_by_cmp path_cmp q p) (found q rows (second_so (below_all path_cmp p rows) _ h))
+found q ((p, File bytes mode) ∷ rows) h = by (eq_by_cmp path_cmp q p) (found q rows (second_so (below_all path_cmp p rows) _ h))
   where
     by : (b : Bool) → find path_cmp q (filter_map file_of rows) ≡ content_at (find path_cmp q rows)
-        → cond b (Some bytes) (find path_cmp q (filter_map file_of rows)) ≡ content_at (cond b (Some (File bytes)) (find path_cmp q rows))
+        → cond b (Some bytes) (find path_cmp q (filter_map file_of rows)) ≡ content_at (cond b (Some (File bytes mode)) (find path_cmp q rows))
     by true rest = refl
     by false rest = rest
 found q ((p, Dir) ∷ rows) h =
     passed q p Dir rows refl (first_so (below_all path_cmp p rows) _ h) (found q rows (second_so (below_all path_cmp p rows) _ h))
 found q ((p, FarDir) ∷ rows) h =
     passed q p FarDir rows refl (first_so (below_all path_cmp p rows) _ h) (found q rows (second_so (below_all path_cmp p rows) _ h))
-found q ((p, FarFile) ∷ rows) h =
-    passed q p FarFile rows refl (first_so (below_all path_cmp p rows) _ h) (found q rows (second_so (below_all path_cmp p rows) _ h))
+found q ((p, FarFile mode) ∷ rows) h =
+    passed q p (FarFile mode) rows refl (first_so (below_all path_cmp p rows) _ h) (found q rows (second_so (below_all path_cmp p rows) _ h))
 
 -- ---- the files of a tree
 

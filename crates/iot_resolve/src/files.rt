@@ -12,8 +12,8 @@ fn file_of(alloc: Global, row: &(Path, Node)) -> Result<Option<(Path, Blob)>, No
     ensures { IfOk result (λ file. file ≡ file_of row.now) }
 {
     match &row.1 {
-        Node::File(bytes) => Ok(Some((row.0.copy(alloc)?, bytes.copy(alloc)?))),
-        Node::Dir | Node::FarDir | Node::FarFile => Ok(None),
+        Node::File(bytes, _) => Ok(Some((row.0.copy(alloc)?, bytes.copy(alloc)?))),
+        Node::Dir | Node::FarDir | Node::FarFile(_) => Ok(None),
     }
 }
 

@@ -21,13 +21,13 @@ use Rattle.iot_tree.proofs.EachLaws.{each_entry}
 -- a node that is sent has a spelling
 seen_node : (inside : Bool) (node : Node) → IsSpelledNode node → IsNode (seen inside node)
 seen_node true Dir is = tt
-seen_node true (File bytes) is = is
+seen_node true (File bytes mode) is = is
 seen_node true FarDir is = tt
-seen_node true FarFile is = tt
+seen_node true (FarFile mode) is = tt
 seen_node false Dir is = tt
-seen_node false (File bytes) is = tt
+seen_node false (File bytes mode) is = tt
 seen_node false FarDir is = tt
-seen_node false FarFile is = tt
+seen_node false (FarFile mode) is = tt
 
 abbrev HasNode : Entry → Type 0
 HasNode row = IsNode row.1.0

@@ -138,7 +138,7 @@ module _ (t : Nodes) (stamps : List ℕ) (commits : ℕ) (fit : FitStamps (entri
       (sym (get-entries t p) ∙ is) in
       record {
         no_far_dir = λ p is. let clash : false ≡ true = known p FarDir is in absurd cc;
-        no_far_file = λ p is. let clash : false ≡ true = known p FarFile is in absurd cc;
+        no_far_file = λ p mode is. let clash : false ≡ true = known p (FarFile mode) is in absurd cc;
       }
 
   fit_at : (p : Path) (a : Node) (n : ℕ) → get (stamps_of (entries t) stamps) p ≡ Some (a, n) → FitAt commits p (a, n)

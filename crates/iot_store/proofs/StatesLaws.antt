@@ -1,5 +1,5 @@
 -- A server's state stays one with each commit.
-use Rattle.std.proofs.Common.{◌≡◌, ◌≢◌, ◌⊎◌, inl, inr, ℕ, ◌+◌, ◌<◌, ◌≤◌, ◌^◌, Bool, true, false, Some, List, [], ◌∷◌, ◌++◌}
+use Rattle.std.proofs.Common.{◌≡◌, ◌⊎◌, inl, inr, ℕ, ◌+◌, ◌<◌, ◌≤◌, ◌^◌, Bool, true, false, Some, List, [], ◌∷◌, ◌++◌}
 use Rattle.std.proofs.Common.{length, get_or, drop, refl, sym, ap, ◌∙◌, subst, arith, length-append}
 use Rattle.std.specs.Prelude.{IfOk, OnOk, Result, Ok, Err}
 use Rattle.std.proofs.lemmas.Option.{none-some}
@@ -7,6 +7,7 @@ use Rattle.std.specs.FinMap.{empty, get-empty}
 use Rattle.std.specs.List.{list_any}
 use Rattle.iot_text.specs.Paths.{path_cmp}
 use Rattle.iot_tree.specs.Tree.{IsTree, IsWhole, Nodes, Path, root_alone}
+use Rattle.iot_tree.specs.Snapshots.{is_known}
 use Rattle.iot_tree.specs.Updates.{updated}
 use Rattle.iot_tree.specs.declared.access.Access.{Access}
 use Rattle.iot_tree.specs.declared.labels.Label.{Label}
@@ -66,13 +67,16 @@ apart_push labels label apart new front other later is = elim (push_split labels
 -- ---- the first state
 
 abbrev IsNear : Path → Node → Type 0
-IsNear path node = (node ≢ FarDir) × (node ≢ FarFile)
+IsNear path node = is_known node ≡ true
 
 opening_whole : IsWhole opening.tree
 opening_whole =
     let none : EachNode IsNear empty = λ path node is. absurd (none-some node (sym (get-empty path_cmp path) ∙ is)) in
-    let near : EachNode IsNear (root_alone Dir) = each_inserted IsNear empty [] Dir none ((λ is. cc), (λ is. cc)) in
-    record { no_far_dir = λ p is. (near p FarDir is).0 refl; no_far_file = λ p is. (near p FarFile is).1 refl }
+    let near : EachNode IsNear (root_alone Dir) = each_inserted IsNear empty [] Dir none refl in
+    record {
+      no_far_dir = λ p is. let clash : false ≡ true = near p FarDir is in absurd cc;
+      no_far_file = λ p mode is. let clash : false ≡ true = near p (FarFile mode) is in absurd cc;
+    }
 
 pub opening_is : IsState opening
 opening_is = record {

@@ -69,7 +69,7 @@ fn is_known(node: &Node) -> bool
     ensures { result ≡ is_known node.now }
 {
     match node {
-        Node::Dir | Node::File(_) => true,
-        Node::FarDir | Node::FarFile => false,
+        Node::Dir | Node::File(..) => true,
+        Node::FarDir | Node::FarFile(_) => false,
     }
 }

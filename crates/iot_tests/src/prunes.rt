@@ -12,9 +12,9 @@ fn spelled(alloc: Global, tree: &Tree) -> Result<Text, NoMemory> {
     for row in tree.rows().as_slice() {
         text.push(match row.1 {
             Node::Dir => b'd',
-            Node::File(_) => b'f',
+            Node::File(..) => b'f',
             Node::FarDir => b'D',
-            Node::FarFile => b'F',
+            Node::FarFile(_) => b'F',
         })?;
         row.0.write_to(&mut text)?;
     }

@@ -13,9 +13,9 @@ fn spelled(alloc: Global, changes: &Changes) -> Result<Text, NoMemory> {
     for (path, (node, stamp)) in changes.rows.as_slice() {
         text.push(match node {
             Node::Dir => b'd',
-            Node::File(_) => b'f',
+            Node::File(..) => b'f',
             Node::FarDir => b'D',
-            Node::FarFile => b'F',
+            Node::FarFile(_) => b'F',
         })?;
         path.write_to(&mut text)?;
         text.append_number(*stamp)?;

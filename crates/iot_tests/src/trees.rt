@@ -1,7 +1,7 @@
 //! Trees of which only some is known, and copies of trees.
 use crate::fixtures::{path, tree};
 use iot_text::NoMemory;
-use iot_tree::{Duplicate, Kind, Node, Question, Read, Reads, Rows, Tree, Update};
+use iot_tree::{Duplicate, Kind, Mode, Node, Question, Read, Reads, Rows, Tree, Update};
 use std::alloc::Global;
 use std::process::Abort;
 use std::test::Fail;
@@ -20,7 +20,7 @@ fn the_inside_of_a_far_object_is_away(rt: HostRuntime) -> Result<(), Fail> {
     let spelled = [
         ("/", &Node::Dir),
         ("/d", &Node::FarDir),
-        ("/f", &Node::FarFile),
+        ("/f", &Node::FarFile(Mode::Off)),
     ];
     let tree = Tree::from_rows(rows(&rt, rt.alloc(), &spelled)?)?;
     for (text, kind) in [

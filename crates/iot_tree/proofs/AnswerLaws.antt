@@ -10,6 +10,7 @@ use Rattle.iot_tree.specs.Rows.{map_of, AreTreeRows}
 use Rattle.iot_tree.specs.Tree.{Path, Row}
 use Rattle.iot_tree.specs.declared.kinds.Kind.{Kind}
 use Rattle.iot_tree.specs.declared.nodes.Node.{Node}
+use Rattle.iot_tree.specs.declared.nodes.Mode.{Mode}
 use Rattle.iot_tree.specs.declared.nodes.Node.TheVariants.{Dir, File, FarDir, FarFile}
 use Rattle.iot_tree.specs.declared.questions.Answer.TheVariants.{Away, Absent, Names}
 use Rattle.iot_tree.proofs.ChildLaws.{children_at}
@@ -44,9 +45,10 @@ module _ (rows : List Row) (all : AreTreeRows rows) (p : Path) (at : ℕ) where
 
 -- ---- the answer to the question for names
 
-pub file_is_no_dir : (node : Node) → ((bytes : List ℕ) × (node ≡ File bytes)) ⊎ (node ≡ FarFile) → is_dir node ≡ false
-file_is_no_dir node (inl file) = ap is_dir file.1
-file_is_no_dir node (inr far) = ap is_dir far
+pub file_is_no_dir : (node : Node) → ((bytes : List ℕ) × (mode : Mode) × (node ≡ File bytes mode)) ⊎ ((mode : Mode) × (node ≡ FarFile mode))
+    → is_dir node ≡ false
+file_is_no_dir node (inl file) = ap is_dir file.2
+file_is_no_dir node (inr far) = ap is_dir far.1
 
 module _ (rows : List Row) (all : AreTreeRows rows) (p : Path) (at : ℕ) (stands : IsRowAt rows p at) (row : Row)
     (is : row ≡ get_or rows at row) (far : Bool) where
@@ -67,9 +69,9 @@ module _ (rows : List Row) (all : AreTreeRows rows) (p : Path) (at : ℕ) (stand
 
   file_names : (node : Node) → (is_dir node ≡ false) → (kids : List (List ℕ × Kind)) → Absent ≡ names_answer (Some node) false kids
   file_names Dir plain kids = absurd cc
-  file_names (File bytes) plain kids = refl
+  file_names (File bytes mode) plain kids = refl
   file_names FarDir plain kids = absurd cc
-  file_names FarFile plain kids = refl
+  file_names (FarFile mode) plain kids = refl
 
   pub names_of_file : is_dir row.1 ≡ false
       → Absent ≡ names_answer (get (map_of rows) p) (is_far_above (map_of rows) p) (children_of (map_of rows) p)

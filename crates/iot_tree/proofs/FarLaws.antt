@@ -28,15 +28,15 @@ dir_not_far is = cc
 not_far : (o : Option Node) → (o ≡ Some FarDir → ⊥) → is_far_dir o ≡ false
 not_far None no_far = refl
 not_far (Some Dir) no_far = refl
-not_far (Some (File bytes)) no_far = refl
+not_far (Some (File bytes mode)) no_far = refl
 not_far (Some FarDir) no_far = absurd (no_far refl)
-not_far (Some FarFile) no_far = refl
+not_far (Some (FarFile mode)) no_far = refl
 
 far_node : (node : Node) → is_far_dir (Some node) ≡ true → node ≡ FarDir
 far_node Dir is = absurd cc
-far_node (File bytes) is = absurd cc
+far_node (File bytes mode) is = absurd cc
 far_node FarDir is = refl
-far_node FarFile is = absurd cc
+far_node (FarFile mode) is = absurd cc
 
 -- A path without a row, and the rows before and after its gap. A far directory above it is the last row before the gap.
 module _ (front : List Row) (row : Row) (back : List Row) (rows : AreTreeRows (front ++ row ∷ back)) (p : Path)

@@ -26,11 +26,11 @@ in_known_dir t tree p node here no_dir no_far_dir = record {
 pub fits_here : (t : Nodes) → IsTree t → (p : Path) (node : Node) → get t p ≡ Some node → IsTrue (not (is_dir node)) → FitsPut t p
 fits_here t tree p Dir here free = absurd cc
 fits_here t tree p FarDir here free = absurd cc
-fits_here t tree p (File bytes) here free = in_known_dir t tree p (File bytes) here (λ dir. cc) (λ far. cc)
-fits_here t tree p FarFile here free = in_known_dir t tree p FarFile here (λ dir. cc) (λ far. cc)
+fits_here t tree p (File bytes mode) here free = in_known_dir t tree p (File bytes mode) here (λ dir. cc) (λ far. cc)
+fits_here t tree p (FarFile mode) here free = in_known_dir t tree p (FarFile mode) here (λ dir. cc) (λ far. cc)
 
 pub is_no_dir : (t : Nodes) (p : Path) (node : Node) → get t p ≡ Some node → FitsPut t p → IsTrue (not (is_dir node))
 is_no_dir t p Dir here fits = absurd (fits.no_dir here)
 is_no_dir t p FarDir here fits = absurd (fits.no_far_dir here)
-is_no_dir t p (File bytes) here fits = refl
-is_no_dir t p FarFile here fits = refl
+is_no_dir t p (File bytes mode) here fits = refl
+is_no_dir t p (FarFile mode) here fits = refl

@@ -67,9 +67,9 @@ module _ (front : List Row) (last row : Row) (all : AreTreeRows (front ++ last �
 
 known_dir_is : (node : Node) → is_known_dir node ≡ true → node ≡ Dir
 known_dir_is Dir is = refl
-known_dir_is (File bytes) is = absurd cc
+known_dir_is (File bytes mode) is = absurd cc
 known_dir_is FarDir is = absurd cc
-known_dir_is FarFile is = absurd cc
+known_dir_is (FarFile mode) is = absurd cc
 
 nonempty : (path rest : Path) (p : Path) → p ≡ path ++ rest → length path < length p → IsBelow p path
 nonempty path [] p is longer = absurd (omega (arith, ap length is, ap length (append-nil path)))
@@ -102,11 +102,11 @@ module _ (last : Row) (path : Path) (begins : Bool) (tests : begins ≡ starts_w
 
 some_dir : (node : Node) → (Some node ≡ Some Dir) ⊎ (Some node ≡ Some FarDir) → IsTrue (is_dir node)
 some_dir Dir is = refl
-some_dir (File bytes) (inl is) = absurd cc
-some_dir (File bytes) (inr is) = absurd cc
+some_dir (File bytes mode) (inl is) = absurd cc
+some_dir (File bytes mode) (inr is) = absurd cc
 some_dir FarDir is = refl
-some_dir FarFile (inl is) = absurd cc
-some_dir FarFile (inr is) = absurd cc
+some_dir (FarFile mode) (inl is) = absurd cc
+some_dir (FarFile mode) (inr is) = absurd cc
 
 no_dir : (◌≡◌ {A = Option Node} None (Some Dir)) ⊎ (◌≡◌ {A = Option Node} None (Some FarDir)) → ⊥
 no_dir (inl is) = cc

@@ -188,9 +188,9 @@ module _ (s : Nodes) (k : Path → Bool) where
         far_row : (o : Option Node) → is_far_dir o ≡ true → o ≡ Some FarDir
         far_row None is = absurd cc
         far_row (Some Dir) is = absurd cc
-        far_row (Some (File bytes)) is = absurd cc
+        far_row (Some (File bytes mode)) is = absurd cc
         far_row (Some FarDir) is = refl
-        far_row (Some FarFile) is = absurd cc
+        far_row (Some (FarFile mode)) is = absurd cc
 
         by : (q : Path) (b : Bool) → is_far_above s q ≡ b → (is_far_above s q ≡ true → is_far_above (prune s k) q ≡ true)
             → (o : Option Node) → get s q ≡ o
@@ -206,9 +206,9 @@ module _ (s : Nodes) (k : Path → Bool) where
 pub seen_kind : (b : Bool) (node : Node) → node_kind (seen b node) ≡ node_kind node
 seen_kind true node = refl
 seen_kind false Dir = refl
-seen_kind false (File bytes) = refl
+seen_kind false (File bytes mode) = refl
 seen_kind false FarDir = refl
-seen_kind false FarFile = refl
+seen_kind false (FarFile mode) = refl
 
 one_name : (p rest path : Path) → path ≡ p ++ rest → length path ≡ length p + 1 → (name : List ℕ) × (path ≡ p ++ name ∷ [])
 one_name p [] path is long = absurd (omega (arith, ap length is, length-append p []))
@@ -294,9 +294,9 @@ module _ (s : Nodes) (k : Path → Bool) (tree : IsTree s) where
           ⊎ (content_answer (Some (seen b node)) false ≡ Away)
       by true node = inl refl
       by false Dir = inl refl
-      by false (File bytes) = inr refl
+      by false (File bytes mode) = inr refl
       by false FarDir = inl refl
-      by false FarFile = inr refl
+      by false (FarFile mode) = inr refl
   answers_or_away (asks.Names p) = elim (shows p) [
     | neither is left_is above below ↦ inl (rw (is, left_is, above, below) refl)
     | away is below ↦ inr (rw (is, below) refl)
@@ -310,10 +310,10 @@ module _ (s : Nodes) (k : Path → Bool) (tree : IsTree s) where
         where
           both_here : (is_reached k p && k p) ≡ true
           both_here = λ i. reached i && knows i
-      by true knows (File bytes) reached = inl refl
+      by true knows (File bytes mode) reached = inl refl
       by true knows FarDir reached = inl refl
-      by true knows FarFile reached = inl refl
+      by true knows (FarFile mode) reached = inl refl
       by false knows Dir reached = inr refl
-      by false knows (File bytes) reached = inl refl
+      by false knows (File bytes mode) reached = inl refl
       by false knows FarDir reached = inr refl
-      by false knows FarFile reached = inl refl
+      by false knows (FarFile mode) reached = inl refl

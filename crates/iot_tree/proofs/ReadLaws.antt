@@ -12,6 +12,7 @@ use Rattle.iot_tree.specs.Questions.{names_answer, answer_of}
 use Rattle.iot_tree.specs.Tree.{Path, Row, Nodes, IsTree}
 use Rattle.iot_tree.specs.Updates.{IsLeaf}
 use Rattle.iot_tree.specs.declared.nodes.Node.{Node}
+use Rattle.iot_tree.specs.declared.nodes.Mode.{Mode}
 use Rattle.iot_tree.specs.declared.nodes.Node.TheVariants.{Dir, File, FarDir, FarFile}
 use Rattle.iot_tree.specs.declared.questions.Answer.{Answer}
 use Rattle.iot_tree.proofs.TreeLaws.{same_or_apart, none_some, ancestors}
@@ -24,8 +25,8 @@ use Rattle.iot_tree.specs.declared.questions.Answer.TheVariants as answers
 
 -- a file's row
 pub data IsFileRow (o : Option Node) : Type 0 where
-  known : (bytes : List ℕ) → o ≡ Some (File bytes) → IsFileRow o
-  far : o ≡ Some FarFile → IsFileRow o
+  known : (bytes : List ℕ) (mode : Mode) → o ≡ Some (File bytes mode) → IsFileRow o
+  far : (mode : Mode) → o ≡ Some (FarFile mode) → IsFileRow o
 
 -- a directory's row
 pub data IsDirRow (o : Option Node) : Type 0 where
@@ -33,8 +34,8 @@ pub data IsDirRow (o : Option Node) : Type 0 where
   far_dir : o ≡ Some FarDir → IsDirRow o
 
 pub file_row : (o : Option Node) (above : Bool) → kind_answer (kind_at o above) ≡ answers.IsFile → IsFileRow o
-file_row (Some (File bytes)) above is = known bytes refl
-file_row (Some FarFile) above is = far refl
+file_row (Some (File bytes mode)) above is = known bytes mode refl
+file_row (Some (FarFile mode)) above is = far mode refl
 file_row (Some Dir) above is = absurd cc
 file_row (Some FarDir) above is = absurd cc
 file_row None true is = absurd cc
@@ -43,16 +44,16 @@ file_row None false is = absurd cc
 pub dir_row : (o : Option Node) (above : Bool) → kind_answer (kind_at o above) ≡ answers.IsDir → IsDirRow o
 dir_row (Some Dir) above is = known_dir refl
 dir_row (Some FarDir) above is = far_dir refl
-dir_row (Some (File bytes)) above is = absurd cc
-dir_row (Some FarFile) above is = absurd cc
+dir_row (Some (File bytes mode)) above is = absurd cc
+dir_row (Some (FarFile mode)) above is = absurd cc
 dir_row None true is = absurd cc
 dir_row None false is = absurd cc
 
 pub no_row : (o : Option Node) (above : Bool) → kind_answer (kind_at o above) ≡ answers.Absent → (o ≡ None) × (above ≡ false)
 no_row (Some Dir) above is = absurd cc
 no_row (Some FarDir) above is = absurd cc
-no_row (Some (File bytes)) above is = absurd cc
-no_row (Some FarFile) above is = absurd cc
+no_row (Some (File bytes mode)) above is = absurd cc
+no_row (Some (FarFile mode)) above is = absurd cc
 no_row None true is = absurd cc
 no_row None false is = (refl, refl)
 
@@ -61,8 +62,8 @@ no_bytes true bytes is = cc
 no_bytes false bytes is = cc
 
 pub bytes_row : (o : Option Node) (above : Bool) (bytes : List ℕ) → content_answer o above ≡ answers.Bytes bytes → IsFileRow o
-bytes_row (Some (File stored)) above bytes is = known stored refl
-bytes_row (Some FarFile) above bytes is = far refl
+bytes_row (Some (File stored mode)) above bytes is = known stored mode refl
+bytes_row (Some (FarFile mode)) above bytes is = far mode refl
 bytes_row (Some Dir) above bytes is = absurd (no_bytes above bytes is)
 bytes_row (Some FarDir) above bytes is = absurd (no_bytes above bytes is)
 bytes_row None above bytes is = absurd (no_bytes above bytes is)
@@ -75,25 +76,25 @@ pub names_row : (o : Option Node) (above : Bool) (children names : List (List �
     → names_answer o above children ≡ answers.Names names → (o ≡ Some Dir) × (children ≡ names)
 names_row (Some Dir) above children names is = (refl, cc)
 names_row (Some FarDir) above children names is = absurd cc
-names_row (Some (File bytes)) above children names is = absurd (no_names above names is)
-names_row (Some FarFile) above children names is = absurd (no_names above names is)
+names_row (Some (File bytes mode)) above children names is = absurd (no_names above names is)
+names_row (Some (FarFile mode)) above children names is = absurd (no_names above names is)
 names_row None above children names is = absurd (no_names above names is)
 
 pub file_some : (o : Option Node) → IsFileRow o → IsSome o
-file_some o (known bytes is) = subst IsSome (sym is) refl
-file_some o (far is) = subst IsSome (sym is) refl
+file_some o (known bytes mode is) = subst IsSome (sym is) refl
+file_some o (far mode is) = subst IsSome (sym is) refl
 
 pub dir_some : (o : Option Node) → IsDirRow o → IsSome o
 dir_some o (known_dir is) = subst IsSome (sym is) refl
 dir_some o (far_dir is) = subst IsSome (sym is) refl
 
 pub file_no_dir : (o : Option Node) → IsFileRow o → o ≢ Some Dir
-file_no_dir o (known bytes is) dir = cc
-file_no_dir o (far is) dir = cc
+file_no_dir o (known bytes mode is) dir = cc
+file_no_dir o (far mode is) dir = cc
 
 pub file_no_far_dir : (o : Option Node) → IsFileRow o → o ≢ Some FarDir
-file_no_far_dir o (known bytes is) dir = cc
-file_no_far_dir o (far is) dir = cc
+file_no_far_dir o (known bytes mode is) dir = cc
+file_no_far_dir o (far mode is) dir = cc
 
 below_nil : (p : Path) → p ≢ [] → IsBelow p []
 below_nil [] some = absurd (some refl)

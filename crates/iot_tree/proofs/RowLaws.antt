@@ -1,6 +1,6 @@
 -- Trees and their rows.
 use Rattle.std.proofs.Common.{◌≡◌, ℕ, List, [], ◌∷◌, ◌++◌, refl, sym, ap, ◌∙◌, ◌+◌, Bool, true, false, IsTrue, Some, None, length, take}
-use Rattle.std.proofs.Common.{drop, get_or, ◌≢◌, ◌⊎◌, IsSome, Option, subst, inl, inr, set}
+use Rattle.std.proofs.Common.{drop, get_or, ◌≢◌, ◌⊎◌, IsSome, Option, Result, subst, inl, inr, set}
 use Rattle.std.proofs.lemmas.List.{drop_more, take-append-drop, take-set, drop-set}
 use Rattle.std.specs.FinMap.{find, get, insert, entries, get-from_sorted, entries-from_sorted, entries-insert, same_entries_map, empty}
 use Rattle.std.specs.FinMap.{empty_of_len, len-entries}
@@ -8,7 +8,7 @@ use Rattle.std.specs.FinMap.Entries.{put, is_sorted-put}
 use lib.Dec.{T}
 use Rattle.iot_text.specs.Paths.{path_cmp}
 use Rattle.iot_text.proofs.PathsLaws.{path_total}
-use Rattle.iot_tree.specs.Place.{IsRowAt, IsGap}
+use Rattle.iot_tree.specs.Place.{IsRowAt, IsGap, IsPlace}
 use Rattle.iot_tree.specs.Questions.{is_dir}
 use Rattle.iot_tree.specs.Rows.{Rising, map_of, AreTreeRows}
 use Rattle.iot_tree.specs.Tree.{Path, Row, Nodes, root_alone, parent_node, IsTree}
@@ -35,6 +35,13 @@ module _ (rows : List Row) (rising : Rising rows) where
   -- its rows are these
   pub entries_rows : entries (map_of rows) ≡ rows
   entries_rows = entries-from_sorted path_cmp rows (tested _ rising)
+
+  -- a place among them is one among the rows of their tree, and the other way round
+  pub place_in_tree : (t : Nodes) → map_of rows ≡ t → (p : Path) (place : Result ℕ ℕ) → IsPlace rows p place → IsPlace (entries t) p place
+  place_in_tree t is p place = subst (λ (rows : List Row). IsPlace rows p place) (sym (ap entries (sym is) ∙ entries_rows))
+
+  pub place_in_rows : (t : Nodes) → map_of rows ≡ t → (p : Path) (place : Result ℕ ℕ) → IsPlace (entries t) p place → IsPlace rows p place
+  place_in_rows t is p place = subst (λ (rows : List Row). IsPlace rows p place) (ap entries (sym is) ∙ entries_rows)
 
   -- a row put among rows in order leaves them in order
   pub put_rising : (p : Path) (node : Node) → Rising (put path_cmp p node rows)
@@ -105,9 +112,9 @@ module _ (rows : List Row) (all : AreTreeRows rows) (p : Path) (node : Node) whe
 
 root_is_dir : (node : Node) → IsTrue (is_dir node) → (Some node ≡ Some Dir) ⊎ (Some node ≡ Some FarDir)
 root_is_dir Dir is = inl refl
-root_is_dir (File bytes) is = absurd cc
+root_is_dir (File bytes mode) is = absurd cc
 root_is_dir FarDir is = inr refl
-root_is_dir FarFile is = absurd cc
+root_is_dir (FarFile mode) is = absurd cc
 
 root_parents : (node : Node) (p : Path) → p ≢ [] → IsSome (find path_cmp p (([], node) ∷ []))
     → parent_node (map_of (([], node) ∷ [])) p ≡ Some Dir

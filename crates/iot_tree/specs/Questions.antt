@@ -18,22 +18,22 @@ use Rattle.iot_tree.specs.declared.questions.Answer.TheVariants.{Away, Absent, I
 abbrev pub is_dir : Node → Bool
 is_dir Dir = true
 is_dir FarDir = true
-is_dir (File bytes) = false
-is_dir FarFile = false
+is_dir (File bytes mode) = false
+is_dir (FarFile mode) = false
 
 -- whether the node is a directory whose names are known
 abbrev pub is_known_dir : Node → Bool
 is_known_dir Dir = true
 is_known_dir FarDir = false
-is_known_dir (File bytes) = false
-is_known_dir FarFile = false
+is_known_dir (File bytes mode) = false
+is_known_dir (FarFile mode) = false
 
 -- whether a path's row says that its names are not known
 abbrev pub is_far_dir : Option Node → Bool
 is_far_dir (Some FarDir) = true
 is_far_dir (Some Dir) = false
-is_far_dir (Some (File bytes)) = false
-is_far_dir (Some FarFile) = false
+is_far_dir (Some (File bytes mode)) = false
+is_far_dir (Some (FarFile mode)) = false
 is_far_dir None = false
 
 -- whether a path above p is a far directory
@@ -44,8 +44,8 @@ is_far_above t p = list_any (λ above. is_far_dir (get t above)) (proper_prefixe
 abbrev pub node_kind : Node → Kind
 node_kind Dir = kinds.IsDir
 node_kind FarDir = kinds.IsDir
-node_kind (File bytes) = kinds.IsFile
-node_kind FarFile = kinds.IsFile
+node_kind (File bytes mode) = kinds.IsFile
+node_kind (FarFile mode) = kinds.IsFile
 
 -- the kind that a path's row shows; without a row it is away below a far directory, else absent
 abbrev pub kind_at : Option Node → Bool → Kind
@@ -59,10 +59,10 @@ kind_of t p = kind_at (get t p) (is_far_above t p)
 
 -- the contents that a path's row shows
 abbrev pub content_at : Option Node → Option (List ℕ)
-content_at (Some (File bytes)) = Some bytes
+content_at (Some (File bytes mode)) = Some bytes
 content_at (Some Dir) = None
 content_at (Some FarDir) = None
-content_at (Some FarFile) = None
+content_at (Some (FarFile mode)) = None
 content_at None = None
 
 -- the contents of the file at the path, if they are known
@@ -83,8 +83,8 @@ no_content false = Absent
 
 -- the contents that a path's row shows, as an answer
 abbrev pub content_answer : Option Node → Bool → Answer
-content_answer (Some (File bytes)) far = Bytes bytes
-content_answer (Some FarFile) far = Away
+content_answer (Some (File bytes mode)) far = Bytes bytes
+content_answer (Some (FarFile mode)) far = Away
 content_answer (Some Dir) far = no_content far
 content_answer (Some FarDir) far = no_content far
 content_answer None far = no_content far
@@ -109,8 +109,8 @@ children_of t p = filter_map (child_of p) (entries t)
 abbrev pub names_answer : Option Node → Bool → List (List ℕ × Kind) → Answer
 names_answer (Some Dir) far children = Names children
 names_answer (Some FarDir) far children = Away
-names_answer (Some (File bytes)) far children = no_content far
-names_answer (Some FarFile) far children = no_content far
+names_answer (Some (File bytes mode)) far children = no_content far
+names_answer (Some (FarFile mode)) far children = no_content far
 names_answer None far children = no_content far
 
 -- what the tree answers to the question

@@ -33,9 +33,9 @@ ArePathsRising (p ∷ paths) = AllByRecursion (λ q. path_cmp p q ≡ Less) path
 -- whether the inside of the object is known
 abbrev pub is_known : Node → Bool
 is_known Dir = true
-is_known (File bytes) = true
+is_known (File bytes mode) = true
 is_known FarDir = false
-is_known FarFile = false
+is_known (FarFile mode) = false
 
 -- the paths of the rows that pass the test
 abbrev pub paths_where : (Row → Bool) → List Row → List Path
@@ -60,9 +60,9 @@ widen k s want q = k q || wants s want q
 -- the object without its inside
 abbrev pub far : Node → Node
 far Dir = FarDir
-far (File bytes) = FarFile
+far (File bytes mode) = (FarFile mode)
 far FarDir = FarDir
-far FarFile = FarFile
+far (FarFile mode) = (FarFile mode)
 
 -- the object with its inside, if that is known
 abbrev pub seen : Bool → Node → Node

@@ -3,6 +3,7 @@ use Rattle.std.specs.Prelude.{◌≡◌, ◌≢◌, ◌⊎◌, ℕ, List, [], Op
 use Rattle.std.specs.FinMap.{FinMap, get, insert, empty}
 use Rattle.iot_text.specs.Paths.{path_cmp, parent_of}
 use Rattle.iot_tree.specs.declared.nodes.Node.{Node}
+use Rattle.iot_tree.specs.declared.nodes.Mode.{Mode}
 use Rattle.iot_tree.specs.declared.nodes.Node.TheVariants.{Dir, FarDir, FarFile}
 
 -- the names of a path, from the root on
@@ -33,4 +34,4 @@ pub record IsTree (t : Nodes) : Type 0 where
 -- no row is far: the names of every directory are known, and the contents of every file
 pub record IsWhole (t : Nodes) : Type 0 where
   pub no_far_dir : (p : Path) → get t p ≢ Some FarDir
-  pub no_far_file : (p : Path) → get t p ≢ Some FarFile
+  pub no_far_file : (p : Path) (mode : Mode) → get t p ≢ Some (FarFile mode)

@@ -1,12 +1,23 @@
 -- When an update fits a tree, and the tree after it.
-use Rattle.std.specs.Prelude.{◌≡◌, ◌≢◌, [], ◌++◌, map, drop, length, bytes_eq, if◌then◌else◌, IsSome, Some, None}
+use Rattle.std.specs.Prelude.{◌≡◌, ◌≢◌, [], ◌++◌, map, drop, length, bytes_eq, if◌then◌else◌, IsSome, Option, Some, None}
 use Rattle.std.specs.List.{starts_with}
 use Rattle.std.specs.FinMap.{get, insert, remove, entries, from_entries}
 use Rattle.iot_text.specs.Paths.{IsBelow}
 use Rattle.iot_tree.specs.Tree.{Nodes, parent_node, Path, Row}
-use Rattle.iot_tree.specs.declared.nodes.Node.TheVariants.{Dir, File, FarDir}
+use Rattle.iot_tree.specs.declared.nodes.Mode.{Mode}
+use Rattle.iot_tree.specs.declared.nodes.Mode.TheVariants.{Off}
+use Rattle.iot_tree.specs.declared.nodes.Node.{Node}
+use Rattle.iot_tree.specs.declared.nodes.Node.TheVariants.{Dir, File, FarDir, FarFile}
 use Rattle.iot_tree.specs.declared.updates.Update.{Update}
 use Rattle.iot_tree.specs.declared.updates.Update.TheVariants.{Put, MakeDir, Remove, Move}
+
+-- the mode of the file whose row this is; off without one
+abbrev pub mode_in : Option Node → Mode
+mode_in (Some (File bytes mode)) = mode
+mode_in (Some (FarFile mode)) = mode
+mode_in (Some Dir) = Off
+mode_in (Some FarDir) = Off
+mode_in None = Off
 
 -- a file can be put at p: p is not the root, its parent is a known directory, and p is no directory
 pub record FitsPut (t : Nodes) (p : Path) : Type 0 where
@@ -60,9 +71,9 @@ renamed_row p q row = (renamed p q row.0, row.1)
 abbrev pub moved : Nodes → Path → Path → Nodes
 moved t p q = from_entries (map (renamed_row p q) (entries (remove t q)))
 
--- the tree after the update, in which every other row is as it was
+-- the tree after the update, in which every other row is as it was; a file that is put keeps the mode of the one that was there
 abbrev pub updated : Nodes → Update → Nodes
-updated t (Put p bytes) = insert t p (File bytes)
+updated t (Put p bytes) = insert t p (File bytes (mode_in (get t p)))
 updated t (MakeDir p) = insert t p Dir
 updated t (Remove p) = remove t p
 updated t (Move p q) = moved t p q

@@ -46,9 +46,9 @@ impl Duplicate for Node {
     fn copy(&self, alloc: Global) -> Result<Node, NoMemory> {
         Ok(match self {
             Node::Dir => Node::Dir,
-            Node::File(bytes) => Node::File(bytes.copy(alloc)?),
+            Node::File(bytes, mode) => Node::File(bytes.copy(alloc)?, *mode),
             Node::FarDir => Node::FarDir,
-            Node::FarFile => Node::FarFile,
+            Node::FarFile(mode) => Node::FarFile(*mode),
         })
     }
 }

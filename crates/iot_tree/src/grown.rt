@@ -2,6 +2,7 @@
 ghost use Rattle.std.specs.Prelude.{◌≡◌, ◌≢◌, ◌↔◌, false, Some, IsSome, IsTrue, IfOk, IfErr, OnOk, OnErr};
 ghost use Rattle.std.specs.Option.{option_copied};
 ghost use Rattle.std.specs.FinMap as map;
+ghost use Rattle.iot_tree.specs.Place.{IsPlace};
 ghost use Rattle.iot_tree.specs.Tree.{IsTree, root_alone, parent_node};
 ghost use Rattle.iot_tree.specs.Updates.{FitsPut, FitsMakeDir, FitsRemove, FitsMove, IsLeaf, Fits, moved, updated};
 ghost use Rattle.iot_tree.specs.Rows.{AreTreeRows, RefusesRows};
@@ -11,7 +12,7 @@ use crate::children::{begins_within, children_of, count_within, is_names};
 use crate::moves::{put_last, renamed_paths};
 use crate::places::{kind_in_gap, node_at, place_of};
 use crate::rows::first_bad_row;
-use crate::{Answer, Duplicate, Kind, Node, Question, Read, RowFault, Rows, Update};
+use crate::{Answer, Blob, Duplicate, Kind, Mode, Node, Question, Read, RowFault, Rows, Update};
 use iot_text::{Name, NoMemory, Path};
 use std::alloc::Global;
 use std::marker::Model;
@@ -176,7 +177,7 @@ impl Grown {
         ensures err { OnErr result (self.new ≡ self.old) }
     {
         match update {
-            Update::Put(path, bytes) => self.put(alloc, path, Node::File(bytes.copy(alloc)?)),
+            Update::Put(path, bytes) => self.put_file(alloc, path, bytes.copy(alloc)?),
             Update::MakeDir(path) => self.put(alloc, path, Node::Dir),
             Update::Remove(path) => {
                 self.remove(path);
@@ -229,13 +230,45 @@ impl Grown {
     }
 
     /// Puts the node at the path, in place of one that is there.
-    fn put(&mut self, alloc: Global, path: &Path, node: Node) -> Result<(), NoMemory>
+    pub fn put(&mut self, alloc: Global, path: &Path, node: Node) -> Result<(), NoMemory>
         requires parent { parent_node self.old path.now ≡ Some Node.Dir }
         requires no_dir { map.get self.old path.now ≢ Some Node.Dir }
         ensures ok { OnOk result (self.new ≡ map.insert self.old path.now node) }
         ensures err { OnErr result (self.new ≡ self.old) }
     {
-        match place_of(self.rows.as_slice(), path.names()) {
+        let place = place_of(self.rows.as_slice(), path.names());
+        self.put_at(alloc, place, path, node)
+    }
+
+    /// Puts a file at the path. It keeps the mode of the file that is there; a new one is off.
+    fn put_file(&mut self, alloc: Global, path: &Path, bytes: Blob) -> Result<(), NoMemory>
+        requires { FitsPut self.old path.now }
+        ensures ok { OnOk result (self.new ≡ updated self.old (Update.Put path.now bytes)) }
+        ensures err { OnErr result (self.new ≡ self.old) }
+    {
+        let place = place_of(self.rows.as_slice(), path.names());
+        let mode = match place {
+            Ok(at) => self.rows.as_slice()[at].1.mode(),
+            Err(_) => Mode::Off,
+        };
+        self.put_at(alloc, place, path, Node::File(bytes, mode))
+    }
+
+    /// Puts the node at the path, whose place among the rows this is, in place of one that is there.
+    fn put_at(
+        &mut self,
+        alloc: Global,
+        place: Result<usize, usize>,
+        path: &Path,
+        node: Node,
+    ) -> Result<(), NoMemory>
+        requires place { IsPlace (map.entries self.old) path.now place }
+        requires parent { parent_node self.old path.now ≡ Some Node.Dir }
+        requires no_dir { map.get self.old path.now ≢ Some Node.Dir }
+        ensures ok { OnOk result (self.new ≡ map.insert self.old path.now node) }
+        ensures err { OnErr result (self.new ≡ self.old) }
+    {
+        match place {
             Ok(at) => {
                 self.rows.set_value(at, node);
                 Ok(())
@@ -274,7 +307,7 @@ impl Grown {
                     Ok(Answer::Names(children_of(alloc, within, path.names())?))
                 }
                 Node::FarDir => Ok(Answer::Away),
-                Node::File(_) | Node::FarFile => Ok(Answer::Absent),
+                Node::File(..) | Node::FarFile(_) => Ok(Answer::Absent),
             },
             Err(gap) => Ok(kind_in_gap(rows, gap, path.names()).into_answer()),
         }
@@ -306,7 +339,7 @@ impl Grown {
                     is_names(&rows[at..at + count], path.names(), answer)
                 }
                 Node::FarDir => Kind::Away.is_answer(answer),
-                Node::File(_) | Node::FarFile => Kind::Absent.is_answer(answer),
+                Node::File(..) | Node::FarFile(_) => Kind::Absent.is_answer(answer),
             },
             Err(gap) => kind_in_gap(rows, gap, path.names()).is_answer(answer),
         }

@@ -32,7 +32,7 @@ pub use faults::RowFault;
 pub use kinds::Kind;
 pub use labels::{Files, Label, Labels, OnConflict, Way};
 pub use limits::{ACT_LIMIT, CONTENTS_LIMIT};
-pub use nodes::{Node, Paths, Rows};
+pub use nodes::{Mode, Node, Paths, Rows};
 pub use places::place_of;
 pub use questions::{Answer, Children, Question};
 pub use sequence::Sequence;

@@ -6,22 +6,30 @@ use crate::{Answer, Blob, Duplicate, Kind, Sequence};
 use iot_text::{NoMemory, Path};
 use std::alloc::Global;
 
+/// Whether a file may be executed. It is known wherever the file's name is.
+#[derive(Clone, Copy, Debug, PartialEq, Eq)]
+pub enum Mode {
+    Off,
+    On,
+}
+
 /// An object at a path. A far one is there, and its inside is not known.
 #[derive(Drop)]
 pub enum Node {
     /// A directory whose names are all known.
     Dir,
     /// A file with its contents.
-    File(Blob),
+    File(Blob, Mode),
     /// A directory whose names are not known.
     FarDir,
     /// A file whose contents are not known.
-    FarFile,
+    FarFile(Mode),
 }
 
 impl Node {
     ghost use Rattle.iot_tree.specs.Questions.{is_dir, is_known_dir, node_kind, is_far_dir, content_at, content_answer};
     ghost use Rattle.iot_tree.specs.Snapshots.{is_known, far, seen};
+    ghost use Rattle.iot_tree.specs.Updates.{mode_in};
 
     /// The kind of the object.
     pub fn kind(&self) -> Kind
@@ -29,7 +37,17 @@ impl Node {
     {
         match self {
             Node::Dir | Node::FarDir => Kind::IsDir,
-            Node::File(_) | Node::FarFile => Kind::IsFile,
+            Node::File(..) | Node::FarFile(_) => Kind::IsFile,
+        }
+    }
+
+    /// The mode of a file; off for a directory.
+    pub fn mode(&self) -> Mode
+        ensures { result ≡ mode_in (Some self.now) }
+    {
+        match self {
+            Node::File(_, mode) | Node::FarFile(mode) => *mode,
+            Node::Dir | Node::FarDir => Mode::Off,
         }
     }
 
@@ -51,7 +69,7 @@ impl Node {
     pub fn is_known(&self) -> bool
         ensures { result ≡ is_known self.now }
     {
-        matches!(self, Node::Dir | Node::File(_))
+        matches!(self, Node::Dir | Node::File(..))
     }
 
     /// The object without its inside.
@@ -60,7 +78,7 @@ impl Node {
     {
         match self {
             Node::Dir | Node::FarDir => Node::FarDir,
-            Node::File(_) | Node::FarFile => Node::FarFile,
+            Node::File(_, mode) | Node::FarFile(mode) => Node::FarFile(*mode),
         }
     }
 
@@ -80,7 +98,7 @@ impl Node {
         ensures { option_copied result ≡ content_at (Some self.now) }
     {
         match self {
-            Node::File(bytes) => Some(bytes.as_slice()),
+            Node::File(bytes, _) => Some(bytes.as_slice()),
             _ => None,
         }
     }
@@ -90,8 +108,8 @@ impl Node {
         ensures { IfOk result (λ answer. answer ≡ content_answer (Some self.now) false) }
     {
         Ok(match self {
-            Node::File(bytes) => Answer::Bytes(bytes.copy(alloc)?),
-            Node::FarFile => Answer::Away,
+            Node::File(bytes, _) => Answer::Bytes(bytes.copy(alloc)?),
+            Node::FarFile(_) => Answer::Away,
             Node::Dir | Node::FarDir => Answer::Absent,
         })
     }
@@ -101,11 +119,11 @@ impl Node {
         ensures { IsTrue result ↔ (content_answer (Some self.now) false ≡ answer.now) }
     {
         match self {
-            Node::File(bytes) => match answer {
+            Node::File(bytes, _) => match answer {
                 Answer::Bytes(others) => bytes == others,
                 _ => false,
             },
-            Node::FarFile => matches!(answer, Answer::Away),
+            Node::FarFile(_) => matches!(answer, Answer::Away),
             Node::Dir | Node::FarDir => matches!(answer, Answer::Absent),
         }
     }

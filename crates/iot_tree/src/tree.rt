@@ -3,7 +3,7 @@ ghost use Rattle.std.specs.Prelude.{◌≡◌, ◌↔◌, IsTrue, IfOk, IfErr, O
 ghost use Rattle.std.specs.Option.{option_copied};
 ghost use Rattle.std.specs.FinMap as map;
 ghost use Rattle.iot_tree.specs.Tree.{IsTree, root_alone};
-ghost use Rattle.iot_tree.specs.Updates.{Fits, updated};
+ghost use Rattle.iot_tree.specs.Updates.{Fits, FitsPut, updated};
 ghost use Rattle.iot_tree.specs.Rows.{AreTreeRows, RefusesRows};
 ghost use Rattle.iot_tree.specs.Questions.{kind_of, content_of, answer_of};
 
@@ -167,6 +167,21 @@ impl Tree {
         self.part(alloc)?;
         match Rc::get_mut(&mut self.grown) {
             Some(grown) => grown.apply(alloc, update),
+            // It shares its memory with no other.
+            None => Err(NoMemory),
+        }
+    }
+
+    /// Puts a node where a file may be put, in place of the file that is there: so a node that was there comes back
+    /// as it was. After an error the tree is as it was.
+    pub fn put_node(&mut self, alloc: Global, path: &Path, node: Node) -> Result<(), NoMemory>
+        requires { FitsPut self.old path.now }
+        ensures ok { OnOk result (self.new ≡ map.insert self.old path.now node) }
+        ensures err { OnErr result (self.new ≡ self.old) }
+    {
+        self.part(alloc)?;
+        match Rc::get_mut(&mut self.grown) {
+            Some(grown) => grown.put(alloc, path, node),
             // It shares its memory with no other.
             None => Err(NoMemory),
         }
