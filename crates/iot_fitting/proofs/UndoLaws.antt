@@ -1,16 +1,17 @@
--- What undoes an update that fits a whole tree: it fits after the update, and brings the tree back.
+-- What undoes an update that fits a tree: it can be done after the update, and brings the tree back.
 use Rattle.std.proofs.Common.{◌≡◌, ◌≢◌, ℕ, List, [], ◌∷◌, ◌++◌, Option, Some, None, IsSome, refl, sym, ap, subst, ◌∙◌, cond, false}
 use Rattle.std.proofs.Common.{inl, inr, option_and_then}
 use Rattle.std.proofs.lemmas.List.{append-nil}
 use Rattle.std.specs.Prelude.{unwrap_or}
 use Rattle.std.specs.FinMap.{get, insert, remove, get-remove, same_map}
+use Rattle.std.specs.List.{cons_option}
 use Rattle.std.specs.Ordering.{eq_by_cmp}
 use Rattle.iot_text.specs.Paths.{path_cmp}
 use Rattle.iot_text.proofs.PathsLaws.{parent_of-push, path_same, path_total}
-use Rattle.iot_tree.specs.Tree.{Path, Nodes, parent_node, IsTree, IsWhole}
-use Rattle.iot_tree.specs.Updates.{IsLeaf, FitsPut, FitsMakeDir, FitsRemove, FitsMove, Fits, moved, updated}
+use Rattle.iot_tree.specs.Tree.{Path, Nodes, parent_node, IsTree}
+use Rattle.iot_tree.specs.Updates.{IsLeaf, FitsPut, FitsMakeDir, FitsRemove, FitsMove, Fits, mode_in, moved, updated}
 use Rattle.iot_tree.specs.declared.nodes.Node.{Node}
-use Rattle.iot_tree.specs.declared.nodes.Node.TheVariants.{Dir, File, FarDir, FarFile}
+use Rattle.iot_tree.specs.declared.nodes.Node.TheVariants.{Dir, File, FarDir}
 use Rattle.iot_tree.specs.declared.updates.Update.{Update}
 use Rattle.iot_tree.specs.declared.updates.Update.TheVariants.{Put, MakeDir, Remove, Move}
 use Rattle.iot_tree.proofs.AncestorLaws.{ends, at_root, in_name}
@@ -19,26 +20,28 @@ use Rattle.iot_tree.proofs.TreeLaws.{apart, same_or_apart, get-insert_other, non
 use Rattle.iot_tree.proofs.UpdateLaws.{longer, longer_front, other_stays, is_gone, front_outside, tree_moved}
 use Rattle.iot_tree.proofs.UpdateLaws.{to_outside, from_outside, moved_at, moved_gone, moved_else}
 use Rattle.iot_tree.proofs.WithinLaws.{IsOutside, side, inside, outside}
-use Rattle.iot_access.specs.Access.{FitInTurn, cons_update, after_updates}
 use Rattle.iot_access.proofs.StepLaws.{not_at, put_here, removed_inside}
-use Rattle.iot_fitting.specs.Undoing.{restoring, undoing, Undoes}
+use Rattle.iot_fitting.specs.Undoing.{CanUndo, undone_by, restoring, undoing, CanUndoInTurn, after_undoing, Undoes}
+use Rattle.iot_fitting.specs.declared.undoing.Undo.{Undo}
+use Rattle.iot_fitting.specs.declared.undoing.Undo.TheVariants.{Restore, Make}
 
--- ---- updates after others
+-- ---- steps after others
 
-fit_join : (first next : List Update) (t : Nodes) → FitInTurn t first → FitInTurn (after_updates t first) next → FitInTurn t (first ++ next)
-fit_join [] next t fit more = more
-fit_join (update ∷ first) next t fit more = (fit.0, fit_join first next (updated t update) fit.1 more)
+can_join : (first next : List Undo) (t : Nodes) → CanUndoInTurn t first → CanUndoInTurn (after_undoing t first) next
+    → CanUndoInTurn t (first ++ next)
+can_join [] next t can more = more
+can_join (step ∷ first) next t can more = (can.0, can_join first next (undone_by t step) can.1 more)
 
-after_join : (first next : List Update) (t : Nodes) → after_updates t (first ++ next) ≡ after_updates (after_updates t first) next
+after_join : (first next : List Undo) (t : Nodes) → after_undoing t (first ++ next) ≡ after_undoing (after_undoing t first) next
 after_join [] next t = refl
-after_join (update ∷ first) next t = after_join first next (updated t update)
+after_join (step ∷ first) next t = after_join first next (undone_by t step)
 
 -- undone to a tree in the middle, and from there to the start
-pub undoes_join : (first next : List Update) (now mid start : Nodes) → Undoes first now mid → Undoes next mid start
+pub undoes_join : (first next : List Undo) (now mid start : Nodes) → Undoes first now mid → Undoes next mid start
     → Undoes (first ++ next) now start
 undoes_join first next now mid start one two = record {
-  fit = fit_join first next now one.fit (subst (λ (t : Nodes). FitInTurn t next) (sym one.back) two.fit);
-  back = after_join first next now ∙ ap (λ (t : Nodes). after_updates t next) one.back ∙ two.back;
+  can = can_join first next now one.can (subst (λ (t : Nodes). CanUndoInTurn t next) (sym one.back) two.can);
+  back = after_join first next now ∙ ap (λ (t : Nodes). after_undoing t next) one.back ∙ two.back;
 }
 
 -- ---- nodes that differ at one path at most
@@ -104,7 +107,7 @@ module _ (t : Nodes) (tree : IsTree t) where
 
   -- ---- what came to a free path goes
 
-  put_goes : (p : Path) (node : Node) → get t p ≡ None → parent_node t p ≡ Some Dir → Undoes (Remove p ∷ []) (insert t p node) t
+  put_goes : (p : Path) (node : Node) → get t p ≡ None → parent_node t p ≡ Some Dir → Undoes (Make (Remove p) ∷ []) (insert t p node) t
   put_goes p node none parent =
       let fits : FitsRemove (insert t p node) p = record {
         mapped = some_is (insert t p node) p node (put_here t p node);
@@ -112,15 +115,24 @@ module _ (t : Nodes) (tree : IsTree t) where
         leaf = λ k below.
             get-insert_other t p node k (apart k p (λ is. longer p below.0 below.1 (sym below.2 ∙ is))) ∙ none_below p none k below;
       } in
-      record { fit = (fits, tt); back = put_removed t p node none }
+      record { can = (fits, tt); back = put_removed t p node none }
 
-  -- ---- what was put over goes back
+  -- ---- what was put over comes back
 
-  put_over : (p : Path) (new old : List ℕ) → FitsPut t p → get t p ≡ Some (File old) → Undoes (Put p old ∷ []) (insert t p (File new)) t
-  put_over p new old fits here =
-      let after : IsTree (insert t p (File new)) = tree_insert t tree p (File new) fits.parent fits.no_dir in
-      let again : FitsPut (insert t p (File new)) p = fits_here (insert t p (File new)) after p (File new) (put_here t p (File new)) refl in
-      record { fit = (again, tt); back = put_back t p (File new) (File old) here }
+  put_over : (p : Path) (bytes : List ℕ) (old : Node) → FitsPut t p → get t p ≡ Some old
+      → Undoes (Restore p old ∷ []) (updated t (Put p bytes)) t
+  put_over p bytes old fits here =
+      let new : Node = File bytes (mode_in (get t p)) in
+      let after : IsTree (insert t p new) = tree_insert t tree p new fits.parent fits.no_dir in
+      let again : FitsPut (insert t p new) p = fits_here (insert t p new) after p new (put_here t p new) refl in
+      record { can = (again, tt); back = put_back t p new old here }
+
+  put_undone : (p : Path) (bytes : List ℕ) → FitsPut t p → Undoes (undoing t (Put p bytes)) (updated t (Put p bytes)) t
+  put_undone p bytes fits = by (get t p) refl
+    where
+      by : (o : Option Node) → get t p ≡ o → Undoes (unwrap_or (restoring p o) (Make (Remove p)) ∷ []) (updated t (Put p bytes)) t
+      by None is = put_goes p (File bytes (mode_in (get t p))) is fits.parent
+      by (Some old) is = put_over p bytes old fits is
 
   -- ---- what was removed comes back
 
@@ -129,46 +141,19 @@ module _ (t : Nodes) (tree : IsTree t) where
       parent_left (remove t p) p below_root mapped
       (λ front last is. other_stays t p front (λ same. longer front last [] (sym is ∙ sym same)))
 
-  file_back : (p : Path) (bytes : List ℕ) → p ≢ [] → get t p ≡ Some (File bytes) → Undoes (Put p bytes ∷ []) (remove t p) t
-  file_back p bytes below_root here =
-      let fits : FitsPut (remove t p) p = record {
-        parent = parent_of_removed p below_root (some_is t p (File bytes) here);
-        no_dir = λ is. none_not_some _ Dir (is_gone t p) is;
-        no_far_dir = λ is. none_not_some _ FarDir (is_gone t p) is;
-      } in
-      record { fit = (fits, tt); back = removed_back t p (File bytes) here }
-
-  dir_back : (p : Path) → p ≢ [] → get t p ≡ Some Dir → Undoes (MakeDir p ∷ []) (remove t p) t
-  dir_back p below_root here =
-      let fits : FitsMakeDir (remove t p) p = record {
-        absent = is_gone t p;
-        parent = parent_of_removed p below_root (some_is t p Dir here);
-      } in
-      record { fit = (fits, tt); back = removed_back t p Dir here }
-
-  module _ (whole : IsWhole t) where
-    -- whatever was there comes back
-    restored : (p : Path) → p ≢ [] → Undoes (cons_update (restoring p (get t p)) []) (remove t p) t
-    restored p below_root =
-        by (get t p) refl
-      where
-        by : (o : Option Node) → get t p ≡ o → Undoes (cons_update (restoring p o) []) (remove t p) t
-        by None is = record { fit = tt; back = removed_none t p is }
-        by (Some Dir) is = dir_back p below_root is
-        by (Some (File bytes)) is = file_back p bytes below_root is
-        by (Some FarDir) is = absurd (whole.no_far_dir p is)
-        by (Some FarFile) is = absurd (whole.no_far_file p is)
-
-    put_undone : (p : Path) (bytes : List ℕ) → FitsPut t p
-        → Undoes (unwrap_or (restoring p (get t p)) (Remove p) ∷ []) (insert t p (File bytes)) t
-    put_undone p bytes fits = by (get t p) refl
-      where
-        by : (o : Option Node) → get t p ≡ o → Undoes (unwrap_or (restoring p o) (Remove p) ∷ []) (insert t p (File bytes)) t
-        by None is = put_goes p (File bytes) is fits.parent
-        by (Some Dir) is = absurd (fits.no_dir is)
-        by (Some (File old)) is = put_over p bytes old fits is
-        by (Some FarDir) is = absurd (whole.no_far_dir p is)
-        by (Some FarFile) is = absurd (whole.no_far_file p is)
+  -- whatever was there comes back
+  restored : (p : Path) → p ≢ [] → Undoes (cons_option (restoring p (get t p)) []) (remove t p) t
+  restored p below_root = by (get t p) refl
+    where
+      by : (o : Option Node) → get t p ≡ o → Undoes (cons_option (restoring p o) []) (remove t p) t
+      by None is = record { can = tt; back = removed_none t p is }
+      by (Some old) is =
+          let fits : FitsPut (remove t p) p = record {
+            parent = parent_of_removed p below_root (some_is t p old is);
+            no_dir = λ dir. none_not_some _ Dir (is_gone t p) dir;
+            no_far_dir = λ dir. none_not_some _ FarDir (is_gone t p) dir;
+          } in
+          record { can = (fits, tt); back = removed_back t p old is }
 
   -- ---- what was moved goes back
 
@@ -209,16 +194,15 @@ module _ (t : Nodes) (tree : IsTree t) where
       ]
     ])
 
-    move_undone : (back : List Update) → Undoes back (remove t q) t → Undoes (Move q p ∷ back) there t
+    move_undone : (back : List Undo) → Undoes back (remove t q) t → Undoes (Make (Move q p) ∷ back) there t
     move_undone back restored = record {
-      fit = (move_back, subst (λ (u : Nodes). FitInTurn u back) (sym moved_back) restored.fit);
-      back = ap (λ (u : Nodes). after_updates u back) moved_back ∙ restored.back;
+      can = (move_back, subst (λ (u : Nodes). CanUndoInTurn u back) (sym moved_back) restored.can);
+      back = ap (λ (u : Nodes). after_undoing u back) moved_back ∙ restored.back;
     }
 
--- an update that fits a whole tree is undone
-pub undone : (t : Nodes) (update : Update) → IsTree t → IsWhole t → Fits t update → Undoes (undoing t update) (updated t update) t
-undone t (Put p bytes) tree whole fits = put_undone t tree whole p bytes fits
-undone t (MakeDir p) tree whole fits = put_goes t tree p Dir fits.absent fits.parent
-undone t (Remove p) tree whole fits = restored t tree whole p fits.below_root
-undone t (Move p q) tree whole fits =
-    move_undone t tree p q fits (cons_update (restoring q (get t q)) []) (restored t tree whole q fits.to_below_root)
+-- an update that fits is undone
+pub undone : (t : Nodes) (update : Update) → IsTree t → Fits t update → Undoes (undoing t update) (updated t update) t
+undone t (Put p bytes) tree fits = put_undone t tree p bytes fits
+undone t (MakeDir p) tree fits = put_goes t tree p Dir fits.absent fits.parent
+undone t (Remove p) tree fits = restored t tree p fits.below_root
+undone t (Move p q) tree fits = move_undone t tree p q fits (cons_option (restoring q (get t q)) []) (restored t tree q fits.to_below_root)

@@ -3,7 +3,6 @@ ghost use Rattle.std.specs.Prelude.{◌≡◌, ◌↔◌, IsTrue, IfOk, IfErr, O
 ghost use Rattle.std.specs.FinMap.{entries, get};
 ghost use Rattle.iot_access.specs.Access.{FitInTurn};
 ghost use Rattle.iot_tree.specs.Rows.{AreTreeRows, RefusesRows};
-ghost use Rattle.iot_tree.specs.Tree.{IsWhole};
 ghost use Rattle.iot_tree.specs.Updates.{Fits, FitsRemove, FitsMove, updated};
 ghost use Rattle.iot_stamp.specs.Agreement.{Agrees, IsPositive, Keeps};
 ghost use Rattle.iot_stamp.specs.Carried.{in_either};
@@ -13,7 +12,7 @@ ghost use Rattle.iot_stamp.specs.Stamping.{stamped, is_at, is_parent};
 ghost use Rattle.iot_stamp.specs.Stamps.{Stamps, nodes_of, stamp_at, with_stamps, unstamped, FarZero};
 
 use crate::nodes::stamp_of;
-use crate::stamping::{all_stamps, carry, same_kind};
+use crate::stamping::{all_stamps, carry, shown_same};
 use iot_fitting::fit_in_turn;
 use iot_text::{NoMemory, Path};
 use iot_tree::{RowFault, Rows, Tree, Update, count_within, place_of};
@@ -88,7 +87,6 @@ impl Stamped {
     /// Whether each of the updates fits in its turn. No copy of the tree is taken: they are made in place and undone. After an error
     /// nothing is said of the tree.
     pub fn fit_in_turn(&mut self, alloc: Global, updates: &[Update]) -> Result<bool, NoMemory>
-        requires { IsWhole (nodes_of self.old) }
         ensures fit { IfOk result (λ fit. IsTrue fit ↔ FitInTurn (nodes_of self.old) updates.now) }
         ensures same { OnOk result (self.new ≡ self.old) }
     {
@@ -124,8 +122,8 @@ impl Stamped {
         self.stamps.as_slice()
     }
 
-    /// Makes the update, and puts the stamp on each known row that it names or moves, and on each directory whose names
-    /// or their kinds it changes. Every other row keeps its stamp. After an error the tree is as it was.
+    /// Makes the update, and puts the stamp on each known row that it names or moves, and on each directory whose names,
+    /// or their kinds or modes, it changes. Every other row keeps its stamp. After an error the tree is as it was.
     pub fn apply(&mut self, alloc: Global, u: &Update, stamp: u64) -> Result<(), NoMemory>
         requires { Fits (nodes_of self.old) u.now }
         ensures ok { OnOk result (self.new ≡ stamped self.old u.now stamp) }
@@ -147,7 +145,7 @@ impl Stamped {
                 self.mark_parent(path, stamp);
             }
             Update::Move(from, to) => {
-                let same = same_kind(self.tree.node(from.names()), self.tree.node(to.names()));
+                let same = shown_same(self.tree.node(from.names()), self.tree.node(to.names()));
                 self.move_to(alloc, u, from, to, stamp)?;
                 self.mark_parent(from, stamp);
                 if !same {

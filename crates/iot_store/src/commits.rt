@@ -132,7 +132,6 @@ impl Commits {
         alloc: Global,
         updates: &[Update],
     ) -> Result<bool, NoMemory>
-        requires { IsWhole self.old.tree }
         ensures fit { IfOk result (λ fit. IsTrue fit ↔ FitInTurn self.old.tree updates.now) }
         ensures same { OnOk result (self.new ≡ self.old) }
     {
