@@ -10,9 +10,7 @@ use Rattle.iot_stamp.proofs.StampsLaws.{with_row, node_some, nodes_with, with_fa
 use Rattle.iot_tree.specs.Snapshots.{is_known, is_reached, far, seen, prune}
 use Rattle.iot_stamp.specs.Stamps.{Stamps, nodes_of, stamp_at, with_stamps, FarZero, stamp_in, pruned}
 use Rattle.iot_stamp.specs.Agreement.{SameInside, Agrees, IsPositive, UpTo, Keeps}
-use Rattle.iot_tree.specs.Questions.{node_kind}
-use Rattle.iot_tree.specs.declared.kinds.Kind.{Kind}
-use Rattle.iot_tree.proofs.PruneLaws.{seen_kind}
+use Rattle.iot_tree.specs.declared.nodes.Node.TheVariants.{Dir, File, FarDir, FarFile}
 use Rattle.iot_stamp.proofs.RefreshLaws.{far_unknown, no_false, is_some_of, some_one}
 
 pub same_self : (t : Nodes) (p : Path) → SameInside t t p
@@ -104,9 +102,16 @@ up_own held new bound up far keeps p a n is = by (is_known a) refl (eqb_tells n 
 
 -- ---- a held tree that was refreshed
 
-kinds_seen : (b : Bool) (o : Option Node) → option_map node_kind (option_map (λ node. seen b node) o) ≡ option_map node_kind o
-kinds_seen b None = refl
-kinds_seen b (Some node) = ap (λ (kind : Kind). Some kind) (seen_kind b node)
+far_seen : (b : Bool) (node : Node) → far (seen b node) ≡ far node
+far_seen true node = refl
+far_seen false Dir = refl
+far_seen false (File bytes mode) = refl
+far_seen false FarDir = refl
+far_seen false (FarFile mode) = refl
+
+shown_seen : (b : Bool) (o : Option Node) → option_map far (option_map (λ node. seen b node) o) ≡ option_map far o
+shown_seen b None = refl
+shown_seen b (Some node) = ap (λ (node : Node). Some node) (far_seen b node)
 
 far_not : (o : Option Node) (a : Node) → option_map far o ≡ Some a → is_known a ≡ true → ⊥
 far_not None a is known = let none : ◌≡◌ {A = Option Node} None (Some a) = is in cc
@@ -118,8 +123,8 @@ module _ (s : Stamps) (k : Path → Bool) where
   same_kept p uncut here = record {
     row = get_kept (nodes_of s) k p uncut here;
     names =
-        λ name. ap (option_map node_kind) (get_reached (nodes_of s) k (p ++ name ∷ []) (reached_push k p name uncut here))
-        ∙ kinds_seen (k (p ++ name ∷ [])) (get (nodes_of s) (p ++ name ∷ []));
+        λ name. ap (option_map far) (get_reached (nodes_of s) k (p ++ name ∷ []) (reached_push k p name uncut here))
+        ∙ shown_seen (k (p ++ name ∷ [])) (get (nodes_of s) (p ++ name ∷ []));
   }
 
   pub agrees_pruned : IsPositive s → Agrees (pruned s k) s

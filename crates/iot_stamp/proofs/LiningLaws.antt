@@ -20,7 +20,7 @@ use Rattle.iot_tree.specs.declared.nodes.Node.{Node}
 use Rattle.iot_tree.specs.declared.nodes.Node.TheVariants.{Dir, File}
 use Rattle.iot_tree.specs.declared.updates.Update.{Update}
 use Rattle.iot_tree.specs.declared.updates.Update.TheVariants.{Put, MakeDir, Remove, Move}
-use Rattle.iot_tree.specs.Updates.{Fits, updated}
+use Rattle.iot_tree.specs.Updates.{Fits, mode_in, updated}
 use Rattle.iot_tree.proofs.PlaceLaws.{is_less, turned, back_after}
 use Rattle.iot_tree.proofs.RowLaws.{get_here, get_in_gap, put_here, put_in_gap}
 use Rattle.iot_tree.proofs.TreeLaws.{same_or_apart}
@@ -244,7 +244,9 @@ record Puts (t : Nodes) (u : Update) (p : Path) : Type 0 where
   known : is_known node ≡ true
 
 puts : (t : Nodes) (u : Update) (p : Path) → PutsAt u p → Puts t u p
-puts t (Put at bytes) p is = record { node = File bytes; is = ap (λ (path : Path). insert t path (File bytes)) is; known = refl }
+puts t (Put at bytes) p is =
+    let new : Node = File bytes (mode_in (get t at)) in
+    record { node = new; is = ap (λ (path : Path). insert t path new) is; known = refl }
 puts t (MakeDir at) p is = record { node = Dir; is = ap (λ (path : Path). insert t path Dir) is; known = refl }
 puts t (Remove at) p is = absurd is
 puts t (Move from to) p is = absurd is

@@ -22,9 +22,9 @@ or_second false b is = is
 -- in a whole tree each row is known
 pub whole_known : (t : Nodes) → IsWhole t → (p : Path) (node : Node) → get t p ≡ Some node → is_known node ≡ true
 whole_known t whole p Dir is = refl
-whole_known t whole p (File bytes) is = refl
+whole_known t whole p (File bytes mode) is = refl
 whole_known t whole p FarDir is = absurd (whole.no_far_dir p is)
-whole_known t whole p FarFile is = absurd (whole.no_far_file p is)
+whole_known t whole p (FarFile mode) is = absurd (whole.no_far_file p mode is)
 
 pub whole_root : (t : Nodes) → IsTree t → IsWhole t → get t [] ≡ Some Dir
 whole_root t tree whole = elim tree.root [ inl is ↦ is | inr is ↦ absurd (whole.no_far_dir [] is) ]

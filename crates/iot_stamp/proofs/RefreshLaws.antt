@@ -9,9 +9,6 @@ use Rattle.std.specs.FinMap.{get, find, entries, entries_sorted, is_sorted, reta
 use Rattle.std.specs.FinMap.{get-from_entries, same_map}
 use Rattle.iot_text.specs.Paths.{path_cmp, parent_of}
 use Rattle.iot_tree.specs.Tree.{IsTree, IsWhole, Path}
-use Rattle.iot_tree.specs.Questions.{node_kind}
-use Rattle.iot_tree.specs.declared.kinds.Kind.{Kind}
-use Rattle.iot_tree.specs.declared.kinds.Kind.TheVariants as kinds
 use Rattle.iot_tree.specs.declared.nodes.Node.{Node}
 use Rattle.iot_tree.specs.declared.nodes.Node.TheVariants.{Dir, File, FarDir, FarFile}
 use Rattle.iot_stamp.proofs.PrunedLaws.{known_above, reached_push, get_kept, get_far, get_hidden, whole_root}
@@ -27,7 +24,7 @@ use Rattle.iot_tree.specs.Snapshots.{is_known, is_reached, far, prune}
 use Rattle.iot_stamp.specs.Stamps.{Stamps, nodes_of, stamp_at, stamped_node, FarZero, pruned}
 use Rattle.iot_stamp.specs.Refresh.{known_with_stamps, is_stamp, is_sent, is_new, changed_rows, gone_paths, is_gone}
 use Rattle.iot_stamp.specs.Refresh.{has_row, stays, zeroed, joined, merged}
-use Rattle.iot_stamp.specs.Agreement.{kind_in, SameInside, Agrees, Knows}
+use Rattle.iot_stamp.specs.Agreement.{shown_in, SameInside, Agrees, Knows}
 use Rattle.iot_stamp.proofs.MappedLaws.{get_mapped}
 use Rattle.iot_stamp.proofs.FoundLaws.{never, find_either, filter_none, filter_keeps, filter_drops, Sent, sent_some, sent_back, none_gone}
 use Rattle.iot_stamp.proofs.FoundLaws.{some_gone}
@@ -41,32 +38,26 @@ some_one a b is = cc
 pub is_some_of : {A : Type 0} (o : Option A) (a : A) → o ≡ Some a → IsSome o
 is_some_of o a is = rw is refl
 
-far_same : (a b : Node) → is_known a ≡ false → node_kind a ≡ node_kind b → a ≡ far b
-far_same Dir b unknown kind = absurd (no_false unknown)
-far_same (File bytes) b unknown kind = absurd (no_false unknown)
-far_same FarDir Dir unknown kind = refl
-far_same FarDir (File bytes) unknown kind = let lacks : kinds.IsDir ≡ kinds.IsFile = kind in absurd cc
-far_same FarDir FarDir unknown kind = refl
-far_same FarDir FarFile unknown kind = let lacks : kinds.IsDir ≡ kinds.IsFile = kind in absurd cc
-far_same FarFile Dir unknown kind = let lacks : kinds.IsFile ≡ kinds.IsDir = kind in absurd cc
-far_same FarFile (File bytes) unknown kind = refl
-far_same FarFile FarDir unknown kind = let lacks : kinds.IsFile ≡ kinds.IsDir = kind in absurd cc
-far_same FarFile FarFile unknown kind = refl
+-- what is far is what a directory shows of it
+far_same : (a b : Node) → is_known a ≡ false → far a ≡ far b → a ≡ far b
+far_same Dir b unknown shown = absurd (no_false unknown)
+far_same (File bytes mode) b unknown shown = absurd (no_false unknown)
+far_same FarDir b unknown shown = shown
+far_same (FarFile mode) b unknown shown = shown
 
 pub far_unknown : (b : Node) → is_known (far b) ≡ false
 far_unknown Dir = refl
-far_unknown (File bytes) = refl
+far_unknown (File bytes mode) = refl
 far_unknown FarDir = refl
-far_unknown FarFile = refl
+far_unknown (FarFile mode) = refl
 
-kind_some : (o : Option Node) (b : Node) → option_map node_kind o ≡ Some (node_kind b)
-    → (a : Node) × (o ≡ Some a) × (node_kind a ≡ node_kind b)
-kind_some None b is = absurd (never (node_kind b) is)
-kind_some (Some a) b is = (a, refl, some_one (node_kind a) (node_kind b) is)
+shown_some : (o : Option Node) (b : Node) → option_map far o ≡ Some (far b) → (a : Node) × (o ≡ Some a) × (far a ≡ far b)
+shown_some None b is = absurd (never (far b) is)
+shown_some (Some a) b is = (a, refl, some_one (far a) (far b) is)
 
-kind_there : (o : Option Node) (k : Kind) → option_map node_kind o ≡ Some k → (a : Node) × (o ≡ Some a)
-kind_there None k is = absurd (never k is)
-kind_there (Some a) k is = (a, refl)
+shown_there : (o : Option Node) (b : Node) → option_map far o ≡ Some b → (a : Node) × (o ≡ Some a)
+shown_there None b is = absurd (never b is)
+shown_there (Some a) b is = (a, refl)
 
 stamp_tells : (o : Option ℕ) (n : ℕ) → is_stamp o n ≡ true → o ≡ Some n
 stamp_tells None n is = absurd (no_false (sym is))
@@ -214,12 +205,12 @@ module _ (h s : Stamps) (k : Path → Bool) (h_tree : IsTree (nodes_of h)) (h_fa
 
   -- a far row that the held tree has too
   far_held : (p : Path) (b a : Node) (m : ℕ) → k p ≡ false → get (pruned s k) p ≡ Some (far b, 0) → get h p ≡ Some (a, m)
-      → node_kind a ≡ node_kind b → is_new s sent k p ≡ false → has_row rows (parent_of p) ≡ false
+      → far a ≡ far b → is_new s sent k p ≡ false → has_row rows (parent_of p) ≡ false
       → get (joined h rows gone) p ≡ get (pruned s k) p
-  far_held p b a m here there held kind old parent =
+  far_held p b a m here there held shown old parent =
       let unknown : is_known a ≡ false = by (is_known a) refl in
       let none : m ≡ 0 = h_far p a m held unknown in
-      let one : a ≡ far b = far_same a b unknown kind in
+      let one : a ≡ far b = far_same a b unknown shown in
       let stay : stays rows gone (p, (a, m)) ≡ true = rw (not_gone p (far b, 0) there, unknown, parent) refl in
       old_row p _ (not_new p old)
       (filter_keeps (stays rows gone) p (a, m) (entries h) (in_h p (a, m) held) stay ∙ (λ i. Some (one i, none i)) ∙ sym there)
@@ -228,12 +219,12 @@ module _ (h s : Stamps) (k : Path → Bool) (h_tree : IsTree (nodes_of h)) (h_fa
       by true known = absurd (no_false (sym (knows.all p a m held known) ∙ here))
       by false known = known
 
-  root_held : (b : Node) → get (nodes_of s) [] ≡ Some b → (a : Node) × (m : ℕ) × (get h [] ≡ Some (a, m)) × (node_kind a ≡ node_kind b)
+  root_held : (b : Node) → get (nodes_of s) [] ≡ Some b → (a : Node) × (m : ℕ) × (get h [] ≡ Some (a, m)) × (far a ≡ far b)
   root_held b is =
       let one : Dir ≡ b = some_one Dir b (sym (whole_root (nodes_of s) s_tree whole) ∙ is) in
       elim h_tree.root [
-        | inl dir ↦ (Dir, stamp_at h [], row_back h [] Dir dir, ap node_kind one)
-        | inr far ↦ (FarDir, stamp_at h [], row_back h [] FarDir far, ap node_kind one)
+        | inl dir ↦ (Dir, stamp_at h [], row_back h [] Dir dir, ap far one)
+        | inr hidden ↦ (FarDir, stamp_at h [], row_back h [] FarDir hidden, ap far one)
       ]
 
   at_child : (q : Path) (name : List ℕ) (b : Node) → k (q ++ name ∷ []) ≡ false → is_reached k (q ++ name ∷ []) ≡ true
@@ -243,8 +234,8 @@ module _ (h s : Stamps) (k : Path → Bool) (h_tree : IsTree (nodes_of h)) (h_fa
   at_child q name b here cut is there true was =
       let dir : get (nodes_of s) q ≡ Some Dir = ancestors (nodes_of s) s_tree q name [] (is_some_of _ b is) in
       let same = sent_same q Dir dir was in
-      let kind : kind_in (nodes_of h) (q ++ name ∷ []) ≡ Some (node_kind b) = same.3.names name ∙ ap (option_map node_kind) is in
-      let found = kind_some (get (nodes_of h) (q ++ name ∷ [])) b kind in
+      let shown : shown_in (nodes_of h) (q ++ name ∷ []) ≡ Some (far b) = same.3.names name ∙ ap (option_map far) is in
+      let found = shown_some (get (nodes_of h) (q ++ name ∷ [])) b shown in
       let held : get h (q ++ name ∷ []) ≡ Some (found.0, stamp_at h (q ++ name ∷ [])) = row_back h (q ++ name ∷ []) found.0 found.1 in
       let above : k q ≡ true = known_above k q name [] cut in
       let lacks : find path_cmp q rows ≡ None = not_new q (rw (above, was) refl) in
@@ -289,9 +280,9 @@ module _ (h s : Stamps) (k : Path → Bool) (h_tree : IsTree (nodes_of h)) (h_fa
           rw (unknown, parent_of-push q name, new) (and_false (not (is_gone gone (q ++ name ∷ []))))
       by b here cut is there true was =
           let same = sent_same q b is was in
-          let kind : kind_in (nodes_of s) (q ++ name ∷ []) ≡ Some (node_kind a) = sym (same.3.names name)
-          ∙ ap (option_map node_kind) (node_some h (q ++ name ∷ []) a n held) in
-          let found = kind_there (get (nodes_of s) (q ++ name ∷ [])) (node_kind a) kind in
+          let shown : shown_in (nodes_of s) (q ++ name ∷ []) ≡ Some (far a) = sym (same.3.names name)
+          ∙ ap (option_map far) (node_some h (q ++ name ∷ []) a n held) in
+          let found = shown_there (get (nodes_of s) (q ++ name ∷ [])) (far a) shown in
           absurd (never found.0 (sym (absent (reached_push k q name cut here)) ∙ found.1))
 
   goes : (p : Path) (a : Node) (n : ℕ) → get h p ≡ Some (a, n) → get (pruned s k) p ≡ None

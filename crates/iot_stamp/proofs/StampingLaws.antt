@@ -7,9 +7,10 @@ use Rattle.std.specs.List.{starts_with}
 use Rattle.std.specs.FinMap.{get, find, entries, insert, remove, get-entries, get-insert, get-remove, get-from_entries}
 use Rattle.iot_text.specs.Paths.{path_cmp, parent_of}
 use Rattle.iot_tree.specs.Tree.{Nodes, Row, Path}
-use Rattle.iot_tree.specs.Questions.{node_kind}
-use Rattle.iot_tree.specs.Updates.{Fits, FitsPut, FitsMove, updated, moved, renamed_row, renamed}
-use Rattle.iot_tree.specs.declared.kinds.Kind.TheVariants as kinds
+use Rattle.iot_tree.specs.Snapshots.{far}
+use Rattle.iot_tree.specs.Updates.{Fits, FitsPut, FitsMove, mode_in, updated, moved, renamed_row, renamed}
+use Rattle.iot_tree.specs.declared.nodes.Mode.{Mode}
+use Rattle.iot_tree.specs.declared.nodes.Mode.TheVariants.{Off, On}
 use Rattle.iot_tree.specs.declared.nodes.Node.{Node}
 use Rattle.iot_tree.specs.declared.nodes.Node.TheVariants.{Dir, File, FarDir, FarFile}
 use Rattle.iot_tree.specs.declared.updates.Update.{Update}
@@ -23,8 +24,8 @@ use Rattle.iot_tree.proofs.RenamedLaws.{renamed_inside, renamed_outside}
 use Rattle.iot_tree.proofs.TreeLaws.{same_or_apart, apart, get-insert_other}
 use Rattle.iot_tree.proofs.WithinLaws.{IsOutside, side, inside, outside, test_is}
 use Rattle.iot_stamp.specs.Stamps.{Stamps, nodes_of, stamp_at}
-use Rattle.iot_stamp.specs.Stamping.{is_at, is_parent, same_kind, touches, stamp_after, stamped, stamped_all, FitAll}
-use Rattle.iot_stamp.specs.Agreement.{kind_in, SameInside, Keeps}
+use Rattle.iot_stamp.specs.Stamping.{is_at, is_parent, same_mode, shown_same, touches, stamp_after, stamped, stamped_all, FitAll}
+use Rattle.iot_stamp.specs.Agreement.{shown_in, SameInside, Keeps}
 use Rattle.iot_stamp.proofs.FoundLaws.{never, found_here}
 use Rattle.iot_stamp.proofs.AgreementLaws.{keeps_none, keeps_then}
 
@@ -138,57 +139,65 @@ module _ (p q : Path) where
 
 -- ---- what is not touched
 
-file_kind : (o : Option Node) → o ≢ Some Dir → o ≢ Some FarDir → not (is_some o) ≡ false → option_map node_kind o ≡ Some kinds.IsFile
-file_kind None no_dir no_far there = absurd cc
-file_kind (Some Dir) no_dir no_far there = absurd (no_dir refl)
-file_kind (Some FarDir) no_dir no_far there = absurd (no_far refl)
-file_kind (Some (File bytes)) no_dir no_far there = refl
-file_kind (Some FarFile) no_dir no_far there = refl
+file_shown : (o : Option Node) → o ≢ Some Dir → o ≢ Some FarDir → not (is_some o) ≡ false → option_map far o ≡ Some (FarFile (mode_in o))
+file_shown None no_dir no_far there = absurd cc
+file_shown (Some Dir) no_dir no_far there = absurd (no_dir refl)
+file_shown (Some FarDir) no_dir no_far there = absurd (no_far refl)
+file_shown (Some (File bytes mode)) no_dir no_far there = refl
+file_shown (Some (FarFile mode)) no_dir no_far there = refl
 
-kinds_same : (a b : Option Node) → not (same_kind a b) ≡ false → option_map node_kind b ≡ option_map node_kind a
-kinds_same None None is = refl
-kinds_same None (Some b) is = absurd cc
-kinds_same (Some a) None is = absurd cc
-kinds_same (Some Dir) (Some Dir) is = refl
-kinds_same (Some Dir) (Some FarDir) is = refl
-kinds_same (Some Dir) (Some (File bytes)) is = absurd cc
-kinds_same (Some Dir) (Some FarFile) is = absurd cc
-kinds_same (Some FarDir) (Some Dir) is = refl
-kinds_same (Some FarDir) (Some FarDir) is = refl
-kinds_same (Some FarDir) (Some (File bytes)) is = absurd cc
-kinds_same (Some FarDir) (Some FarFile) is = absurd cc
-kinds_same (Some (File bytes)) (Some Dir) is = absurd cc
-kinds_same (Some (File bytes)) (Some FarDir) is = absurd cc
-kinds_same (Some (File bytes)) (Some (File other)) is = refl
-kinds_same (Some (File bytes)) (Some FarFile) is = refl
-kinds_same (Some FarFile) (Some Dir) is = absurd cc
-kinds_same (Some FarFile) (Some FarDir) is = absurd cc
-kinds_same (Some FarFile) (Some (File bytes)) is = refl
-kinds_same (Some FarFile) (Some FarFile) is = refl
+one_mode : (a b : Mode) → not (same_mode a b) ≡ false → Some (FarFile b) ≡ Some (FarFile a)
+one_mode Off Off is = refl
+one_mode Off On is = absurd cc
+one_mode On Off is = absurd cc
+one_mode On On is = refl
+
+alike_shown : (a b : Option Node) → not (shown_same a b) ≡ false → option_map far b ≡ option_map far a
+alike_shown None None is = refl
+alike_shown None (Some b) is = absurd cc
+alike_shown (Some a) None is = absurd cc
+alike_shown (Some Dir) (Some Dir) is = refl
+alike_shown (Some Dir) (Some FarDir) is = refl
+alike_shown (Some Dir) (Some (File bytes mode)) is = absurd cc
+alike_shown (Some Dir) (Some (FarFile mode)) is = absurd cc
+alike_shown (Some FarDir) (Some Dir) is = refl
+alike_shown (Some FarDir) (Some FarDir) is = refl
+alike_shown (Some FarDir) (Some (File bytes mode)) is = absurd cc
+alike_shown (Some FarDir) (Some (FarFile mode)) is = absurd cc
+alike_shown (Some (File bytes mode)) (Some Dir) is = absurd cc
+alike_shown (Some (File bytes mode)) (Some FarDir) is = absurd cc
+alike_shown (Some (File bytes mode)) (Some (File other new)) is = one_mode mode new is
+alike_shown (Some (File bytes mode)) (Some (FarFile new)) is = one_mode mode new is
+alike_shown (Some (FarFile mode)) (Some Dir) is = absurd cc
+alike_shown (Some (FarFile mode)) (Some FarDir) is = absurd cc
+alike_shown (Some (FarFile mode)) (Some (File bytes new)) is = one_mode mode new is
+alike_shown (Some (FarFile mode)) (Some (FarFile new)) is = one_mode mode new is
 
 and_given : (a b : Bool) → (a && b) ≡ false → a ≡ true → b ≡ false
 and_given true b is a_is = is
 and_given false b is a_is = absurd (no_true (sym a_is))
 
 untouched_put : (t : Nodes) (p : Path) (bytes : List ℕ) (k : Path) → FitsPut t p → touches t (Put p bytes) k ≡ false
-    → SameInside t (insert t p (File bytes)) k
-untouched_put t p bytes k fits not_touched = record {
-  row = sym (get-insert_other t p (File bytes) k (or_first (is_at k p) _ not_touched));
-  names = λ name. elim (same_or_apart (k ++ name ∷ []) p) [
-    | inl here ↦
-        let there = and_given (is_parent k p) _ (or_second (is_at k p) _ not_touched) (parent_is k name p here) in
-        ap (kind_in t) here ∙ file_kind (get t p) fits.no_dir fits.no_far_dir there
-        ∙ sym (ap (kind_in (insert t p (File bytes))) here ∙ ap (option_map node_kind) (get_insert_here t p (File bytes)))
-    | inr away ↦ ap (option_map node_kind) (sym (get-insert_other t p (File bytes) (k ++ name ∷ []) away))
-  ];
-}
+    → SameInside t (updated t (Put p bytes)) k
+untouched_put t p bytes k fits not_touched =
+    let new : Node = File bytes (mode_in (get t p)) in
+    record {
+      row = sym (get-insert_other t p new k (or_first (is_at k p) _ not_touched));
+      names = λ name. elim (same_or_apart (k ++ name ∷ []) p) [
+        | inl here ↦
+            let there = and_given (is_parent k p) _ (or_second (is_at k p) _ not_touched) (parent_is k name p here) in
+            ap (shown_in t) here ∙ file_shown (get t p) fits.no_dir fits.no_far_dir there
+            ∙ sym (ap (shown_in (insert t p new)) here ∙ ap (option_map far) (get_insert_here t p new))
+        | inr away ↦ ap (option_map far) (sym (get-insert_other t p new (k ++ name ∷ []) away))
+      ];
+    }
 
 untouched_make : (t : Nodes) (p k : Path) → touches t (MakeDir p) k ≡ false → SameInside t (insert t p Dir) k
 untouched_make t p k not_touched = record {
   row = sym (get-insert_other t p Dir k (or_first (is_at k p) _ not_touched));
   names = λ name. elim (same_or_apart (k ++ name ∷ []) p) [
     | inl here ↦ absurd (no_true (sym (parent_is k name p here) ∙ or_second (is_at k p) _ not_touched))
-    | inr away ↦ ap (option_map node_kind) (sym (get-insert_other t p Dir (k ++ name ∷ []) away))
+    | inr away ↦ ap (option_map far) (sym (get-insert_other t p Dir (k ++ name ∷ []) away))
   ];
 }
 
@@ -197,7 +206,7 @@ untouched_remove t p k not_touched = record {
   row = sym (get_remove_other t p k (or_first (is_at k p) _ not_touched));
   names = λ name. elim (same_or_apart (k ++ name ∷ []) p) [
     | inl here ↦ absurd (no_true (sym (parent_is k name p here) ∙ or_second (is_at k p) _ not_touched))
-    | inr away ↦ ap (option_map node_kind) (sym (get_remove_other t p (k ++ name ∷ []) away))
+    | inr away ↦ ap (option_map far) (sym (get_remove_other t p (k ++ name ∷ []) away))
   ];
 }
 
@@ -216,11 +225,11 @@ untouched_move t p q k fits not_touched =
       names = λ name. elim (child_side q k name to) [
         | inl here ↦
             let same = and_given (is_parent k q) _ four (parent_is k name q here) in
-            ap (kind_in t) here ∙ kinds_same (get t p) (get t q) same ∙ ap (option_map node_kind) (sym (moved_at p q t fits))
-            ∙ sym (ap (kind_in (moved t p q)) here)
+            ap (shown_in t) here ∙ alike_shown (get t p) (get t q) same ∙ ap (option_map far) (sym (moved_at p q t fits))
+            ∙ sym (ap (shown_in (moved t p q)) here)
         | inr out ↦ elim (child_side p k name from) [
           | inl here ↦ absurd (no_true (sym (parent_is k name p here) ∙ three))
-          | inr away ↦ ap (option_map node_kind) (sym (moved_other p q t fits (k ++ name ∷ []) out away))
+          | inr away ↦ ap (option_map far) (sym (moved_other p q t fits (k ++ name ∷ []) out away))
         ]
       ];
     }

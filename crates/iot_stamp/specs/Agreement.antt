@@ -2,22 +2,20 @@
 use Rattle.std.specs.Prelude.{◌≡◌, ◌≢◌, ℕ, ◌≤◌, ◌<◌, true, List, [], ◌∷◌, ◌++◌, Option, Some, option_map, Bool}
 use Rattle.std.specs.FinMap.{get}
 use Rattle.iot_tree.specs.Tree.{Path, Nodes, IsTree, IsWhole}
-use Rattle.iot_tree.specs.Questions.{node_kind}
-use Rattle.iot_tree.specs.declared.kinds.Kind.{Kind}
 use Rattle.iot_tree.specs.declared.nodes.Node.{Node}
-use Rattle.iot_tree.specs.Snapshots.{is_known}
+use Rattle.iot_tree.specs.Snapshots.{is_known, far}
 use Rattle.iot_stamp.specs.Stamps.{Entry, Stamps, nodes_of}
 use Rattle.iot_tree.specs.declared.want.Want.{Want}
 use Rattle.iot_stamp.specs.Refresh.{known_with_stamps, asked, changed_rows, gone_paths}
 
--- the kind of the object that the tree has at the path
-abbrev pub kind_in : Nodes → Path → Option Kind
-kind_in t p = option_map node_kind (get t p)
+-- what the directory of a path shows of it: the object without its inside, which is its kind, and the mode of a file
+abbrev pub shown_in : Nodes → Path → Option Node
+shown_in t p = option_map far (get t p)
 
--- both trees have the same row at the path, and the same names below it with the same kinds
+-- both trees have the same row at the path, and the same names below it with the same kinds and modes
 pub record SameInside (t u : Nodes) (p : Path) : Type 0 where
   pub row : get t p ≡ get u p
-  pub names : (name : List ℕ) → kind_in t (p ++ name ∷ []) ≡ kind_in u (p ++ name ∷ [])
+  pub names : (name : List ℕ) → shown_in t (p ++ name ∷ []) ≡ shown_in u (p ++ name ∷ [])
 
 -- rows at one path with the same stamp are the same, also inside
 abbrev pub Agrees : Stamps → Stamps → Type 0

@@ -7,7 +7,9 @@ use Rattle.iot_text.specs.Paths.{path_cmp, parent_of}
 use Rattle.iot_tree.specs.Tree.{Path, Row, Nodes}
 use Rattle.iot_tree.specs.Snapshots.{is_known}
 use Rattle.iot_tree.specs.Questions.{is_dir}
-use Rattle.iot_tree.specs.Updates.{Fits, updated}
+use Rattle.iot_tree.specs.Updates.{Fits, mode_in, updated}
+use Rattle.iot_tree.specs.declared.nodes.Mode.{Mode}
+use Rattle.iot_tree.specs.declared.nodes.Mode.TheVariants.{Off, On}
 use Rattle.iot_tree.specs.declared.nodes.Node.{Node}
 use Rattle.iot_tree.specs.declared.updates.Update.{Update}
 use Rattle.iot_tree.specs.declared.updates.Update.TheVariants.{Put, MakeDir, Remove, Move}
@@ -25,19 +27,26 @@ is_this k (Some parent) = is_at k parent
 abbrev pub is_parent : Path → Path → Bool
 is_parent k p = is_this k (parent_of p)
 
--- whether two paths show the same kind of object, or both none
-abbrev pub same_kind : Option Node → Option Node → Bool
-same_kind None None = true
-same_kind None (Some b) = false
-same_kind (Some a) None = false
-same_kind (Some a) (Some b) = cond (is_dir a) (is_dir b) (not (is_dir b))
+-- whether two modes are one
+abbrev pub same_mode : Mode → Mode → Bool
+same_mode Off Off = true
+same_mode Off On = false
+same_mode On Off = false
+same_mode On On = true
 
--- whether the update changes the names at the place where it puts something, or their kinds
+-- whether two rows are shown as the same in a directory: of one kind and, as files, of one mode; or there is none
+abbrev pub shown_same : Option Node → Option Node → Bool
+shown_same None None = true
+shown_same None (Some b) = false
+shown_same (Some a) None = false
+shown_same (Some a) (Some b) = cond (is_dir a) (is_dir b) (not (is_dir b) && same_mode (mode_in (Some a)) (mode_in (Some b)))
+
+-- whether the update changes the names at the place where it puts something, or their kinds or modes
 abbrev pub changes_names : Nodes → Update → Bool
 changes_names t (Put p bytes) = not (is_some (get t p))
 changes_names t (MakeDir p) = true
 changes_names t (Remove p) = true
-changes_names t (Move p q) = not (same_kind (get t p) (get t q))
+changes_names t (Move p q) = not (shown_same (get t p) (get t q))
 
 -- whether an update that changes names or not stamps the path
 abbrev pub touches_by : Bool → Update → Path → Bool
@@ -47,7 +56,7 @@ touches_by changes (Remove p) k = is_at k p || is_parent k p
 touches_by changes (Move p q) k =
     (starts_with bytes_eq k q || starts_with bytes_eq k p) || (is_parent k p || (is_parent k q && changes))
 
--- whether the update stamps the path: the row that it names or moves, and each directory whose names or their kinds change
+-- whether the update stamps the path: the row that it names or moves, and each directory whose names, or their kinds or modes, change
 abbrev pub touches : Nodes → Update → Path → Bool
 touches t u = touches_by (changes_names t u) u
 

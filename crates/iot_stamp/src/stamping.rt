@@ -3,7 +3,7 @@ ghost use Rattle.std.specs.Prelude.{◌≡◌, ◌≤◌, ◌+◌, ◌++◌, ℕ
 ghost use Rattle.std.specs.Option.{option_copied};
 ghost use Rattle.iot_stamp.specs.Carried.{IsCarried};
 ghost use Rattle.iot_stamp.specs.Lining.{stamps_by};
-ghost use Rattle.iot_stamp.specs.Stamping.{same_kind};
+ghost use Rattle.iot_stamp.specs.Stamping.{shown_same};
 
 use crate::nodes::stamp_of;
 use iot_text::{NoMemory, Path};
@@ -80,15 +80,15 @@ fn put(stamps: &mut Vec<u64>, at: usize, rows: &[(Path, Node)], stamp: u64)
     }
 }
 
-/// Whether both are directories, both files, or both nothing.
-pub(crate) fn same_kind(one: Option<&Node>, other: Option<&Node>) -> bool
-    ensures { result ≡ same_kind (option_copied one.entry) (option_copied other.entry) }
+/// Whether both are directories, both files of one mode, or both nothing: a directory shows them as the same.
+pub(crate) fn shown_same(one: Option<&Node>, other: Option<&Node>) -> bool
+    ensures { result ≡ shown_same (option_copied one.entry) (option_copied other.entry) }
 {
     match one {
         None => other.is_none(),
         Some(one) => match other {
             None => false,
-            Some(other) => one.is_dir() == other.is_dir(),
+            Some(other) => one.is_dir() == other.is_dir() && one.mode() == other.mode(),
         },
     }
 }

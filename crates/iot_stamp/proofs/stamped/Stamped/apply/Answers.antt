@@ -4,7 +4,7 @@ use Rattle.iot_tree.specs.Updates.{Fits, updated}
 use Rattle.iot_tree.specs.declared.updates.Update.{Update}
 use Rattle.iot_stamp.specs.Agreement.{Keeps}
 use Rattle.iot_stamp.specs.Carried.{in_either}
-use Rattle.iot_stamp.specs.Stamping.{stamped, touches, is_at, is_parent, same_kind}
+use Rattle.iot_stamp.specs.Stamping.{stamped, touches, is_at, is_parent, shown_same}
 use Rattle.iot_stamp.specs.Lining.{marked}
 use Rattle.iot_stamp.specs.Stamps.{Stamps, nodes_of, stamp_at, with_stamps}
 use Rattle.iot_stamp.proofs.LiningLaws.{nodes_before, marked_two, stamped_one, removed_marked, put_new}
@@ -57,7 +57,7 @@ returns-then-not-same-clause-ok c =
     let tree = sym (nodes_before c.self.inside.tree c.self.inside.stamps.items c.self.invariant) ∙ ap nodes_of c.self.view_is in
     let from = c.node.ensures ∙ (λ i. get (tree i) (c.names.ensures.value i)) in
     let to = c.node-in-Move.ensures ∙ (λ i. get (tree i) (c.names-in-Move.ensures.value i)) in
-    let same = c.same_kind-same.ensures ∙ (λ i. same_kind (from i) (to i)) in
+    let same = c.shown_same-same.ensures ∙ (λ i. shown_same (from i) (to i)) in
     stamped_one c.args.self.now c.mark_parent-then-not-same.new.self c.args.u.now c.args.stamp
     (λ k. is_parent k c.in-Move.to || (is_parent k c.in-Move.from || in_either c.in-Move.from c.in-Move.to k))
     (marked_two c.args.self.now c.mark_parent-in-Move.new.self c.args.u.now c.args.stamp
@@ -74,7 +74,7 @@ returns-else-not-same-clause-ok c =
     let tree = sym (nodes_before c.self.inside.tree c.self.inside.stamps.items c.self.invariant) ∙ ap nodes_of c.self.view_is in
     let from = c.node.ensures ∙ (λ i. get (tree i) (c.names.ensures.value i)) in
     let to = c.node-in-Move.ensures ∙ (λ i. get (tree i) (c.names-in-Move.ensures.value i)) in
-    let same = c.same_kind-same.ensures ∙ (λ i. same_kind (from i) (to i)) in
+    let same = c.shown_same-same.ensures ∙ (λ i. shown_same (from i) (to i)) in
     stamped_one c.args.self.now c.mark_parent-in-Move.new.self c.args.u.now c.args.stamp
     (λ k. is_parent k c.in-Move.from || in_either c.in-Move.from c.in-Move.to k)
     (marked_two c.args.self.now c.move_to.new.self c.args.u.now c.args.stamp (in_either c.in-Move.from c.in-Move.to)
