@@ -4,6 +4,7 @@ pub mod Changes
 pub mod Fields
 pub mod Labels
 pub mod Lists
+pub mod Modes
 pub mod Options
 pub mod Parts
 pub mod Places

@@ -20,6 +20,8 @@ use Rattle.iot_tree.specs.declared.labels.OnConflict.TheVariants.{Reexec, Resolv
 use Rattle.iot_tree.specs.declared.labels.Way.{Way}
 use Rattle.iot_tree.specs.declared.labels.Way.TheVariants.{Certified, Reexecuted, Resolved}
 use Rattle.iot_tree.specs.declared.changes.Changes.{Changes}
+use Rattle.iot_tree.specs.declared.nodes.Mode.{Mode}
+use Rattle.iot_tree.specs.declared.nodes.Mode.TheVariants.{Off, On}
 use Rattle.iot_tree.specs.declared.nodes.Node.{Node}
 use Rattle.iot_tree.specs.declared.nodes.Node.TheVariants.{Dir, File, FarDir, FarFile}
 use Rattle.iot_tree.specs.declared.want.Want.{Want}
@@ -164,12 +166,17 @@ access_spelling access = bases_spelling (access.reads, access.places) ++ updates
 abbrev pub paths_spelling : List (List (List ℕ)) → List ℕ
 paths_spelling paths = list_spelling path_spelling paths
 
--- a node: its tag, and then the contents of a file
+-- a mode
+unfoldable pub mode_spelling : Mode → List ℕ
+mode_spelling Off = 0 ∷ []
+mode_spelling On = 1 ∷ []
+
+-- a node: its tag, and then the mode of a file, and its contents if they are known
 unfoldable pub node_spelling : Node → List ℕ
 node_spelling Dir = 1 ∷ []
-node_spelling (File contents) = 2 ∷ contents_spelling contents
+node_spelling (File contents mode) = 2 ∷ (mode_spelling mode ++ contents_spelling contents)
 node_spelling FarDir = 3 ∷ []
-node_spelling FarFile = 4 ∷ []
+node_spelling (FarFile mode) = 4 ∷ mode_spelling mode
 
 -- rows: the table of their paths and nodes
 abbrev pub rows_spelling : List Row → List ℕ

@@ -19,6 +19,7 @@ mod known;
 mod labels;
 mod lines;
 mod lists;
+mod modes;
 mod names;
 mod nodes;
 mod numbers;

@@ -12,7 +12,7 @@ use crate::CodecFault;
 use crate::parts::malformed;
 use crate::spelled::{Spelled, read};
 use iot_text::{NoMemory, Text};
-use iot_tree::{Blob, Node};
+use iot_tree::{Blob, Mode, Node};
 use iot_views::tag_at;
 use std::alloc::Global;
 
@@ -27,12 +27,16 @@ impl Spelled for Node {
     fn put(&self, out: &mut Text) -> Result<(), NoMemory> {
         match self {
             Node::Dir => out.push(1),
-            Node::File(contents) => {
+            Node::File(contents, mode) => {
                 out.push(2)?;
+                mode.put(out)?;
                 contents.put(out)
             }
             Node::FarDir => out.push(3),
-            Node::FarFile => out.push(4),
+            Node::FarFile(mode) => {
+                out.push(4)?;
+                mode.put(out)
+            }
         }
     }
 
@@ -41,11 +45,15 @@ impl Spelled for Node {
         match tag_at(bytes, at) {
             Some(1) => Ok((Node::Dir, at + 1)),
             Some(2) => {
-                let (contents, end) = Blob::read(alloc, bytes, at + 1)?;
-                Ok((Node::File(contents), end))
+                let (mode, after) = Mode::read(alloc, bytes, at + 1)?;
+                let (contents, end) = Blob::read(alloc, bytes, after)?;
+                Ok((Node::File(contents, mode), end))
             }
             Some(3) => Ok((Node::FarDir, at + 1)),
-            Some(4) => Ok((Node::FarFile, at + 1)),
+            Some(4) => {
+                let (mode, end) = Mode::read(alloc, bytes, at + 1)?;
+                Ok((Node::FarFile(mode), end))
+            }
             _ => Err(malformed(at)),
         }
     }
@@ -53,7 +61,7 @@ impl Spelled for Node {
     ghost laws = { node_laws };
 }
 
-/// Appends the spelling of the node: its tag, and then the contents of a file.
+/// Appends the spelling of the node: its tag, and then the mode of a file, and its contents if they are known.
 pub fn put_node(value: &Node, out: &mut Text) -> Result<(), NoMemory>
     requires { IsNode value.now }
     ensures ok { OnOk result (out.new ≡ out.old ++ node_spelling value.now) }

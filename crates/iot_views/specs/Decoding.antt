@@ -24,6 +24,8 @@ use Rattle.iot_tree.specs.declared.labels.Way.{Way}
 use Rattle.iot_tree.specs.declared.labels.Way.TheVariants.{Certified, Reexecuted, Resolved}
 use Rattle.iot_tree.specs.declared.limits.TheConstants.{ACT_LIMIT, CONTENTS_LIMIT}
 use Rattle.iot_tree.specs.declared.changes.Changes.{Changes}
+use Rattle.iot_tree.specs.declared.nodes.Mode.{Mode}
+use Rattle.iot_tree.specs.declared.nodes.Mode.TheVariants.{Off, On}
 use Rattle.iot_tree.specs.declared.nodes.Node.{Node}
 use Rattle.iot_tree.specs.declared.nodes.Node.TheVariants.{Dir, File, FarDir, FarFile}
 use Rattle.iot_tree.specs.declared.want.Want.{Want}
@@ -207,13 +209,17 @@ paths_at = do
   n ← number_at
   items_at next_path_at n None
 
+-- a mode: 0 for off, 1 for on
+unfoldable pub mode_at : Decoder Mode
+mode_at = tagged ((0, done Off) ∷ (1, done On) ∷ [])
+
 -- what a tag of a node is followed by
 abbrev pub node_table : List (ℕ × Decoder Node)
 node_table =
     (1, done Dir)
-    ∷ (2, (do contents ← contents_at; done (File contents)))
+    ∷ (2, (do mode ← mode_at; contents ← contents_at; done (File contents mode)))
     ∷ (3, done FarDir)
-    ∷ (4, done FarFile)
+    ∷ (4, (do mode ← mode_at; done (FarFile mode)))
     ∷ []
 
 unfoldable pub node_at : Decoder Node

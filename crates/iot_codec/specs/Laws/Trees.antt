@@ -22,15 +22,17 @@ use Rattle.iot_tree.proofs.PlaceLaws.{is_less, find_after, below_lower, back_aft
 use Rattle.iot_tree.proofs.RowLaws.{is_tested, get_rows, entries_rows, get_middle, root_rows}
 use Rattle.iot_codec.specs.Places.{LiesAt, IsSpelling}
 use Rattle.iot_views.specs.Decoders.{◌>>=◌, done, tested, number_at}
-use Rattle.iot_views.specs.Decoding.{path_at, contents_at, node_table, node_at, row_at, at_least_one, rows_at, tree_at}
-use Rattle.iot_views.specs.Rules.{IsNumber, IsContents, IsNode, IsRow, IsTreeOfRows, has_dir, has_parent, path_follows, node_follows}
-use Rattle.iot_codec.specs.Spelling.{number_spelling, pair_spelling, path_spelling, contents_spelling, node_spelling, rows_spelling}
-use Rattle.iot_codec.specs.Spelling.{tree_spelling}
+use Rattle.iot_views.specs.Decoding.{path_at, contents_at, mode_at, node_table, node_at, row_at, at_least_one, rows_at, tree_at}
+use Rattle.iot_views.specs.Rules.{IsNumber, IsContents, IsMode, IsNode, IsRow, IsTreeOfRows, has_dir, has_parent, path_follows, node_follows}
+use Rattle.iot_codec.specs.Spelling.{number_spelling, pair_spelling, path_spelling, contents_spelling, mode_spelling, node_spelling}
+use Rattle.iot_codec.specs.Spelling.{rows_spelling, tree_spelling}
 use Rattle.iot_codec.specs.Laws.Bases.{made_laws}
 use Rattle.iot_codec.specs.Laws.Fields.{last_field, next_field, all_fields}
 use Rattle.iot_codec.specs.Laws.Lists.{Follow, counted_list_laws, items_some}
 use Rattle.iot_codec.specs.Laws.Parts.{number_laws, tested_laws, without_count, same_rule}
-use Rattle.iot_codec.specs.Laws.Tags.{AreArms, empty_arm, single_arm, tagged_found, tagged_again, empty_again, single_again}
+use Rattle.iot_codec.specs.Laws.Modes.{mode_laws}
+use Rattle.iot_codec.specs.Laws.Tags.{AreArms, empty_arm, single_arm, double_arm, tagged_found, tagged_again, empty_again, single_again}
+use Rattle.iot_codec.specs.Laws.Tags.{double_again}
 use Rattle.iot_codec.specs.Laws.Values.{path_laws, contents_laws}
 
 -- ---- nodes
@@ -39,27 +41,33 @@ node_arms : AreArms IsNode node_spelling node_table
 unfolding node_spelling
 node_arms =
     let file =
-    single_arm IsNode node_spelling 2 IsContents contents_spelling contents_at contents_laws File (λ x has. has) (λ x. refl) in (
+    double_arm IsNode node_spelling 2 IsMode mode_spelling mode_at mode_laws IsContents contents_spelling contents_at contents_laws
+    (λ mode contents. File contents mode) (λ mode contents has_mode has. has) (λ mode contents. refl) in
+    let far_file =
+    single_arm IsNode node_spelling 4 IsMode mode_spelling mode_at mode_laws FarFile (λ mode has. tt) (λ mode. refl) in (
       empty_arm IsNode node_spelling 1 Dir tt refl,
-      (file, (empty_arm IsNode node_spelling 3 FarDir tt refl, (empty_arm IsNode node_spelling 4 FarFile tt refl, tt))),
+      (file, (empty_arm IsNode node_spelling 3 FarDir tt refl, (far_file, tt))),
     )
 
 node_again : (n : Node) (bytes : List ℕ) (at end : ℕ) → length bytes < 2 ^ 64 → IsNode n → LiesAt bytes at (node_spelling n) end
     → node_at bytes at ≡ Ok (n, end)
 unfolding node_at node_spelling
 node_again Dir bytes at end short has p = tagged_again node_table bytes at end 1 [] p ∙ empty_again Dir bytes at end 1 p
-node_again (File contents) bytes at end short has p =
-    tagged_again node_table bytes at end 2 (contents_spelling contents) p
-    ∙ single_again IsContents contents_spelling contents_at contents_laws File contents bytes at end 2 short has p
+node_again (File contents mode) bytes at end short has p =
+    tagged_again node_table bytes at end 2 (mode_spelling mode ++ contents_spelling contents) p
+    ∙ double_again IsMode mode_spelling mode_at mode_laws IsContents contents_spelling contents_at contents_laws
+    (λ mode contents. File contents mode) mode contents bytes at end 2 short tt has p
 node_again FarDir bytes at end short has p = tagged_again node_table bytes at end 3 [] p ∙ empty_again FarDir bytes at end 3 p
-node_again FarFile bytes at end short has p = tagged_again node_table bytes at end 4 [] p ∙ empty_again FarFile bytes at end 4 p
+node_again (FarFile mode) bytes at end short has p =
+    tagged_again node_table bytes at end 4 (mode_spelling mode) p
+    ∙ single_again IsMode mode_spelling mode_at mode_laws FarFile mode bytes at end 4 short tt p
 
 node_some : (n : Node) → 0 < length (node_spelling n)
 unfolding node_spelling
 node_some Dir = omega arith
-node_some (File contents) = omega arith
+node_some (File contents mode) = omega arith
 node_some FarDir = omega arith
-node_some FarFile = omega arith
+node_some (FarFile mode) = omega arith
 
 pub node_laws : IsSpelling IsNode node_spelling node_at
 unfolding node_at
@@ -170,11 +178,11 @@ follow_more last (row ∷ rows) chain each =
 
 some_dir : (node : Node) → (Some node ≡ Some Dir) ⊎ (Some node ≡ Some FarDir) → is_dir node ≡ true
 some_dir Dir is = refl
-some_dir (File bytes) (inl is) = absurd cc
-some_dir (File bytes) (inr is) = absurd cc
+some_dir (File bytes mode) (inl is) = absurd cc
+some_dir (File bytes mode) (inr is) = absurd cc
 some_dir FarDir is = refl
-some_dir FarFile (inl is) = absurd cc
-some_dir FarFile (inr is) = absurd cc
+some_dir (FarFile mode) (inl is) = absurd cc
+some_dir (FarFile mode) (inr is) = absurd cc
 
 no_dir : (◌≡◌ {A = Option Node} None (Some Dir)) ⊎ (◌≡◌ {A = Option Node} None (Some FarDir)) → ⊥
 no_dir (inl is) = cc
