@@ -83,9 +83,9 @@ pub read_words : (word number space question equals answer end : List ℕ)
 read_words word number space question equals answer end = simp append_assoc
 
 -- the words of a file's row
-pub file_words : (word path space contents end : List ℕ)
-    → ((word ++ path) ++ space) ++ (contents ++ end) ≡ ((word ++ path) ++ (space ++ contents)) ++ end
-file_words word path space contents end = simp append_assoc
+pub file_words : (word path space contents mode end : List ℕ)
+    → ((word ++ path) ++ space) ++ (contents ++ (mode ++ end)) ≡ (((word ++ path) ++ (space ++ contents)) ++ mode) ++ end
+file_words word path space contents mode end = simp append_assoc
 
 -- the words of the state of a transaction
 pub state_words : (option space stage end : List ℕ) → (option ++ space) ++ (stage ++ end) ≡ (option ++ (space ++ stage)) ++ end

@@ -7,6 +7,7 @@ use Rattle.serde_json.specs.Data.{Data, Items}
 use Rattle.serde_json.specs.View.{view, items_of}
 use Rattle.serde_json.specs.Written.{has_float, items_have_float}
 use Rattle.iot_tree.specs.Tree.{Nodes}
+use Rattle.iot_tree.specs.declared.nodes.Mode.TheVariants.{Off, On}
 use Rattle.iot_tree.specs.declared.nodes.Node.{Node}
 use Rattle.iot_tree.specs.declared.nodes.Node.TheVariants.{Dir, File, FarDir, FarFile}
 use Rattle.iot_tree.specs.declared.labels.Label.{Label}
@@ -20,9 +21,11 @@ neither a b first second = rw first second
 
 row_plain : (path : List (List ℕ)) (node : Node) → has_float (row_data path node) ≡ false
 row_plain path Dir = refl
-row_plain path (File contents) = refl
+row_plain path (File contents Off) = refl
+row_plain path (File contents On) = refl
 row_plain path FarDir = refl
-row_plain path FarFile = refl
+row_plain path (FarFile Off) = refl
+row_plain path (FarFile On) = refl
 
 rows_plain : (rows : List (List (List ℕ) × Node)) → items_have_float (items_of (map (λ row. row_data row.0 row.1) rows)) ≡ false
 rows_plain [] = refl

@@ -8,6 +8,8 @@ use Rattle.iot_text.specs.Paths.{path_text}
 use Rattle.iot_text.specs.Quotes.{quoted}
 use Rattle.iot_tree.specs.Tree.{Nodes}
 use Rattle.iot_tree.specs.declared.limits.TheConstants.{ACT_LIMIT}
+use Rattle.iot_tree.specs.declared.nodes.Mode.{Mode}
+use Rattle.iot_tree.specs.declared.nodes.Mode.TheVariants.{Off, On}
 use Rattle.iot_tree.specs.declared.nodes.Node.{Node}
 use Rattle.iot_tree.specs.declared.nodes.Node.TheVariants.{Dir, File, FarDir, FarFile}
 use Rattle.iot_tree.specs.declared.acts.Act.{Act}
@@ -43,12 +45,17 @@ transaction_name client number = client ++ 46 ∷ decimal number
 
 -- ---- trees
 
+-- what is said of a file's mode
+abbrev pub mode_text : Mode → List ℕ
+mode_text Off = []
+mode_text On = codes " x"
+
 -- a row of a tree
 abbrev pub row_text : List (List ℕ) → Node → List ℕ
 row_text path Dir = codes "dir " ++ path_text path
-row_text path (File contents) = codes "file " ++ path_text path ++ 32 ∷ quoted contents
+row_text path (File contents mode) = codes "file " ++ path_text path ++ 32 ∷ quoted contents ++ mode_text mode
 row_text path FarDir = codes "dir " ++ path_text path ++ codes " far"
-row_text path FarFile = codes "file " ++ path_text path ++ codes " far"
+row_text path (FarFile mode) = codes "file " ++ path_text path ++ codes " far" ++ mode_text mode
 
 abbrev pub row_line : List (List ℕ) → Node → List ℕ
 row_line path node = line (row_text path node)

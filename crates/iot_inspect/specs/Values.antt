@@ -8,6 +8,8 @@ use Rattle.serde_json.specs.Written.{items_have_float}
 use Rattle.serde_json.specs.declared.value.Value.{Value}
 use Rattle.iot_text.specs.Paths.{path_text}
 use Rattle.iot_tree.specs.Tree.{Nodes}
+use Rattle.iot_tree.specs.declared.nodes.Mode.{Mode}
+use Rattle.iot_tree.specs.declared.nodes.Mode.TheVariants.{Off, On}
 use Rattle.iot_tree.specs.declared.nodes.Node.{Node}
 use Rattle.iot_tree.specs.declared.nodes.Node.TheVariants.{Dir, File, FarDir, FarFile}
 use Rattle.iot_tree.specs.declared.labels.Label.{Label}
@@ -22,17 +24,26 @@ text_data bytes = string (encode_utf8_all bytes)
 abbrev pub pair_data : List (List ℕ) → List ℕ → Data
 pair_data path word = array (item (text_data (path_text path)) (item (string word) no_items))
 
--- a file with its contents
-abbrev pub file_data : List (List ℕ) → List ℕ → Data
-file_data path contents =
-    array (item (text_data (path_text path)) (item (string (codes "file")) (item (text_data contents) no_items)))
+-- the last word of the row of a file, if its mode is on
+abbrev pub mode_items : Mode → Items
+mode_items Off = no_items
+mode_items On = item (string (codes "x")) no_items
+
+-- a file with its contents and its mode
+abbrev pub file_data : List (List ℕ) → List ℕ → Mode → Data
+file_data path contents mode =
+    array (item (text_data (path_text path)) (item (string (codes "file")) (item (text_data contents) (mode_items mode))))
+
+-- a file whose contents are not known, with its mode
+abbrev pub far_file_data : List (List ℕ) → Mode → Data
+far_file_data path mode = array (item (text_data (path_text path)) (item (string (codes "far file")) (mode_items mode)))
 
 -- a row of a tree
 abbrev pub row_data : List (List ℕ) → Node → Data
 row_data path Dir = pair_data path (codes "dir")
-row_data path (File contents) = file_data path contents
+row_data path (File contents mode) = file_data path contents mode
 row_data path FarDir = pair_data path (codes "far dir")
-row_data path FarFile = pair_data path (codes "far file")
+row_data path (FarFile mode) = far_file_data path mode
 
 -- all rows in order of their paths
 abbrev pub tree_data : Nodes → Data

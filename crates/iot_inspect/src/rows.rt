@@ -1,12 +1,12 @@
 //! The rows of a tree.
-ghost use Rattle.std.specs.Prelude.{◌≡◌, ◌++◌, OnOk, OnErr};
+ghost use Rattle.std.specs.Prelude.{◌≡◌, [], ◌∷◌, ◌++◌, OnOk, OnErr};
 ghost use Rattle.iot_text.specs.Paths.{path_text};
 ghost use Rattle.iot_text.specs.Texts.{AppendsPart};
-ghost use Rattle.iot_tree.specs.declared.nodes.Node.TheVariants.{File};
-ghost use Rattle.iot_inspect.specs.Texts.{row_line, tree_text};
+ghost use Rattle.iot_tree.specs.declared.nodes.Node.TheVariants.{File, FarFile};
+ghost use Rattle.iot_inspect.specs.Texts.{mode_text, row_line, tree_text};
 
 use iot_text::{NoMemory, Path, Text, quote};
-use iot_tree::{Blob, Node, Tree};
+use iot_tree::{Blob, Mode, Node, Tree};
 
 /// What kind of row it is, its path, and what ends its line.
 fn put_path(kind: &[u8], path: &Path, end: &[u8], out: &mut Text) -> Result<(), NoMemory>
@@ -18,14 +18,33 @@ fn put_path(kind: &[u8], path: &Path, end: &[u8], out: &mut Text) -> Result<(), 
     out.append(end)
 }
 
-/// The row of a file with these contents.
-fn put_file(path: &Path, contents: &Blob, out: &mut Text) -> Result<(), NoMemory>
-    ensures ok { OnOk result (out.new ≡ out.old ++ row_line path.now (File contents.now)) }
-    ensures err { OnErr result (AppendsPart out.old out.new (row_line path.now (File contents.now))) }
+/// What ends the line of a file with this mode.
+fn end_of(mode: Mode) -> &'static [u8]
+    ensures { result.now ≡ mode_text mode ++ 10 ∷ [] }
+{
+    match mode {
+        Mode::Off => b"\n",
+        Mode::On => b" x\n",
+    }
+}
+
+/// The row of a file with these contents and this mode.
+fn put_file(path: &Path, contents: &Blob, mode: Mode, out: &mut Text) -> Result<(), NoMemory>
+    ensures ok { OnOk result (out.new ≡ out.old ++ row_line path.now (File contents.now mode)) }
+    ensures err { OnErr result (AppendsPart out.old out.new (row_line path.now (File contents.now mode))) }
 {
     put_path(b"file ", path, b" ", out)?;
     quote(contents.as_slice(), out)?;
-    out.push(b'\n')
+    out.append(end_of(mode))
+}
+
+/// The row of a file with this mode, whose contents are not known.
+fn put_far_file(path: &Path, mode: Mode, out: &mut Text) -> Result<(), NoMemory>
+    ensures ok { OnOk result (out.new ≡ out.old ++ row_line path.now (FarFile mode)) }
+    ensures err { OnErr result (AppendsPart out.old out.new (row_line path.now (FarFile mode))) }
+{
+    put_path(b"file ", path, b" far", out)?;
+    out.append(end_of(mode))
 }
 
 /// One row.
@@ -35,9 +54,9 @@ fn put_row(path: &Path, node: &Node, out: &mut Text) -> Result<(), NoMemory>
 {
     match node {
         Node::Dir => put_path(b"dir ", path, b"\n", out),
-        Node::File(contents) => put_file(path, contents, out),
+        Node::File(contents, mode) => put_file(path, contents, *mode, out),
         Node::FarDir => put_path(b"dir ", path, b" far\n", out),
-        Node::FarFile => put_path(b"file ", path, b" far\n", out),
+        Node::FarFile(mode) => put_far_file(path, *mode, out),
     }
 }
 

@@ -3,15 +3,15 @@ ghost use Rattle.std.specs.Prelude.{ℕ, List, ◌≡◌, ◌<◌, ◌++◌, len
 ghost use Rattle.serde_json.specs.Data.{array, string};
 ghost use Rattle.serde_json.specs.View.{view, items_of};
 ghost use Rattle.iot_inspect.specs.Texts.{transaction_name, AreOf};
-ghost use Rattle.iot_inspect.specs.Values.{text_data, pair_data, file_data, row_data, tree_data, item_data, queue_data, commit_data};
-ghost use Rattle.iot_inspect.specs.Values.{commits_from};
+ghost use Rattle.iot_inspect.specs.Values.{text_data, pair_data, file_data, far_file_data, row_data, tree_data, item_data, queue_data};
+ghost use Rattle.iot_inspect.specs.Values.{commit_data, commits_from};
 
 use crate::commits::put_way;
 use crate::pieces::put_transaction;
 use crate::waiting::{put_option, put_stage};
 use iot_queue::Item;
 use iot_text::{Name, NoMemory, Path, Text};
-use iot_tree::{Blob, Label, Node, Tree};
+use iot_tree::{Blob, Label, Mode, Node, Tree};
 use serde_json::{Value, json};
 use std::alloc::Global;
 
@@ -36,15 +36,31 @@ fn pair_value(alloc: Global, path: &Path, word: &str) -> Result<Value, NoMemory>
     json!(in alloc; [path, word])
 }
 
-/// A file with its contents.
-fn file_value(alloc: Global, path: &Path, contents: &Blob) -> Result<Value, NoMemory>
-    ensures { IfOk result (λ value. view value ≡ file_data path.now contents.now) }
+/// A file with its contents and its mode.
+fn file_value(alloc: Global, path: &Path, contents: &Blob, mode: Mode) -> Result<Value, NoMemory>
+    ensures { IfOk result (λ value. view value ≡ file_data path.now contents.now mode) }
 {
     let mut text = Text::new(alloc);
     path.write_to(&mut text)?;
     let path = text_value(alloc, text.as_bytes())?;
     let contents = text_value(alloc, contents.as_slice())?;
-    json!(in alloc; [path, "file", contents])
+    match mode {
+        Mode::Off => json!(in alloc; [path, "file", contents]),
+        Mode::On => json!(in alloc; [path, "file", contents, "x"]),
+    }
+}
+
+/// A file whose contents are not known, with its mode.
+fn far_file_value(alloc: Global, path: &Path, mode: Mode) -> Result<Value, NoMemory>
+    ensures { IfOk result (λ value. view value ≡ far_file_data path.now mode) }
+{
+    let mut text = Text::new(alloc);
+    path.write_to(&mut text)?;
+    let path = text_value(alloc, text.as_bytes())?;
+    match mode {
+        Mode::Off => json!(in alloc; [path, "far file"]),
+        Mode::On => json!(in alloc; [path, "far file", "x"]),
+    }
 }
 
 /// A row of a tree.
@@ -53,9 +69,9 @@ fn row_value(alloc: Global, path: &Path, node: &Node) -> Result<Value, NoMemory>
 {
     match node {
         Node::Dir => pair_value(alloc, path, "dir"),
-        Node::File(contents) => file_value(alloc, path, contents),
+        Node::File(contents, mode) => file_value(alloc, path, contents, *mode),
         Node::FarDir => pair_value(alloc, path, "far dir"),
-        Node::FarFile => pair_value(alloc, path, "far file"),
+        Node::FarFile(mode) => far_file_value(alloc, path, *mode),
     }
 }
 

@@ -16,8 +16,8 @@ ghost use Rattle.iot_text.specs.Texts.{Extends};
 
 use crate::keeper::ServerKeeper;
 use crate::message::Message;
-use crate::texts::say_tree;
 use iot_disk::{Disk, JournalFault, Pick};
+use iot_inspect::show;
 use iot_node::{Doubt, Fallen, Halt, Post, say};
 use iot_server::Server;
 use iot_text::{NoMemory, Text};
@@ -254,7 +254,7 @@ impl<D: Disk> ServerNode<D> {
             (Shows (λ commits. tree_text (tree_after commits))) self.now self.now out.old out.new tt) }
     {
         match self.tree() {
-            Some(tree) => say_tree(tree, out)?,
+            Some(tree) => show(tree, out)?,
             None => say(b"down", out)?,
         }
         Ok(())
