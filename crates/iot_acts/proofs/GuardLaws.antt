@@ -8,22 +8,24 @@ use Rattle.iot_text.specs.Paths.{IsBelow, is_below}
 use Rattle.iot_text.proofs.PathsLaws.{is_below-of, parent_of-push}
 use Rattle.iot_tree.specs.Tree.{Path, Nodes, IsTree, parent_node}
 use Rattle.iot_tree.specs.Questions.{answer_of, is_far_above, is_far_dir, children_of}
-use Rattle.iot_tree.specs.Updates.{FitsPut, FitsRemove, FitsMove, Fits, IsLeaf}
+use Rattle.iot_tree.specs.Updates.{FitsPut, FitsRemove, FitsMove, FitsSetMode, Fits, IsLeaf}
 use Rattle.iot_tree.specs.declared.nodes.Node.TheVariants.{Dir, FarDir}
 use Rattle.iot_tree.specs.declared.questions.Question.{Question}
-use Rattle.iot_tree.specs.declared.questions.Question.TheVariants.{Kind, Content, Names}
+use Rattle.iot_tree.specs.declared.questions.Question.TheVariants.{Kind, Content, Names, Mode}
 use Rattle.iot_tree.specs.declared.questions.Answer.{Answer}
 use Rattle.iot_tree.specs.declared.questions.Answer.TheVariants as answers
 use Rattle.iot_tree.specs.declared.updates.Update.{Update}
-use Rattle.iot_tree.specs.declared.updates.Update.TheVariants.{Put, MakeDir, Remove, Move}
+use Rattle.iot_tree.specs.declared.updates.Update.TheVariants.{Put, MakeDir, Remove, Move, SetMode}
 use Rattle.iot_tree.specs.declared.acts.Read.{Read}
 use Rattle.iot_tree.specs.declared.acts.Act.{Act}
 use Rattle.iot_tree.proofs.AncestorLaws.{ends, at_root, in_name, any_above}
 use Rattle.iot_tree.proofs.TreeLaws.{none_some, none_not_some}
 use Rattle.iot_tree.proofs.ReadLaws.{IsFileRow, IsDirRow, known_dir, far_dir, file_row, dir_row, no_row, bytes_row, names_row, file_some}
+use Rattle.iot_tree.proofs.ReadLaws.{on_row, off_row, file_shown}
 use Rattle.iot_tree.proofs.ReadLaws.{dir_some, file_no_dir, file_no_far_dir, file_row_not_root, absent_not_root, leaf_of, empty_leaf}
 use Rattle.iot_acts.specs.Paths.{parent_path, is_at_or_below}
-use Rattle.iot_acts.specs.Guards.{Asked, AskedFree, GuardsPut, GuardsRemove, GuardsMove, MayMove, Guards, GuardsIfAny}
+use Rattle.iot_acts.specs.Guards.{Asked, AskedFree, GuardsPut, GuardsRemove, GuardsMove, GuardsSetMode, MayMove, Guards, GuardsIfAny}
+use Rattle.iot_acts.specs.Guards.{over_on, over_off}
 use Rattle.iot_acts.specs.Guards.{over_file, over_contents, in_free, file_goes, empty_goes, file_to_file, dir_to_empty, any_to_free}
 use Rattle.iot_acts.specs.Guards.{IsGuarded, AllGuarded}
 use Rattle.iot_acts.specs.Traces.{ReadsHold, FitsIfAny, after_update}
@@ -160,11 +162,19 @@ module _ (t : Nodes) (tree : IsTree t) (reads : List Read) (hold : ReadsHold t r
     move_fits (any_to_free from free) =
         moved_from (any_row from) (leaf_of t tree q (λ is. none_not_some _ Dir (none_at q free) is)) (parent_at q free)
 
+  moded_row : (p : Path) → GuardsSetMode reads p → IsFileRow (get t p)
+  moded_row p (over_on asked) = on_row (get t p) (is_far_above t p) (asked_answer t reads hold (Mode p) answers.On asked)
+  moded_row p (over_off asked) = off_row (get t p) (is_far_above t p) (asked_answer t reads hold (Mode p) answers.Off asked)
+
+  mode_fits : (p : Path) → GuardsSetMode reads p → FitsSetMode t p
+  mode_fits p guard = record { file = file_shown (get t p) (moded_row p guard) }
+
   fits : (update : Update) → Guards reads update → Fits t update
   fits (Put p bytes) guard = put_fits p guard
   fits (MakeDir p) guard = record { absent = none_at p guard; parent = parent_at p guard }
   fits (Remove p) guard = remove_fits p guard.not_root guard.guard
   fits (Move p q) guard = move_fits p q guard guard.guard
+  fits (SetMode p mode) guard = mode_fits p guard
 
   -- what is guarded by a tree's answers fits that tree
   pub guarded_fits : (update : Option Update) → GuardsIfAny reads update → FitsIfAny t update

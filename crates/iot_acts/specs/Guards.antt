@@ -5,10 +5,10 @@ use Rattle.iot_tree.specs.declared.updates.Update.{Update}
 use Rattle.iot_tree.specs.declared.acts.Act.{Act}
 use Rattle.iot_tree.specs.declared.acts.Read.{Read}
 use Rattle.iot_tree.specs.declared.questions.Question.{Question}
-use Rattle.iot_tree.specs.declared.questions.Question.TheVariants.{Kind, Content, Names}
+use Rattle.iot_tree.specs.declared.questions.Question.TheVariants.{Kind, Content, Names, Mode}
 use Rattle.iot_tree.specs.declared.questions.Answer.{Answer}
 use Rattle.iot_tree.specs.declared.questions.Answer.TheVariants as answers
-use Rattle.iot_tree.specs.declared.updates.Update.TheVariants.{Put, MakeDir, Remove, Move}
+use Rattle.iot_tree.specs.declared.updates.Update.TheVariants.{Put, MakeDir, Remove, Move, SetMode}
 use Rattle.iot_acts.specs.Paths.{parent_path, is_at_or_below}
 
 -- the question was asked among the reads, and had this answer
@@ -38,6 +38,11 @@ pub data GuardsMove (reads : List Read) (p q : Path) : Type 0 where
   dir_to_empty : Asked reads (Kind p) answers.IsDir → Asked reads (Names q) (answers.Names []) → GuardsMove reads p q
   any_to_free : (Asked reads (Kind p) answers.IsDir ⊎ Asked reads (Kind p) answers.IsFile) → AskedFree reads q → GuardsMove reads p q
 
+-- the reads say whether the file at p is executable
+pub data GuardsSetMode (reads : List Read) (p : Path) : Type 0 where
+  over_on : Asked reads (Mode p) answers.On → GuardsSetMode reads p
+  over_off : Asked reads (Mode p) answers.Off → GuardsSetMode reads p
+
 -- what is removed is not the root, and the reads say that it can go
 pub record MayRemove (reads : List Read) (p : Path) : Type 0 where
   pub not_root : p ≢ []
@@ -56,6 +61,7 @@ Guards reads (Put p bytes) = GuardsPut reads p
 Guards reads (MakeDir p) = AskedFree reads p
 Guards reads (Remove p) = MayRemove reads p
 Guards reads (Move p q) = MayMove reads p q
+Guards reads (SetMode p mode) = GuardsSetMode reads p
 
 -- there is no update, or the reads guard it
 abbrev pub GuardsIfAny : List Read → Option Update → Type 0

@@ -10,7 +10,7 @@ use Rattle.iot_tree.specs.declared.questions.Answer.TheVariants as answers
 use Rattle.iot_tree.specs.declared.kinds.Kind as object
 use Rattle.iot_tree.specs.declared.kinds.Kind.TheVariants as kinds
 use Rattle.iot_tree.specs.declared.updates.Update.{Update}
-use Rattle.iot_tree.specs.declared.updates.Update.TheVariants.{Put, MakeDir, Remove, Move}
+use Rattle.iot_tree.specs.declared.updates.Update.TheVariants.{Put, MakeDir, Remove, Move, SetMode}
 use Rattle.iot_tree.specs.declared.acts.Read.{Read}
 use Rattle.iot_tree.specs.declared.access.Access.{Access}
 use Rattle.iot_tree.specs.declared.acts.Act.{Act}
@@ -21,7 +21,7 @@ use Rattle.iot_tree.specs.declared.labels.Way.{Way}
 use Rattle.iot_tree.specs.declared.labels.Way.TheVariants.{Certified, Reexecuted, Resolved}
 use Rattle.iot_tree.specs.declared.changes.Changes.{Changes}
 use Rattle.iot_tree.specs.declared.nodes.Mode.{Mode}
-use Rattle.iot_tree.specs.declared.nodes.Mode.TheVariants.{Off, On}
+use Rattle.iot_tree.specs.declared.nodes.Mode.TheVariants as modes
 use Rattle.iot_tree.specs.declared.nodes.Node.{Node}
 use Rattle.iot_tree.specs.declared.nodes.Node.TheVariants.{Dir, File, FarDir, FarFile}
 use Rattle.iot_tree.specs.declared.want.Want.{Want}
@@ -87,6 +87,7 @@ unfoldable pub question_spelling : Question → List ℕ
 question_spelling (asks.Kind path) = 1 ∷ path_spelling path
 question_spelling (asks.Content path) = 2 ∷ path_spelling path
 question_spelling (asks.Names path) = 3 ∷ path_spelling path
+question_spelling (asks.Mode path) = 4 ∷ path_spelling path
 
 -- an answer: its tag, and then what it holds
 unfoldable pub answer_spelling : Answer → List ℕ
@@ -96,6 +97,8 @@ answer_spelling answers.IsDir = 3 ∷ []
 answer_spelling answers.IsFile = 4 ∷ []
 answer_spelling (answers.Bytes contents) = 5 ∷ contents_spelling contents
 answer_spelling (answers.Names children) = 6 ∷ children_spelling children
+answer_spelling answers.On = 7 ∷ []
+answer_spelling answers.Off = 8 ∷ []
 
 -- a read: the question, and then the answer
 unfoldable pub read_spelling : Read → List ℕ
@@ -104,12 +107,18 @@ read_spelling read = question_spelling read.question ++ answer_spelling read.ans
 abbrev pub reads_spelling : List Read → List ℕ
 reads_spelling reads = list_spelling read_spelling reads
 
+-- a mode
+unfoldable pub mode_spelling : Mode → List ℕ
+mode_spelling modes.Off = 0 ∷ []
+mode_spelling modes.On = 1 ∷ []
+
 -- an update: its tag, and then what it holds
 unfoldable pub update_spelling : Update → List ℕ
 update_spelling (Put path contents) = 1 ∷ (path_spelling path ++ contents_spelling contents)
 update_spelling (MakeDir path) = 2 ∷ path_spelling path
 update_spelling (Remove path) = 3 ∷ path_spelling path
 update_spelling (Move path other) = 4 ∷ (path_spelling path ++ path_spelling other)
+update_spelling (SetMode path mode) = 5 ∷ (path_spelling path ++ mode_spelling mode)
 
 -- no update, which is 0, or an update
 unfoldable pub optional_update_spelling : Option Update → List ℕ
@@ -165,11 +174,6 @@ access_spelling access = bases_spelling (access.reads, access.places) ++ updates
 -- paths: the list of them
 abbrev pub paths_spelling : List (List (List ℕ)) → List ℕ
 paths_spelling paths = list_spelling path_spelling paths
-
--- a mode
-unfoldable pub mode_spelling : Mode → List ℕ
-mode_spelling Off = 0 ∷ []
-mode_spelling On = 1 ∷ []
 
 -- a node: its tag, and then the mode of a file, and its contents if they are known
 unfoldable pub node_spelling : Node → List ℕ

@@ -54,6 +54,7 @@ fn last_path(reads: &[Read]) -> Option<&Path> {
         Question::Kind(path) => Some(path),
         Question::Content(path) => Some(path),
         Question::Names(path) => Some(path),
+        Question::Mode(path) => Some(path),
     }
 }
 

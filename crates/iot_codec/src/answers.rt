@@ -38,6 +38,8 @@ impl Spelled for Answer {
                 out.push(6)?;
                 children.put(out)
             }
+            Answer::On => out.push(7),
+            Answer::Off => out.push(8),
         }
     }
 
@@ -56,6 +58,8 @@ impl Spelled for Answer {
                 let (children, end) = Children::read(alloc, bytes, at + 1)?;
                 Ok((Answer::Names(children), end))
             }
+            Some(7) => Ok((Answer::On, at + 1)),
+            Some(8) => Ok((Answer::Off, at + 1)),
             _ => Err(malformed(at)),
         }
     }

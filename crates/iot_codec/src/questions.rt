@@ -29,6 +29,7 @@ impl Spelled for Question {
             Question::Kind(path) => (1, path),
             Question::Content(path) => (2, path),
             Question::Names(path) => (3, path),
+            Question::Mode(path) => (4, path),
         };
         out.push(tag)?;
         path.put(out)
@@ -48,6 +49,10 @@ impl Spelled for Question {
             Some(3) => {
                 let (path, end) = Path::read(alloc, bytes, at + 1)?;
                 Ok((Question::Names(path), end))
+            }
+            Some(4) => {
+                let (path, end) = Path::read(alloc, bytes, at + 1)?;
+                Ok((Question::Mode(path), end))
             }
             _ => Err(malformed(at)),
         }

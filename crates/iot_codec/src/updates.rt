@@ -13,7 +13,7 @@ use crate::parts::malformed;
 use crate::paths::read_path_on;
 use crate::spelled::{Spelled, read};
 use iot_text::{NoMemory, Path, Text};
-use iot_tree::{Blob, Update};
+use iot_tree::{Blob, Mode, Update};
 use iot_views::tag_at;
 use std::alloc::Global;
 
@@ -44,6 +44,11 @@ impl Spelled for Update {
                 out.push(4)?;
                 path.put(out)?;
                 other.put(out)
+            }
+            Update::SetMode(path, mode) => {
+                out.push(5)?;
+                path.put(out)?;
+                mode.put(out)
             }
         }
     }
@@ -105,6 +110,11 @@ fn read_update_on(
             let (path, after) = read_path_on(alloc, known, bytes, at + 1)?;
             let (other, end) = Path::read(alloc, bytes, after)?;
             Ok((Update::Move(path, other), end))
+        }
+        Some(5) => {
+            let (path, after) = read_path_on(alloc, known, bytes, at + 1)?;
+            let (mode, end) = Mode::read(alloc, bytes, after)?;
+            Ok((Update::SetMode(path, mode), end))
         }
         _ => Err(malformed(at)),
     }

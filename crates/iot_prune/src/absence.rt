@@ -13,7 +13,7 @@ pub fn away(t: &Tree, q: &Question) -> bool
     // That it is a tree is known of its rows.
     let _rows = t.rows();
     match q {
-        Question::Kind(path) => is_below_far(t, path),
+        Question::Kind(path) | Question::Mode(path) => is_below_far(t, path),
         Question::Content(path) => match t.node(path.names()) {
             Some(node) => matches!(node, Node::FarFile(_)),
             None => is_below_far(t, path),

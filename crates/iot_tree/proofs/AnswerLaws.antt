@@ -4,7 +4,8 @@ use Rattle.std.proofs.Common.{IsSome, Option}
 use Rattle.std.specs.FinMap.{get}
 use Rattle.std.specs.List.{filter_map, prefix_len}
 use Rattle.iot_tree.specs.Place.{IsRowAt, IsGap}
-use Rattle.iot_tree.specs.Questions.{is_dir, is_far_above, node_kind, kind_at, kind_of, kind_answer, content_answer, is_within, child_of}
+use Rattle.iot_tree.specs.Questions.{is_dir, is_far_above, node_kind, kind_at, kind_of, kind_answer, content_answer, mode_answer}
+use Rattle.iot_tree.specs.Questions.{is_within, child_of}
 use Rattle.iot_tree.specs.Questions.{children_of, names_answer}
 use Rattle.iot_tree.specs.Rows.{map_of, AreTreeRows}
 use Rattle.iot_tree.specs.Tree.{Path, Row}
@@ -41,6 +42,19 @@ module _ (rows : List Row) (all : AreTreeRows rows) (p : Path) (at : ℕ) where
       → content_answer (get (map_of rows) p) (is_far_above (map_of rows) p) ≡ kind_answer (kind_at None (is_far_above (map_of rows) p))
   content_in_gap gap =
       ap (λ (o : Option Node). content_answer o (is_far_above (map_of rows) p)) (get_in_gap rows all.rising p at gap)
+      ∙ no_row (is_far_above (map_of rows) p)
+
+  pub mode_here : IsRowAt rows p at → (d : Row)
+      → mode_answer (get (map_of rows) p) (is_far_above (map_of rows) p) ≡ mode_answer (Some (get_or rows at d).1) false
+  mode_here stands d =
+      let found = get_here rows all.rising p at stands d in
+      let mapped : IsSome (get (map_of rows) p) = rw found refl in
+      rw (found, no_far_above (map_of rows) all.tree p mapped) refl
+
+  pub mode_in_gap : IsGap rows p at
+      → mode_answer (get (map_of rows) p) (is_far_above (map_of rows) p) ≡ kind_answer (kind_at None (is_far_above (map_of rows) p))
+  mode_in_gap gap =
+      ap (λ (o : Option Node). mode_answer o (is_far_above (map_of rows) p)) (get_in_gap rows all.rising p at gap)
       ∙ no_row (is_far_above (map_of rows) p)
 
 -- ---- the answer to the question for names

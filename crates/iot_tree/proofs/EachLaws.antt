@@ -12,7 +12,8 @@ use Rattle.iot_text.proofs.PathsLaws.{path_total}
 use Rattle.iot_tree.specs.Tree.{Path, Row, Nodes}
 use Rattle.iot_tree.specs.Rows.{Rising}
 use Rattle.iot_tree.specs.Place.{AllAfter}
-use Rattle.iot_tree.specs.Updates.{renamed, renamed_row, moved}
+use Rattle.iot_tree.specs.Updates.{renamed, renamed_row, moved, with_mode, mode_set}
+use Rattle.iot_tree.specs.declared.nodes.Mode.{Mode}
 use Rattle.iot_tree.specs.declared.nodes.Node.{Node}
 use Rattle.iot_tree.proofs.PathLaws.{tied}
 use Rattle.iot_tree.proofs.PlaceLaws.{find_after}
@@ -76,6 +77,15 @@ module _ (Q : Path → Node → Type 0) where
   each_inserted t path node each here key found is =
       found_by key path (eq_by_cmp path_cmp key path) node found (get t key) refl here (each key found)
       (sym (get-insert path_total t path node key) ∙ is)
+
+  -- a file gets another mode
+  pub each_moded : (mode : Mode) → ((path : Path) (node : Node) → Q path node → Q path (with_mode mode node)) → (t : Nodes) (p : Path)
+      → EachNode t → EachNode (mode_set t p mode (get t p))
+  each_moded mode keeps t p each = by (get t p) refl
+    where
+      by : (o : Option Node) → get t p ≡ o → EachNode (mode_set t p mode o)
+      by None none = each
+      by (Some node) some = each_inserted t p (with_mode mode node) each (keeps p node (each p node some))
 
   rest_by : (key : Path) (test : Bool) (found : Node) (o : Option Node) → (o ≡ Some found → Q key found) → cond test None o ≡ Some found
       → Q key found

@@ -1,7 +1,6 @@
 -- Items of a list that get other keys, from the last one on.
 use Rattle.std.proofs.Common.{◌≡◌, ℕ, List, [], ◌∷◌, ◌++◌, refl, sym, ap, ◌∙◌, ◌+◌, ◌<◌, length, take, drop, get_or, arith, map}
 use Rattle.std.proofs.Common.{length-append, append_assoc, set}
-use Rattle.std.proofs.Math.Seq.{take-length, drop-length}
 use Rattle.std.proofs.lemmas.List.{take_more, drop_more, length-take-le, length-map, length-take}
 
 module _ {T : Type 0} where

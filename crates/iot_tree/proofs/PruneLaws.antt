@@ -12,7 +12,7 @@ use Rattle.std.specs.Ordering.{is_lt, eq_by_cmp, is_eq}
 use Rattle.iot_text.specs.Paths.{path_cmp, parent_of}
 use Rattle.iot_text.proofs.PathsLaws.{parent_of-push, path_total}
 use Rattle.iot_tree.specs.Place.{AllAfter}
-use Rattle.iot_tree.specs.Questions.{is_far_dir, is_far_above, node_kind, kind_answer, content_answer, names_answer, is_child}
+use Rattle.iot_tree.specs.Questions.{is_far_dir, is_far_above, node_kind, kind_answer, content_answer, names_answer, mode_answer, is_child}
 use Rattle.iot_tree.specs.Questions.{child_of, children_of}
 use Rattle.iot_tree.specs.Rows.{Rising, AreTreeRows}
 use Rattle.iot_tree.specs.Snapshots.{seen, is_reached, cut_rows, prune, AnswersOrAway}
@@ -210,6 +210,14 @@ seen_kind false (File bytes mode) = refl
 seen_kind false FarDir = refl
 seen_kind false (FarFile mode) = refl
 
+-- and a file its mode
+seen_mode : (b : Bool) (node : Node) → mode_answer (Some (seen b node)) false ≡ mode_answer (Some node) false
+seen_mode true node = refl
+seen_mode false Dir = refl
+seen_mode false (File bytes mode) = refl
+seen_mode false FarDir = refl
+seen_mode false (FarFile mode) = refl
+
 one_name : (p rest path : Path) → path ≡ p ++ rest → length path ≡ length p + 1 → (name : List ℕ) × (path ≡ p ++ name ∷ [])
 one_name p [] path is long = absurd (omega (arith, ap length is, length-append p []))
 one_name p (name ∷ []) path is long = (name, is)
@@ -317,3 +325,8 @@ module _ (s : Nodes) (k : Path → Bool) (tree : IsTree s) where
       by false knows (File bytes mode) reached = inl refl
       by false knows FarDir reached = inr refl
       by false knows (FarFile mode) reached = inl refl
+  answers_or_away (asks.Mode p) = elim (shows p) [
+    | neither is left_is above below ↦ inl (rw (is, left_is, above, below) refl)
+    | away is below ↦ inr (rw (is, below) refl)
+    | shown node is reached left_is above below ↦ inl (rw (is, left_is, above, below) (seen_mode (k p) node))
+  ]

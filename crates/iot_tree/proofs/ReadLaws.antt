@@ -8,7 +8,7 @@ use Rattle.std.specs.List.{starts_with, filter_map, cons_option}
 use Rattle.iot_text.specs.Paths.{path_cmp, IsBelow, last_of}
 use Rattle.iot_text.proofs.PathsLaws.{last_of-push}
 use Rattle.iot_tree.specs.Questions.{is_far_above, node_kind, kind_at, kind_answer, no_content, content_answer, child_of, children_of}
-use Rattle.iot_tree.specs.Questions.{names_answer, answer_of}
+use Rattle.iot_tree.specs.Questions.{names_answer, mode_answer, answer_of}
 use Rattle.iot_tree.specs.Tree.{Path, Row, Nodes, IsTree}
 use Rattle.iot_tree.specs.Updates.{IsLeaf}
 use Rattle.iot_tree.specs.declared.nodes.Node.{Node}
@@ -18,6 +18,7 @@ use Rattle.iot_tree.specs.declared.questions.Answer.{Answer}
 use Rattle.iot_tree.proofs.TreeLaws.{same_or_apart, none_some, ancestors}
 use Rattle.iot_tree.proofs.WithinLaws.{test_is}
 use Rattle.iot_tree.specs.declared.kinds.Kind.{Kind as ChildKind}
+use Rattle.iot_tree.specs.declared.kinds.Kind.TheVariants as kinds
 use Rattle.iot_tree.specs.declared.questions.Question.TheVariants.{Kind, Names}
 use Rattle.iot_tree.specs.declared.questions.Answer.TheVariants as answers
 
@@ -79,6 +80,27 @@ names_row (Some FarDir) above children names is = absurd cc
 names_row (Some (File bytes mode)) above children names is = absurd (no_names above names is)
 names_row (Some (FarFile mode)) above children names is = absurd (no_names above names is)
 names_row None above children names is = absurd (no_names above names is)
+
+pub on_row : (o : Option Node) (above : Bool) → mode_answer o above ≡ answers.On → IsFileRow o
+on_row (Some (File bytes mode)) above is = known bytes mode refl
+on_row (Some (FarFile mode)) above is = far mode refl
+on_row (Some Dir) above is = absurd cc
+on_row (Some FarDir) above is = absurd cc
+on_row None true is = absurd cc
+on_row None false is = absurd cc
+
+pub off_row : (o : Option Node) (above : Bool) → mode_answer o above ≡ answers.Off → IsFileRow o
+off_row (Some (File bytes mode)) above is = known bytes mode refl
+off_row (Some (FarFile mode)) above is = far mode refl
+off_row (Some Dir) above is = absurd cc
+off_row (Some FarDir) above is = absurd cc
+off_row None true is = absurd cc
+off_row None false is = absurd cc
+
+-- a file's row shows that it is one
+pub file_shown : (o : Option Node) → IsFileRow o → option_map node_kind o ≡ Some kinds.IsFile
+file_shown o (known bytes mode is) = ap (option_map node_kind) is
+file_shown o (far mode is) = ap (option_map node_kind) is
 
 pub file_some : (o : Option Node) → IsFileRow o → IsSome o
 file_some o (known bytes mode is) = subst IsSome (sym is) refl

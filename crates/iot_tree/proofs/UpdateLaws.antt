@@ -10,11 +10,13 @@ use Rattle.std.specs.Ordering.{eq_by_cmp, is_eq}
 use Rattle.iot_text.specs.Paths.{path_cmp, parent_of, IsBelow}
 use Rattle.iot_text.proofs.PathsLaws.{parent_of-push, path_total}
 use Rattle.iot_tree.specs.Tree.{Path, Row, Nodes, parent_node, IsTree}
-use Rattle.iot_tree.specs.Updates.{IsLeaf, FitsRemove, FitsMove, Fits, renamed, renamed_row, moved, updated}
+use Rattle.iot_tree.specs.Updates.{IsLeaf, FitsRemove, FitsMove, FitsSetMode, Fits, renamed, renamed_row, moved, updated}
+use Rattle.iot_tree.specs.declared.nodes.Mode.{Mode}
 use Rattle.iot_tree.specs.declared.nodes.Node.TheVariants.{Dir, FarDir}
 use Rattle.iot_tree.specs.declared.updates.Update.{Update}
-use Rattle.iot_tree.specs.declared.updates.Update.TheVariants.{Put, MakeDir, Remove, Move}
+use Rattle.iot_tree.specs.declared.updates.Update.TheVariants.{Put, MakeDir, Remove, Move, SetMode}
 use Rattle.iot_tree.proofs.AncestorLaws.{ends, at_root, in_name}
+use Rattle.iot_tree.proofs.FitsLaws.{file_there, mode_fits_put, mode_inserts}
 use Rattle.iot_tree.proofs.RenamedLaws.{renamed_inside, renamed_outside}
 use Rattle.iot_tree.proofs.TreeLaws.{apart, none_some, none_not_some, ancestors, tree_insert}
 use Rattle.iot_tree.proofs.WithinLaws.{IsOutside, Outside, test_is, side, same_front, outside_found, forked, inside, outside}
@@ -198,12 +200,19 @@ module _ (t : Nodes) (tree : IsTree t) (p q : Path) (fits : FitsMove t p q) wher
       (rw (moved_else [] (nil_outside p fits.from_below_root) (nil_outside q fits.to_below_root)) tree.root)
       known
 
+tree_set : (t : Nodes) → IsTree t → (p : Path) (mode : Mode) → FitsSetMode t p → IsTree (updated t (SetMode p mode))
+tree_set t tree p mode fits =
+    let there = file_there t p fits in
+    let put = mode_fits_put t tree p fits in
+    subst IsTree (sym (mode_inserts t p mode there.0 there.1)) (tree_insert t tree p _ put.parent put.no_dir)
+
 -- the tree after an update that fits is a tree
 pub tree_updated : (t : Nodes) (update : Update) → IsTree t → Fits t update → IsTree (updated t update)
 tree_updated t (Put p bytes) tree fits = tree_insert t tree p _ fits.parent fits.no_dir
 tree_updated t (MakeDir p) tree fits = tree_insert t tree p _ fits.parent (λ is. none_not_some _ Dir fits.absent is)
 tree_updated t (Remove p) tree fits = tree_removed t tree p fits
 tree_updated t (Move p q) tree fits = tree_moved t tree p q fits
+tree_updated t (SetMode p mode) tree fits = tree_set t tree p mode fits
 
 -- ---- which moves fit
 

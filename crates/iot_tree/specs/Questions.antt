@@ -7,12 +7,14 @@ use Rattle.iot_tree.specs.Ancestors.{proper_prefixes}
 use Rattle.iot_tree.specs.Tree.{Nodes, Path, Row}
 use Rattle.iot_tree.specs.declared.nodes.Node.{Node}
 use Rattle.iot_tree.specs.declared.nodes.Node.TheVariants.{Dir, File, FarDir, FarFile}
+use Rattle.iot_tree.specs.declared.nodes.Mode.{Mode}
+use Rattle.iot_tree.specs.declared.nodes.Mode.TheVariants as modes
 use Rattle.iot_tree.specs.declared.kinds.Kind.{Kind}
 use Rattle.iot_tree.specs.declared.kinds.Kind.TheVariants as kinds
 use Rattle.iot_tree.specs.declared.questions.Question.{Question}
 use Rattle.iot_tree.specs.declared.questions.Question.TheVariants as asks
 use Rattle.iot_tree.specs.declared.questions.Answer.{Answer}
-use Rattle.iot_tree.specs.declared.questions.Answer.TheVariants.{Away, Absent, IsDir, IsFile, Bytes, Names}
+use Rattle.iot_tree.specs.declared.questions.Answer.TheVariants.{Away, Absent, IsDir, IsFile, Bytes, Names, On, Off}
 
 -- whether the node is a directory, whose names may be known or not
 abbrev pub is_dir : Node → Bool
@@ -89,6 +91,19 @@ content_answer (Some Dir) far = no_content far
 content_answer (Some FarDir) far = no_content far
 content_answer None far = no_content far
 
+-- a mode as an answer
+abbrev pub mode_told : Mode → Answer
+mode_told modes.Off = Off
+mode_told modes.On = On
+
+-- the mode that a path's row shows, as an answer; a directory has none
+abbrev pub mode_answer : Option Node → Bool → Answer
+mode_answer (Some (File bytes mode)) far = mode_told mode
+mode_answer (Some (FarFile mode)) far = mode_told mode
+mode_answer (Some Dir) far = Absent
+mode_answer (Some FarDir) far = Absent
+mode_answer None far = no_content far
+
 -- whether the row is at or below p
 abbrev pub is_within : Path → Row → Bool
 is_within p row = starts_with bytes_eq row.0 p
@@ -118,3 +133,4 @@ abbrev pub answer_of : Nodes → Question → Answer
 answer_of t (asks.Kind p) = kind_answer (kind_of t p)
 answer_of t (asks.Content p) = content_answer (get t p) (is_far_above t p)
 answer_of t (asks.Names p) = names_answer (get t p) (is_far_above t p) (children_of t p)
+answer_of t (asks.Mode p) = mode_answer (get t p) (is_far_above t p)

@@ -12,7 +12,7 @@ use Rattle.iot_tree.specs.Tree.{Nodes, Path, Row}
 use Rattle.iot_tree.specs.declared.nodes.Node.{Node}
 use Rattle.iot_tree.specs.declared.nodes.Node.TheVariants.{Dir, File, FarDir, FarFile}
 use Rattle.iot_tree.specs.declared.questions.Answer.{Answer}
-use Rattle.iot_tree.specs.declared.questions.Answer.TheVariants.{Away, Absent, IsDir, IsFile, Bytes, Names}
+use Rattle.iot_tree.specs.declared.questions.Answer.TheVariants.{Away, Absent, IsDir, IsFile, Bytes, Names, On, Off}
 use Rattle.iot_tree.specs.declared.questions.Question.{Question}
 use Rattle.iot_tree.specs.declared.want.Want.{Want}
 use Rattle.iot_tree.specs.declared.want.Want.TheVariants as wanted
@@ -93,3 +93,5 @@ is_away IsDir = false
 is_away IsFile = false
 is_away (Bytes bytes) = false
 is_away (Names children) = false
+is_away On = false
+is_away Off = false

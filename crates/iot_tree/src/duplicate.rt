@@ -59,6 +59,7 @@ impl Duplicate for Question {
             Question::Kind(path) => Question::Kind(path.copy(alloc)?),
             Question::Content(path) => Question::Content(path.copy(alloc)?),
             Question::Names(path) => Question::Names(path.copy(alloc)?),
+            Question::Mode(path) => Question::Mode(path.copy(alloc)?),
         })
     }
 }
@@ -72,6 +73,8 @@ impl Duplicate for Answer {
             Answer::IsFile => Answer::IsFile,
             Answer::Bytes(bytes) => Answer::Bytes(bytes.copy(alloc)?),
             Answer::Names(children) => Answer::Names(children.copy(alloc)?),
+            Answer::On => Answer::On,
+            Answer::Off => Answer::Off,
         })
     }
 }
@@ -83,6 +86,7 @@ impl Duplicate for Update {
             Update::MakeDir(path) => Update::MakeDir(path.copy(alloc)?),
             Update::Remove(path) => Update::Remove(path.copy(alloc)?),
             Update::Move(from, to) => Update::Move(from.copy(alloc)?, to.copy(alloc)?),
+            Update::SetMode(path, mode) => Update::SetMode(path.copy(alloc)?, *mode),
         })
     }
 }

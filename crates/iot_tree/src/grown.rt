@@ -4,9 +4,10 @@ ghost use Rattle.std.specs.Option.{option_copied};
 ghost use Rattle.std.specs.FinMap as map;
 ghost use Rattle.iot_tree.specs.Place.{IsPlace};
 ghost use Rattle.iot_tree.specs.Tree.{IsTree, root_alone, parent_node};
-ghost use Rattle.iot_tree.specs.Updates.{FitsPut, FitsMakeDir, FitsRemove, FitsMove, IsLeaf, Fits, moved, updated};
+ghost use Rattle.iot_tree.specs.Updates.{FitsPut, FitsMakeDir, FitsRemove, FitsMove, FitsSetMode, IsLeaf, Fits, moved, updated};
 ghost use Rattle.iot_tree.specs.Rows.{AreTreeRows, RefusesRows};
-ghost use Rattle.iot_tree.specs.Questions.{is_dir, kind_of, content_of, answer_of, content_answer, names_answer, children_of, is_far_above};
+ghost use Rattle.iot_tree.specs.Questions.{is_dir, kind_of, content_of, answer_of, content_answer, names_answer, mode_answer};
+ghost use Rattle.iot_tree.specs.Questions.{children_of, is_far_above};
 
 use crate::children::{begins_within, children_of, count_within, is_names};
 use crate::moves::{put_last, renamed_paths};
@@ -142,6 +143,7 @@ impl Grown {
             Question::Kind(path) => Ok(self.kind(path).into_answer()),
             Question::Content(path) => self.content_answer(alloc, path),
             Question::Names(path) => self.names_answer(alloc, path),
+            Question::Mode(path) => Ok(self.mode_answer(path)),
         }
     }
 
@@ -155,6 +157,7 @@ impl Grown {
             Question::Kind(path) => self.kind(path).is_answer(&read.answer),
             Question::Content(path) => self.has_content(path, &read.answer),
             Question::Names(path) => self.has_names(path, &read.answer),
+            Question::Mode(path) => self.has_mode(path, &read.answer),
         }
     }
 
@@ -167,6 +170,7 @@ impl Grown {
             Update::MakeDir(path) => self.fits_make_dir(path),
             Update::Remove(path) => self.fits_remove(path),
             Update::Move(from, to) => self.fits_move(from, to),
+            Update::SetMode(path, _) => self.fits_set_mode(path),
         }
     }
 
@@ -184,6 +188,7 @@ impl Grown {
                 Ok(())
             }
             Update::Move(from, to) => self.move_to(alloc, from, to),
+            Update::SetMode(path, mode) => self.set_mode(path, *mode),
         }
     }
 
@@ -196,6 +201,16 @@ impl Grown {
         match self.node(path.names()) {
             Some(node) => !node.is_dir(),
             None => self.is_in_known_dir(path),
+        }
+    }
+
+    /// Whether the path's file can get a mode.
+    fn fits_set_mode(&self, path: &Path) -> bool
+        ensures { IsTrue result ↔ FitsSetMode self.now path.now }
+    {
+        match self.node(path.names()) {
+            Some(node) => matches!(node.kind(), Kind::IsFile),
+            None => false,
         }
     }
 
@@ -345,6 +360,30 @@ impl Grown {
         }
     }
 
+    /// The answer to the question for a file's mode. Does not allocate.
+    fn mode_answer(&self, path: &Path) -> Answer
+        ensures answer { result ≡ mode_answer (map.get self.now path.now) (is_far_above self.now path.now) }
+        ensures tree { IsTree self.now }
+    {
+        let rows = self.rows.as_slice();
+        match place_of(rows, path.names()) {
+            Ok(at) => rows[at].1.mode_answer(),
+            Err(gap) => kind_in_gap(rows, gap, path.names()).into_answer(),
+        }
+    }
+
+    /// Whether this is the answer to the question for a file's mode.
+    fn has_mode(&self, path: &Path, answer: &Answer) -> bool
+        ensures answers { IsTrue result ↔ (mode_answer (map.get self.now path.now) (is_far_above self.now path.now) ≡ answer.now) }
+        ensures tree { IsTree self.now }
+    {
+        let rows = self.rows.as_slice();
+        match place_of(rows, path.names()) {
+            Ok(at) => rows[at].1.has_mode(answer),
+            Err(gap) => kind_in_gap(rows, gap, path.names()).is_answer(answer),
+        }
+    }
+
     /// Whether what is at the path can go.
     fn fits_remove(&self, path: &Path) -> bool
         ensures { IsTrue result ↔ FitsRemove self.now path.now }
@@ -395,6 +434,19 @@ impl Grown {
             // Below a path without a row there is none.
             Err(_) => false,
         }
+    }
+
+    /// Gives the file at the path this mode. After an error the tree is as it was.
+    fn set_mode(&mut self, path: &Path, mode: Mode) -> Result<(), NoMemory>
+        requires { FitsSetMode self.old path.now }
+        ensures ok { OnOk result (self.new ≡ updated self.old (Update.SetMode path.now mode)) }
+        ensures err { OnErr result (self.new ≡ self.old) }
+    {
+        if let Ok(at) = place_of(self.rows.as_slice(), path.names()) {
+            let node = self.rows.as_slice()[at].1.with_mode(mode)?;
+            self.rows.set_value(at, node);
+        }
+        Ok(())
     }
 
     /// Takes the path's row away.

@@ -40,7 +40,7 @@ impl Kind {
             Answer::Absent => matches!(self, Kind::Absent),
             Answer::IsDir => matches!(self, Kind::IsDir),
             Answer::IsFile => matches!(self, Kind::IsFile),
-            Answer::Bytes(_) | Answer::Names(_) => false,
+            Answer::Bytes(_) | Answer::Names(_) | Answer::On | Answer::Off => false,
         }
     }
 }

@@ -13,6 +13,30 @@ pub enum Mode {
     On,
 }
 
+impl Mode {
+    ghost use Rattle.iot_tree.specs.Questions.{mode_told};
+
+    /// The mode as an answer.
+    fn into_answer(self) -> Answer
+        ensures { result ≡ mode_told self }
+    {
+        match self {
+            Mode::On => Answer::On,
+            Mode::Off => Answer::Off,
+        }
+    }
+
+    /// Whether the mode as an answer is this one.
+    fn is_answer(self, answer: &Answer) -> bool
+        ensures { IsTrue result ↔ (mode_told self ≡ answer.now) }
+    {
+        match self {
+            Mode::On => matches!(answer, Answer::On),
+            Mode::Off => matches!(answer, Answer::Off),
+        }
+    }
+}
+
 /// An object at a path. A far one is there, and its inside is not known.
 #[derive(Drop)]
 pub enum Node {
@@ -27,9 +51,9 @@ pub enum Node {
 }
 
 impl Node {
-    ghost use Rattle.iot_tree.specs.Questions.{is_dir, is_known_dir, node_kind, is_far_dir, content_at, content_answer};
+    ghost use Rattle.iot_tree.specs.Questions.{is_dir, is_known_dir, node_kind, is_far_dir, content_at, content_answer, mode_answer};
     ghost use Rattle.iot_tree.specs.Snapshots.{is_known, far, seen};
-    ghost use Rattle.iot_tree.specs.Updates.{mode_in};
+    ghost use Rattle.iot_tree.specs.Updates.{mode_in, with_mode};
 
     /// The kind of the object.
     pub fn kind(&self) -> Kind
@@ -49,6 +73,18 @@ impl Node {
             Node::File(_, mode) | Node::FarFile(mode) => *mode,
             Node::Dir | Node::FarDir => Mode::Off,
         }
+    }
+
+    /// The object with this mode, if it is a file. Does not allocate: the contents are shared.
+    pub(crate) fn with_mode(&self, mode: Mode) -> Result<Node, NoMemory>
+        ensures { IfOk result (λ node. node ≡ with_mode mode self.now) }
+    {
+        Ok(match self {
+            Node::Dir => Node::Dir,
+            Node::File(bytes, _) => Node::File(bytes.share()?, mode),
+            Node::FarDir => Node::FarDir,
+            Node::FarFile(_) => Node::FarFile(mode),
+        })
     }
 
     /// Whether this is a directory, whose names may be known or not.
@@ -124,6 +160,26 @@ impl Node {
                 _ => false,
             },
             Node::FarFile(_) => matches!(answer, Answer::Away),
+            Node::Dir | Node::FarDir => matches!(answer, Answer::Absent),
+        }
+    }
+
+    /// The answer of the object at a path to the question for a file's mode.
+    pub(crate) fn mode_answer(&self) -> Answer
+        ensures { result ≡ mode_answer (Some self.now) false }
+    {
+        match self {
+            Node::File(_, mode) | Node::FarFile(mode) => mode.into_answer(),
+            Node::Dir | Node::FarDir => Answer::Absent,
+        }
+    }
+
+    /// Whether this is the object's answer to the question for a file's mode.
+    pub(crate) fn has_mode(&self, answer: &Answer) -> bool
+        ensures { IsTrue result ↔ (mode_answer (Some self.now) false ≡ answer.now) }
+    {
+        match self {
+            Node::File(_, mode) | Node::FarFile(mode) => mode.is_answer(answer),
             Node::Dir | Node::FarDir => matches!(answer, Answer::Absent),
         }
     }

@@ -11,6 +11,8 @@ pub enum Question {
     Content(Path),
     /// What are the names in the directory at the path?
     Names(Path),
+    /// Is the file at the path executable?
+    Mode(Path),
 }
 
 /// The names in a directory, rising, each with the kind of what is there.
@@ -31,4 +33,8 @@ pub enum Answer {
     Bytes(Blob),
     /// The names in the directory.
     Names(Children),
+    /// The file is executable.
+    On,
+    /// The file is not executable.
+    Off,
 }

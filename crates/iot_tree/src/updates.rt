@@ -1,5 +1,5 @@
 //! Updates of a tree.
-use crate::{Blob, Sequence};
+use crate::{Blob, Mode, Sequence};
 use iot_text::Path;
 
 /// A change of a tree. Each fits a tree under conditions of its own, which [`crate::Tree::fits`] tests.
@@ -13,6 +13,8 @@ pub enum Update {
     Remove(Path),
     /// What is at the first path, with all below it, comes to the second, in place of what is there.
     Move(Path, Path),
+    /// The file at the path gets this mode.
+    SetMode(Path, Mode),
 }
 
 /// A list of updates.

@@ -13,7 +13,7 @@ use Rattle.iot_tree.specs.declared.questions.Question.TheVariants as asks
 use Rattle.iot_tree.specs.declared.questions.Answer.{Answer}
 use Rattle.iot_tree.specs.declared.questions.Answer.TheVariants as answers
 use Rattle.iot_tree.specs.declared.updates.Update.{Update}
-use Rattle.iot_tree.specs.declared.updates.Update.TheVariants.{Put, MakeDir, Remove, Move}
+use Rattle.iot_tree.specs.declared.updates.Update.TheVariants.{Put, MakeDir, Remove, Move, SetMode}
 use Rattle.iot_tree.specs.declared.acts.Read.{Read}
 use Rattle.iot_tree.specs.declared.access.Access.{Access}
 use Rattle.iot_tree.specs.declared.acts.Act.{Act}
@@ -25,7 +25,7 @@ use Rattle.iot_tree.specs.declared.labels.Way.TheVariants.{Certified, Reexecuted
 use Rattle.iot_tree.specs.declared.limits.TheConstants.{ACT_LIMIT, CONTENTS_LIMIT}
 use Rattle.iot_tree.specs.declared.changes.Changes.{Changes}
 use Rattle.iot_tree.specs.declared.nodes.Mode.{Mode}
-use Rattle.iot_tree.specs.declared.nodes.Mode.TheVariants.{Off, On}
+use Rattle.iot_tree.specs.declared.nodes.Mode.TheVariants as modes
 use Rattle.iot_tree.specs.declared.nodes.Node.{Node}
 use Rattle.iot_tree.specs.declared.nodes.Node.TheVariants.{Dir, File, FarDir, FarFile}
 use Rattle.iot_tree.specs.declared.want.Want.{Want}
@@ -82,12 +82,17 @@ kind_at = tagged ((3, done kinds.IsDir) ∷ (4, done kinds.IsFile) ∷ [])
 unfoldable pub children_at : Decoder (List (List ℕ × object.Kind))
 children_at = table_at (slice_cmp nat_cmp) name_at kind_at
 
+-- a mode: 0 for off, 1 for on
+unfoldable pub mode_at : Decoder Mode
+mode_at = tagged ((0, done modes.Off) ∷ (1, done modes.On) ∷ [])
+
 -- what a tag of a question is followed by
 abbrev pub question_table : List (ℕ × Decoder Question)
 question_table =
     (1, (do path ← path_at; done (asks.Kind path)))
     ∷ (2, (do path ← path_at; done (asks.Content path)))
     ∷ (3, (do path ← path_at; done (asks.Names path)))
+    ∷ (4, (do path ← path_at; done (asks.Mode path)))
     ∷ []
 
 unfoldable pub question_at : Decoder Question
@@ -102,6 +107,8 @@ answer_table =
     ∷ (4, done answers.IsFile)
     ∷ (5, (do contents ← contents_at; done (answers.Bytes contents)))
     ∷ (6, (do children ← children_at; done (answers.Names children)))
+    ∷ (7, done answers.On)
+    ∷ (8, done answers.Off)
     ∷ []
 
 unfoldable pub answer_at : Decoder Answer
@@ -123,6 +130,7 @@ update_table =
     ∷ (2, (do path ← path_at; done (MakeDir path)))
     ∷ (3, (do path ← path_at; done (Remove path)))
     ∷ (4, (do path ← path_at; other ← path_at; done (Move path other)))
+    ∷ (5, (do path ← path_at; mode ← mode_at; done (SetMode path mode)))
     ∷ []
 
 unfoldable pub update_at : Decoder Update
@@ -208,10 +216,6 @@ unfoldable pub paths_at : Decoder (List (List (List ℕ)))
 paths_at = do
   n ← number_at
   items_at next_path_at n None
-
--- a mode: 0 for off, 1 for on
-unfoldable pub mode_at : Decoder Mode
-mode_at = tagged ((0, done Off) ∷ (1, done On) ∷ [])
 
 -- what a tag of a node is followed by
 abbrev pub node_table : List (ℕ × Decoder Node)

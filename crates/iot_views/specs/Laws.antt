@@ -8,7 +8,7 @@ use Rattle.std.specs.declared.cmp.Ordering.{Ordering}
 use Rattle.iot_text.specs.Names.{is_name}
 use Rattle.iot_views.specs.Decoders.{Decoder, ◌>>=◌, go_on, done, tested, bytes_at, number_at, at_most, items_at, list_at}
 use Rattle.iot_views.specs.Decoders.{after_tag, after_byte, tagged}
-use Rattle.iot_views.specs.Decoding.{name_at, path_at, contents_at, line_at, pair_at, kind_at, children_at}
+use Rattle.iot_views.specs.Decoding.{name_at, path_at, contents_at, line_at, pair_at, kind_at, mode_at, children_at}
 use Rattle.iot_views.specs.Decoding.{question_at, answer_at, read_at, base_at, update_at}
 use Rattle.iot_views.specs.Listed.{counted_at, loose_pair_at, IsLooser, AreLooser}
 use Rattle.iot_views.specs.Loose.{path_again, children_again, question_again, answer_again, read_again, base_again, update_again}
@@ -158,7 +158,7 @@ question_looser =
       (
         refl,
         into_looser path_at path_again _ path_looser,
-        (refl, into_looser path_at path_again _ path_looser, tt),
+        (refl, into_looser path_at path_again _ path_looser, (refl, into_looser path_at path_again _ path_looser, tt)),
       ),
     )
 
@@ -180,7 +180,7 @@ answer_looser =
             (
               refl,
               into_looser contents_at counted_at _ contents_looser,
-              (refl, into_looser children_at children_again _ children_looser, tt),
+              (refl, into_looser children_at children_again _ children_looser, (refl, same _, (refl, same _, tt))),
             ),
           ),
         ),
@@ -208,7 +208,11 @@ update_looser =
         (
           refl,
           into_looser path_at path_again _ path_looser,
-          (refl, bind_looser path_at path_again _ _ path_looser (λ path. into_looser path_at path_again _ path_looser), tt),
+          (
+            refl,
+            bind_looser path_at path_again _ _ path_looser (λ path. into_looser path_at path_again _ path_looser),
+            (refl, bind_looser path_at path_again _ _ path_looser (λ path. into_looser mode_at mode_at _ (same mode_at)), tt),
+          ),
         ),
       ),
     )

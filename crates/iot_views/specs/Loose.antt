@@ -6,10 +6,10 @@ use Rattle.iot_tree.specs.declared.questions.Question.TheVariants as asks
 use Rattle.iot_tree.specs.declared.questions.Answer.{Answer}
 use Rattle.iot_tree.specs.declared.questions.Answer.TheVariants as answers
 use Rattle.iot_tree.specs.declared.updates.Update.{Update}
-use Rattle.iot_tree.specs.declared.updates.Update.TheVariants.{Put, MakeDir, Remove, Move}
+use Rattle.iot_tree.specs.declared.updates.Update.TheVariants.{Put, MakeDir, Remove, Move, SetMode}
 use Rattle.iot_tree.specs.declared.acts.Read.{Read}
 use Rattle.iot_views.specs.Decoders.{Decoder, ◌>>=◌, done, number_at, list_at, tagged}
-use Rattle.iot_views.specs.Decoding.{kind_at}
+use Rattle.iot_views.specs.Decoding.{kind_at, mode_at}
 use Rattle.iot_views.specs.Listed.{counted_at, loose_pair_at}
 
 unfoldable pub path_again : Decoder (List (List ℕ))
@@ -24,6 +24,7 @@ question_again =
     ((1, (do path ← path_again; done (asks.Kind path)))
     ∷ (2, (do path ← path_again; done (asks.Content path)))
     ∷ (3, (do path ← path_again; done (asks.Names path)))
+    ∷ (4, (do path ← path_again; done (asks.Mode path)))
     ∷ [])
 
 unfoldable pub answer_again : Decoder Answer
@@ -35,6 +36,8 @@ answer_again =
     ∷ (4, done answers.IsFile)
     ∷ (5, (do contents ← counted_at; done (answers.Bytes contents)))
     ∷ (6, (do children ← children_again; done (answers.Names children)))
+    ∷ (7, done answers.On)
+    ∷ (8, done answers.Off)
     ∷ [])
 
 unfoldable pub read_again : Decoder Read
@@ -56,4 +59,5 @@ update_again =
     ∷ (2, (do path ← path_again; done (MakeDir path)))
     ∷ (3, (do path ← path_again; done (Remove path)))
     ∷ (4, (do path ← path_again; other ← path_again; done (Move path other)))
+    ∷ (5, (do path ← path_again; mode ← mode_at; done (SetMode path mode)))
     ∷ [])

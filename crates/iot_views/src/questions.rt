@@ -18,6 +18,7 @@ pub enum QuestionView<'a> {
     Kind(PathView<'a>),
     Content(PathView<'a>),
     Names(PathView<'a>),
+    Mode(PathView<'a>),
 }
 
 /// A question.
@@ -37,6 +38,10 @@ fn question_at(bytes: &[u8], at: usize) -> Result<(QuestionView<'_>, usize), Mal
         Some(3) => {
             let (path, end) = path_at(bytes, at + 1)?;
             Ok((QuestionView::Names(path), end))
+        }
+        Some(4) => {
+            let (path, end) = path_at(bytes, at + 1)?;
+            Ok((QuestionView::Mode(path), end))
         }
         _ => Err(fault_at(at)),
     }
@@ -60,6 +65,10 @@ fn question_again(bytes: &[u8], at: usize) -> Result<(QuestionView<'_>, usize), 
             let (path, end) = path_again(bytes, at + 1)?;
             Ok((QuestionView::Names(path), end))
         }
+        Some(4) => {
+            let (path, end) = path_again(bytes, at + 1)?;
+            Ok((QuestionView::Mode(path), end))
+        }
         _ => Err(fault_at(at)),
     }
 }
@@ -73,6 +82,8 @@ pub enum AnswerView<'a> {
     IsFile,
     Bytes(&'a [u8]),
     Names(ChildViews<'a>),
+    On,
+    Off,
 }
 
 /// An answer.
@@ -93,6 +104,8 @@ fn answer_at(bytes: &[u8], at: usize) -> Result<(AnswerView<'_>, usize), Malform
             let (children, end) = children_at(bytes, at + 1)?;
             Ok((AnswerView::Names(children), end))
         }
+        Some(7) => Ok((AnswerView::On, at + 1)),
+        Some(8) => Ok((AnswerView::Off, at + 1)),
         _ => Err(fault_at(at)),
     }
 }
@@ -115,6 +128,8 @@ fn answer_again(bytes: &[u8], at: usize) -> Result<(AnswerView<'_>, usize), Malf
             let (children, end) = children_again(bytes, at + 1)?;
             Ok((AnswerView::Names(children), end))
         }
+        Some(7) => Ok((AnswerView::On, at + 1)),
+        Some(8) => Ok((AnswerView::Off, at + 1)),
         _ => Err(fault_at(at)),
     }
 }

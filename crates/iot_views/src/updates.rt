@@ -7,9 +7,10 @@ ghost use Rattle.iot_views.specs.Laws.{each, update_looser};
 ghost use Rattle.iot_views.specs.Seen.{update_seen};
 
 use crate::lists::{Lent, Views};
+use crate::modes::mode_at;
 use crate::names::{PathView, path_again, path_at};
 use crate::parts::{Malformed, contents_at, counted_at, fault_at, tag_at};
-use iot_tree::Update;
+use iot_tree::{Mode, Update};
 
 /// A change of a tree.
 #[derive(Drop)]
@@ -18,6 +19,7 @@ pub enum UpdateView<'a> {
     MakeDir(PathView<'a>),
     Remove(PathView<'a>),
     Move(PathView<'a>, PathView<'a>),
+    SetMode(PathView<'a>, Mode),
 }
 
 /// A list of updates.
@@ -33,6 +35,7 @@ impl<'a> UpdateView<'a> {
             UpdateView::MakeDir(path) => UpdateView::MakeDir(path.again()),
             UpdateView::Remove(path) => UpdateView::Remove(path.again()),
             UpdateView::Move(path, other) => UpdateView::Move(path.again(), other.again()),
+            UpdateView::SetMode(path, mode) => UpdateView::SetMode(path.again(), *mode),
         }
     }
 }
@@ -61,6 +64,11 @@ fn update_at(bytes: &[u8], at: usize) -> Result<(UpdateView<'_>, usize), Malform
             let (other, end) = path_at(bytes, after)?;
             Ok((UpdateView::Move(path, other), end))
         }
+        Some(5) => {
+            let (path, after) = path_at(bytes, at + 1)?;
+            let (mode, end) = mode_at(bytes, after)?;
+            Ok((UpdateView::SetMode(path, mode), end))
+        }
         _ => Err(fault_at(at)),
     }
 }
@@ -88,6 +96,11 @@ fn update_again(bytes: &[u8], at: usize) -> Result<(UpdateView<'_>, usize), Malf
             let (path, after) = path_again(bytes, at + 1)?;
             let (other, end) = path_again(bytes, after)?;
             Ok((UpdateView::Move(path, other), end))
+        }
+        Some(5) => {
+            let (path, after) = path_again(bytes, at + 1)?;
+            let (mode, end) = mode_at(bytes, after)?;
+            Ok((UpdateView::SetMode(path, mode), end))
         }
         _ => Err(fault_at(at)),
     }

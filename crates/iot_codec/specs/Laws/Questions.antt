@@ -28,7 +28,10 @@ question_arms =
     (spelled : (path : List (List ℕ)) → question_spelling (make path) ≡ tag ∷ path_spelling path).
     single_arm IsQuestion question_spelling tag IsPath path_spelling path_at path_laws make has spelled in (
       of 1 asks.Kind (λ x has. has) (λ x. refl),
-      (of 2 asks.Content (λ x has. has) (λ x. refl), (of 3 asks.Names (λ x has. has) (λ x. refl), tt)),
+      (
+        of 2 asks.Content (λ x has. has) (λ x. refl),
+        (of 3 asks.Names (λ x has. has) (λ x. refl), (of 4 asks.Mode (λ x has. has) (λ x. refl), tt)),
+      ),
     )
 
 question_again : (q : Question) (bytes : List ℕ) (at end : ℕ) → length bytes < 2 ^ 64 → IsQuestion q
@@ -43,12 +46,16 @@ question_again (asks.Content path) bytes at end short has p =
 question_again (asks.Names path) bytes at end short has p =
     tagged_again question_table bytes at end 3 (path_spelling path) p
     ∙ single_again IsPath path_spelling path_at path_laws asks.Names path bytes at end 3 short has p
+question_again (asks.Mode path) bytes at end short has p =
+    tagged_again question_table bytes at end 4 (path_spelling path) p
+    ∙ single_again IsPath path_spelling path_at path_laws asks.Mode path bytes at end 4 short has p
 
 question_some : (q : Question) → 0 < length (question_spelling q)
 unfolding question_spelling
 question_some (asks.Kind path) = omega arith
 question_some (asks.Content path) = omega arith
 question_some (asks.Names path) = omega arith
+question_some (asks.Mode path) = omega arith
 
 pub question_laws : IsSpelling IsQuestion question_spelling question_at
 unfolding question_at
@@ -73,7 +80,16 @@ answer_arms =
     single_arm IsAnswer answer_spelling 6 AreChildren children_spelling children_at children_laws answers.Names (λ x has. has)
     (λ x. refl) in (
       empty 1 answers.Away tt refl,
-      (empty 2 answers.Absent tt refl, (empty 3 answers.IsDir tt refl, (empty 4 answers.IsFile tt refl, (bytes, (names, tt))))),
+      (
+        empty 2 answers.Absent tt refl,
+        (
+          empty 3 answers.IsDir tt refl,
+          (
+            empty 4 answers.IsFile tt refl,
+            (bytes, (names, (empty 7 answers.On tt refl, (empty 8 answers.Off tt refl, tt)))),
+          ),
+        ),
+      ),
     )
 
 answer_again : (a : Answer) (bytes : List ℕ) (at end : ℕ) → length bytes < 2 ^ 64 → IsAnswer a → LiesAt bytes at (answer_spelling a) end
@@ -93,6 +109,10 @@ answer_again (answers.Bytes contents) bytes at end short has p =
 answer_again (answers.Names children) bytes at end short has p =
     tagged_again answer_table bytes at end 6 (children_spelling children) p
     ∙ single_again AreChildren children_spelling children_at children_laws answers.Names children bytes at end 6 short has p
+answer_again answers.On bytes at end short has p =
+    tagged_again answer_table bytes at end 7 [] p ∙ empty_again answers.On bytes at end 7 p
+answer_again answers.Off bytes at end short has p =
+    tagged_again answer_table bytes at end 8 [] p ∙ empty_again answers.Off bytes at end 8 p
 
 answer_some : (a : Answer) → 0 < length (answer_spelling a)
 unfolding answer_spelling
@@ -102,6 +122,8 @@ answer_some answers.IsDir = omega arith
 answer_some answers.IsFile = omega arith
 answer_some (answers.Bytes contents) = omega arith
 answer_some (answers.Names children) = omega arith
+answer_some answers.On = omega arith
+answer_some answers.Off = omega arith
 
 pub answer_laws : IsSpelling IsAnswer answer_spelling answer_at
 unfolding answer_at

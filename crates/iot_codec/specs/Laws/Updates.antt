@@ -2,21 +2,22 @@
 use Rattle.std.proofs.Common.{◌≡◌, ℕ, suc, ◌<◌, ◌≤◌, ◌^◌, List, ◌∷◌, ◌++◌, length, Option, None, Ok, refl, ◌∙◌, arith}
 use Rattle.iot_text.specs.Paths.{IsPath}
 use Rattle.iot_tree.specs.declared.updates.Update.{Update}
-use Rattle.iot_tree.specs.declared.updates.Update.TheVariants.{Put, MakeDir, Remove, Move}
+use Rattle.iot_tree.specs.declared.updates.Update.TheVariants.{Put, MakeDir, Remove, Move, SetMode}
 use Rattle.iot_tree.specs.declared.acts.Read.{Read}
 use Rattle.iot_tree.specs.declared.acts.Act.{Act}
 use Rattle.iot_tree.specs.declared.limits.TheConstants.{ACT_LIMIT}
 use Rattle.iot_codec.specs.Places.{LiesAt, IsSpelling}
 use Rattle.iot_views.specs.Decoders.{◌>>=◌, done, at_most}
-use Rattle.iot_views.specs.Decoding.{path_at, contents_at, lines_at, reads_at, update_table, update_at, optional_update_at, act_at, acts_at}
-use Rattle.iot_views.specs.Rules.{IsContents, AreLines, AreReads, IsUpdate, IsOptionalUpdate, IsAct, AreActs}
-use Rattle.iot_codec.specs.Spelling.{path_spelling, contents_spelling, lines_spelling, reads_spelling, update_spelling}
+use Rattle.iot_views.specs.Decoding.{path_at, contents_at, mode_at, lines_at, reads_at, update_table, update_at, optional_update_at, act_at, acts_at}
+use Rattle.iot_views.specs.Rules.{IsContents, IsMode, AreLines, AreReads, IsUpdate, IsOptionalUpdate, IsAct, AreActs}
+use Rattle.iot_codec.specs.Spelling.{path_spelling, contents_spelling, mode_spelling, lines_spelling, reads_spelling, update_spelling}
 use Rattle.iot_codec.specs.Spelling.{optional_update_spelling, act_spelling, acts_spelling}
 use Rattle.iot_codec.specs.Laws.Parts.{at_most_laws, same_rule}
 use Rattle.iot_codec.specs.Laws.Lists.{Follow, counted_list_laws, follow_from_all, all_from_follow}
 use Rattle.iot_codec.specs.Laws.Tags.{AreArms, optional_laws, single_arm, double_arm, tagged_found, tagged_again, single_again}
 use Rattle.iot_codec.specs.Laws.Tags.{double_again}
 use Rattle.iot_codec.specs.Laws.Fields.{last_field, next_field, all_fields}
+use Rattle.iot_codec.specs.Laws.Modes.{mode_laws}
 use Rattle.iot_codec.specs.Laws.Values.{path_laws, contents_laws, lines_laws}
 use Rattle.iot_codec.specs.Laws.Questions.{reads_laws}
 
@@ -34,7 +35,10 @@ update_arms =
     let move =
     double_arm IsUpdate update_spelling 4 IsPath path_spelling path_at path_laws IsPath path_spelling path_at path_laws Move
     (λ x y has_x has_y. (has_x, has_y)) (λ x y. refl) in
-    (put, (of 2 MakeDir (λ x has. has) (λ x. refl), (of 3 Remove (λ x has. has) (λ x. refl), (move, tt))))
+    let set_mode =
+    double_arm IsUpdate update_spelling 5 IsPath path_spelling path_at path_laws IsMode mode_spelling mode_at mode_laws SetMode
+    (λ x y has_x has_y. has_x) (λ x y. refl) in
+    (put, (of 2 MakeDir (λ x has. has) (λ x. refl), (of 3 Remove (λ x has. has) (λ x. refl), (move, (set_mode, tt)))))
 
 update_again : (u : Update) (bytes : List ℕ) (at end : ℕ) → length bytes < 2 ^ 64 → IsUpdate u → LiesAt bytes at (update_spelling u) end
     → update_at bytes at ≡ Ok (u, end)
@@ -53,6 +57,10 @@ update_again (Move path other) bytes at end short has p =
     tagged_again update_table bytes at end 4 (path_spelling path ++ path_spelling other) p
     ∙ double_again IsPath path_spelling path_at path_laws IsPath path_spelling path_at path_laws Move path other bytes at end 4 short has.0
     has.1 p
+update_again (SetMode path mode) bytes at end short has p =
+    tagged_again update_table bytes at end 5 (path_spelling path ++ mode_spelling mode) p
+    ∙ double_again IsPath path_spelling path_at path_laws IsMode mode_spelling mode_at mode_laws SetMode path mode bytes at end 5 short has
+    tt p
 
 -- no update begins with a zero
 update_tag : (u : Update) → (tag : ℕ) × (text : List ℕ) × (update_spelling u ≡ suc tag ∷ text)
@@ -61,6 +69,7 @@ update_tag (Put path contents) = (0, path_spelling path ++ contents_spelling con
 update_tag (MakeDir path) = (1, path_spelling path, refl)
 update_tag (Remove path) = (2, path_spelling path, refl)
 update_tag (Move path other) = (3, path_spelling path ++ path_spelling other, refl)
+update_tag (SetMode path mode) = (4, path_spelling path ++ mode_spelling mode, refl)
 
 update_some : (u : Update) → 0 < length (update_spelling u)
 update_some u = let t = update_tag u in rw t.2 (omega arith)

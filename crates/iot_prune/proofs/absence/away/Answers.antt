@@ -1,6 +1,9 @@
-use Rattle.std.proofs.Common.{sym}
-use Rattle.iot_prune.proofs.AwayLaws.{content_known, names_known}
+use Rattle.std.proofs.Common.{sym, ◌∙◌}
+use Rattle.iot_prune.proofs.AwayLaws.{content_known, names_known, kind_or_mode}
 use Rattle.iot_prune.proofs.absence.away.Goals as goal
+
+pub returns-in-Kind : goal.returns-in-Kind
+returns-in-Kind c = c.is_below_far-in-Kind.ensures ∙ kind_or_mode c.args.t.now c.in-Kind.path c.args.q.now c.in-Kind.is
 
 pub returns-in_default : goal.returns-in_default
 returns-in_default c =

@@ -1,8 +1,7 @@
-use Rattle.std.proofs.Common.{◌≡◌, ◌∙◌, sym, ap, subst, refl, Some, Ok, Err, Result, List, ℕ, OnOk}
+use Rattle.std.proofs.Common.{◌≡◌, ◌∙◌, sym, ap, subst, Ok, Err, OnOk}
 use Rattle.std.specs.FinMap.{entries, get, insert}
 use Rattle.iot_tree.specs.Place.{IsPlace}
-use Rattle.iot_tree.specs.Rows.{map_of, AreTreeRows}
-use Rattle.iot_tree.specs.Tree.{Nodes, Path, Row}
+use Rattle.iot_tree.specs.Tree.{Nodes}
 use Rattle.iot_tree.specs.Updates.{mode_in}
 use Rattle.iot_tree.specs.declared.nodes.Mode.{Mode}
 use Rattle.iot_tree.specs.declared.nodes.Node.TheVariants.{File}
