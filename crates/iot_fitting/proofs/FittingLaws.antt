@@ -1,5 +1,5 @@
 -- Updates that are made in turn, up to one that does not fit.
-use Rattle.std.proofs.Common.{◌≡◌, ◌↔◌, List, [], ◌∷◌, ◌++◌, refl, subst}
+use Rattle.std.proofs.Common.{◌≡◌, ◌↔◌, List, ◌∷◌, ◌++◌, subst}
 use Rattle.iot_tree.specs.Tree.{Nodes, IsTree}
 use Rattle.iot_tree.specs.Updates.{Fits, updated}
 use Rattle.iot_tree.specs.declared.updates.Update.{Update}

@@ -1,6 +1,6 @@
 -- What undoes an update that fits a tree: it can be done after the update, and brings the tree back.
 use Rattle.std.proofs.Common.{◌≡◌, ◌≢◌, ℕ, List, [], ◌∷◌, ◌++◌, Option, Some, None, IsSome, refl, sym, ap, subst, ◌∙◌, cond, false}
-use Rattle.std.proofs.Common.{inl, inr, option_and_then}
+use Rattle.std.proofs.Common.{inl, inr, option_and_then, ◌⊎◌}
 use Rattle.std.proofs.lemmas.List.{append-nil}
 use Rattle.std.specs.Prelude.{unwrap_or}
 use Rattle.std.specs.FinMap.{get, insert, remove, get-remove, same_map}
@@ -9,19 +9,21 @@ use Rattle.std.specs.Ordering.{eq_by_cmp}
 use Rattle.iot_text.specs.Paths.{path_cmp}
 use Rattle.iot_text.proofs.PathsLaws.{parent_of-push, path_same, path_total}
 use Rattle.iot_tree.specs.Tree.{Path, Nodes, parent_node, IsTree}
-use Rattle.iot_tree.specs.Updates.{IsLeaf, FitsPut, FitsMakeDir, FitsRemove, FitsMove, Fits, mode_in, moved, updated}
+use Rattle.iot_tree.specs.Updates.{IsLeaf, FitsPut, FitsRemove, FitsMove, FitsSetMode, Fits, mode_in, with_mode, mode_set}
+use Rattle.iot_tree.specs.Updates.{moved, updated}
+use Rattle.iot_tree.specs.declared.nodes.Mode.{Mode}
 use Rattle.iot_tree.specs.declared.nodes.Node.{Node}
 use Rattle.iot_tree.specs.declared.nodes.Node.TheVariants.{Dir, File, FarDir}
 use Rattle.iot_tree.specs.declared.updates.Update.{Update}
-use Rattle.iot_tree.specs.declared.updates.Update.TheVariants.{Put, MakeDir, Remove, Move}
+use Rattle.iot_tree.specs.declared.updates.Update.TheVariants.{Put, MakeDir, Remove, Move, SetMode}
 use Rattle.iot_tree.proofs.AncestorLaws.{ends, at_root, in_name}
-use Rattle.iot_tree.proofs.FitsLaws.{fits_here}
+use Rattle.iot_tree.proofs.FitsLaws.{fits_here, is_no_dir, mode_fits_put, still_file}
 use Rattle.iot_tree.proofs.TreeLaws.{apart, same_or_apart, get-insert_other, none_not_some, ancestors, tree_insert}
 use Rattle.iot_tree.proofs.UpdateLaws.{longer, longer_front, other_stays, is_gone, front_outside, tree_moved}
 use Rattle.iot_tree.proofs.UpdateLaws.{to_outside, from_outside, moved_at, moved_gone, moved_else}
 use Rattle.iot_tree.proofs.WithinLaws.{IsOutside, side, inside, outside}
 use Rattle.iot_access.proofs.StepLaws.{not_at, put_here, removed_inside}
-use Rattle.iot_fitting.specs.Undoing.{CanUndo, undone_by, restoring, undoing, CanUndoInTurn, after_undoing, Undoes}
+use Rattle.iot_fitting.specs.Undoing.{undone_by, restoring, undoing, CanUndoInTurn, after_undoing, Undoes}
 use Rattle.iot_fitting.specs.declared.undoing.Undo.{Undo}
 use Rattle.iot_fitting.specs.declared.undoing.Undo.TheVariants.{Restore, Make}
 
@@ -134,6 +136,23 @@ module _ (t : Nodes) (tree : IsTree t) where
       by None is = put_goes p (File bytes (mode_in (get t p))) is fits.parent
       by (Some old) is = put_over p bytes old fits is
 
+  -- ---- a file whose mode was set comes back
+
+  set_undone : (p : Path) (mode : Mode) → FitsSetMode t p → Undoes (undoing t (SetMode p mode)) (updated t (SetMode p mode)) t
+  set_undone p mode fits = by (get t p) refl
+    where
+      put : FitsPut t p
+      put = mode_fits_put t tree p fits
+
+      by : (o : Option Node) → get t p ≡ o → Undoes (cons_option (restoring p o) []) (mode_set t p mode o) t
+      by None is = record { can = tt; back = refl }
+      by (Some old) is =
+          let new : Node = with_mode mode old in
+          let after : IsTree (insert t p new) = tree_insert t tree p new put.parent put.no_dir in
+          let again : FitsPut (insert t p new) p =
+          fits_here (insert t p new) after p new (put_here t p new) (still_file mode old (is_no_dir t p old is put)) in
+          record { can = (again, tt); back = put_back t p new old is }
+
   -- ---- what was removed comes back
 
   parent_of_removed : (p : Path) → p ≢ [] → IsSome (get t p) → parent_node (remove t p) p ≡ Some Dir
@@ -200,9 +219,25 @@ module _ (t : Nodes) (tree : IsTree t) where
       back = ap (λ (u : Nodes). after_undoing u back) moved_back ∙ restored.back;
     }
 
+-- what is there comes back after it is removed, and after it gets a mode
+pub restores : (t : Nodes) (update : Update) (p : Path) (rest : List Undo)
+    → (update ≡ Remove p) ⊎ ((mode : Mode) × (update ≡ SetMode p mode))
+    → cons_option (restoring p (get t p)) rest ≡ undoing t update ++ rest
+restores t update p rest made =
+    more (restoring p (get t p)) ∙ ap (λ (steps : List Undo). steps ++ rest) (by made)
+  where
+    more : (step : Option Undo) → cons_option step rest ≡ cons_option step [] ++ rest
+    more None = refl
+    more (Some step) = refl
+
+    by : (update ≡ Remove p) ⊎ ((mode : Mode) × (update ≡ SetMode p mode)) → cons_option (restoring p (get t p)) [] ≡ undoing t update
+    by (inl removed) = sym (ap (undoing t) removed)
+    by (inr moded) = sym (ap (undoing t) moded.1)
+
 -- an update that fits is undone
 pub undone : (t : Nodes) (update : Update) → IsTree t → Fits t update → Undoes (undoing t update) (updated t update) t
 undone t (Put p bytes) tree fits = put_undone t tree p bytes fits
 undone t (MakeDir p) tree fits = put_goes t tree p Dir fits.absent fits.parent
 undone t (Remove p) tree fits = restored t tree p fits.below_root
 undone t (Move p q) tree fits = move_undone t tree p q fits (cons_option (restoring q (get t q)) []) (restored t tree q fits.to_below_root)
+undone t (SetMode p mode) tree fits = set_undone t tree p mode fits

@@ -6,7 +6,7 @@ use Rattle.iot_tree.specs.Tree.{Nodes, Path}
 use Rattle.iot_tree.specs.Updates.{Fits, FitsPut, updated}
 use Rattle.iot_tree.specs.declared.nodes.Node.{Node}
 use Rattle.iot_tree.specs.declared.updates.Update.{Update}
-use Rattle.iot_tree.specs.declared.updates.Update.TheVariants.{Put, MakeDir, Remove, Move}
+use Rattle.iot_tree.specs.declared.updates.Update.TheVariants.{Put, MakeDir, Remove, Move, SetMode}
 use Rattle.iot_fitting.specs.declared.undoing.Undo.{Undo}
 use Rattle.iot_fitting.specs.declared.undoing.Undo.TheVariants.{Restore, Make}
 
@@ -35,6 +35,7 @@ undoing t (Put p bytes) = unwrap_or (restoring p (get t p)) (Make (Remove p)) �
 undoing t (MakeDir p) = Make (Remove p) ∷ []
 undoing t (Remove p) = cons_option (restoring p (get t p)) []
 undoing t (Move p q) = Make (Move q p) ∷ cons_option (restoring q (get t q)) []
+undoing t (SetMode p mode) = cons_option (restoring p (get t p)) []
 
 -- ---- steps in turn
 

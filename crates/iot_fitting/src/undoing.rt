@@ -66,7 +66,7 @@ pub(crate) fn push_undoing(
     match update {
         Update::Put(path, _) => undo.push(undoing_put(alloc, tree, path)?),
         Update::MakeDir(path) => undo.push(Undo::Make(Update::Remove(path.copy(alloc)?))),
-        Update::Remove(path) => push_restoring(alloc, tree, path, undo),
+        Update::Remove(path) | Update::SetMode(path, _) => push_restoring(alloc, tree, path, undo),
         Update::Move(from, to) => {
             push_restoring(alloc, tree, to, undo)?;
             undo.push(Undo::Make(Update::Move(to.copy(alloc)?, from.copy(alloc)?)))

@@ -10,7 +10,7 @@ use Rattle.iot_access.specs.Access.{FitInTurn, after_updates, cons_update, updat
 use Rattle.iot_stamp.specs.Acting.{stamped_if_any, stamped_acts, stamped_all, UpdatesFit}
 use Rattle.iot_stamp.specs.Agreement.{Keeps}
 use Rattle.iot_stamp.specs.Stamping.{stamped, stamp_after}
-use Rattle.iot_stamp.specs.Stamps.{Stamps, nodes_of, with_stamps, stamp_at, FarZero}
+use Rattle.iot_stamp.specs.Stamps.{Stamps, nodes_of, FarZero}
 use Rattle.iot_stamp.proofs.AgreementLaws.{keeps_none, keeps_then}
 use Rattle.iot_stamp.proofs.StampingLaws.{keeps_update}
 use Rattle.iot_stamp.proofs.StampsLaws.{nodes_with, with_far_zero}

@@ -17,10 +17,14 @@ use Rattle.iot_tree.specs.Rows.{Rising, AreTreeRows, map_of}
 use Rattle.iot_tree.specs.Snapshots.{is_known}
 use Rattle.iot_tree.specs.Tree.{Path, Row, Nodes}
 use Rattle.iot_tree.specs.declared.nodes.Node.{Node}
-use Rattle.iot_tree.specs.declared.nodes.Node.TheVariants.{Dir, File}
+use Rattle.iot_tree.specs.declared.nodes.Node.TheVariants.{Dir, File, FarDir, FarFile}
+use Rattle.iot_tree.specs.declared.nodes.Mode.{Mode}
+use Rattle.iot_tree.specs.declared.kinds.Kind.{Kind}
+use Rattle.iot_tree.specs.declared.kinds.Kind.TheVariants as kinds
+use Rattle.iot_tree.specs.Questions.{node_kind}
 use Rattle.iot_tree.specs.declared.updates.Update.{Update}
-use Rattle.iot_tree.specs.declared.updates.Update.TheVariants.{Put, MakeDir, Remove, Move}
-use Rattle.iot_tree.specs.Updates.{Fits, mode_in, updated}
+use Rattle.iot_tree.specs.declared.updates.Update.TheVariants.{Put, MakeDir, Remove, Move, SetMode}
+use Rattle.iot_tree.specs.Updates.{Fits, FitsSetMode, mode_in, mode_set, with_mode, updated}
 use Rattle.iot_tree.proofs.PlaceLaws.{is_less, turned, back_after}
 use Rattle.iot_tree.proofs.RowLaws.{get_here, get_in_gap, put_here, put_in_gap}
 use Rattle.iot_tree.proofs.TreeLaws.{same_or_apart}
@@ -29,7 +33,7 @@ use Rattle.iot_prune.proofs.WalkLaws.{tie}
 use Rattle.iot_stamp.specs.Lining.{stamps_by, marked, PutsAt}
 use Rattle.iot_stamp.specs.Mapped.{mapped_entries}
 use Rattle.iot_stamp.specs.Pairing.{FarRowsZero, AreStamps, paired, stamps_of}
-use Rattle.iot_stamp.specs.Stamping.{is_at, touches, stamped}
+use Rattle.iot_stamp.specs.Stamping.{is_at, shown_same, changes_names, touches, stamped}
 use Rattle.iot_stamp.specs.Stamps.{Entry, Stamps, nodes_of, stamp_at, stamped_node, with_stamps, FarZero}
 use Rattle.iot_stamp.proofs.FoundLaws.{never}
 use Rattle.iot_stamp.proofs.MappedLaws.{entries_of_mapped}
@@ -250,6 +254,16 @@ puts t (Put at bytes) p is =
 puts t (MakeDir at) p is = record { node = Dir; is = ap (λ (path : Path). insert t path Dir) is; known = refl }
 puts t (Remove at) p is = absurd is
 puts t (Move from to) p is = absurd is
+puts t (SetMode at mode) p is = absurd is
+
+no_kind : (kind : Kind) → None ≡ Some kind → ⊥
+no_kind kind is = cc
+
+known_mode : (mode : Mode) (node : Node) → is_known (with_mode mode node) ≡ is_known node
+known_mode mode Dir = refl
+known_mode mode (File bytes old) = refl
+known_mode mode FarDir = refl
+known_mode mode (FarFile old) = refl
 
 -- ---- a stamped tree's stamps, changed
 
@@ -311,21 +325,57 @@ module _ (t : Nodes) (stamps : List ℕ) (all : AreStamps (entries t) stamps) wh
     gap_there m m_is gap is_gap =
         ap (λ (o : Option Node). not (is_some o)) (sym (there m m_is ∙ get_in_gap (entries t) tree.rising p gap is_gap))
 
+    module _ (node : Node) (new : Nodes) (new_is : new ≡ insert t p node) where
+      rows_with : entries new ≡ put path_cmp p node (entries t)
+      rows_with = ap (λ (n : Nodes). entries n) new_is ∙ entries-insert path_total t p node
+
+      -- a row whose object is another one now, known or not
+      pub node_row : (at : ℕ) → IsRowAt (entries t) p at → (n : ℕ) → n ≡ cond (is_known node) stamp 0
+          → set stamps at n ≡ stamps_by mark (entries new)
+      node_row at stands n n_is =
+          let row : Row = ((get_or (entries t) at ([], Dir)).0, node) in
+          (λ i. set (own_stamps t stamps all i) at n)
+          ∙ mark_row (entries t) tree.rising p stamp (stamp_at before) at stands row (stands.here ([], Dir)) n n_is
+          ∙ ap (stamps_by mark)
+          (sym (set_is (entries t) at row stands.in_range) ∙ put_here (entries t) tree p node at stands ([], Dir) ∙ sym rows_with)
+
+    -- a file that is to get a mode is there
+    pub gap_never : (m : Stamps) → before ≡ m → (gap : ℕ) → IsGap (entries t) p gap → FitsSetMode (nodes_of m) p → ⊥
+    gap_never m m_is gap is_gap fits =
+        no_kind kinds.IsFile
+        (sym (ap (option_map node_kind) (there m m_is ∙ get_in_gap (entries t) tree.rising p gap is_gap)) ∙ fits.file)
+
+    module _ (mode : Mode) (at : ℕ) (stands : IsRowAt (entries t) p at) (row : Row) (is : row ≡ get_or (entries t) at row) where
+      node_there : get t p ≡ Some row.1
+      node_there =
+          ap (λ (n : Nodes). get n p) (sym (map_back t)) ∙ get_here (entries t) tree.rising p at stands row
+          ∙ ap (λ (r : Row). Some r.1) (sym is)
+
+      -- the row of a file that gets a mode
+      pub mode_row : (new : Nodes) → new ≡ updated t (SetMode p mode) → (n : ℕ) → n ≡ cond (is_known row.1) stamp 0
+          → set stamps at n ≡ stamps_by mark (entries new)
+      mode_row new new_is n n_is =
+          node_row (with_mode mode row.1) new (new_is ∙ ap (mode_set t p mode) node_there) at stands n
+          (n_is ∙ ap (λ b. cond b stamp 0) (sym (known_mode mode row.1)))
+
+      -- whether it had another one
+      pub mode_changes : (m : Stamps) → before ≡ m → (other : Bool)
+          → other ≡ not (shown_same (Some row.1) (Some (with_mode mode row.1))) → other ≡ changes_names (nodes_of m) (SetMode p mode)
+      mode_changes m m_is other other_is =
+          other_is
+          ∙ ap (λ (o : Option Node). not (shown_same o (option_map (with_mode mode) o)))
+          (sym (ap (λ (n : Nodes). get n p) (ap nodes_of (sym m_is) ∙ nodes_before) ∙ node_there))
+
     module _ (u : Update) (puts_at : PutsAt u p) (new : Nodes) (new_is : new ≡ updated t u) where
       abbrev put_in : Puts t u p
       put_in = puts t u p puts_at
 
       rows_are : entries new ≡ put path_cmp p put_in.node (entries t)
-      rows_are = ap (λ (n : Nodes). entries n) (new_is ∙ put_in.is) ∙ entries-insert path_total t p put_in.node
+      rows_are = rows_with put_in.node new (new_is ∙ put_in.is)
 
       pub put_row : (at : ℕ) → IsRowAt (entries t) p at → set stamps at stamp ≡ stamps_by mark (entries new)
       put_row at stands =
-          let row : Row = ((get_or (entries t) at ([], Dir)).0, put_in.node) in
-          (λ i. set (own_stamps t stamps all i) at stamp)
-          ∙ mark_row (entries t) tree.rising p stamp (stamp_at before) at stands row (stands.here ([], Dir)) stamp
-          (sym (ap (λ b. cond b stamp 0) put_in.known))
-          ∙ ap (stamps_by mark)
-          (sym (set_is (entries t) at row stands.in_range) ∙ put_here (entries t) tree p put_in.node at stands ([], Dir) ∙ sym rows_are)
+          node_row put_in.node new (new_is ∙ put_in.is) at stands stamp (sym (ap (λ b. cond b stamp 0) put_in.known))
 
       pub put_gap : (gap : ℕ) → IsGap (entries t) p gap → take gap stamps ++ stamp ∷ drop gap stamps ≡ stamps_by mark (entries new)
       put_gap gap is_gap =

@@ -8,13 +8,13 @@ use Rattle.std.specs.FinMap.{get, find, entries, insert, remove, get-entries, ge
 use Rattle.iot_text.specs.Paths.{path_cmp, parent_of}
 use Rattle.iot_tree.specs.Tree.{Nodes, Row, Path}
 use Rattle.iot_tree.specs.Snapshots.{far}
-use Rattle.iot_tree.specs.Updates.{Fits, FitsPut, FitsMove, mode_in, updated, moved, renamed_row, renamed}
+use Rattle.iot_tree.specs.Updates.{Fits, FitsPut, FitsMove, mode_in, mode_set, with_mode, updated, moved, renamed_row, renamed}
 use Rattle.iot_tree.specs.declared.nodes.Mode.{Mode}
 use Rattle.iot_tree.specs.declared.nodes.Mode.TheVariants.{Off, On}
 use Rattle.iot_tree.specs.declared.nodes.Node.{Node}
 use Rattle.iot_tree.specs.declared.nodes.Node.TheVariants.{Dir, File, FarDir, FarFile}
 use Rattle.iot_tree.specs.declared.updates.Update.{Update}
-use Rattle.iot_tree.specs.declared.updates.Update.TheVariants.{Put, MakeDir, Remove, Move}
+use Rattle.iot_tree.specs.declared.updates.Update.TheVariants.{Put, MakeDir, Remove, Move, SetMode}
 use Rattle.iot_prune.proofs.WalkLaws.{tie}
 use Rattle.iot_stamp.proofs.PrunedLaws.{or_first, or_second}
 use Rattle.iot_stamp.proofs.StampsLaws.{with_row, nodes_with, row_back}
@@ -234,12 +234,29 @@ untouched_move t p q k fits not_touched =
       ];
     }
 
+untouched_mode : (t : Nodes) (p : Path) (mode : Mode) (k : Path) (o : Option Node) → get t p ≡ o
+    → (is_at k p || (is_parent k p && not (shown_same o (option_map (with_mode mode) o)))) ≡ false → SameInside t (mode_set t p mode o) k
+untouched_mode t p mode k None is not_touched = record { row = refl; names = λ name. refl }
+untouched_mode t p mode k (Some node) is not_touched =
+    let new : Node = with_mode mode node in
+    record {
+      row = sym (get-insert_other t p new k (or_first (is_at k p) _ not_touched));
+      names = λ name. elim (same_or_apart (k ++ name ∷ []) p) [
+        | inl here ↦
+            let same = and_given (is_parent k p) _ (or_second (is_at k p) _ not_touched) (parent_is k name p here) in
+            ap (shown_in t) here ∙ ap (option_map far) is ∙ sym (alike_shown (Some node) (Some new) same)
+            ∙ sym (ap (shown_in (insert t p new)) here ∙ ap (option_map far) (get_insert_here t p new))
+        | inr away ↦ ap (option_map far) (sym (get-insert_other t p new (k ++ name ∷ []) away))
+      ];
+    }
+
 -- a path that an update does not touch is the same after it, also inside
 pub untouched : (t : Nodes) (u : Update) (k : Path) → Fits t u → touches t u k ≡ false → SameInside t (updated t u) k
 untouched t (Put p bytes) k fits not_touched = untouched_put t p bytes k fits not_touched
 untouched t (MakeDir p) k fits not_touched = untouched_make t p k not_touched
 untouched t (Remove p) k fits not_touched = untouched_remove t p k not_touched
 untouched t (Move p q) k fits not_touched = untouched_move t p q k fits not_touched
+untouched t (SetMode p mode) k fits not_touched = untouched_mode t p mode k (get t p) refl not_touched
 
 -- an update keeps each row that has not its stamp
 pub keeps_update : (t : Stamps) (u : Update) (stamp : ℕ) → Fits (nodes_of t) u → Keeps t (stamped t u stamp) stamp

@@ -3,7 +3,7 @@ use Rattle.std.specs.Prelude.{◌≡◌, ℕ, Bool, cond, List, map}
 use Rattle.iot_tree.specs.Tree.{Path, Row, Nodes}
 use Rattle.iot_tree.specs.Snapshots.{is_known}
 use Rattle.iot_tree.specs.declared.updates.Update.{Update}
-use Rattle.iot_tree.specs.declared.updates.Update.TheVariants.{Put, MakeDir, Remove, Move}
+use Rattle.iot_tree.specs.declared.updates.Update.TheVariants.{Put, MakeDir, Remove, Move, SetMode}
 use Rattle.iot_stamp.specs.Stamps.{Stamps, stamp_at, with_stamps}
 
 -- the stamps of rows in their order, from the stamps of paths; what is far has stamp 0
@@ -20,3 +20,4 @@ PutsAt (Put at bytes) p = at ≡ p
 PutsAt (MakeDir at) p = at ≡ p
 PutsAt (Remove at) p = ⊥
 PutsAt (Move from to) p = ⊥
+PutsAt (SetMode at mode) p = ⊥

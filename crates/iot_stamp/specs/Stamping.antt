@@ -1,5 +1,5 @@
 -- Which stamps an update leaves.
-use Rattle.std.specs.Prelude.{ℕ, Bool, true, false, not, ◌||◌, ◌&&◌, cond, List, [], ◌∷◌, Option, Some, None, is_some, bytes_eq}
+use Rattle.std.specs.Prelude.{ℕ, Bool, true, false, not, ◌||◌, ◌&&◌, cond, List, [], ◌∷◌, Option, Some, None, is_some, option_map, bytes_eq}
 use Rattle.std.specs.List.{starts_with}
 use Rattle.std.specs.Ordering.{eq_by_cmp}
 use Rattle.std.specs.FinMap.{get}
@@ -7,12 +7,12 @@ use Rattle.iot_text.specs.Paths.{path_cmp, parent_of}
 use Rattle.iot_tree.specs.Tree.{Path, Row, Nodes}
 use Rattle.iot_tree.specs.Snapshots.{is_known}
 use Rattle.iot_tree.specs.Questions.{is_dir}
-use Rattle.iot_tree.specs.Updates.{Fits, mode_in, updated}
+use Rattle.iot_tree.specs.Updates.{Fits, mode_in, with_mode, updated}
 use Rattle.iot_tree.specs.declared.nodes.Mode.{Mode}
 use Rattle.iot_tree.specs.declared.nodes.Mode.TheVariants.{Off, On}
 use Rattle.iot_tree.specs.declared.nodes.Node.{Node}
 use Rattle.iot_tree.specs.declared.updates.Update.{Update}
-use Rattle.iot_tree.specs.declared.updates.Update.TheVariants.{Put, MakeDir, Remove, Move}
+use Rattle.iot_tree.specs.declared.updates.Update.TheVariants.{Put, MakeDir, Remove, Move, SetMode}
 use Rattle.iot_stamp.specs.Stamps.{Stamps, nodes_of, stamp_at, with_stamps}
 
 -- whether two paths are one
@@ -47,6 +47,7 @@ changes_names t (Put p bytes) = not (is_some (get t p))
 changes_names t (MakeDir p) = true
 changes_names t (Remove p) = true
 changes_names t (Move p q) = not (shown_same (get t p) (get t q))
+changes_names t (SetMode p mode) = not (shown_same (get t p) (option_map (with_mode mode) (get t p)))
 
 -- whether an update that changes names or not stamps the path
 abbrev pub touches_by : Bool → Update → Path → Bool
@@ -55,6 +56,7 @@ touches_by changes (MakeDir p) k = is_at k p || is_parent k p
 touches_by changes (Remove p) k = is_at k p || is_parent k p
 touches_by changes (Move p q) k =
     (starts_with bytes_eq k q || starts_with bytes_eq k p) || (is_parent k p || (is_parent k q && changes))
+touches_by changes (SetMode p mode) k = is_at k p || (is_parent k p && changes)
 
 -- whether the update stamps the path: the row that it names or moves, and each directory whose names, or their kinds or modes, change
 abbrev pub touches : Nodes → Update → Path → Bool

@@ -3,19 +3,19 @@ ghost use Rattle.std.specs.Prelude.{◌≡◌, ◌↔◌, IsTrue, IfOk, IfErr, O
 ghost use Rattle.std.specs.FinMap.{entries, get};
 ghost use Rattle.iot_access.specs.Access.{FitInTurn};
 ghost use Rattle.iot_tree.specs.Rows.{AreTreeRows, RefusesRows};
-ghost use Rattle.iot_tree.specs.Updates.{Fits, FitsRemove, FitsMove, updated};
+ghost use Rattle.iot_tree.specs.Updates.{Fits, FitsRemove, FitsMove, FitsSetMode, updated};
 ghost use Rattle.iot_stamp.specs.Agreement.{Agrees, IsPositive, Keeps};
 ghost use Rattle.iot_stamp.specs.Carried.{in_either};
 ghost use Rattle.iot_stamp.specs.Lining.{marked, PutsAt};
 ghost use Rattle.iot_stamp.specs.Pairing.{AreStamps, paired, stamps_of};
-ghost use Rattle.iot_stamp.specs.Stamping.{stamped, is_at, is_parent};
+ghost use Rattle.iot_stamp.specs.Stamping.{stamped, is_at, is_parent, changes_names};
 ghost use Rattle.iot_stamp.specs.Stamps.{Stamps, nodes_of, stamp_at, with_stamps, unstamped, FarZero};
 
 use crate::nodes::stamp_of;
-use crate::stamping::{all_stamps, carry, shown_same};
+use crate::stamping::{all_stamps, carry, has_other_mode, shown_same};
 use iot_fitting::fit_in_turn;
 use iot_text::{NoMemory, Path};
-use iot_tree::{RowFault, Rows, Tree, Update, count_within, place_of};
+use iot_tree::{Mode, RowFault, Rows, Tree, Update, count_within, place_of};
 use std::alloc::Global;
 use std::marker::Model;
 use std::mem::replace;
@@ -152,6 +152,12 @@ impl Stamped {
                     self.mark_parent(to, stamp);
                 }
             }
+            Update::SetMode(path, mode) => {
+                let other = self.set_mode(alloc, u, path, *mode, stamp)?;
+                if other {
+                    self.mark_parent(path, stamp);
+                }
+            }
         }
         Ok(())
     }
@@ -223,6 +229,34 @@ impl Stamped {
             carry(&mut self.stamps, at, place, goes, come, stamp);
         }
         Ok(())
+    }
+
+    /// Makes an update that gives the file at the path this mode, and puts the stamp there. Tells whether it had another one.
+    /// After an error the tree is as it was.
+    fn set_mode(
+        &mut self,
+        alloc: Global,
+        u: &Update,
+        path: &Path,
+        mode: Mode,
+        stamp: u64,
+    ) -> Result<bool, NoMemory>
+        requires fits { FitsSetMode (nodes_of self.old) path.now }
+        requires sets { u.now ≡ Update.SetMode path.now mode }
+        ensures ok { OnOk result (self.new ≡ marked self.old (updated (nodes_of self.old) u.now) (λ k. is_at k path.now) stamp) }
+        ensures changes { IfOk result (λ changes. changes ≡ changes_names (nodes_of self.old) u.now) }
+        ensures err { OnErr result (self.new ≡ self.old) }
+    {
+        let rows = self.tree.rows().as_slice();
+        let Ok(at) = place_of(rows, path.names()) else {
+            return Ok(false);
+        };
+        let node = &rows[at].1;
+        let other = has_other_mode(node, mode);
+        let own = stamp_of(node, stamp);
+        self.tree.apply(alloc, u)?;
+        self.stamps[at] = own;
+        Ok(other)
     }
 
     /// Puts the stamp on the row of the path's parent, if there is one.

@@ -1,13 +1,14 @@
 //! Which stamps an update leaves.
-ghost use Rattle.std.specs.Prelude.{◌≡◌, ◌≤◌, ◌+◌, ◌++◌, ℕ, List, cond, take, drop, length, IfOk};
+ghost use Rattle.std.specs.Prelude.{◌≡◌, ◌≤◌, ◌+◌, ◌++◌, ℕ, List, Some, cond, not, take, drop, length, IfOk};
 ghost use Rattle.std.specs.Option.{option_copied};
 ghost use Rattle.iot_stamp.specs.Carried.{IsCarried};
 ghost use Rattle.iot_stamp.specs.Lining.{stamps_by};
 ghost use Rattle.iot_stamp.specs.Stamping.{shown_same};
+ghost use Rattle.iot_tree.specs.Updates.{with_mode};
 
 use crate::nodes::stamp_of;
 use iot_text::{NoMemory, Path};
-use iot_tree::Node;
+use iot_tree::{Mode, Node};
 use std::alloc::Global;
 
 /// The stamp for each row that is known, and 0 for each far one.
@@ -90,5 +91,17 @@ pub(crate) fn shown_same(one: Option<&Node>, other: Option<&Node>) -> bool
             None => false,
             Some(other) => one.is_dir() == other.is_dir() && one.mode() == other.mode(),
         },
+    }
+}
+
+/// Whether the object is a file of another mode, which a directory then shows otherwise.
+pub(crate) fn has_other_mode(node: &Node, mode: Mode) -> bool
+    ensures { result ≡ not (shown_same (Some node.now) (Some (with_mode mode node.now))) }
+{
+    match node {
+        Node::Dir => false,
+        Node::File(_, old) => *old != mode,
+        Node::FarDir => false,
+        Node::FarFile(old) => *old != mode,
     }
 }

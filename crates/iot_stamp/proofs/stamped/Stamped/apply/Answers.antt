@@ -4,7 +4,7 @@ use Rattle.iot_tree.specs.Updates.{Fits, updated}
 use Rattle.iot_tree.specs.declared.updates.Update.{Update}
 use Rattle.iot_stamp.specs.Agreement.{Keeps}
 use Rattle.iot_stamp.specs.Carried.{in_either}
-use Rattle.iot_stamp.specs.Stamping.{stamped, touches, is_at, is_parent, shown_same}
+use Rattle.iot_stamp.specs.Stamping.{stamped, changes_names, touches, touches_by, is_at, is_parent, shown_same}
 use Rattle.iot_stamp.specs.Lining.{marked}
 use Rattle.iot_stamp.specs.Stamps.{Stamps, nodes_of, stamp_at, with_stamps}
 use Rattle.iot_stamp.proofs.LiningLaws.{nodes_before, marked_two, stamped_one, removed_marked, put_new}
@@ -83,6 +83,25 @@ returns-else-not-same-clause-ok c =
     (ap not (sym c.if-not-same.false ∙ same))
     ∙ ap (λ (u : Update). touches (nodes_of c.args.self.now) u k) (sym c.in-Move.is))
 
+pub returns-then-other-clause-ok : goal.returns-then-other-clause-ok
+returns-then-other-clause-ok c =
+    let new = sym c.if-other.true ∙ c.in_ok-other-in-SetMode.ensures.changes in
+    stamped_one c.args.self.now c.mark_parent-then-other.new.self c.args.u.now c.args.stamp
+    (λ k. is_parent k c.in-SetMode.path || is_at k c.in-SetMode.path)
+    (marked_two c.args.self.now c.set_mode.new.self c.args.u.now c.args.stamp (λ k. is_at k c.in-SetMode.path)
+    c.in_ok-other-in-SetMode.ensures.ok c.mark_parent-then-other.new.self (λ k. is_parent k c.in-SetMode.path)
+    c.mark_parent-then-other.ensures)
+    (λ k. put_new (is_at k c.in-SetMode.path) (is_parent k c.in-SetMode.path) _ new
+    ∙ ap (λ (u : Update). touches_by (changes_names (nodes_of c.args.self.now) c.args.u.now) u k) (sym c.in-SetMode.is))
+
+pub returns-else-other-clause-ok : goal.returns-else-other-clause-ok
+returns-else-other-clause-ok c =
+    let old = sym c.if-other.false ∙ c.in_ok-other-in-SetMode.ensures.changes in
+    stamped_one c.args.self.now c.set_mode.new.self c.args.u.now c.args.stamp (λ k. is_at k c.in-SetMode.path)
+    c.in_ok-other-in-SetMode.ensures.ok
+    (λ k. put_old (is_at k c.in-SetMode.path) (is_parent k c.in-SetMode.path) _ old
+    ∙ ap (λ (u : Update). touches_by (changes_names (nodes_of c.args.self.now) c.args.u.now) u k) (sym c.in-SetMode.is))
+
 -- the update keeps what has another stamp
 kept : (t new : Stamps) (u : Update) (stamp : ℕ) → Fits (nodes_of t) u → new ≡ stamped t u stamp → Keeps t new stamp
 kept t new u stamp fits is = subst (λ (m : Stamps). Keeps t m stamp) (sym is) (keeps_update t u stamp fits)
@@ -110,3 +129,11 @@ returns-then-not-same-clause-keeps c =
 pub returns-else-not-same-clause-keeps : goal.returns-else-not-same-clause-keeps
 returns-else-not-same-clause-keeps c =
     kept c.args.self.now c.mark_parent-in-Move.new.self c.args.u.now c.args.stamp c.requires (returns-else-not-same-clause-ok c)
+
+pub returns-then-other-clause-keeps : goal.returns-then-other-clause-keeps
+returns-then-other-clause-keeps c =
+    kept c.args.self.now c.mark_parent-then-other.new.self c.args.u.now c.args.stamp c.requires (returns-then-other-clause-ok c)
+
+pub returns-else-other-clause-keeps : goal.returns-else-other-clause-keeps
+returns-else-other-clause-keeps c =
+    kept c.args.self.now c.set_mode.new.self c.args.u.now c.args.stamp c.requires (returns-else-other-clause-ok c)
