@@ -8,18 +8,17 @@ use Rattle.iot_tree.specs.declared.acts.Act.{Act}
 use Rattle.iot_tree.specs.declared.acts.Read.{Read}
 use Rattle.iot_acts.specs.Traces.{ReadsHold, FitsIfAny, ActsHold, after_acts, after_update}
 use Rattle.iot_acts.proofs.GuardLaws.{guarded_fits, guarded_hold}
-use Rattle.iot_access.specs.Sources.{source}
 use Rattle.iot_access.specs.Asked.{first_asked, none_asked}
 use Rattle.iot_access.proofs.AskedLaws.{all_fail, all_hold, first_fails, first_hold, none_known}
 use Rattle.iot_access.proofs.BeforeLaws.{bases_hold_before}
-use Rattle.iot_access.specs.BaseReads.{Base, path_of, base_of, cons_base, based_reads, based, done_more}
+use Rattle.iot_access.specs.BaseReads.{Base, origin, base_of, cons_base, based_reads, based, done_more}
 use Rattle.iot_acts.specs.Turns.{turns, Answers, AllAnswer, FirstDiffers}
 use Rattle.iot_access.proofs.BaseReadsLaws.{BasesHold, reads_beside, Based, asks, holds, based_read}
 use Rattle.iot_access.specs.Access.{FirstFails, FitInTurn, access_of, cons_update, updates_of, after_updates, IsAccess}
 use Rattle.iot_acts.specs.Guards.{AllGuarded}
-use Rattle.iot_access.proofs.TiedLaws.{Tied, tied_first}
+use Rattle.iot_access.proofs.ModesTiedLaws.{Alike, alike_first}
 use Rattle.iot_acts.proofs.TraceLaws.{tree_after}
-use Rattle.iot_access.proofs.StepLaws.{step}
+use Rattle.iot_access.proofs.ModeStepLaws.{alike_after}
 use Rattle.iot_access.proofs.WholeLaws.{whole_after}
 
 -- ---- reads in turn beside base reads
@@ -72,7 +71,7 @@ module _ (t : Nodes) where
 -- ---- the acts' own chain
 
 module _ (t1 t2 : Nodes) (whole_t : IsWhole t2) where
-  module _ (done : List Update) (u1 u2 : Nodes) (tied : Tied (source done) t1 u1 t2 u2) (whole_u : IsWhole u2) where
+  module _ (done : List Update) (u1 u2 : Nodes) (alike : Alike done t1 u1 t2 u2) (tree : IsTree u1) (whole_u : IsWhole u2) where
     link : (read : Read) (found : Option Read) (n : ℕ) (later : List (Nodes × Read)) (rest : List Base)
         → Based t2 u2 read.question read.answer found → (Answers u2 read → Chain later t2 (suc n) rest)
         → Chain ((u2, read) ∷ later) t2 n (cons_base n found rest)
@@ -90,25 +89,24 @@ module _ (t1 t2 : Nodes) (whole_t : IsWhole t2) where
         zero_more n = omega arith
     of_reads (read ∷ reads) n later rest hold chain =
         link read (base_of t1 done read) n (map (λ read. (u2, read)) reads ++ later) (based_reads reads t1 done (suc n) rest)
-        (based_read (source done) t1 u1 t2 u2 tied whole_t whole_u read.question read.answer (source done (path_of read.question)) refl
-        hold.0)
+        (based_read done t1 u1 t2 u2 alike tree whole_t whole_u read.question read.answer (origin done read.question) refl hold.0)
         (λ here. of_reads reads (suc n) later rest hold.1
         (λ all. subst (λ (k : ℕ). Chain later t2 k rest) (next (length reads) n) (chain (here, all))))
       where
         next : (a n : ℕ) → suc a + n ≡ a + suc n
         next a n = omega arith
 
-  of_acts : (acts : List Act) (done : List Update) (u1 u2 : Nodes) (n : ℕ) → Tied (source done) t1 u1 t2 u2 → IsTree u1 → IsTree u2
+  of_acts : (acts : List Act) (done : List Update) (u1 u2 : Nodes) (n : ℕ) → Alike done t1 u1 t2 u2 → IsTree u1 → IsTree u2
       → IsWhole u2 → AllGuarded acts → ActsHold u1 acts
       → Chain (turns u2 acts) t2 n (based acts t1 done n)
-  of_acts [] done u1 u2 n tied tree1 tree2 whole guarded hold = refl
-  of_acts (act ∷ acts) done u1 u2 n tied tree1 tree2 whole guarded hold =
-      of_reads done u1 u2 tied whole act.reads n (turns (after_update u2 act.update) acts)
+  of_acts [] done u1 u2 n alike tree1 tree2 whole guarded hold = refl
+  of_acts (act ∷ acts) done u1 u2 n alike tree1 tree2 whole guarded hold =
+      of_reads done u1 u2 alike tree1 whole act.reads n (turns (after_update u2 act.update) acts)
       (based acts t1 (done_more done act.update) (length act.reads + n)) hold.0
       (λ there.
       let fits : FitsIfAny u2 act.update = guarded_fits u2 tree2 act.reads there act.update guarded.0 in
       of_acts acts (done_more done act.update) (after_update u1 act.update) (after_update u2 act.update) (length act.reads + n)
-      (step done t1 u1 t2 u2 tied tree1 tree2 act.reads hold.0 there act.update guarded.0 hold.1 fits)
+      (alike_after done t1 u1 t2 u2 alike tree1 tree2 act.reads hold.0 there act.update guarded.0 hold.1 fits)
       (tree_after u1 act.update tree1 hold.1) (tree_after u2 act.update tree2 fits) (whole_after u2 tree2 whole act.update fits) guarded.1
       hold.2)
 
@@ -150,7 +148,7 @@ pub access_is : (acts list : List Act) (before : Nodes) (reads : List Read) (pla
 access_is acts list before reads places updates tree guarded hold same even is are t tree_t whole =
     let all : List Base = based acts before [] 1 in
     let chain : Chain (turns t acts) t 1 all =
-    of_acts before t whole acts [] before t 1 (tied_first before t) tree tree_t whole guarded hold in
+    of_acts before t whole acts [] before t 1 (alike_first before t) tree tree_t whole guarded hold in
     let held : BasesHold before all = bases_hold_before acts before tree guarded hold in
     let some : zip places reads ≡ first_asked none_asked all =
     is ∙ ap (λ (acts : List Act). first_asked none_asked (based acts before [] 1)) same in

@@ -9,7 +9,7 @@ use Rattle.iot_text.proofs.PathsLaws.{path_same}
 use Rattle.iot_tree.specs.Tree.{Nodes, Path}
 use Rattle.iot_tree.specs.Questions.{answer_of}
 use Rattle.iot_tree.specs.declared.questions.Question.{Question}
-use Rattle.iot_tree.specs.declared.questions.Question.TheVariants.{Kind, Content, Names}
+use Rattle.iot_tree.specs.declared.questions.Question.TheVariants.{Kind, Content, Names, Mode}
 use Rattle.iot_acts.specs.Turns.{Answers}
 use Rattle.iot_access.specs.Access.{FirstFails}
 use Rattle.iot_access.specs.Asked.{cons_unless, first_asked, or_asked, same_question}
@@ -30,6 +30,7 @@ questions_same : (one other : Question) → same_question one other ≡ true →
 questions_same (Kind p) (Kind q) is = ap Kind (paths_same p q is)
 questions_same (Content p) (Content q) is = ap Content (paths_same p q is)
 questions_same (Names p) (Names q) is = ap Names (paths_same p q is)
+questions_same (Mode p) (Mode q) is = ap Mode (paths_same p q is)
 questions_same one other is = absurd cc
 
 or_same : (f g : Question → Bool) → ((q : Question) → f q ≡ g q) → (question other : Question)

@@ -1,5 +1,5 @@
 -- Base reads collected in turn.
-use Rattle.std.proofs.Common.{◌≡◌, ℕ, suc, ◌+◌, ◌<◌, ◌≤◌, ◌^◌, Bool, true, false, List, [], ◌∷◌, ◌++◌, map, length}
+use Rattle.std.proofs.Common.{◌≡◌, ℕ, suc, ◌+◌, ◌<◌, ◌≤◌, Bool, true, false, List, [], ◌∷◌, ◌++◌, map, length}
 use Rattle.std.proofs.Common.{Option, Some, None, drop, get_or}
 use Rattle.std.proofs.Common.{refl, sym, ap, subst, ◌∙◌, arith}
 use Rattle.std.proofs.lemmas.List.{append-nil, drop_more}
@@ -7,7 +7,7 @@ use Rattle.std.specs.List.{zip}
 use Rattle.iot_tree.specs.Tree.{Nodes, Path}
 use Rattle.iot_tree.specs.Updates.{FitsMove}
 use Rattle.iot_tree.specs.declared.updates.Update.{Update}
-use Rattle.iot_tree.specs.declared.updates.Update.TheVariants.{Put, MakeDir, Remove, Move}
+use Rattle.iot_tree.specs.declared.updates.Update.TheVariants.{Put, MakeDir, Remove, Move, SetMode}
 use Rattle.iot_tree.specs.declared.acts.Act.{Act}
 use Rattle.iot_tree.specs.declared.acts.Read.{Read}
 use Rattle.iot_acts.specs.Traces.{FitsIfAny, ActsHold, after_update}
@@ -15,12 +15,12 @@ use Rattle.iot_tree.specs.declared.questions.Question.{Question}
 use Rattle.iot_access.specs.Asked.{cons_unless, first_asked, none_asked, or_asked}
 use Rattle.iot_access.specs.BaseReads.{Base, base_of, cons_base, based_reads, based, done_more}
 use Rattle.iot_tree.specs.declared.access.Access.{Access}
-use Rattle.iot_access.specs.Access.{AreNumbers, Rise, access_of, cons_update, updates_of}
+use Rattle.iot_access.specs.Access.{Rise, access_of, cons_update, updates_of}
 use Rattle.iot_access.proofs.AskedLaws.{same_asked}
 use Rattle.iot_access.proofs.BaseReadsLaws.{reads_beside}
-use Rattle.iot_access.specs.Entries.{Entries, Tells, AreApart, IsApartIfAny}
-use Rattle.iot_access.specs.Sources.{source}
-use Rattle.iot_access.proofs.EntriesLaws.{tells_first}
+use Rattle.iot_access.specs.Entries.{AreApart, IsApartIfAny}
+use Rattle.iot_access.specs.Origins.{TellAfter}
+use Rattle.iot_access.specs.declared.origins.Origins.{Origins}
 
 -- two lists of one length, and one item more in each
 pub zip_more : (places : List ℕ) (reads : List Read) (place : ℕ) (read : Read) (rest : List Base) → length places ≡ length reads
@@ -129,28 +129,29 @@ apart_if_fits t (Some (Put p bytes)) fits = tt
 apart_if_fits t (Some (MakeDir p)) fits = tt
 apart_if_fits t (Some (Remove p)) fits = tt
 apart_if_fits t (Some (Move p q)) fits = apart_move t p q fits
+apart_if_fits t (Some (SetMode p mode)) fits = tt
 
 pub all_apart : (acts : List Act) (t : Nodes) → ActsHold t acts → AllApart acts
 all_apart [] t hold = tt
 all_apart (act ∷ acts) t hold = (apart_if_fits t act.update hold.1, all_apart acts (after_update t act.update) hold.2)
 
--- what the loop keeps: the updates so far, and what is left to add; and the entries tell the sources after the updates done
+-- what the loop keeps: the updates so far, and what is left to add; and the entries tell where all comes from after the updates done
 pub record Collected (acts left : List Act) (before : Nodes) (place : ℕ) (found : List Base) (asked : Question → Bool)
-    (updates : List Update) (entry : Entries) : Type 0 where
+    (updates : List Update) (origins : Origins) : Type 0 where
   pub updates_are : updates ++ updates_of left ≡ updates_of acts
   pub apart : AllApart left
   pub done : List Update
-  pub tells : Tells entry (source done)
+  pub tells : TellAfter origins done
   pub bases : found ++ first_asked asked (based left before done place) ≡ first_asked none_asked (based acts before [] 1)
 
 pub collected_first : (acts : List Act) (before : Nodes) (found : List Base) (asked : Question → Bool) (updates : List Update)
-    (entry : Entries) → ActsHold before acts → found ≡ [] → ((q : Question) → asked q ≡ none_asked q) → updates ≡ []
-    → ((k : Path) → entry k ≡ None) → Collected acts acts before 1 found asked updates entry
-collected_first acts before found asked updates entry hold no_base no_question no_update none = record {
+    (origins : Origins) → ActsHold before acts → found ≡ [] → ((q : Question) → asked q ≡ none_asked q) → updates ≡ []
+    → TellAfter origins [] → Collected acts acts before 1 found asked updates origins
+collected_first acts before found asked updates origins hold no_base no_question no_update tells = record {
   updates_are = ap (λ (updates : List Update). updates ++ updates_of acts) no_update;
   apart = all_apart acts before hold;
   done = [];
-  tells = tells_first entry none;
+  tells = tells;
   bases =
       ap (λ (found : List Base). found ++ first_asked asked (based acts before [] 1)) no_base
       ∙ same_asked asked none_asked no_question (based acts before [] 1);
@@ -166,14 +167,14 @@ reads_more reads i read before done place rest within is =
     (drop_more reads i read within ∙ ap (λ (r : Read). r ∷ drop (i + 1) reads) (sym is))
 
 pub collected_more : (acts : List Act) (i : ℕ) (act : Act) (before : Nodes) (place next : ℕ) (found now : List Base)
-    (asked then_asked : Question → Bool) (updates more : List Update) (entry later : Entries) → i < length acts → act ≡ get_or acts i act
-    → Collected acts (drop i acts) before place found asked updates entry → next ≡ length act.reads + place
-    → ((done : List Update) (rest : List Base) → Tells entry (source done)
+    (asked then_asked : Question → Bool) (updates more : List Update) (origins later : Origins) → i < length acts → act ≡ get_or acts i act
+    → Collected acts (drop i acts) before place found asked updates origins → next ≡ length act.reads + place
+    → ((done : List Update) (rest : List Base) → TellAfter origins done
     → now ++ first_asked then_asked rest ≡ found ++ first_asked asked (based_reads act.reads before done place rest))
     → ((rest : List Update) → more ++ rest ≡ updates ++ cons_update act.update rest)
-    → ((done : List Update) → Tells entry (source done) → Tells later (source (done_more done act.update)))
+    → ((done : List Update) → TellAfter origins done → TellAfter later (done_more done act.update))
     → Collected acts (drop (i + 1) acts) before next now then_asked more later
-collected_more acts i act before place next found now asked then_asked updates more entry later within is kept next_is bases made tells =
+collected_more acts i act before place next found now asked then_asked updates more origins later within is kept next_is bases made tells =
     let left : List Act = drop (i + 1) acts in
     let split : drop i acts ≡ act ∷ left = drop_more acts i act within ∙ ap (λ (a : Act). a ∷ left) (sym is) in
     let done : List Update = done_more kept.done act.update in

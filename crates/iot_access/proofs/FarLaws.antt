@@ -1,5 +1,5 @@
 -- What is far above a path is far above where its row comes from.
-use Rattle.std.proofs.Common.{◌≡◌, ℕ, Bool, false, ◌||◌, IsSome, List, [], ◌∷◌, ◌++◌, map, Some, None, refl, sym, ap, subst, ◌∙◌}
+use Rattle.std.proofs.Common.{◌≡◌, ℕ, Bool, false, ◌||◌, IsSome, List, [], ◌∷◌, ◌++◌, map, Some, refl, sym, ap, subst, ◌∙◌}
 use Rattle.std.proofs.Common.{append_assoc}
 use Rattle.std.proofs.lemmas.List.{append-nil}
 use Rattle.std.specs.List.{list_any}
@@ -11,7 +11,7 @@ use Rattle.iot_tree.proofs.AncestorLaws.{list_any-map}
 use Rattle.iot_tree.proofs.TreeLaws.{ancestors}
 use Rattle.iot_tree.proofs.WithinLaws.{IsOutside, side, inside, outside}
 use Rattle.iot_access.specs.Sources.{hidden, carried}
-use Rattle.iot_access.proofs.TiedLaws.{Sources, no_source, hidden_inside, hidden_outside, carried_inside, carried_outside}
+use Rattle.iot_access.proofs.TiedLaws.{Sources, no_source, same_some, hidden_inside, hidden_outside, carried_inside, carried_outside}
 
 -- tests that agree on all paths above
 any_same : (f g : Path → Bool) (p : Path) → ((q : Path) (name : List ℕ) (rest : Path) → p ≡ q ++ name ∷ rest → f q ≡ g q)
@@ -51,17 +51,26 @@ pub above_outside : (p k q : Path) (name : List ℕ) (rest : Path) → IsOutside
 above_outside p k q name rest out is tail same =
     out (tail ++ name ∷ rest) (is ∙ ap (λ (path : Path). path ++ name ∷ rest) same ∙ append_assoc p tail (name ∷ rest))
 
--- what is far above a path without a row is far above its source
+-- what is far above a path is far above its source
 abbrev pub FarTied : Sources → Nodes → Nodes → Type 0
-FarTied s t u = (k o : Path) → s k ≡ Some o → get u k ≡ None → is_far_above u k ≡ is_far_above t o
+FarTied s t u = (k o : Path) → s k ≡ Some o → is_far_above u k ≡ is_far_above t o
+
+pub far_first : (t : Nodes) → FarTied (λ k. Some k) t t
+far_first t k o is = ap (is_far_above t) (same_some k o is)
+
+-- nothing is far above that was not, if no row becomes a far directory or ceases to be one
+pub far_alike : (u v : Nodes) → ((k : Path) → is_far_dir (get v k) ≡ is_far_dir (get u k)) → (k : Path)
+    → is_far_above v k ≡ is_far_above u k
+far_alike u v same k =
+    any_same (λ above. is_far_dir (get v above)) (λ above. is_far_dir (get u above)) k (λ q name rest is. same q)
 
 pub far_hidden : (s : Sources) (t u v : Nodes) (p : Path) → FarTied s t u → ((k : Path) → IsOutside p k → get v k ≡ get u k)
     → FarTied (hidden p s) t v
-far_hidden s t u v p old else k o is none = elim (side p k) [
+far_hidden s t u v p old else k o is = elim (side p k) [
   | inside rest at test ↦ absurd (no_source o (sym (hidden_inside p s k rest at) ∙ is))
   | outside out test ↦
       far_same v u k (λ q name rest above. else q (above_outside p k q name rest out above))
-      ∙ old k o (sym (hidden_outside p s k out) ∙ is) (sym (else k out) ∙ none)
+      ∙ old k o (sym (hidden_outside p s k out) ∙ is)
 ]
 
 pub far_moved : (u v : Nodes) (p q : Path) → IsTree u → IsTree v → IsSome (get u p)
@@ -74,16 +83,14 @@ far_moved u v p q tree_u tree_v mapped moved rest =
 pub far_carried : (s : Sources) (t u v : Nodes) (p q : Path) → FarTied s t u → IsTree u → IsTree v → IsSome (get u p)
     → ((rest : Path) → get v (q ++ rest) ≡ get u (p ++ rest)) → ((k : Path) → IsOutside p k → IsOutside q k → get v k ≡ get u k)
     → FarTied (carried p q s) t v
-far_carried s t u v p q old tree_u tree_v mapped moved else k o is none = elim (side q k) [
+far_carried s t u v p q old tree_u tree_v mapped moved else k o is = elim (side q k) [
   | inside rest at test ↦
-      let there : IsSome (get v q) = subst IsSome (sym (ap (get v) (sym (append-nil q)) ∙ moved [] ∙ ap (get u) (append-nil p))) mapped in
-      ap (is_far_above v) at ∙ far_under v tree_v q rest there ∙ (λ i. list_any (λ r. is_far_dir (moved r i)) (proper_prefixes rest))
-      ∙ sym (far_under u tree_u p rest mapped)
-      ∙ old (p ++ rest) o (sym (carried_inside p q s k rest at) ∙ is) (sym (ap (get v) at ∙ moved rest) ∙ none)
+      ap (is_far_above v) at ∙ far_moved u v p q tree_u tree_v mapped moved rest
+      ∙ old (p ++ rest) o (sym (carried_inside p q s k rest at) ∙ is)
   | outside out_q test ↦ elim (side p k) [
     | inside rest at test ↦ absurd (no_source o (sym (carried_outside p q s k out_q ∙ hidden_inside p s k rest at) ∙ is))
     | outside out_p test ↦
         far_same v u k (λ a name rest above. else a (above_outside p k a name rest out_p above) (above_outside q k a name rest out_q above))
-        ∙ old k o (sym (carried_outside p q s k out_q ∙ hidden_outside p s k out_p) ∙ is) (sym (else k out_p out_q) ∙ none)
+        ∙ old k o (sym (carried_outside p q s k out_q ∙ hidden_outside p s k out_p) ∙ is)
   ]
 ]

@@ -2,6 +2,9 @@ pub mod ModelessLaws
 pub mod TiedLaws
 pub mod BaseReadsLaws
 pub mod StepLaws
+pub mod ModesTiedLaws
+pub mod ModeStepLaws
+pub mod OwnLaws
 pub mod WholeLaws
 pub mod AccessLaws
 pub mod EntriesLaws

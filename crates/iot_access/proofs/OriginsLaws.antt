@@ -23,7 +23,7 @@ use Rattle.iot_tree.proofs.PathLaws.{order, lower, same, higher, tied}
 use Rattle.iot_tree.proofs.TreeLaws.{apart, same_or_apart}
 use Rattle.iot_tree.proofs.WithinLaws.{test_is, not_less, forked, side, inside, outside}
 use Rattle.iot_access.specs.Entries.{Entries, Sets, NoneBelow, Carries, AreApart}
-use Rattle.iot_access.specs.Origins.{Origins, entries, Takes, count_within}
+use Rattle.iot_access.specs.Origins.{Index, entries, Takes, count_within}
 use Rattle.iot_access.proofs.EntriesLaws.{no_entry}
 
 -- the names of a path, as a key
@@ -39,7 +39,7 @@ unfolding KeepsOthers
 other_entries test old new keeps = keeps
 
 -- what a change of a map is for its entries
-pub changed : (old new : Origins) (p : Path) (entry : Option (Option Path)) → UpdatesBy key_cmp (λ key. path_cmp p key.items) old new entry
+pub changed : (old new : Index) (p : Path) (entry : Option (Option Path)) → UpdatesBy key_cmp (λ key. path_cmp p key.items) old new entry
     → Sets (entries old) (entries new) p entry
 changed old new p entry updates = record {
   here = updates.1;
@@ -50,19 +50,19 @@ changed old new p entry updates = record {
 }
 
 -- no entry without a key
-pub none_of : (origins : Origins) → origins.entries ≡ [] → (k : Path) → entries origins k ≡ None
-none_of origins is k = ap (lookup (λ (key : Key). is_eq (path_cmp k key.items))) is
+pub none_of : (index : Index) → index.entries ≡ [] → (k : Path) → entries index k ≡ None
+none_of index is k = ap (lookup (λ (key : Key). is_eq (path_cmp k key.items))) is
 
 -- a path has an entry only if a key has its names
-none_at : (origins : Origins) (k : Path) → ((key : Key) → key.items ≡ k → entries origins key.items ≡ None) → entries origins k ≡ None
-none_at origins k none = by (entries origins k) refl
+none_at : (index : Index) (k : Path) → ((key : Key) → key.items ≡ k → entries index key.items ≡ None) → entries index k ≡ None
+none_at index k none = by (entries index k) refl
   where
-    by : (found : Option (Option Path)) → entries origins k ≡ found → found ≡ None
+    by : (found : Option (Option Path)) → entries index k ≡ found → found ≡ None
     by None is = refl
     by (Some o) is =
-        let place = place_from_lookup (λ (key : Key). is_eq (path_cmp k key.items)) origins.entries o is in
+        let place = place_from_lookup (λ (key : Key). is_eq (path_cmp k key.items)) index.entries o is in
         let at : k ≡ place.1.items = tied k place.1.items place.3 in
-        absurd (no_entry o (sym (none place.1 (sym at)) ∙ ap (entries origins) (sym at) ∙ is))
+        absurd (no_entry o (sym (none place.1 (sym at)) ∙ ap (entries index) (sym at) ∙ is))
 
 -- ---- the first entry below a path
 
@@ -70,19 +70,19 @@ none_at origins k none = by (entries origins k) refl
 after_it : (p : Path) (key : Key) (k : Path) → key.items ≡ k → IsBelow k p → path_cmp p key.items ≡ Less
 after_it p key k at below = ap (path_cmp p) (at ∙ below.2) ∙ above_first p below.0 below.1
 
-pub none_after : (origins : Origins) (p : Key) → ((q : Key) → (key_cmp p q ≡ Less) × Unit {0} → get key_cmp origins q ≡ None)
-    → NoneBelow (entries origins) p.items
-none_after origins p none k below = none_at origins k (λ key at. none key (after_it p.items key k at below, tt))
+pub none_after : (index : Index) (p : Key) → ((q : Key) → (key_cmp p q ≡ Less) × Unit {0} → get key_cmp index q ≡ None)
+    → NoneBelow (entries index) p.items
+none_after index p none k below = none_at index k (λ key at. none key (after_it p.items key k at below, tt))
 
-pub none_within : (origins : Origins) (p first : Key) → key_cmp p first ≡ Less → starts_with bytes_eq first.items p.items ≡ false
-    → ((q : Key) → (key_cmp p q ≡ Less) × Unit {0} → IsSome (get key_cmp origins q) → is_gt (key_cmp first q) ≡ false)
-    → NoneBelow (entries origins) p.items
-none_within origins p first after out least k below = none_at origins k (λ key at. by key at (entries origins key.items) refl)
+pub none_within : (index : Index) (p first : Key) → key_cmp p first ≡ Less → starts_with bytes_eq first.items p.items ≡ false
+    → ((q : Key) → (key_cmp p q ≡ Less) × Unit {0} → IsSome (get key_cmp index q) → is_gt (key_cmp first q) ≡ false)
+    → NoneBelow (entries index) p.items
+none_within index p first after out least k below = none_at index k (λ key at. by key at (entries index key.items) refl)
   where
     not_first : (rest : Path) → first.items ≡ p.items ++ rest → ⊥
     not_first rest is = both_ways _ out ((test_is p.items first.items).1 rest is)
 
-    by : (key : Key) → key.items ≡ k → (found : Option (Option Path)) → entries origins key.items ≡ found → found ≡ None
+    by : (key : Key) → key.items ≡ k → (found : Option (Option Path)) → entries index key.items ≡ found → found ≡ None
     by key at None is = refl
     by key at (Some o) is =
         let later : path_cmp p.items key.items ≡ Less = after_it p.items key k at below in
@@ -97,15 +97,15 @@ none_within origins p first after out least k below = none_at origins k (λ key 
         ]
 
 -- what is known of the first entry after p
-pub record Begins (origins : Origins) (p first : Key) (o : Option Path) : Type 0 where
+pub record Begins (index : Index) (p first : Key) (o : Option Path) : Type 0 where
   pub after : key_cmp p first ≡ Less
-  pub has : get key_cmp origins first ≡ Some o
-  pub least : (q : Key) → (key_cmp p q ≡ Less) × Unit {0} → IsSome (get key_cmp origins q) → is_gt (key_cmp first q) ≡ false
+  pub has : get key_cmp index first ≡ Some o
+  pub least : (q : Key) → (key_cmp p q ≡ Less) × Unit {0} → IsSome (get key_cmp index q) → is_gt (key_cmp first q) ≡ false
 
-pub begins : (origins : Origins) (p first : Key) (o : Option Path) (range rest : List (Key × Option Path))
-    → IsRangeOf key_cmp (Excluded p) Unbounded origins range → range ≡ (first, o) ∷ rest → Begins origins p first o
-begins origins p first o range rest of is =
-    let parts = subst (IsRangeOf key_cmp (Excluded p) Unbounded origins) is of in
+pub begins : (index : Index) (p first : Key) (o : Option Path) (range rest : List (Key × Option Path))
+    → IsRangeOf key_cmp (Excluded p) Unbounded index range → range ≡ (first, o) ∷ rest → Begins index p first o
+begins index p first o range rest of is =
+    let parts = subst (IsRangeOf key_cmp (Excluded p) Unbounded index) is of in
     record { after = parts.1.0.0; has = parts.1.1; least = parts.2 }
 
 -- ---- how many keys are at or below a path
@@ -155,7 +155,7 @@ strictly : (p k rest : Path) → k ≡ p ++ rest → path_cmp p k ≡ Less → I
 strictly p k [] at after = absurd (not_less p (ap (path_cmp p) (sym (at ∙ append-nil p)) ∙ after))
 strictly p k (name ∷ rest) at after = (name, rest, at)
 
-pub taken : (old new : Origins) (p first : Path) (o : Option Path) → path_cmp p first ≡ Less → starts_with bytes_eq first p ≡ true
+pub taken : (old new : Index) (p first : Path) (o : Option Path) → path_cmp p first ≡ Less → starts_with bytes_eq first p ≡ true
     → entries old first ≡ Some o → (row : Option (Key × Option Path))
     → option_map (λ row. row.0) row ≡ get_key_by (λ key. path_cmp first key.items) old
     → option_map (λ row. row.1) row ≡ get_by (λ key. path_cmp first key.items) old
@@ -256,7 +256,7 @@ module _ (old now mid next : Entries) (p q : Path) (are_apart : AreApart p q) (c
           ]
 
 -- an entry that was taken from below p and put below q
-pub carrying_taken : (old : Entries) (now mid next : Origins) (p q names : Path) (row : Key × Option Path) → AreApart p q
+pub carrying_taken : (old : Entries) (now mid next : Index) (p q names : Path) (row : Key × Option Path) → AreApart p q
     → Carrying old (entries now) p q → Takes now mid p (Some row) → names ≡ q ++ drop (length p) row.0.items
     → Sets (entries mid) (entries next) names (Some row.1) → Carrying old (entries next) p q
 carrying_taken old now mid next p q names row are_apart carrying takes is puts =
@@ -266,8 +266,8 @@ carrying_taken old now mid next p q names row are_apart carrying takes is puts =
     (subst (λ (k : Path). Sets (entries mid) (entries next) k (Some row.1)) (is ∙ ap (λ (rest : Path). q ++ rest) rest) puts)
 
 -- what is not below p has its entry still when one below p was taken away
-pub kept_outside : (old new : Origins) (p : Path) (taken : Option (Key × Option Path)) → Takes old new p taken → (k : Path)
+pub kept_outside : (old new : Index) (p : Path) (taken : Option (Key × Option Path)) → Takes old new p taken → (k : Path)
     → ¬ IsBelow k p → entries new k ≡ entries old k
-kept_outside old new p None takes k out = ap (λ (origins : Origins). entries origins k) takes.1
+kept_outside old new p None takes k out = ap (λ (index : Index). entries index k) takes.1
 kept_outside old new p (Some row) takes k out =
     takes.2.others k (λ same. out (subst (λ (q : Path). IsBelow q p) (sym same) takes.0))

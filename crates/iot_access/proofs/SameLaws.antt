@@ -6,16 +6,15 @@ use Rattle.iot_tree.specs.declared.acts.Act.{Act}
 use Rattle.iot_tree.specs.declared.acts.Read.{Read}
 use Rattle.iot_tree.specs.declared.updates.Update.{Update}
 use Rattle.iot_tree.specs.declared.questions.Question.{Question}
-use Rattle.iot_tree.specs.declared.questions.Question.TheVariants.{Kind, Content, Names as AskNames}
+use Rattle.iot_tree.specs.declared.questions.Question.TheVariants.{Kind, Content, Names as AskNames, Mode as AskMode}
 use Rattle.iot_tree.specs.declared.questions.Answer.{Answer}
-use Rattle.iot_tree.specs.declared.questions.Answer.TheVariants.{Away, Absent, IsDir, IsFile, Bytes, Names}
+use Rattle.iot_tree.specs.declared.questions.Answer.TheVariants.{Away, Absent, IsDir, IsFile, Bytes, Names, On, Off}
 use Rattle.iot_acts.specs.Guards.{AllGuarded}
 use Rattle.iot_acts.specs.Traces.{ActsHold, ReadsHold}
 use Rattle.iot_acts.specs.Turns.{Answers}
 use Rattle.iot_access.specs.Access.{access_of, updates_of}
 use Rattle.iot_access.specs.Asked.{first_asked, none_asked}
-use Rattle.iot_access.specs.BaseReads.{Base, path_of, base_at, base_from, base_of, cons_base, based_reads, based, done_more}
-use Rattle.iot_access.specs.Sources.{source}
+use Rattle.iot_access.specs.BaseReads.{Base, origin, base_at, base_from, base_of, cons_base, based_reads, based, done_more}
 use Rattle.iot_access.proofs.BaseReadsLaws.{BasesHold}
 use Rattle.iot_access.proofs.AskedLaws.{all_hold, none_known}
 use Rattle.iot_access.proofs.BeforeLaws.{HoldsIfAny, bases_hold_before}
@@ -30,12 +29,27 @@ module _ (t u : Nodes) where
   names_same o IsDir holds = refl
   names_same o IsFile holds = refl
   names_same o (Bytes bytes) holds = refl
+  names_same o On holds = refl
+  names_same o Off holds = refl
+
+  -- and so is a mode, if it is not away
+  mode_same : (o : Path) (answer : Answer) → Answers u (base_at t (AskMode o) o answer)
+      → base_at t (AskMode o) o answer ≡ base_at u (AskMode o) o answer
+  mode_same o Away holds = refl
+  mode_same o Absent holds = ap (λ (answer : Answer). record { question = AskMode o; answer = answer }) (sym holds)
+  mode_same o IsDir holds = ap (λ (answer : Answer). record { question = AskMode o; answer = answer }) (sym holds)
+  mode_same o IsFile holds = ap (λ (answer : Answer). record { question = AskMode o; answer = answer }) (sym holds)
+  mode_same o (Bytes bytes) holds = ap (λ (answer : Answer). record { question = AskMode o; answer = answer }) (sym holds)
+  mode_same o (Names children) holds = ap (λ (answer : Answer). record { question = AskMode o; answer = answer }) (sym holds)
+  mode_same o On holds = ap (λ (answer : Answer). record { question = AskMode o; answer = answer }) (sym holds)
+  mode_same o Off holds = ap (λ (answer : Answer). record { question = AskMode o; answer = answer }) (sym holds)
 
   from_same : (question : Question) (answer : Answer) (found : Option Path) → HoldsIfAny u (base_from t question answer found)
       → base_from t question answer found ≡ base_from u question answer found
   from_same (Kind p) answer (Some o) holds = refl
   from_same (Content p) answer (Some o) holds = refl
   from_same (AskNames p) answer (Some o) holds = ap Some (names_same o answer holds)
+  from_same (AskMode p) answer (Some o) holds = ap Some (mode_same o answer holds)
   from_same question answer None holds = refl
 
   cons_same : (place : ℕ) (one other : Option Read) (rest later : List Base) → (HoldsIfAny u one → one ≡ other)
@@ -49,7 +63,7 @@ module _ (t u : Nodes) where
   reads_same [] done place rest later same hold = same hold
   reads_same (read ∷ reads) done place rest later same hold =
       cons_same place (base_of t done read) (base_of u done read) (based_reads reads t done (suc place) rest)
-      (based_reads reads u done (suc place) later) (from_same read.question read.answer (source done (path_of read.question)))
+      (based_reads reads u done (suc place) later) (from_same read.question read.answer (origin done read.question))
       (reads_same reads done (suc place) rest later same) hold
 
   acts_same : (acts : List Act) (done : List Update) (place : ℕ) → BasesHold u (based acts t done place)

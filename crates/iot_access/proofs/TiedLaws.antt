@@ -5,7 +5,6 @@ use Rattle.std.proofs.lemmas.List.{append-nil}
 use Rattle.std.proofs.Math.Seq.{drop-append_seam}
 use Rattle.std.specs.FinMap.{get}
 use Rattle.iot_tree.specs.Tree.{Nodes, Path}
-use Rattle.iot_tree.specs.declared.nodes.Node.{Node}
 use Rattle.iot_tree.proofs.AncestorLaws.{ends, at_root, in_name}
 use Rattle.iot_tree.proofs.WithinLaws.{IsOutside, side, inside, outside, test_is}
 use Rattle.iot_access.specs.Sources.{hidden, carried}
@@ -17,11 +16,11 @@ use Rattle.iot_tree.proofs.UpdateLaws.{front_outside, same_front_of}
 abbrev pub Sources : Type 0
 Sources = Path → Option Path
 
--- rows with a source are those of the trees before, and the others are the same but for their modes; and the kinds of a child are the same after
--- exactly if they were the same before
+-- but for their modes, rows with a source are those of the trees before, and the others are the same; and the kinds of a child are the
+-- same after exactly if they were the same before
 pub record Tied (s : Sources) (t1 u1 t2 u2 : Nodes) : Type 0 where
-  pub first : (k o : Path) → s k ≡ Some o → get u1 k ≡ get t1 o
-  pub second : (k o : Path) → s k ≡ Some o → get u2 k ≡ get t2 o
+  pub first : (k o : Path) → s k ≡ Some o → row_at u1 k ≡ row_at t1 o
+  pub second : (k o : Path) → s k ≡ Some o → row_at u2 k ≡ row_at t2 o
   pub own : (k : Path) → s k ≡ None → row_at u1 k ≡ row_at u2 k
   pub child : (x : Path) (n : Name) (o : Path) → s x ≡ Some o → SameKind u1 u2 (x ++ n ∷ []) ↔ SameKind t1 t2 (o ++ n ∷ [])
   pub own_child : (x : Path) (n : Name) → s x ≡ None → SameKind u1 u2 (x ++ n ∷ [])
@@ -32,8 +31,8 @@ same_some a b is = cc
 -- before a run
 pub tied_first : (t1 t2 : Nodes) → Tied (λ k. Some k) t1 t1 t2 t2
 tied_first t1 t2 = record {
-  first = λ k o is. ap (get t1) (same_some k o is);
-  second = λ k o is. ap (get t2) (same_some k o is);
+  first = λ k o is. ap (row_at t1) (same_some k o is);
+  second = λ k o is. ap (row_at t2) (same_some k o is);
   own = λ k is. absurd cc;
   child =
       λ x n o is. subst (λ (o : Path). SameKind t1 t2 (x ++ n ∷ []) ↔ SameKind t1 t2 (o ++ n ∷ [])) (same_some x o is) ((λ h. h), (λ h. h));
@@ -88,20 +87,37 @@ iff_by a b c d j k G left right iff = (
 )
 
 module _ (s : Sources) (t1 u1 t2 u2 : Nodes) (tied : Tied s t1 u1 t2 u2) where
+  -- ---- no row changes but for its mode
+  pub tied_modeless : (v1 v2 : Nodes) → ((k : Path) → row_at v1 k ≡ row_at u1 k) → ((k : Path) → row_at v2 k ≡ row_at u2 k)
+      → Tied s t1 v1 t2 v2
+  tied_modeless v1 v2 same1 same2 =
+      let left : (k : Path) → SameKind v1 u1 k = λ k. same_kind_of v1 u1 k (same1 k) in
+      let right : (k : Path) → SameKind u2 v2 k = λ k. same_kind_of u2 v2 k (sym (same2 k)) in
+      record {
+        first = λ k o is. same1 k ∙ tied.first k o is;
+        second = λ k o is. same2 k ∙ tied.second k o is;
+        own = λ k is. same1 k ∙ tied.own k is ∙ sym (same2 k);
+        child = λ x n o is. (
+          (λ same. (tied.child x n o is).0 (sym (left (x ++ n ∷ [])) ∙ same ∙ sym (right (x ++ n ∷ [])))),
+          (λ same. left (x ++ n ∷ []) ∙ (tied.child x n o is).1 same ∙ right (x ++ n ∷ [])),
+        );
+        own_child = λ x n is. left (x ++ n ∷ []) ∙ tied.own_child x n is ∙ right (x ++ n ∷ []);
+      }
+
   -- ---- what is at or below a path is new, and the same in both trees
   module _ (p : Path) (v1 v2 : Nodes) (guard : SameKind u1 u2 p)
       (else1 : (k : Path) → IsOutside p k → get v1 k ≡ get u1 k) (else2 : (k : Path) → IsOutside p k → get v2 k ≡ get u2 k)
       (alike : (rest : Path) → row_at v1 (p ++ rest) ≡ row_at v2 (p ++ rest)) where
-    hidden_first : (k o : Path) → hidden p s k ≡ Some o → get v1 k ≡ get t1 o
+    hidden_first : (k o : Path) → hidden p s k ≡ Some o → row_at v1 k ≡ row_at t1 o
     hidden_first k o is = elim (side p k) [
       | inside rest at test ↦ absurd (no_source o (sym (hidden_inside p s k rest at) ∙ is))
-      | outside out test ↦ else1 k out ∙ tied.first k o (sym (hidden_outside p s k out) ∙ is)
+      | outside out test ↦ row_by v1 u1 k k (else1 k out) ∙ tied.first k o (sym (hidden_outside p s k out) ∙ is)
     ]
 
-    hidden_second : (k o : Path) → hidden p s k ≡ Some o → get v2 k ≡ get t2 o
+    hidden_second : (k o : Path) → hidden p s k ≡ Some o → row_at v2 k ≡ row_at t2 o
     hidden_second k o is = elim (side p k) [
       | inside rest at test ↦ absurd (no_source o (sym (hidden_inside p s k rest at) ∙ is))
-      | outside out test ↦ else2 k out ∙ tied.second k o (sym (hidden_outside p s k out) ∙ is)
+      | outside out test ↦ row_by v2 u2 k k (else2 k out) ∙ tied.second k o (sym (hidden_outside p s k out) ∙ is)
     ]
 
     alike_at : (k rest : Path) → k ≡ p ++ rest → row_at v1 k ≡ row_at v2 k
@@ -172,18 +188,18 @@ module _ (s : Sources) (t1 u1 t2 u2 : Nodes) (tied : Tied s t1 u1 t2 u2) where
     came2 : (k rest : Path) → k ≡ q ++ rest → get v2 k ≡ get u2 (p ++ rest)
     came2 k rest is = ap (get v2) is ∙ moved2 rest
 
-    carried_first : (k o : Path) → carried p q s k ≡ Some o → get v1 k ≡ get t1 o
+    carried_first : (k o : Path) → carried p q s k ≡ Some o → row_at v1 k ≡ row_at t1 o
     carried_first k o is = elim (place k) [
-      | came rest at from ↦ came1 k rest at ∙ tied.first (p ++ rest) o (sym from ∙ is)
+      | came rest at from ↦ row_by v1 u1 k (p ++ rest) (came1 k rest at) ∙ tied.first (p ++ rest) o (sym from ∙ is)
       | went rest at out none ↦ absurd (no_source o (sym none ∙ is))
-      | stayed out_p out_q same ↦ else1 k out_p out_q ∙ tied.first k o (sym same ∙ is)
+      | stayed out_p out_q same ↦ row_by v1 u1 k k (else1 k out_p out_q) ∙ tied.first k o (sym same ∙ is)
     ]
 
-    carried_second : (k o : Path) → carried p q s k ≡ Some o → get v2 k ≡ get t2 o
+    carried_second : (k o : Path) → carried p q s k ≡ Some o → row_at v2 k ≡ row_at t2 o
     carried_second k o is = elim (place k) [
-      | came rest at from ↦ came2 k rest at ∙ tied.second (p ++ rest) o (sym from ∙ is)
+      | came rest at from ↦ row_by v2 u2 k (p ++ rest) (came2 k rest at) ∙ tied.second (p ++ rest) o (sym from ∙ is)
       | went rest at out none ↦ absurd (no_source o (sym none ∙ is))
-      | stayed out_p out_q same ↦ else2 k out_p out_q ∙ tied.second k o (sym same ∙ is)
+      | stayed out_p out_q same ↦ row_by v2 u2 k k (else2 k out_p out_q) ∙ tied.second k o (sym same ∙ is)
     ]
 
     carried_own : (k : Path) → carried p q s k ≡ None → row_at v1 k ≡ row_at v2 k

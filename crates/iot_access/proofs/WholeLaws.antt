@@ -5,12 +5,13 @@ use Rattle.std.specs.FinMap.{get, insert, remove, get-insert}
 use Rattle.iot_text.specs.Paths.{path_cmp}
 use Rattle.iot_text.proofs.PathsLaws.{path_total}
 use Rattle.iot_tree.specs.Tree.{Nodes, IsTree, IsWhole, Path}
-use Rattle.iot_tree.specs.Updates.{Fits, FitsRemove, FitsMove, mode_in, moved, updated}
+use Rattle.iot_tree.specs.Updates.{Fits, FitsRemove, FitsMove, FitsSetMode, mode_in, moved, updated, with_mode}
 use Rattle.iot_tree.specs.declared.nodes.Mode.{Mode}
 use Rattle.iot_tree.specs.declared.nodes.Node.{Node}
 use Rattle.iot_tree.specs.declared.nodes.Node.TheVariants.{Dir, File, FarDir, FarFile}
 use Rattle.iot_tree.specs.declared.updates.Update.{Update}
-use Rattle.iot_tree.specs.declared.updates.Update.TheVariants.{Put, MakeDir, Remove, Move}
+use Rattle.iot_tree.specs.declared.updates.Update.TheVariants.{Put, MakeDir, Remove, Move, SetMode}
+use Rattle.iot_tree.proofs.FitsLaws.{file_there, mode_inserts}
 use Rattle.iot_tree.proofs.WithinLaws.{side, inside, outside}
 use Rattle.iot_tree.proofs.UpdateLaws.{other_stays, moved_at, moved_gone, moved_else}
 use Rattle.iot_acts.specs.Traces.{FitsIfAny, after_update}
@@ -63,6 +64,20 @@ moved_kept t tree p q k fits = elim (side q k) [
   ]
 ]
 
+moded_kept : (t : Nodes) → IsWhole t → (p : Path) (mode : Mode) (node : Node) → get t p ≡ Some node
+    → Kept t (Some (with_mode mode node))
+moded_kept t whole p mode Dir is = dir refl
+moded_kept t whole p mode (File bytes was) is = file bytes mode refl
+moded_kept t whole p mode FarDir is = absurd (whole.no_far_dir p is)
+moded_kept t whole p mode (FarFile was) is = absurd (whole.no_far_file p was is)
+
+whole_set : (t : Nodes) → IsWhole t → (p : Path) (mode : Mode) → FitsSetMode t p → IsWhole (updated t (SetMode p mode))
+whole_set t whole p mode fits =
+    let there = file_there t p fits in
+    subst IsWhole (sym (mode_inserts t p mode there.0 there.1))
+    (kept_whole t (insert t p (with_mode mode there.0)) whole
+    (λ k. put_kept t p k (with_mode mode there.0) (moded_kept t whole p mode there.0 there.1)))
+
 whole_updated : (t : Nodes) → IsTree t → IsWhole t → (update : Update) → Fits t update → IsWhole (updated t update)
 whole_updated t tree whole (Put p bytes) fits =
     let mode : Mode = mode_in (get t p) in
@@ -70,6 +85,7 @@ whole_updated t tree whole (Put p bytes) fits =
 whole_updated t tree whole (MakeDir p) fits = kept_whole t (insert t p Dir) whole (λ k. put_kept t p k Dir (dir refl))
 whole_updated t tree whole (Remove p) fits = kept_whole t (remove t p) whole (λ k. removed_kept t p k fits)
 whole_updated t tree whole (Move p q) fits = kept_whole t (moved t p q) whole (λ k. moved_kept t tree p q k fits)
+whole_updated t tree whole (SetMode p mode) fits = whole_set t whole p mode fits
 
 pub whole_after : (t : Nodes) → IsTree t → IsWhole t → (update : Option Update) → FitsIfAny t update → IsWhole (after_update t update)
 whole_after t tree whole None fits = whole

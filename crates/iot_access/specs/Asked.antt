@@ -4,7 +4,7 @@ use Rattle.std.specs.BTreeSet.{contains}
 use Rattle.std.specs.Ordering.{is_eq}
 use Rattle.iot_text.specs.Paths.{path_cmp}
 use Rattle.iot_tree.specs.declared.questions.Question.{Question}
-use Rattle.iot_tree.specs.declared.questions.Question.TheVariants.{Kind, Content, Names}
+use Rattle.iot_tree.specs.declared.questions.Question.TheVariants.{Kind, Content, Names, Mode}
 use Rattle.iot_access.specs.BaseReads.{Base}
 use Rattle.iot_access.specs.declared.asked.Asked.{Asked}
 
@@ -13,6 +13,7 @@ abbrev pub same_question : Question → Question → Bool
 same_question (Kind p) (Kind q) = is_eq (path_cmp p q)
 same_question (Content p) (Content q) = is_eq (path_cmp p q)
 same_question (Names p) (Names q) = is_eq (path_cmp p q)
+same_question (Mode p) (Mode q) = is_eq (path_cmp p q)
 same_question one other = false
 
 -- whether one was asked, if this one was asked besides
@@ -39,3 +40,4 @@ abbrev pub is_asked : Asked → Question → Bool
 is_asked asked (Kind p) = contains path_cmp asked.kinds p
 is_asked asked (Content p) = contains path_cmp asked.contents p
 is_asked asked (Names p) = contains path_cmp asked.names p
+is_asked asked (Mode p) = contains path_cmp asked.modes p

@@ -4,7 +4,7 @@ use Rattle.std.specs.Option.{option_map}
 use Rattle.iot_text.specs.Paths.{IsBelow}
 use Rattle.iot_tree.specs.Tree.{Path}
 use Rattle.iot_tree.specs.declared.updates.Update.{Update}
-use Rattle.iot_tree.specs.declared.updates.Update.TheVariants.{Put, MakeDir, Remove, Move}
+use Rattle.iot_tree.specs.declared.updates.Update.TheVariants.{Put, MakeDir, Remove, Move, SetMode}
 
 -- some paths have an entry: where the row there comes from
 abbrev pub Entries : Type 0
@@ -49,6 +49,7 @@ IsApart (Put p bytes) = Unit {0}
 IsApart (MakeDir p) = Unit {0}
 IsApart (Remove p) = Unit {0}
 IsApart (Move p q) = AreApart p q
+IsApart (SetMode p mode) = Unit {0}
 
 -- the same of an update, if there is one
 abbrev pub IsApartIfAny : Option Update → Type 0

@@ -17,6 +17,7 @@ pub(crate) struct Asked {
     pub(crate) kinds: BTreeSet<Path>,
     pub(crate) contents: BTreeSet<Path>,
     pub(crate) names: BTreeSet<Path>,
+    pub(crate) modes: BTreeSet<Path>,
 }
 
 impl Asked {
@@ -30,6 +31,7 @@ impl Asked {
             kinds: BTreeSet::new(alloc),
             contents: BTreeSet::new(alloc),
             names: BTreeSet::new(alloc),
+            modes: BTreeSet::new(alloc),
         }
     }
 
@@ -42,6 +44,7 @@ impl Asked {
             Question::Kind(path) => add(alloc, &mut self.kinds, path),
             Question::Content(path) => add(alloc, &mut self.contents, path),
             Question::Names(path) => add(alloc, &mut self.names, path),
+            Question::Mode(path) => add(alloc, &mut self.modes, path),
         }
     }
 }

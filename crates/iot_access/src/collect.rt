@@ -6,14 +6,13 @@ ghost use Rattle.iot_acts.specs.Guards.{AllGuarded};
 ghost use Rattle.iot_acts.specs.Traces.{ReadsHold, ActsHold};
 ghost use Rattle.iot_access.specs.Asked.{first_asked, is_asked, none_asked};
 ghost use Rattle.iot_access.specs.BaseReads.{Base, based, based_reads, base_of, cons_base, done_more};
-ghost use Rattle.iot_access.specs.Entries.{Tells, IsApartIfAny};
-ghost use Rattle.iot_access.specs.Origins.{entries};
-ghost use Rattle.iot_access.specs.Sources.{source};
+ghost use Rattle.iot_access.specs.Entries.{IsApartIfAny};
+ghost use Rattle.iot_access.specs.Origins.{TellAfter};
 ghost use Rattle.iot_access.specs.Access.{AreNumbers, FitInTurn, IsAccess, Rise, access_of, cons_update, no_access, updates_of};
 
 use crate::asked::Asked;
 use crate::base_reads::base_of;
-use crate::origins::{Origins, follow};
+use crate::origins::Origins;
 use iot_text::NoMemory;
 use iot_tree::{Access, Act, Acts, Duplicate, Places, Read, Reads, Tree, Update, Updates};
 use std::alloc::Global;
@@ -44,7 +43,7 @@ fn add_read(
     ensures numbers { OnOk result (AreNumbers access.new.places) }
     ensures updates { OnOk result (access.new.updates ≡ access.old.updates) }
     ensures bases { OnOk result
-        ((done : List TreeUpdate) (rest : List Base) → Tells (entries origins.now) (source done)
+        ((done : List TreeUpdate) (rest : List Base) → TellAfter origins.now done
         → zip access.new.places access.new.reads ++ first_asked (is_asked asked.new) rest
         ≡ zip access.old.places access.old.reads
         ++ first_asked (is_asked asked.old) (cons_base place (base_of before.now done read.now) rest)) }
@@ -76,7 +75,7 @@ fn add_reads(
     ensures numbers { OnOk result (AreNumbers access.new.places) }
     ensures updates { OnOk result (access.new.updates ≡ access.old.updates) }
     ensures bases { OnOk result
-        ((done : List TreeUpdate) (rest : List Base) → Tells (entries origins.now) (source done)
+        ((done : List TreeUpdate) (rest : List Base) → TellAfter origins.now done
         → zip access.new.places access.new.reads ++ first_asked (is_asked asked.new) rest
         ≡ zip access.old.places access.old.reads
         ++ first_asked (is_asked asked.old) (based_reads reads.now before.now done first rest)) }
@@ -100,12 +99,11 @@ fn add_update(
     ensures updates { OnOk result
         ((rest : List TreeUpdate) → updates.new ++ rest ≡ updates.old ++ cons_update update.now rest) }
     ensures tells { OnOk result
-        ((done : List TreeUpdate) → Tells (entries origins.old) (source done)
-        → Tells (entries origins.new) (source (done_more done update.now))) }
+        ((done : List TreeUpdate) → TellAfter origins.old done → TellAfter origins.new (done_more done update.now)) }
 {
     if let Some(update) = update {
         updates.push(update.copy(alloc)?)?;
-        follow(alloc, origins, update)?;
+        origins.follow(alloc, update)?;
     }
     Ok(())
 }

@@ -1,23 +1,31 @@
 //! Where the rows of a tree come from, kept while updates are made.
-ghost use Rattle.std.specs.Prelude.{◌≡◌, ◌++◌, ◌∷◌, List, Option, IfOk, OnOk};
+ghost use Rattle.std.specs.Prelude.{◌≡◌, ◌++◌, ◌∷◌, [], List, Option, IfOk, OnOk};
 ghost use Rattle.std.specs.Option.{option_map};
 ghost use Rattle.iot_text.specs.Paths.{IsPath};
 ghost use Rattle.iot_tree.specs.Tree.{Path as TreePath};
 ghost use Rattle.iot_tree.specs.declared.updates.Update.{Update as TreeUpdate};
-ghost use Rattle.iot_access.specs.Sources.{source, hidden, carried};
+ghost use Rattle.iot_access.specs.Sources.{hidden, carried};
+ghost use Rattle.iot_access.specs.BaseReads.{origin};
 ghost use Rattle.iot_access.specs.Entries.{Tells, Clears, Carries, NoneBelow, AreApart, IsApart};
-ghost use Rattle.iot_access.specs.Origins.{Takes, entries};
+ghost use Rattle.iot_access.specs.Origins.{Takes, TellAfter, entries};
 
 use iot_text::{Name, NoMemory, Path};
-use iot_tree::Update;
+use iot_tree::{Question, Update};
 use std::alloc::Global;
 use std::collections::BTreeMap;
 use std::ops::Bound;
 
-/// Where rows come from: paths, each with the path of the tree before from which its row comes, or
-/// with None if the updates made what is there, or made it free. A path without an entry comes with
-/// its parent.
-pub(crate) type Origins = BTreeMap<Vec<Name>, Option<Path>>;
+/// Where rows or modes come from: paths, each with the path of the tree before from which its row or
+/// its mode comes, or with None if the updates made what is there, or made it free. A path without an
+/// entry comes with its parent.
+type Index = BTreeMap<Vec<Name>, Option<Path>>;
+
+/// Where the rows of a tree come from, but for their modes, and where the modes do.
+#[derive(Drop)]
+pub(crate) struct Origins {
+    pub(crate) rows: Index,
+    pub(crate) modes: Index,
+}
 
 /// The names, and then the others.
 fn joined(alloc: Global, names: &[Name], rest: &[Name]) -> Result<Vec<Name>, NoMemory>
@@ -45,17 +53,13 @@ fn below(alloc: Global, origin: &Option<Path>, rest: &[Name]) -> Result<Option<P
 
 /// The path of the tree before from which the row at the path comes: None if the updates made what is
 /// there, or made it free. A binary search for each path at or above it.
-pub(crate) fn source_of(
-    alloc: Global,
-    origins: &Origins,
-    path: &Path,
-) -> Result<Option<Path>, NoMemory>
-    ensures { IfOk result (λ source. (s : TreePath → Option TreePath) → Tells (entries origins.now) s → source ≡ s path.now) }
+fn source_of(alloc: Global, index: &Index, path: &Path) -> Result<Option<Path>, NoMemory>
+    ensures { IfOk result (λ source. (s : TreePath → Option TreePath) → Tells (entries index.now) s → source ≡ s path.now) }
 {
     let names = path.names();
     let mut above = names.len();
     'above: loop {
-        if let Some(origin) = origins.get(&names[..above]) {
+        if let Some(origin) = index.get(&names[..above]) {
             return below(alloc, origin, &names[above..]);
         }
         if above == 0 {
@@ -68,85 +72,114 @@ pub(crate) fn source_of(
 /// Takes the first entry below the path, if there is one.
 fn take_below(
     alloc: Global,
-    origins: &mut Origins,
+    index: &mut Index,
     path: &Vec<Name>,
 ) -> Result<Option<(Vec<Name>, Option<Path>)>, NoMemory>
-    ensures { IfOk result (Takes origins.old origins.new path.now.items) }
+    ensures { IfOk result (Takes index.old index.new path.now.items) }
 {
     let below = (Bound::Excluded(path), Bound::Unbounded);
-    let Some((first, _)) = origins.range(below).next() else {
+    let Some((first, _)) = index.range(below).next() else {
         return Ok(None);
     };
     if !first.as_slice().starts_with(path.as_slice()) {
         return Ok(None);
     }
     let first = Vec::from_slice(alloc, first.as_slice())?;
-    Ok(origins.remove_entry(first.as_slice()))
+    Ok(index.remove_entry(first.as_slice()))
 }
 
 /// Takes all entries below the path away.
-fn clear_below(alloc: Global, origins: &mut Origins, path: &Vec<Name>) -> Result<(), NoMemory>
-    ensures { OnOk result (Clears (entries origins.old) (entries origins.new) path.now.items) }
+fn clear_below(alloc: Global, index: &mut Index, path: &Vec<Name>) -> Result<(), NoMemory>
+    ensures { OnOk result (Clears (entries index.old) (entries index.new) path.now.items) }
 {
-    'below: while take_below(alloc, origins, path)?.is_some() {}
+    'below: while take_below(alloc, index, path)?.is_some() {}
     Ok(())
 }
 
 /// Carries all entries below the first path to below the second.
 fn carry_below(
     alloc: Global,
-    origins: &mut Origins,
+    index: &mut Index,
     from: &Vec<Name>,
     to: &[Name],
 ) -> Result<(), NoMemory>
     requires apart { AreApart from.now.items to.now }
-    requires free { NoneBelow (entries origins.old) to.now }
-    ensures { OnOk result (Carries (entries origins.old) (entries origins.new) from.now.items to.now) }
+    requires free { NoneBelow (entries index.old) to.now }
+    ensures { OnOk result (Carries (entries index.old) (entries index.new) from.now.items to.now) }
 {
-    'below: while let Some((path, origin)) = take_below(alloc, origins, from)? {
+    'below: while let Some((path, origin)) = take_below(alloc, index, from)? {
         let names = joined(alloc, to, &path[from.len()..])?;
-        origins.insert(names, origin)?;
+        index.insert(names, origin)?;
     }
     Ok(())
 }
 
 /// Keeps in mind that what is at or below the path is new, or gone.
-fn hide(alloc: Global, origins: &mut Origins, path: &Path) -> Result<(), NoMemory>
+fn hide(alloc: Global, index: &mut Index, path: &Path) -> Result<(), NoMemory>
     ensures { OnOk result
-        ((s : TreePath → Option TreePath) → Tells (entries origins.old) s → Tells (entries origins.new) (hidden path.now s)) }
+        ((s : TreePath → Option TreePath) → Tells (entries index.old) s → Tells (entries index.new) (hidden path.now s)) }
 {
     let names = Vec::from_slice(alloc, path.names())?;
-    clear_below(alloc, origins, &names)?;
-    origins.insert(names, None)?;
+    clear_below(alloc, index, &names)?;
+    index.insert(names, None)?;
     Ok(())
 }
 
 /// Keeps in mind that what was at or below the first path is at or below the second.
-fn carry(alloc: Global, origins: &mut Origins, from: &Path, to: &Path) -> Result<(), NoMemory>
+fn carry(alloc: Global, index: &mut Index, from: &Path, to: &Path) -> Result<(), NoMemory>
     requires { AreApart from.now to.now }
     ensures { OnOk result
-        ((s : TreePath → Option TreePath) → Tells (entries origins.old) s → Tells (entries origins.new) (carried from.now to.now s)) }
+        ((s : TreePath → Option TreePath) → Tells (entries index.old) s → Tells (entries index.new) (carried from.now to.now s)) }
 {
-    let source = source_of(alloc, origins, from)?;
+    let source = source_of(alloc, index, from)?;
     let old = Vec::from_slice(alloc, from.names())?;
     let new = Vec::from_slice(alloc, to.names())?;
-    clear_below(alloc, origins, &new)?;
-    carry_below(alloc, origins, &old, to.names())?;
-    origins.insert(new, source)?;
-    origins.insert(old, None)?;
+    clear_below(alloc, index, &new)?;
+    carry_below(alloc, index, &old, to.names())?;
+    index.insert(new, source)?;
+    index.insert(old, None)?;
     Ok(())
 }
 
-/// Where rows come from after one update more.
-pub(crate) fn follow(alloc: Global, origins: &mut Origins, update: &Update) -> Result<(), NoMemory>
-    requires { IsApart update.now }
-    ensures { OnOk result
-        ((done : List TreeUpdate) → Tells (entries origins.old) (source done) → Tells (entries origins.new) (source (update.now ∷ done))) }
-{
-    match update {
-        Update::Put(path, _) => hide(alloc, origins, path),
-        Update::MakeDir(path) => hide(alloc, origins, path),
-        Update::Remove(path) => hide(alloc, origins, path),
-        Update::Move(from, to) => carry(alloc, origins, from, to),
+impl Origins {
+    /// Where all comes from before any update: each row and mode from its own path. Does not allocate.
+    pub(crate) fn new(alloc: Global) -> Origins
+        ensures { TellAfter result [] }
+    {
+        Origins {
+            rows: Index::new(alloc),
+            modes: Index::new(alloc),
+        }
+    }
+
+    /// The path of the tree before from which what the question asks for comes, if it comes from there.
+    pub(crate) fn of(&self, alloc: Global, question: &Question) -> Result<Option<Path>, NoMemory>
+        ensures { IfOk result (λ found. (done : List TreeUpdate) → TellAfter self.now done → found ≡ origin done question.now) }
+    {
+        match question {
+            Question::Kind(path) | Question::Content(path) | Question::Names(path) => source_of(
+                alloc, &self.rows, path,
+            ),
+            Question::Mode(path) => source_of(alloc, &self.modes, path),
+        }
+    }
+
+    /// Follows one update more.
+    pub(crate) fn follow(&mut self, alloc: Global, update: &Update) -> Result<(), NoMemory>
+        requires { IsApart update.now }
+        ensures { OnOk result ((done : List TreeUpdate) → TellAfter self.old done → TellAfter self.new (update.now ∷ done)) }
+    {
+        match update {
+            Update::Put(path, _) => hide(alloc, &mut self.rows, path),
+            Update::MakeDir(path) | Update::Remove(path) => {
+                hide(alloc, &mut self.rows, path)?;
+                hide(alloc, &mut self.modes, path)
+            }
+            Update::Move(from, to) => {
+                carry(alloc, &mut self.rows, from, to)?;
+                carry(alloc, &mut self.modes, from, to)
+            }
+            Update::SetMode(path, _) => hide(alloc, &mut self.modes, path),
+        }
     }
 }

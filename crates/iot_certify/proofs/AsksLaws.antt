@@ -8,7 +8,7 @@ use Rattle.iot_tree.specs.Tree.{Nodes, Path, Row}
 use Rattle.iot_tree.specs.declared.questions.Question.{Question}
 use Rattle.iot_tree.specs.declared.questions.Question.TheVariants as asks
 use Rattle.iot_tree.specs.declared.questions.Answer.{Answer}
-use Rattle.iot_tree.proofs.AnswerLaws.{kind_in_gap, content_in_gap, names_in_gap}
+use Rattle.iot_tree.proofs.AnswerLaws.{kind_in_gap, content_in_gap, names_in_gap, mode_in_gap}
 use Rattle.iot_tree.proofs.RowLaws.{entries_rows}
 use Rattle.iot_certify.specs.Asked.{path_in, about}
 
@@ -26,3 +26,4 @@ pub gap_answer : (rows : List Row) → AreTreeRows rows → (question : Question
 gap_answer rows all (asks.Kind p) gap is = ap kind_answer (sym (kind_in_gap rows all p gap is))
 gap_answer rows all (asks.Content p) gap is = sym (content_in_gap rows all p gap is)
 gap_answer rows all (asks.Names p) gap is = names_in_gap rows all p gap is _
+gap_answer rows all (asks.Mode p) gap is = sym (mode_in_gap rows all p gap is)

@@ -4,7 +4,7 @@ ghost use Rattle.std.specs.FinMap.{is_sorted};
 ghost use Rattle.std.specs.List.{filter_map};
 ghost use Rattle.iot_text.specs.Paths.{path_cmp};
 ghost use Rattle.iot_tree.specs.Place.{IsRowAt};
-ghost use Rattle.iot_tree.specs.Questions.{answer_of, kind_answer, content_answer, child_of};
+ghost use Rattle.iot_tree.specs.Questions.{answer_of, kind_answer, content_answer, mode_answer, mode_told, child_of};
 ghost use Rattle.iot_tree.specs.Rows.{AreTreeRows, map_of};
 ghost use Rattle.iot_views.specs.Seen.{question_seen, answer_seen};
 ghost use Rattle.iot_certify.specs.Asked.{path_asked, about};
@@ -12,7 +12,7 @@ ghost use Rattle.iot_certify.specs.Asked.{path_asked, about};
 use crate::children::are_children;
 use crate::places::{kind_in_gap, place_of};
 use iot_text::{Name, NoMemory, Path};
-use iot_tree::{Answer, Kind, Node, Question, Tree, count_within};
+use iot_tree::{Answer, Kind, Mode, Node, Question, Tree, count_within};
 use iot_views::{AnswerView, PathView, QuestionView};
 use std::alloc::Global;
 
@@ -24,6 +24,7 @@ fn path_of<'q, 'a>(question: &'q QuestionView<'a>) -> &'q PathView<'a>
         QuestionView::Kind(path) => path,
         QuestionView::Content(path) => path,
         QuestionView::Names(path) => path,
+        QuestionView::Mode(path) => path,
     }
 }
 
@@ -35,6 +36,7 @@ fn about(question: &QuestionView<'_>, path: Path) -> Question
         QuestionView::Kind(_) => Question::Kind(path),
         QuestionView::Content(_) => Question::Content(path),
         QuestionView::Names(_) => Question::Names(path),
+        QuestionView::Mode(_) => Question::Mode(path),
     }
 }
 
@@ -47,7 +49,7 @@ fn is_kind(kind: Kind, answer: &AnswerView<'_>) -> bool
         AnswerView::Absent => matches!(kind, Kind::Absent),
         AnswerView::IsDir => matches!(kind, Kind::IsDir),
         AnswerView::IsFile => matches!(kind, Kind::IsFile),
-        AnswerView::Bytes(_) | AnswerView::Names(_) => false,
+        AnswerView::Bytes(_) | AnswerView::Names(_) | AnswerView::On | AnswerView::Off => false,
     }
 }
 
@@ -62,6 +64,26 @@ fn is_content(node: &Node, answer: &AnswerView<'_>) -> bool
         },
         Node::FarFile(_) => matches!(answer, AnswerView::Away),
         Node::Dir | Node::FarDir => matches!(answer, AnswerView::Absent),
+    }
+}
+
+/// Whether this is the object's answer to the question for a file's mode.
+fn is_mode(node: &Node, answer: &AnswerView<'_>) -> bool
+    ensures { IsTrue result ↔ (mode_answer (Some node.now) false ≡ answer_seen answer.now) }
+{
+    match node {
+        Node::File(_, mode) | Node::FarFile(mode) => is_told(*mode, answer),
+        Node::Dir | Node::FarDir => matches!(answer, AnswerView::Absent),
+    }
+}
+
+/// Whether the mode as an answer is this one.
+fn is_told(mode: Mode, answer: &AnswerView<'_>) -> bool
+    ensures { IsTrue result ↔ (mode_told mode ≡ answer_seen answer.now) }
+{
+    match mode {
+        Mode::On => matches!(answer, AnswerView::On),
+        Mode::Off => matches!(answer, AnswerView::Off),
     }
 }
 
@@ -108,6 +130,7 @@ fn row_answers(
         QuestionView::Kind(_) => is_kind(rows[at].1.kind(), answer),
         QuestionView::Content(_) => is_content(&rows[at].1, answer),
         QuestionView::Names(path) => is_names(rows, at, path, answer),
+        QuestionView::Mode(_) => is_mode(&rows[at].1, answer),
     }
 }
 

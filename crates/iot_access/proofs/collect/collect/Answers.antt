@@ -6,9 +6,7 @@ use Rattle.iot_tree.specs.declared.updates.Update.{Update}
 use Rattle.iot_access.specs.Access.{cons_update}
 use Rattle.iot_access.specs.Asked.{first_asked, is_asked}
 use Rattle.iot_access.specs.BaseReads.{based_reads}
-use Rattle.iot_access.specs.Origins.{entries}
 use Rattle.iot_access.proofs.CollectLaws.{collected_first, collected_more}
-use Rattle.iot_access.proofs.OriginsLaws.{none_of}
 use Rattle.iot_access.proofs.collect.collect.Goals as goal
 
 pub acts-init : goal.acts-init
@@ -19,8 +17,8 @@ acts-init c =
       numbers = rw c.of_nothing-access.ensures tt;
       kept =
           collected_first c.args.acts.now c.args.before.now (zip access.places access.reads) (is_asked c.new-asked.result) access.updates
-          (entries c.new-origins.result) c.requires (rw c.of_nothing-access.ensures refl) c.new-asked.ensures
-          (rw c.of_nothing-access.ensures refl) (none_of c.new-origins.result c.new-origins.ensures.empty);
+          c.new-origins.result c.requires (rw c.of_nothing-access.ensures refl) c.new-asked.ensures
+          (rw c.of_nothing-access.ensures refl) c.new-origins.ensures;
     }
 
 pub acts-preserved : goal.acts-preserved
@@ -35,7 +33,7 @@ acts-preserved c =
       kept =
           collected_more c.args.acts.now c.acts.act-index c.act-item.result c.args.before.now c.acts.place c.in_ok-place.place
           (zip old.places old.reads) (zip now.places now.reads) (is_asked c.acts.asked) (is_asked c.add_reads.new.asked) old.updates
-          c.add_update.new.updates (entries c.acts.origins) (entries c.add_update.new.origins) c.acts-test.true c.act-item.is
+          c.add_update.new.updates c.acts.origins c.add_update.new.origins c.acts-test.true c.act-item.is
           c.acts.invariant.kept (added.place ∙ ap (λ (reads : List Read). length reads + c.acts.place) reads)
           (λ done rest tells.
           added.bases done rest tells

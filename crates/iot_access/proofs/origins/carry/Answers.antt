@@ -10,9 +10,9 @@ pub returns : goal.returns
 returns c =
     let from : c.in_ok-old.old.items ≡ c.args.from.now = c.in_ok-old.ensures.items ∙ c.names.ensures.value in
     let to : c.in_ok-new.new.items ≡ c.args.to.now = c.in_ok-new.ensures.items ∙ c.names-2.ensures.value in
-    let first = entries c.args.origins.now in
-    let one = entries c.clear_below.new.origins in
-    let two = entries c.carry_below.new.origins in
+    let first = entries c.args.index.now in
+    let one = entries c.clear_below.new.index in
+    let two = entries c.carry_below.new.index in
     let three = entries c.insert.new.self in
     let four = entries c.insert-2.new.self in
     λ s tells.
@@ -23,7 +23,7 @@ returns c =
     s tells
     (subst (λ (q : Path). Sets two three q (Some (s c.args.from.now))) to
     (subst (λ o. Sets two three c.in_ok-new.new.items (Some o)) (c.in_ok-source.ensures s tells)
-    (changed c.carry_below.new.origins c.insert.new.self c.in_ok-new.new.items (Some c.in_ok-source.source)
+    (changed c.carry_below.new.index c.insert.new.self c.in_ok-new.new.items (Some c.in_ok-source.source)
     c.in_ok-insert.ensures.updates)))
     (subst (λ (p : Path). Sets three four p (Some None)) from
     (changed c.insert.new.self c.insert-2.new.self c.in_ok-old.old.items (Some None) c.in_ok-insert-2.ensures.updates))

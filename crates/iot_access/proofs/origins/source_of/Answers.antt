@@ -20,7 +20,7 @@ returns-in-Some c =
     IfOk-weaker c.below.result _ _
     (λ source is s tells.
     is ∙ ap (λ (rest : Path). grown rest c.in-Some.origin.now) (take_rest c.names-names.result.now c.above.above)
-    ∙ sym (found_here (entries c.args.origins.now) s tells c.names-names.result.now c.above.above (c.above.invariant.so_far s tells)
+    ∙ sym (found_here (entries c.args.index.now) s tells c.names-names.result.now c.above.above (c.above.invariant.so_far s tells)
     c.in-Some.origin.now
     (sym c.in-Some.ensures.value))
     ∙ ap s c.names-names.ensures.value)
@@ -30,7 +30,7 @@ pub returns-then-above-eq0 : goal.returns-then-above-eq0
 returns-then-above-eq0 c = λ s tells.
     ap (λ (k : Path). Some k) c.in_ok-copy.ensures
     ∙ ap (λ (k : Path). Some k) (sym c.names-names.ensures.value)
-    ∙ sym (found_root (entries c.args.origins.now) s tells c.names-names.result.now c.above.above (c.above.invariant.so_far s tells)
+    ∙ sym (found_root (entries c.args.index.now) s tells c.names-names.result.now c.above.above (c.above.invariant.so_far s tells)
     c.if-above-eq0.true
     (sym c.in_default.ensures.value))
     ∙ ap s c.names-names.ensures.value
@@ -39,7 +39,7 @@ pub above-preserved : goal.above-preserved
 above-preserved c = record {
   within = omega arith;
   so_far = λ s tells.
-      found_above (entries c.args.origins.now) s tells c.names-names.result.now c.above.above (c.above.invariant.so_far s tells)
+      found_above (entries c.args.index.now) s tells c.names-names.result.now c.above.above (c.above.invariant.so_far s tells)
       (omega arith) c.above.invariant.within
       (sym c.in_default.ensures.value);
 }

@@ -9,7 +9,7 @@ abbrev pub invariant-above : goal.invariant-above
 invariant-above l =
     record {
       within : l.above ≤ length l.names;
-      so_far : (s : Path → Option Path) → Tells (entries l.origins) s → s l.names ≡ grown (drop l.above l.names) (s (take l.above l.names));
+      so_far : (s : Path → Option Path) → Tells (entries l.index) s → s l.names ≡ grown (drop l.above l.names) (s (take l.above l.names));
     }
 
 abbrev pub decreases-above : goal.decreases-above
