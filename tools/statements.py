@@ -6,9 +6,9 @@ import re
 STATEMENTS = {
     'echo': 'echo W', 'cat': 'cat P', 'ls': 'ls P', 'set': 'set X W', 'read': 'read X P', 'mkdir': 'mkdir P', 'rmdir': 'rmdir P',
     'rm': 'rm P', 'write': 'write P W', 'append': 'append P W', 'copy': 'copy P Q', 'concat': 'concat Q P1 P2', 'mv': 'mv P Q',
-    'keep': 'keep P Q', 'if': 'if CONDITION {', 'for': 'for X in P {', 'stop': 'stop',
+    'keep': 'keep P Q', 'chmod': 'chmod +x P', 'if': 'if CONDITION {', 'for': 'for X in P {', 'stop': 'stop',
 }  # fmt: skip
-CONDITIONS = {'file': 'if file P {', 'dir': 'if dir P {', 'same': 'if same P Q {', 'ok': 'if ok {'}
+CONDITIONS = {'file': 'if file P {', 'dir': 'if dir P {', 'exec': 'if exec P {', 'same': 'if same P Q {', 'ok': 'if ok {'}
 
 
 class Fault(Exception):
@@ -75,6 +75,15 @@ def very(line, at, wanted, form):
     return at + len(wanted)
 
 
+def switch(line, at, form):
+    """The place behind `+x` or `-x`."""
+    at = past_blanks(line, at)
+    found = re.match(r'[^ \t]*', line[at:])[0]
+    if found not in ('+x', '-x'):
+        raise Fault(at, f'`+x` or `-x` belongs here, not `{found}`: `{form}`' if found else f'`+x` or `-x` is missing: `{form}`')
+    return at + len(found)
+
+
 def variable(line, at, form):
     """The place behind a variable's name."""
     at = past_blanks(line, at)
@@ -100,6 +109,8 @@ def by_form(line, at, form, taken=1):
     for slot in form.split()[taken:]:
         if slot == 'X':
             at = variable(line, at, form)
+        elif slot == '+x':
+            at = switch(line, at, form)
         elif slot[0].isupper():
             at = word(line, at, form)
         else:

@@ -21,7 +21,7 @@ use Rattle.iot_tree.proofs.TreeLaws.{same_or_apart}
 use Rattle.iot_lang.specs.Code.{Code, End, Plain, Halt, If, IfElse, For}
 use Rattle.iot_lang.specs.declared.words.Command.{Command}
 use Rattle.iot_lang.specs.declared.words.Command.TheVariants.{Echo, Set, Read, MakeDir, RemoveDir, Remove, Write, Append, Copy, Concat}
-use Rattle.iot_lang.specs.declared.words.Command.TheVariants.{Move, Cat, List as Ls, Keep}
+use Rattle.iot_lang.specs.declared.words.Command.TheVariants.{Move, Cat, List as Ls, Keep, Chmod}
 use Rattle.iot_acts.specs.Traces.{after_update}
 use Rattle.iot_exec.specs.Plans.{Plan, mapped, Performed, perform, Effect, going_on, act_of}
 use Rattle.iot_exec.specs.Endings.{ending}
@@ -193,6 +193,7 @@ same_table one two env (Concat q p1 p2) agree = refl
 same_table one two env (Remove p) agree = refl
 same_table one two env (RemoveDir p) agree = refl
 same_table one two env (Move p q) agree = refl
+same_table one two env (Chmod switch p) agree = refl
 same_table one two env (Keep p q) agree = same_keep one two (path_operand env p) (path_operand env q) agree
 
 same_plan : (one two : Kept) (code : Code) (frames : List Frame) (env : Env) → Agree one two (wanted_in env code)

@@ -6,6 +6,7 @@ use Rattle.std.proofs.lemmas.Bool.Decides.{nat_tests}
 use Rattle.std.specs.FinMap.{get}
 use Rattle.iot_tree.specs.Tree.{Path, Nodes, IsTree}
 use Rattle.iot_tree.specs.Questions.{answer_of}
+use Rattle.iot_tree.specs.declared.nodes.Mode.{Mode as Bit}
 use Rattle.iot_tree.specs.declared.acts.Read.{Read}
 use Rattle.iot_tree.specs.declared.questions.Question.{Question}
 use Rattle.iot_tree.specs.declared.questions.Question.TheVariants.{Kind, Content, Names}
@@ -18,7 +19,7 @@ use Rattle.iot_lang.specs.declared.words.Piece.{Piece}
 use Rattle.iot_lang.specs.Code.{Code, End, Plain, Halt, If, IfElse, For}
 use Rattle.iot_lang.specs.declared.words.Command.{Command}
 use Rattle.iot_lang.specs.declared.words.Command.TheVariants.{Echo, Set, Read as ReadFile, MakeDir, RemoveDir, Remove, Write, Append, Copy}
-use Rattle.iot_lang.specs.declared.words.Command.TheVariants.{Concat, Move, Cat, List as Ls, Keep}
+use Rattle.iot_lang.specs.declared.words.Command.TheVariants.{Concat, Move, Cat, List as Ls, Keep, Chmod}
 use Rattle.iot_acts.specs.Paths.{parent_path, is_at_or_below}
 use Rattle.iot_exec.specs.Operands.{is_too_large, word_operand, path_operand}
 use Rattle.iot_exec.specs.Plans.{Plan, Done, Ask, mapped, Performed, perform, Effect, silent, going_on, act_of}
@@ -26,11 +27,11 @@ use Rattle.iot_exec.specs.Endings.{ending}
 use Rattle.iot_exec.specs.Commands.{Kept, Ending, makes, sets, given, echo, read, cat, list_names}
 use Rattle.iot_exec.specs.Commands.{contents, names, ask_parent, target, new_dir, make_dir}
 use Rattle.iot_exec.specs.Commands.{write, with_more, append, copy, join, concat, remove_file, empty_dir, remove_dir}
-use Rattle.iot_exec.specs.Commands.{dir_target, at_moved, move, at_kept, keep, table, command_name, plan_of_command}
+use Rattle.iot_exec.specs.Commands.{dir_target, at_moved, move, mode_of, change_mode, at_kept, keep, table, command_name, plan_of_command}
 use Rattle.iot_exec.specs.Commands.{plan_of_condition, plan_of_loop, truth, turns, loop_ending, Turns}
 use Rattle.iot_exec.specs.Places.{Frame, Place, plan_at}
 use Rattle.iot_acts.specs.Guards.{Asked, AskedFree, GuardsPut, GuardsMove, over_file, over_contents, in_free, file_goes, empty_goes}
-use Rattle.iot_acts.specs.Guards.{file_to_file, dir_to_empty, any_to_free, Guards, GuardsIfAny, IsGuarded}
+use Rattle.iot_acts.specs.Guards.{file_to_file, dir_to_empty, any_to_free, over_on, over_off, Guards, GuardsIfAny, IsGuarded}
 use Rattle.iot_acts.specs.Traces.{ReadsHold, FitsIfAny}
 use Rattle.iot_acts.proofs.GuardLaws.{asked_answer, guarded_fits}
 use Rattle.iot_exec.specs.declared.env.Env.{Env}
@@ -232,6 +233,11 @@ module _ (t : Nodes) where
   list_g path (answers.Names children) is = tt
   list_g path answer is = tt
 
+  mode_g : (mode : Bit) (path : Path) → G [] (change_mode mode path)
+  mode_g mode path answers.On is = over_on (inl refl)
+  mode_g mode path answers.Off is = over_off (inl refl)
+  mode_g mode path answer is = tt
+
   module _ (tree : IsTree t) where
     remove_file_g : (path : Path) → G [] (remove_file path)
     remove_file_g path answers.IsFile is = record { not_root = file_not_root t tree path is; guard = file_goes (inl refl) }
@@ -308,6 +314,7 @@ module _ (t : Nodes) where
     table_g kept env (Remove p) = path_g env p remove_file remove_file_g
     table_g kept env (RemoveDir p) = path_g env p remove_dir remove_dir_g
     table_g kept env (Move p q) = path_g env p _ (λ from. path_g env q (move from) (move_g from))
+    table_g kept env (Chmod switch p) = path_g env p _ (mode_g (mode_of switch))
     table_g kept env (Keep p q) = path_g env p _ (λ from. path_g env q (keep kept from) (λ to. keep_g from to (get kept from)))
 
 -- the end of a command keeps its guard

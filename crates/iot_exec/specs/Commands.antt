@@ -8,15 +8,19 @@ use Rattle.iot_text.specs.Paths.{path_cmp}
 use Rattle.iot_tree.specs.Tree.{Path}
 use Rattle.iot_tree.specs.declared.kinds.Kind.{Kind}
 use Rattle.iot_tree.specs.declared.kinds.Kind.TheVariants as kinds
+use Rattle.iot_tree.specs.declared.nodes.Mode.{Mode}
+use Rattle.iot_tree.specs.declared.nodes.Mode.TheVariants as modes
 use Rattle.iot_tree.specs.declared.questions.Question.TheVariants as asks
 use Rattle.iot_tree.specs.declared.questions.Answer.{Answer}
-use Rattle.iot_tree.specs.declared.questions.Answer.TheVariants.{Away, Absent, IsDir, IsFile, Bytes, Names}
+use Rattle.iot_tree.specs.declared.questions.Answer.TheVariants.{Away, Absent, IsDir, IsFile, Bytes, Names, On, Off}
 use Rattle.iot_tree.specs.declared.updates.Update.{Update}
 use Rattle.iot_tree.specs.declared.updates.Update.TheVariants as updates
 use Rattle.iot_lang.specs.declared.words.Piece.{Piece}
 use Rattle.iot_lang.specs.declared.words.Command.{Command}
 use Rattle.iot_lang.specs.declared.words.Command.TheVariants.{Echo, Set, Read, MakeDir, RemoveDir, Remove, Write, Append, Copy, Concat}
-use Rattle.iot_lang.specs.declared.words.Command.TheVariants.{Move, Cat, List as Ls, Keep}
+use Rattle.iot_lang.specs.declared.words.Command.TheVariants.{Move, Cat, List as Ls, Keep, Chmod}
+use Rattle.iot_lang.specs.declared.words.Switch.{Switch}
+use Rattle.iot_lang.specs.declared.words.Switch.TheVariants as switches
 use Rattle.iot_lang.specs.declared.words.Cond.{Cond}
 use Rattle.iot_lang.specs.declared.words.Cond.TheVariants as conditions
 use Rattle.iot_acts.specs.Paths.{parent_path, is_at_or_below}
@@ -181,6 +185,20 @@ at_file path other = fails path because.NotCached
 abbrev pub remove_file : Path → Plan Ending
 remove_file path = Ask (asks.Kind path) (at_file path)
 
+-- `chmod +x P`, `chmod -x P`
+abbrev pub mode_of : Switch → Mode
+mode_of switches.On = modes.On
+mode_of switches.Off = modes.Off
+
+abbrev pub at_mode : Path → Mode → Answer → Plan Ending
+at_mode path mode On = makes (updates.SetMode path mode)
+at_mode path mode Off = makes (updates.SetMode path mode)
+at_mode path mode Absent = fails path because.NoFile
+at_mode path mode other = fails path because.NotCached
+
+abbrev pub change_mode : Mode → Path → Plan Ending
+change_mode mode path = Ask (asks.Mode path) (at_mode path mode)
+
 -- goes on if the directory is empty
 abbrev pub when_empty : Path → Plan Ending → List (List ℕ × Kind) → Plan Ending
 when_empty path good [] = good
@@ -240,6 +258,7 @@ table kept env (Concat q p1 p2) =
 table kept env (Remove p) = given (path_operand env p) remove_file
 table kept env (RemoveDir p) = given (path_operand env p) remove_dir
 table kept env (Move p q) = given (path_operand env p) (λ from. given (path_operand env q) (move from))
+table kept env (Chmod switch p) = given (path_operand env p) (change_mode (mode_of switch))
 table kept env (Keep p q) = given (path_operand env p) (λ from. given (path_operand env q) (keep kept from))
 
 -- the name with which a command's refusals begin
@@ -258,6 +277,7 @@ command_name (Move p q) = codes "mv"
 command_name (Cat p) = codes "cat"
 command_name (Ls p) = codes "ls"
 command_name (Keep p q) = codes "keep"
+command_name (Chmod switch p) = codes "chmod"
 
 -- what a command asks, its update, its lines, and the variables and `ok` after it
 abbrev pub plan_of_command : Kept → Env → Command → Plan (Effect Env)
@@ -278,6 +298,10 @@ abbrev pub is_dir : Answer → Bool
 is_dir IsDir = true
 is_dir other = false
 
+abbrev pub is_on : Answer → Bool
+is_on On = true
+is_on other = false
+
 -- both are contents, and they are equal
 abbrev pub are_same : Answer → Answer → Bool
 are_same (Bytes one) (Bytes two) = bytes_eq one two
@@ -288,6 +312,9 @@ is_file_at path = Ask (asks.Kind path) (λ answer. Done (is_file answer))
 
 abbrev pub is_dir_at : Path → Plan Bool
 is_dir_at path = Ask (asks.Kind path) (λ answer. Done (is_dir answer))
+
+abbrev pub is_on_at : Path → Plan Bool
+is_on_at path = Ask (asks.Mode path) (λ answer. Done (is_on answer))
 
 -- both are asked always
 abbrev pub are_same_at : Path → Path → Plan Bool
@@ -300,6 +327,7 @@ path_if_any env word = result_ok (path_operand env word)
 abbrev pub truth : Env → Cond → Plan Bool
 truth env (conditions.File p) = when (path_if_any env p) is_file_at
 truth env (conditions.Dir p) = when (path_if_any env p) is_dir_at
+truth env (conditions.Exec p) = when (path_if_any env p) is_on_at
 truth env (conditions.Same p q) = when (path_if_any env p) (λ first. when (path_if_any env q) (are_same_at first))
 truth env conditions.Ok = Done env.ok
 

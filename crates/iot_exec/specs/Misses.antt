@@ -10,6 +10,7 @@ abbrev pub path_of_question : Question → List (List ℕ)
 path_of_question (asks.Kind p) = p
 path_of_question (asks.Content p) = p
 path_of_question (asks.Names p) = p
+path_of_question (asks.Mode p) = p
 
 -- the path of the first question that is answered `Away`
 abbrev pub first_away : List Read → Option (List (List ℕ))

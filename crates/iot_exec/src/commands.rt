@@ -4,13 +4,13 @@ ghost use Rattle.iot_exec.specs.Asking.{Passes, Ends};
 ghost use Rattle.iot_exec.specs.Operands.{is_too_large};
 ghost use Rattle.iot_acts.specs.Paths.{is_at_or_below};
 ghost use Rattle.iot_exec.specs.Commands.{echo, cat, read, list_names, write, make_dir, append, copy, concat, remove_file, remove_dir};
-ghost use Rattle.iot_exec.specs.Commands.{move, move_target, dir_target, new_dir};
+ghost use Rattle.iot_exec.specs.Commands.{change_mode, move, move_target, dir_target, new_dir};
 
 use crate::asking::Asking;
 use crate::endings::{Reason, Stop, Success};
 use crate::lines::{lines_of, name_lines};
 use iot_text::{NoMemory, Path, Text};
-use iot_tree::{Blob, CONTENTS_LIMIT, Kind, Update};
+use iot_tree::{Answer, Blob, CONTENTS_LIMIT, Kind, Mode, Question, Update};
 use std::alloc::Global;
 
 /// Both contents joined.
@@ -153,6 +153,24 @@ impl<'t> Asking<'t> {
         }
         self.empty_directory(&path)?;
         Ok(Success::Makes(Update::Remove(path)))
+    }
+
+    /// `chmod +x P` or `chmod -x P`
+    pub(crate) fn change_mode(&mut self, mode: Mode, path: Path) -> Result<Success, Stop>
+        ensures { Ends self.old (change_mode mode path) self.new result }
+    {
+        let question = Question::Mode(path.copy(self.alloc)?);
+        let answer = self.tree.answer(self.alloc, &question)?;
+        let found = match answer {
+            Answer::On | Answer::Off => Ok(()),
+            Answer::Absent => Err(Reason::NoFile),
+            _ => Err(Reason::NotCached),
+        };
+        self.record(question, answer)?;
+        match found {
+            Ok(()) => Ok(Success::Makes(Update::SetMode(path, mode))),
+            Err(reason) => Err(self.fail(&path, reason)),
+        }
     }
 
     /// `mv P Q`

@@ -4,14 +4,14 @@ ghost use Rattle.std.specs.Option.{option_copied};
 ghost use Rattle.iot_tree.specs.Questions.{content_of};
 ghost use Rattle.iot_exec.specs.Plans.{Done};
 ghost use Rattle.iot_exec.specs.Asking.{asked, Leads, Ends};
-ghost use Rattle.iot_exec.specs.Commands.{truth, is_file_at, is_dir_at, are_same_at, path_if_any, name_of, turns};
+ghost use Rattle.iot_exec.specs.Commands.{truth, is_file_at, is_dir_at, is_on_at, are_same_at, path_if_any, name_of, turns};
 
 use crate::asking::Asking;
 use crate::endings::Stop;
 use crate::env::Env;
 use iot_lang::{Cond, Word};
 use iot_text::{Name, NoMemory, Path};
-use iot_tree::{Blob, Kind, Question, Sequence};
+use iot_tree::{Answer, Blob, Kind, Question, Sequence};
 use std::alloc::Global;
 
 /// The path whose text is the value of a word, if there is one.
@@ -39,6 +39,10 @@ impl<'t> Asking<'t> {
                 Some(path) => self.is_dir(&path),
                 None => Ok(false),
             },
+            Cond::Exec(path) => match path_of(self.alloc, env, path)? {
+                Some(path) => self.is_on(&path),
+                None => Ok(false),
+            },
             Cond::Same(first, second) => {
                 let Some(first) = path_of(self.alloc, env, first)? else {
                     return Ok(false);
@@ -64,6 +68,17 @@ impl<'t> Asking<'t> {
         ensures { IfOk result (λ holds. Leads self.old (is_dir_at path.now) self.new (Done holds)) }
     {
         Ok(matches!(self.kind(path)?, Kind::IsDir))
+    }
+
+    /// Whether a file whose mode is on is at the path.
+    fn is_on(&mut self, path: &Path) -> Result<bool, NoMemory>
+        ensures { IfOk result (λ holds. Leads self.old (is_on_at path.now) self.new (Done holds)) }
+    {
+        let question = Question::Mode(path.copy(self.alloc)?);
+        let answer = self.tree.answer(self.alloc, &question)?;
+        let is_on = matches!(answer, Answer::On);
+        self.record(question, answer)?;
+        Ok(is_on)
     }
 
     /// Whether two files have the same contents.

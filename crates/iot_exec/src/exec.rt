@@ -61,7 +61,10 @@ fn question_path(question: &Question) -> &Path
     ensures { result.now ≡ path_of_question question.now }
 {
     match question {
-        Question::Kind(path) | Question::Content(path) | Question::Names(path) => path,
+        Question::Kind(path)
+        | Question::Content(path)
+        | Question::Names(path)
+        | Question::Mode(path) => path,
     }
 }
 

@@ -77,5 +77,6 @@ pub(crate) fn name_of(command: &Command) -> &'static [u8]
         Command::Cat(_) => b"cat",
         Command::List(_) => b"ls",
         Command::Keep(_, _) => b"keep",
+        Command::Chmod(_, _) => b"chmod",
     }
 }

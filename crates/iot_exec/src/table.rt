@@ -1,14 +1,25 @@
 //! The commands by their names.
 ghost use Rattle.iot_exec.specs.Asking.{Ends};
-ghost use Rattle.iot_exec.specs.Commands.{table, keep, kept_files};
+ghost use Rattle.std.specs.Prelude.{◌≡◌};
+ghost use Rattle.iot_exec.specs.Commands.{table, keep, kept_files, mode_of};
 
 use crate::asking::Asking;
 use crate::endings::{Reason, Stop, Success};
 use crate::env::Env;
 use crate::kept::KeptFiles;
-use iot_lang::Command;
+use iot_lang::{Command, Switch};
 use iot_text::Path;
-use iot_tree::{Blob, Duplicate};
+use iot_tree::{Blob, Duplicate, Mode};
+
+/// The mode to which a file is switched.
+fn mode_of(switch: Switch) -> Mode
+    ensures { result ≡ mode_of switch }
+{
+    match switch {
+        Switch::On => Mode::On,
+        Switch::Off => Mode::Off,
+    }
+}
 
 impl<'t> Asking<'t> {
     /// Does a command but for its update, its lines and its variable.
@@ -59,6 +70,9 @@ impl<'t> Asking<'t> {
             }
             Command::Cat(path) => self.print(&env.path(alloc, path)?),
             Command::List(path) => self.list_names(&env.path(alloc, path)?),
+            Command::Chmod(switch, path) => {
+                self.change_mode(mode_of(*switch), env.path(alloc, path)?)
+            }
             Command::Keep(from, to) => {
                 let from = env.path(alloc, from)?;
                 let to = env.path(alloc, to)?;

@@ -1,11 +1,10 @@
 -- What a line does to the lines so far and to the open blocks.
-use Rattle.std.proofs.Common.{◌≡◌, ◌+◌, ◌<◌, ◌≤◌, ◌++◌, ℕ, Bool, true, false, cond, ltb, List, [], ◌∷◌, length, Some, None, refl, sym, ap}
+use Rattle.std.proofs.Common.{◌≡◌, ◌+◌, ◌<◌, ◌≤◌, ◌++◌, ℕ, Bool, true, false, List, [], ◌∷◌, length, Some, None, refl, sym, ap}
 use Rattle.std.proofs.Common.{subst, ◌∙◌, append_assoc, arith}
 use Rattle.iot_lines.specs.Words.{is_skipped}
 use Rattle.iot_lang.specs.OpenBlocks.{open_after}
 use Rattle.std.specs.List.{flat_map}
 use Rattle.std.proofs.lemmas.List.{append-nil}
-use Rattle.std.proofs.lemmas.Bool.Decides.{nat_tests}
 use Rattle.iot_lang.specs.Code.{Code, script_lines}
 use Rattle.iot_lang.specs.Blocks.{code_of_statements}
 use Rattle.iot_lang.specs.Print.{lines_in, statement_lines}
@@ -15,7 +14,6 @@ use Rattle.iot_lang.specs.Nesting.{Moves, IsFull}
 use Rattle.iot_lang.specs.Scripts.{said, Spell, Begin, BeginWithin, IsOpen, IsScript}
 use Rattle.iot_lang.proofs.ScriptsLaws.{AreTaken, Says, taken_line, taken_skipped, bad_line, deep_line, taken_begins, taken_open}
 use Rattle.iot_lang.proofs.ScriptsLaws.{taken_script, spelled_lines}
-use Rattle.iot_lang.specs.declared.words.Piece.{Piece}
 use Rattle.iot_lang.specs.declared.words.Cond.{Cond}
 use Rattle.iot_lang.specs.declared.words.Command.{Command}
 use Rattle.iot_lang.specs.declared.lines.Line.{Line}

@@ -16,19 +16,22 @@ use Rattle.iot_text.specs.Quotes.{quoted_byte}
 use Rattle.iot_lang.specs.Bytes.{is_plain_byte, is_variable_byte, is_quoted_byte}
 use Rattle.iot_lang.specs.Words.{piece_text, word_text, is_piece, is_longest, are_pieces, is_word, is_variable}
 use Rattle.iot_lang.specs.Lines.{is_line, is_command, is_condition, line_words, command_words, condition_words, IsSpaced, SpellsLine}
+use Rattle.iot_lang.specs.Lines.{switch_text}
 use Rattle.iot_lang.specs.Scripts.{SpellEach, said, Spell, IsScript}
 use Rattle.iot_lang.specs.Print.{after_spaces, joined, printed, statement_lines, lines_in}
 use Rattle.iot_lang.specs.declared.words.Piece.{Piece}
 use Rattle.iot_lang.specs.declared.words.Command.{Command}
 use Rattle.iot_lang.specs.declared.keywords.Keyword.{Keyword}
 use Rattle.iot_lang.specs.declared.keywords.Keyword.TheVariants as keywords
+use Rattle.iot_lang.specs.declared.words.Switch.{Switch}
+use Rattle.iot_lang.specs.declared.words.Switch.TheVariants as switches
 use Rattle.iot_lang.specs.declared.words.Cond.{Cond}
 use Rattle.iot_lang.specs.declared.lines.Line.{Line}
 use Rattle.iot_lines.proofs.FrontsLaws.{both_so}
 use Rattle.iot_lang.proofs.ParsingLaws.{is_quotable, plain_quoted}
 use Rattle.iot_lang.proofs.BlocksLaws.{script_lines-with_statement}
 use Rattle.iot_lang.proofs.StatementsLaws.{is_inside, spelled_said, keyword_text, is_keyword, one_words, two_words_of, named_words}
-use Rattle.iot_lang.proofs.StatementsLaws.{Form, one_form, two_form, named_form, concat_form, form_of}
+use Rattle.iot_lang.proofs.StatementsLaws.{Form, one_form, two_form, named_form, concat_form, chmod_form, form_of}
 use Rattle.iot_lang.specs.declared.blocks.Stmt.TheVariants as statements
 use Rattle.iot_lang.specs.declared.words.Piece.TheVariants as pieces
 use Rattle.iot_lang.specs.declared.words.Cond.TheVariants as conditions
@@ -181,6 +184,13 @@ named_word x w h =
     two_inside x (word_text w) (name_inside x (first_so (is_variable x) (is_word w) h))
     (word_inside w (second_so (is_variable x) (is_word w) h))
 
+switch_inside : (switch : Switch) → list_all is_inside (switch_text switch) ≡ true
+switch_inside switches.Off = refl
+switch_inside switches.On = refl
+
+switch_word : (switch : Switch) (w : List Piece) → is_word w ≡ true → are_inside (switch_text switch ∷ word_text w ∷ []) ≡ true
+switch_word switch w h = two_inside (switch_text switch) (word_text w) (switch_inside switch) (word_inside w h)
+
 -- a keyword and words inside a line
 keyword_inside : (name : Keyword) (words : List (List ℕ)) → are_inside words ≡ true → are_inside (keyword_text name ∷ words) ≡ true
 keyword_inside name words h = both_so (list_all is_inside (keyword_text name)) (are_inside words) (is_keyword name).inside h
@@ -201,6 +211,7 @@ by_form _ (concat_form u v w) h =
     (word_inside w (second_so (is_word u && is_word v) (is_word w) h)) in
     both_so (list_all is_inside (word_text u)) (are_inside (word_text v ∷ word_text w ∷ []))
     (word_inside u (first_so (is_word u) (is_word v) uv)) vw
+by_form _ (chmod_form switch w) h = keyword_inside keywords.Chmod (switch_text switch ∷ word_text w ∷ []) (switch_word switch w h)
 
 command_inside : (c : Command) → is_command c ≡ true → are_inside (command_words c) ≡ true
 command_inside c h = by_form c (form_of c) h
@@ -208,6 +219,7 @@ command_inside c h = by_form c (form_of c) h
 condition_inside : (c : Cond) → is_condition c ≡ true → are_inside (condition_words c) ≡ true
 condition_inside (conditions.File p) h = one_word p h
 condition_inside (conditions.Dir p) h = one_word p h
+condition_inside (conditions.Exec p) h = one_word p h
 condition_inside (conditions.Same p q) h = two_words p q h
 condition_inside conditions.Ok h = refl
 

@@ -12,15 +12,18 @@ use Rattle.std.proofs.lemmas.Slice.Eq.{bytes_eq-Decides}
 use Rattle.iot_lang.specs.Bytes.{is_variable_byte}
 use Rattle.iot_lang.specs.Words.{word_text, is_word, is_variable}
 use Rattle.iot_lang.specs.Lines.{is_end, IsSpaced, SpellsLine, line_words, is_line, command_words, condition_words, is_command}
-use Rattle.iot_lang.specs.Lines.{is_condition}
+use Rattle.iot_lang.specs.Lines.{is_condition, switch_text}
 use Rattle.iot_lang.specs.Parsing.{Part, ◌>>=◌, word_at}
-use Rattle.iot_lang.specs.Keywords.{lookup, keyword_table, keyword_at, test_table, test_at, with_one, with_two, with_variable}
+use Rattle.iot_lang.specs.Keywords.{lookup, keyword_table, keyword_at, switch_table, switch_at, test_table, test_at}
+use Rattle.iot_lang.specs.Keywords.{with_one, with_two, with_variable}
 use Rattle.iot_lang.specs.Statements.{ended, run_of, past_run, past, opened, variable_name, then_part, then_past, whole, one_word}
 use Rattle.iot_lang.specs.Statements.{two_words, three_words, variable_and_word, one_and_brace, two_and_brace, operands_at, condition_at}
-use Rattle.iot_lang.specs.Statements.{turns_at, closing_at, line_at, line_of}
+use Rattle.iot_lang.specs.Statements.{turns_at, closing_at, line_at, line_of, switch_name, switch_and_word}
 use Rattle.iot_lang.specs.declared.words.Piece.{Piece}
 use Rattle.iot_lang.specs.declared.words.Command.{Command}
 use Rattle.iot_lang.specs.declared.words.Command.TheVariants as commands
+use Rattle.iot_lang.specs.declared.words.Switch.{Switch}
+use Rattle.iot_lang.specs.declared.words.Switch.TheVariants as switches
 use Rattle.iot_lang.specs.declared.words.Cond.{Cond}
 use Rattle.iot_lang.specs.declared.words.Cond.TheVariants as conditions
 use Rattle.iot_lang.specs.declared.lines.Line.{Line}
@@ -305,6 +308,7 @@ keyword_text (keywords.One one) = one_text one
 keyword_text (keywords.Two two) = two_text two
 keyword_text (keywords.Named named) = named_text named
 keyword_text keywords.Concat = codes "concat"
+keyword_text keywords.Chmod = codes "chmod"
 keyword_text keywords.If = codes "if"
 keyword_text keywords.For = codes "for"
 keyword_text keywords.Stop = codes "stop"
@@ -313,6 +317,7 @@ keyword_text keywords.Close = codes "}"
 abbrev test_text : Test → List ℕ
 test_text tests.File = codes "file"
 test_text tests.Dir = codes "dir"
+test_text tests.Exec = codes "exec"
 test_text tests.Same = codes "same"
 test_text tests.Ok = codes "ok"
 
@@ -324,14 +329,20 @@ keyword_at-is bytes name h =
         refl,
         (
           refl,
-          (refl, (refl, (refl, (refl, (refl, (refl, (refl, (refl, (refl, (refl, (refl, (refl, (refl, (refl, (refl, tt))))))))))))))),
+          (
+            refl,
+            (refl, (refl, (refl, (refl, (refl, (refl, (refl, (refl, (refl, (refl, (refl, (refl, (refl, (refl, (refl, tt))))))))))))))),
+          ),
         ),
       ),
     )
     h
 
 test_at-is : (bytes : List ℕ) (test : Test) → test_at bytes ≡ Some test → bytes ≡ test_text test
-test_at-is bytes test h = lookup_is test_text test_table bytes test (refl, (refl, (refl, (refl, tt)))) h
+test_at-is bytes test h = lookup_is test_text test_table bytes test (refl, (refl, (refl, (refl, (refl, tt))))) h
+
+switch_at-is : (bytes : List ℕ) (switch : Switch) → switch_at bytes ≡ Some switch → bytes ≡ switch_text switch
+switch_at-is bytes switch h = lookup_is switch_text switch_table bytes switch (refl, (refl, tt)) h
 
 -- a keyword is found by its text, which has no blanks and no newlines and begins no comment
 pub record IsKeyword (name : Keyword) : Type 0 where
@@ -355,6 +366,7 @@ is_keyword (keywords.Two twos.Keep) = record { found = refl; solid = refl; said 
 is_keyword (keywords.Named nameds.Set) = record { found = refl; solid = refl; said = refl; inside = refl }
 is_keyword (keywords.Named nameds.Read) = record { found = refl; solid = refl; said = refl; inside = refl }
 is_keyword keywords.Concat = record { found = refl; solid = refl; said = refl; inside = refl }
+is_keyword keywords.Chmod = record { found = refl; solid = refl; said = refl; inside = refl }
 is_keyword keywords.If = record { found = refl; solid = refl; said = refl; inside = refl }
 is_keyword keywords.For = record { found = refl; solid = refl; said = refl; inside = refl }
 is_keyword keywords.Stop = record { found = refl; solid = refl; said = refl; inside = refl }
@@ -363,8 +375,31 @@ is_keyword keywords.Close = record { found = refl; solid = refl; said = refl; in
 test_found : (test : Test) → (test_at (test_text test) ≡ Some test) × (is_solid_word (test_text test) ≡ true)
 test_found tests.File = (refl, refl)
 test_found tests.Dir = (refl, refl)
+test_found tests.Exec = (refl, refl)
 test_found tests.Same = (refl, refl)
 test_found tests.Ok = (refl, refl)
+
+-- ---- switches
+
+switch_found : (switch : Switch) → (switch_at (switch_text switch) ≡ Some switch) × (is_solid_word (switch_text switch) ≡ true)
+switch_found switches.Off = (refl, refl)
+switch_found switches.On = (refl, refl)
+
+takes_switch : TakesPart switch_name (λ s. true) (λ s. switch_text s ∷ [])
+takes_switch = record {
+  is = λ text rest switch more h spaced.
+      let (s, is, same) = bound (switch_at (run_of text)) (λ s. Some (s, past_run text)) (switch, rest) h in
+      let e = same_pair s switch (past_run text) rest same in
+      let whole = run_spaced text more (subst (λ xs. IsSpaced xs more) (sym e.1) spaced) in
+      (refl, subst (λ xs. IsSpaced text (xs ∷ more)) (switch_at-is (run_of text) s is ∙ ap switch_text e.0) whole);
+  spaced = λ text switch more ok h.
+      let k = spaced_run text (switch_text switch) more (switch_found switch).1 h in
+      (past_run text, then_is (switch_at (run_of text)) _ switch _ (ap switch_at k.0 ∙ (switch_found switch).0) refl, k.1);
+}
+
+takes_switch_and_word : Takes switch_and_word (λ sp. is_word sp.1) (λ sp. switch_text sp.0 ∷ word_text sp.1 ∷ [])
+unfolding switch_and_word
+takes_switch_and_word = takes_whole (takes_both takes_switch takes_word)
 
 -- ---- conditions
 
@@ -372,18 +407,21 @@ test_found tests.Ok = (refl, refl)
 abbrev condition_operands : Cond → List (List ℕ)
 condition_operands (conditions.File p) = word_text p ∷ []
 condition_operands (conditions.Dir p) = word_text p ∷ []
+condition_operands (conditions.Exec p) = word_text p ∷ []
 condition_operands (conditions.Same p q) = word_text p ∷ word_text q ∷ []
 condition_operands conditions.Ok = []
 
 abbrev test_of : Cond → Test
 test_of (conditions.File p) = tests.File
 test_of (conditions.Dir p) = tests.Dir
+test_of (conditions.Exec p) = tests.Exec
 test_of (conditions.Same p q) = tests.Same
 test_of conditions.Ok = tests.Ok
 
 condition_words-is : (c : Cond) → condition_words c ≡ test_text (test_of c) ∷ condition_operands c
 condition_words-is (conditions.File p) = refl
 condition_words-is (conditions.Dir p) = refl
+condition_words-is (conditions.Exec p) = refl
 condition_words-is (conditions.Same p q) = refl
 condition_words-is conditions.Ok = refl
 
@@ -403,6 +441,11 @@ operands_at-is tests.Dir text c h =
     let k = takes_one_and_brace.is text p is in
     let same : conditions.Dir p ≡ c = cc in
     subst (OperandsAt tests.Dir text) same (record { named = refl; ok = k.0; spaced = k.1 })
+operands_at-is tests.Exec text c h =
+    let (p, is, e) = bound (one_and_brace text) (λ p. Some (conditions.Exec p)) c h in
+    let k = takes_one_and_brace.is text p is in
+    let same : conditions.Exec p ≡ c = cc in
+    subst (OperandsAt tests.Exec text) same (record { named = refl; ok = k.0; spaced = k.1 })
 operands_at-is tests.Same text c h =
     let (ps, is, e) = bound (two_and_brace text) (λ ps. Some (conditions.Same ps.0 ps.1)) c h in
     let k = takes_two_and_brace.is text ps is in
@@ -416,6 +459,7 @@ operands_at-spaced : (c : Cond) (text : List ℕ) → is_condition c ≡ true �
     → operands_at (test_of c) text ≡ Some c
 operands_at-spaced (conditions.File p) text ok h = then_is (one_and_brace text) _ p _ (takes_one_and_brace.spaced text p ok h) refl
 operands_at-spaced (conditions.Dir p) text ok h = then_is (one_and_brace text) _ p _ (takes_one_and_brace.spaced text p ok h) refl
+operands_at-spaced (conditions.Exec p) text ok h = then_is (one_and_brace text) _ p _ (takes_one_and_brace.spaced text p ok h) refl
 operands_at-spaced (conditions.Same p q) text ok h =
     then_is (two_and_brace text) _ (p, q) _ (takes_two_and_brace.spaced text (p, q) ok h) refl
 operands_at-spaced conditions.Ok text ok h = opened-spaced conditions.Ok text h
@@ -518,6 +562,7 @@ pub data Form : Command → Type 0 where
   two_form : (two : Two) (v w : List Piece) → Form (with_two two v w)
   named_form : (named : Named) (x : List ℕ) (w : List Piece) → Form (with_variable named x w)
   concat_form : (u v w : List Piece) → Form (commands.Concat u v w)
+  chmod_form : (switch : Switch) (w : List Piece) → Form (commands.Chmod switch w)
 
 pub form_of : (c : Command) → Form c
 form_of (commands.Echo w) = one_form ones.Echo w
@@ -534,6 +579,7 @@ form_of (commands.Keep v w) = two_form twos.Keep v w
 form_of (commands.Set x w) = named_form nameds.Set x w
 form_of (commands.Read x w) = named_form nameds.Read x w
 form_of (commands.Concat u v w) = concat_form u v w
+form_of (commands.Chmod switch w) = chmod_form switch w
 
 -- what is made of the operands is a line that begins with this word
 made_line : {A : Type 0} {parser : List ℕ → Option A} {ok : A → Bool} {words : A → List (List ℕ)} (name : List ℕ) (make : A → Line)
@@ -555,6 +601,8 @@ line_at-is (keywords.Named named) text line h =
     text line h
 line_at-is keywords.Concat text line h =
     made_line (codes "concat") (λ ws. says.Do (commands.Concat ws.0.0 ws.0.1 ws.1)) takes_three_words (λ ws. (refl, refl)) text line h
+line_at-is keywords.Chmod text line h =
+    made_line (codes "chmod") (λ sp. says.Do (commands.Chmod sp.0 sp.1)) takes_switch_and_word (λ sp. (refl, refl)) text line h
 line_at-is keywords.If text line h = made_line (codes "if") (λ c. says.If c) takes_condition (λ c. (refl, refl)) text line h
 line_at-is keywords.For text line h = made_line (codes "for") (λ xw. says.For xw.0 xw.1) takes_turns (λ xw. (refl, refl)) text line h
 line_at-is keywords.Stop text line h =
@@ -606,6 +654,8 @@ spelled_command _ text (named_form named x w) ok h =
     (sym same ∙ ok) (subst (IsSpaced text) words h)
 spelled_command _ text (concat_form u v w) ok h =
     made_spelled keywords.Concat (λ ws. says.Do (commands.Concat ws.0.0 ws.0.1 ws.1)) takes_three_words (λ text. refl) text ((u, v), w) ok h
+spelled_command _ text (chmod_form switch w) ok h =
+    made_spelled keywords.Chmod (λ sp. says.Do (commands.Chmod sp.0 sp.1)) takes_switch_and_word (λ text. refl) text (switch, w) ok h
 
 -- a text that spells a line is parsed as it
 pub line_of-spelled : (text : List ℕ) (line : Line) → SpellsLine text line → line_of text ≡ Some line
@@ -632,6 +682,7 @@ said_command _ text (two_form two v w) h =
 said_command _ text (named_form named x w) h =
     said_by_name (keywords.Named named) text (x ∷ word_text w ∷ []) (subst (IsSpaced text) (named_words named x w).1 h)
 said_command _ text (concat_form u v w) h = said_by_name keywords.Concat text (word_text u ∷ word_text v ∷ word_text w ∷ []) h
+said_command _ text (chmod_form switch w) h = said_by_name keywords.Chmod text (switch_text switch ∷ word_text w ∷ []) h
 
 pub spelled_said : (text : List ℕ) (line : Line) → SpellsLine text line → is_skipped text ≡ false
 spelled_said text (says.Do command) (ok, h) = said_command command text (form_of command) h

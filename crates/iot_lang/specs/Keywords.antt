@@ -1,8 +1,10 @@
--- The names that begin a line or a condition, and the commands that they name.
+-- The names that begin a line or a condition, the commands that they name, and the switches of `chmod`.
 use Rattle.std.specs.Prelude.{ℕ, List, [], ◌∷◌, codes, bytes_eq, Option, None, Some, if◌then◌else◌}
 use Rattle.iot_lang.specs.declared.words.Piece.{Piece}
 use Rattle.iot_lang.specs.declared.words.Command.{Command}
 use Rattle.iot_lang.specs.declared.words.Command.TheVariants as commands
+use Rattle.iot_lang.specs.declared.words.Switch.{Switch}
+use Rattle.iot_lang.specs.declared.words.Switch.TheVariants as switches
 use Rattle.iot_lang.specs.declared.keywords.One.{One}
 use Rattle.iot_lang.specs.declared.keywords.One.TheVariants as ones
 use Rattle.iot_lang.specs.declared.keywords.Two.{Two}
@@ -55,6 +57,7 @@ keyword_table =
     ∷ (codes "set", keywords.Named nameds.Set)
     ∷ (codes "read", keywords.Named nameds.Read)
     ∷ (codes "concat", keywords.Concat)
+    ∷ (codes "chmod", keywords.Chmod)
     ∷ (codes "if", keywords.If)
     ∷ (codes "for", keywords.For)
     ∷ (codes "stop", keywords.Stop)
@@ -65,8 +68,21 @@ keyword_table =
 abbrev pub keyword_at : List ℕ → Option Keyword
 keyword_at word = lookup keyword_table word
 
+abbrev pub switch_table : List (List ℕ × Switch)
+switch_table = (codes "-x", switches.Off) ∷ (codes "+x", switches.On) ∷ []
+
+-- the switch that is written like this
+abbrev pub switch_at : List ℕ → Option Switch
+switch_at word = lookup switch_table word
+
 abbrev pub test_table : List (List ℕ × Test)
-test_table = (codes "file", tests.File) ∷ (codes "dir", tests.Dir) ∷ (codes "same", tests.Same) ∷ (codes "ok", tests.Ok) ∷ []
+test_table =
+    (codes "file", tests.File)
+    ∷ (codes "dir", tests.Dir)
+    ∷ (codes "exec", tests.Exec)
+    ∷ (codes "same", tests.Same)
+    ∷ (codes "ok", tests.Ok)
+    ∷ []
 
 -- what the first word of a condition names
 abbrev pub test_at : List ℕ → Option Test

@@ -5,6 +5,8 @@ use Rattle.iot_lines.specs.Words.{is_blank}
 use Rattle.iot_lang.specs.Words.{word_text, is_word, is_variable}
 use Rattle.iot_lang.specs.declared.words.Command.{Command}
 use Rattle.iot_lang.specs.declared.words.Command.TheVariants as commands
+use Rattle.iot_lang.specs.declared.words.Switch.{Switch}
+use Rattle.iot_lang.specs.declared.words.Switch.TheVariants as switches
 use Rattle.iot_lang.specs.declared.words.Cond.{Cond}
 use Rattle.iot_lang.specs.declared.words.Cond.TheVariants as conditions
 use Rattle.iot_lang.specs.declared.lines.Line.{Line}
@@ -14,8 +16,14 @@ use Rattle.iot_lang.specs.declared.lines.Line.TheVariants as says
 abbrev pub condition_words : Cond → List (List ℕ)
 condition_words (conditions.File p) = codes "file" ∷ word_text p ∷ []
 condition_words (conditions.Dir p) = codes "dir" ∷ word_text p ∷ []
+condition_words (conditions.Exec p) = codes "exec" ∷ word_text p ∷ []
 condition_words (conditions.Same p q) = codes "same" ∷ word_text p ∷ word_text q ∷ []
 condition_words conditions.Ok = codes "ok" ∷ []
+
+-- how a switch is written
+abbrev pub switch_text : Switch → List ℕ
+switch_text switches.Off = codes "-x"
+switch_text switches.On = codes "+x"
 
 -- the words of a command
 abbrev pub command_words : Command → List (List ℕ)
@@ -33,6 +41,7 @@ command_words (commands.Move p q) = codes "mv" ∷ word_text p ∷ word_text q �
 command_words (commands.Cat p) = codes "cat" ∷ word_text p ∷ []
 command_words (commands.List p) = codes "ls" ∷ word_text p ∷ []
 command_words (commands.Keep p q) = codes "keep" ∷ word_text p ∷ word_text q ∷ []
+command_words (commands.Chmod switch p) = codes "chmod" ∷ switch_text switch ∷ word_text p ∷ []
 
 -- the words of a line
 abbrev pub line_words : Line → List (List ℕ)
@@ -47,6 +56,7 @@ line_words says.Close = codes "}" ∷ []
 abbrev pub is_condition : Cond → Bool
 is_condition (conditions.File p) = is_word p
 is_condition (conditions.Dir p) = is_word p
+is_condition (conditions.Exec p) = is_word p
 is_condition (conditions.Same p q) = is_word p && is_word q
 is_condition conditions.Ok = true
 
@@ -66,6 +76,7 @@ is_command (commands.Move p q) = is_word p && is_word q
 is_command (commands.Cat p) = is_word p
 is_command (commands.List p) = is_word p
 is_command (commands.Keep p q) = is_word p && is_word q
+is_command (commands.Chmod switch p) = is_word p
 
 -- whether the operands of a line are words and names as they should be
 abbrev pub is_line : Line → Bool

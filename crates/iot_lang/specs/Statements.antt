@@ -4,9 +4,10 @@ use Rattle.std.specs.List.{list_all}
 use Rattle.iot_lines.specs.Words.{is_blank, without_blanks, front_word, after_word, is_skipped}
 use Rattle.iot_lang.specs.Words.{is_variable}
 use Rattle.iot_lang.specs.Parsing.{Part, ◌>>=◌, word_at}
-use Rattle.iot_lang.specs.Keywords.{keyword_at, test_at, with_one, with_two, with_variable}
+use Rattle.iot_lang.specs.Keywords.{keyword_at, switch_at, test_at, with_one, with_two, with_variable}
 use Rattle.iot_lang.specs.declared.words.Piece.{Piece}
 use Rattle.iot_lang.specs.declared.words.Command.TheVariants as commands
+use Rattle.iot_lang.specs.declared.words.Switch.{Switch}
 use Rattle.iot_lang.specs.declared.words.Cond.{Cond}
 use Rattle.iot_lang.specs.declared.words.Cond.TheVariants as conditions
 use Rattle.iot_lang.specs.declared.lines.Line.{Line}
@@ -39,6 +40,10 @@ opened x rest = past (codes "{") rest >>= (λ rest. ended x rest)
 abbrev pub variable_name : List ℕ → Part (List ℕ)
 variable_name text = if is_variable (run_of text) then Some (run_of text, past_run text) else None
 
+-- a switch
+abbrev pub switch_name : List ℕ → Part Switch
+switch_name text = switch_at (run_of text) >>= (λ switch. Some (switch, past_run text))
+
 -- one part, and another one after it
 abbrev pub then_part : {A B : Type 0} → (List ℕ → Part A) → (List ℕ → Part B) → List ℕ → Part (A × B)
 then_part one other text = one text >>= (λ a. other a.1 >>= (λ b. Some ((a.0, b.0), b.1)))
@@ -63,6 +68,9 @@ three_words text = whole (then_part (then_part word_at word_at) word_at text)
 unfoldable pub variable_and_word : List ℕ → Option (List ℕ × List Piece)
 variable_and_word text = whole (then_part variable_name word_at text)
 
+unfoldable pub switch_and_word : List ℕ → Option (Switch × List Piece)
+switch_and_word text = whole (then_part switch_name word_at text)
+
 -- a word and a `{`, or two words and a `{`
 abbrev pub one_and_brace : List ℕ → Option (List Piece)
 one_and_brace text = whole (then_past word_at (codes "{") text)
@@ -74,6 +82,7 @@ two_and_brace text = whole (then_past (then_part word_at word_at) (codes "{") te
 abbrev pub operands_at : Test → List ℕ → Option Cond
 operands_at tests.File text = one_and_brace text >>= (λ p. Some (conditions.File p))
 operands_at tests.Dir text = one_and_brace text >>= (λ p. Some (conditions.Dir p))
+operands_at tests.Exec text = one_and_brace text >>= (λ p. Some (conditions.Exec p))
 operands_at tests.Same text = two_and_brace text >>= (λ ps. Some (conditions.Same ps.0 ps.1))
 operands_at tests.Ok text = opened conditions.Ok text
 
@@ -94,6 +103,7 @@ line_at (keywords.One one) text = one_word text >>= (λ w. Some (says.Do (with_o
 line_at (keywords.Two two) text = two_words text >>= (λ ws. Some (says.Do (with_two two ws.0 ws.1)))
 line_at (keywords.Named named) text = variable_and_word text >>= (λ xw. Some (says.Do (with_variable named xw.0 xw.1)))
 line_at keywords.Concat text = three_words text >>= (λ ws. Some (says.Do (commands.Concat ws.0.0 ws.0.1 ws.1)))
+line_at keywords.Chmod text = switch_and_word text >>= (λ sp. Some (says.Do (commands.Chmod sp.0 sp.1)))
 line_at keywords.If text = condition_at text >>= (λ c. Some (says.If c))
 line_at keywords.For text = turns_at text >>= (λ xw. Some (says.For xw.0 xw.1))
 line_at keywords.Stop text = ended says.Stop text

@@ -1,8 +1,8 @@
-//! The first words of lines, and the words of conditions.
+//! The first words of lines, the switches of `chmod`, and the words of conditions.
 ghost use Rattle.std.specs.Prelude.{◌≡◌};
-ghost use Rattle.iot_lang.specs.Keywords.{keyword_at, test_at, with_one, with_two, with_variable};
+ghost use Rattle.iot_lang.specs.Keywords.{keyword_at, switch_at, test_at, with_one, with_two, with_variable};
 
-use crate::words::{Command, Word};
+use crate::words::{Command, Switch, Word};
 use iot_text::Text;
 
 /// The commands that take one word.
@@ -40,6 +40,7 @@ pub(crate) enum Keyword {
     Two(Two),
     Named(Named),
     Concat,
+    Chmod,
     If,
     For,
     Stop,
@@ -51,6 +52,7 @@ pub(crate) enum Keyword {
 pub(crate) enum Test {
     File,
     Dir,
+    Exec,
     Same,
     Ok,
 }
@@ -117,10 +119,22 @@ pub(crate) fn keyword_of(word: &[u8]) -> Option<Keyword>
         b"set" => Some(Keyword::Named(Named::Set)),
         b"read" => Some(Keyword::Named(Named::Read)),
         b"concat" => Some(Keyword::Concat),
+        b"chmod" => Some(Keyword::Chmod),
         b"if" => Some(Keyword::If),
         b"for" => Some(Keyword::For),
         b"stop" => Some(Keyword::Stop),
         b"}" => Some(Keyword::Close),
+        _ => None,
+    }
+}
+
+/// The switch that is written like this, if any.
+pub(crate) fn switch_of(word: &[u8]) -> Option<Switch>
+    ensures { result ≡ switch_at word.now }
+{
+    match word {
+        b"-x" => Some(Switch::Off),
+        b"+x" => Some(Switch::On),
         _ => None,
     }
 }
@@ -132,6 +146,7 @@ pub(crate) fn test_of(word: &[u8]) -> Option<Test>
     match word {
         b"file" => Some(Test::File),
         b"dir" => Some(Test::Dir),
+        b"exec" => Some(Test::Exec),
         b"same" => Some(Test::Same),
         b"ok" => Some(Test::Ok),
         _ => None,

@@ -22,4 +22,4 @@ pub use nesting::DEPTH_LIMIT;
 pub use parsing::parse;
 pub use printing::print;
 pub use scripts::Script;
-pub use words::{Command, Cond, Piece, Word};
+pub use words::{Command, Cond, Piece, Switch, Word};

@@ -11,7 +11,7 @@ ghost use Rattle.iot_lang.specs.declared.lines.Line.TheVariants as says;
 use crate::NoMemory;
 use crate::blocks::{Block, Stmt};
 use crate::scripts::Script;
-use crate::words::{Command, Cond, Piece, Word};
+use crate::words::{Command, Cond, Piece, Switch, Word};
 use iot_text::{Text, quote};
 use std::alloc::Global;
 
@@ -88,6 +88,8 @@ fn put_command(command: &Command, out: &mut Text) -> Result<(), NoMemory>
         Command::Cat(path) => put_one(b"cat", path, out),
         Command::List(path) => put_one(b"ls", path, out),
         Command::Keep(from, to) => put_two(b"keep", from, to, out),
+        Command::Chmod(Switch::Off, path) => put_one(b"chmod -x", path, out),
+        Command::Chmod(Switch::On, path) => put_one(b"chmod +x", path, out),
     }
 }
 
@@ -98,6 +100,7 @@ fn put_condition(condition: &Cond, out: &mut Text) -> Result<(), NoMemory>
     match condition {
         Cond::File(path) => put_one(b"file", path, out),
         Cond::Dir(path) => put_one(b"dir", path, out),
+        Cond::Exec(path) => put_one(b"exec", path, out),
         Cond::Same(first, second) => put_two(b"same", first, second, out),
         Cond::Ok => out.append(b"ok"),
     }

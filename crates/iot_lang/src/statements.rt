@@ -2,15 +2,16 @@
 ghost use Rattle.std.specs.Prelude.{◌≡◌};
 ghost use Rattle.iot_lang.specs.Words.{is_variable};
 ghost use Rattle.iot_lang.specs.Parsing.{Parses};
-ghost use Rattle.iot_lang.specs.Statements.{ended, run_of, past_run, past, opened, variable_name, one_word, two_words, three_words};
-ghost use Rattle.iot_lang.specs.Statements.{variable_and_word, operands_at, condition_at, turns_at, closing_at, line_at, line_of, said_by};
+ghost use Rattle.iot_lang.specs.Statements.{ended, run_of, past_run, past, opened, variable_name, switch_name, one_word, two_words};
+ghost use Rattle.iot_lang.specs.Statements.{three_words, variable_and_word, switch_and_word, operands_at, condition_at, turns_at};
+ghost use Rattle.iot_lang.specs.Statements.{closing_at, line_at, line_of, said_by};
 
 use crate::bytes::{are_blank, is_variable};
 use crate::faults::PartFault;
-use crate::keywords::{Keyword, Test, keyword_of, test_of};
+use crate::keywords::{Keyword, Test, keyword_of, switch_of, test_of};
 use crate::lines::Line;
 use crate::pieces::{text_of, word};
-use crate::words::{Command, Cond, Word};
+use crate::words::{Command, Cond, Switch, Word};
 use iot_lines::{front_word, is_skipped, without_blanks};
 use iot_text::Text;
 use std::alloc::Global;
@@ -64,6 +65,15 @@ fn variable(alloc: Global, text: &[u8]) -> Result<(Text, &[u8]), PartFault>
     Ok((text_of(alloc, name)?, rest))
 }
 
+/// A switch, and what comes after it.
+fn switch(text: &[u8]) -> Result<(Switch, &[u8]), PartFault>
+    ensures { Parses (λ part. (part.0, part.1.now)) result (switch_name text.now) }
+{
+    let (name, rest) = run(text);
+    let switch = switch_of(name).ok_or(PartFault::Malformed)?;
+    Ok((switch, rest))
+}
+
 /// One word, and nothing after it.
 #[tactic(auto, unfolding(crate::specs::Statements::one_word))]
 fn one_word(alloc: Global, text: &[u8]) -> Result<Word, PartFault>
@@ -108,6 +118,17 @@ fn variable_and_word(alloc: Global, text: &[u8]) -> Result<(Text, Word), PartFau
     Ok((variable, word))
 }
 
+/// A switch and a word, and nothing after them.
+#[tactic(auto, unfolding(crate::specs::Statements::switch_and_word))]
+fn switch_and_word(alloc: Global, text: &[u8]) -> Result<(Switch, Word), PartFault>
+    ensures { Parses (λ sp. sp) result (switch_and_word text.now) }
+{
+    let (switch, rest) = switch(text)?;
+    let (path, rest) = word(alloc, rest)?;
+    end(rest)?;
+    Ok((switch, path))
+}
+
 /// The operands of a condition of this test, and a `{`.
 fn operands(alloc: Global, test: Test, text: &[u8]) -> Result<Cond, PartFault>
     ensures { Parses (λ c. c) result (operands_at test text.now) }
@@ -122,6 +143,11 @@ fn operands(alloc: Global, test: Test, text: &[u8]) -> Result<Cond, PartFault>
             let (path, rest) = word(alloc, text)?;
             open(rest)?;
             Ok(Cond::Dir(path))
+        }
+        Test::Exec => {
+            let (path, rest) = word(alloc, text)?;
+            open(rest)?;
+            Ok(Cond::Exec(path))
         }
         Test::Same => {
             let (first, rest) = word(alloc, text)?;
@@ -187,6 +213,10 @@ fn keyword_line(alloc: Global, name: Keyword, text: &[u8]) -> Result<Line, PartF
         Keyword::Concat => {
             let (target, first, second) = three_words(alloc, text)?;
             Ok(Line::Do(Command::Concat(target, first, second)))
+        }
+        Keyword::Chmod => {
+            let (switch, path) = switch_and_word(alloc, text)?;
+            Ok(Line::Do(Command::Chmod(switch, path)))
         }
         Keyword::If => Ok(Line::If(condition(alloc, text)?)),
         Keyword::For => {

@@ -56,11 +56,24 @@ pub enum Cond {
     /// `dir P`: whether a directory is there.
     Dir(Word),
 
+    /// `exec P`: whether an executable file is there.
+    Exec(Word),
+
     /// `same P Q`: whether two files have the same contents.
     Same(Word, Word),
 
     /// `ok`: whether the last command or `for` succeeded.
     Ok,
+}
+
+/// How `chmod` switches the mode of a file.
+#[derive(Clone, Copy, Debug, PartialEq, Eq)]
+pub enum Switch {
+    /// `-x` switches it off.
+    Off,
+
+    /// `+x` switches it on.
+    On,
 }
 
 /// A statement that is no `if`, `for` or `stop`, with its operands in order.
@@ -107,4 +120,7 @@ pub enum Command {
 
     /// `keep P Q`
     Keep(Word, Word),
+
+    /// `chmod +x P` or `chmod -x P`
+    Chmod(Switch, Word),
 }

@@ -9,15 +9,15 @@ use Rattle.iot_tree.specs.Tree.{Nodes, Path}
 use Rattle.iot_tree.specs.declared.acts.Act.{Act}
 use Rattle.iot_tree.specs.declared.acts.Read.{Read}
 use Rattle.iot_tree.specs.declared.updates.Update.{Update}
-use Rattle.iot_tree.specs.declared.updates.Update.TheVariants.{Put, MakeDir, Remove, Move}
+use Rattle.iot_tree.specs.declared.updates.Update.TheVariants.{Put, MakeDir, Remove, Move, SetMode}
 use Rattle.iot_tree.specs.declared.questions.Question.{Question}
-use Rattle.iot_tree.specs.declared.questions.Question.TheVariants.{Kind, Content, Names as AskNames}
+use Rattle.iot_tree.specs.declared.questions.Question.TheVariants.{Kind, Content, Names as AskNames, Mode as AskMode}
 use Rattle.iot_tree.specs.declared.questions.Answer.{Answer}
-use Rattle.iot_tree.specs.declared.questions.Answer.TheVariants.{Away, Absent, IsDir, IsFile, Bytes, Names}
+use Rattle.iot_tree.specs.declared.questions.Answer.TheVariants.{Away, Absent, IsDir, IsFile, Bytes, Names, On, Off}
 use Rattle.iot_access.specs.Access.{AreNumbers, access_of, cons_update, lines_of, updates_of}
 use Rattle.iot_access.specs.Asked.{cons_unless, first_asked, none_asked, or_asked}
-use Rattle.iot_access.specs.BaseReads.{Base, path_of, base_names, settled, base_from, base_of, cons_base, based_reads, based, done_more}
-use Rattle.iot_access.specs.Sources.{source, hidden}
+use Rattle.iot_access.specs.BaseReads.{Base, origin, base_names, base_mode, settled, base_from, base_of, cons_base, based_reads, based, done_more}
+use Rattle.iot_access.specs.Sources.{source, mode_source, hidden, carried}
 use Rattle.iot_access.proofs.AccessLaws.{as_many_places}
 use Rattle.iot_views.specs.Rules.{IsAccess, IsAct, IsAnswer, IsOptionalUpdate, IsQuestion, IsRead, IsUpdate, AreLines, AreReads, AreUpdates}
 use Rattle.iot_limits.specs.Spelled.{IsSpelledTree}
@@ -36,20 +36,43 @@ hidden_path p s k is = by (starts_with bytes_eq k p)
     by true = tt
     by false = is
 
+came_path : (p q k : Path) → IsPath p → IsPath k → IsPath (p ++ drop (length q) k)
+came_path p q k valid is = IsPath-append p (drop (length q) k) valid (IsPath-drop (length q) k is)
+
+carried_path : (p q : Path) (s : Path → Option Path) (k : Path) → IsPathIfAny (s (p ++ drop (length q) k)) → IsPathIfAny (s k)
+    → IsPathIfAny (carried p q s k)
+carried_path p q s k inside outside = by (starts_with bytes_eq k q)
+  where
+    by : (b : Bool) → IsPathIfAny (if b then s (p ++ drop (length q) k) else hidden p s k)
+    by true = inside
+    by false = hidden_path p s k outside
+
 source_path : (done : List Update) → AllByRecursion IsUpdate done → (k : Path) → IsPath k → IsPathIfAny (source done k)
 source_path [] are k is = is
 source_path (Put p bytes ∷ done) are k is = hidden_path p (source done) k (source_path done are.1 k is)
 source_path (MakeDir p ∷ done) are k is = hidden_path p (source done) k (source_path done are.1 k is)
 source_path (Remove p ∷ done) are k is = hidden_path p (source done) k (source_path done are.1 k is)
 source_path (Move p q ∷ done) are k is =
-    by (starts_with bytes_eq k q)
-    (source_path done are.1 (p ++ drop (length q) k) (IsPath-append p (drop (length q) k) are.0.0 (IsPath-drop (length q) k is)))
-    (hidden_path p (source done) k (source_path done are.1 k is))
-  where
-    by : (b : Bool) → IsPathIfAny (source done (p ++ drop (length q) k)) → IsPathIfAny (hidden p (source done) k)
-        → IsPathIfAny (if b then source done (p ++ drop (length q) k) else hidden p (source done) k)
-    by true inside outside = inside
-    by false inside outside = outside
+    carried_path p q (source done) k (source_path done are.1 (p ++ drop (length q) k) (came_path p q k are.0.0 is))
+    (source_path done are.1 k is)
+source_path (SetMode p mode ∷ done) are k is = source_path done are.1 k is
+
+mode_source_path : (done : List Update) → AllByRecursion IsUpdate done → (k : Path) → IsPath k → IsPathIfAny (mode_source done k)
+mode_source_path [] are k is = is
+mode_source_path (Put p bytes ∷ done) are k is = mode_source_path done are.1 k is
+mode_source_path (MakeDir p ∷ done) are k is = hidden_path p (mode_source done) k (mode_source_path done are.1 k is)
+mode_source_path (Remove p ∷ done) are k is = hidden_path p (mode_source done) k (mode_source_path done are.1 k is)
+mode_source_path (Move p q ∷ done) are k is =
+    carried_path p q (mode_source done) k (mode_source_path done are.1 (p ++ drop (length q) k) (came_path p q k are.0.0 is))
+    (mode_source_path done are.1 k is)
+mode_source_path (SetMode p mode ∷ done) are k is = hidden_path p (mode_source done) k (mode_source_path done are.1 k is)
+
+origin_path : (done : List Update) → AllByRecursion IsUpdate done → (question : Question) → IsQuestion question
+    → IsPathIfAny (origin done question)
+origin_path done are (Kind p) is = source_path done are p is
+origin_path done are (Content p) is = source_path done are p is
+origin_path done are (AskNames p) is = source_path done are p is
+origin_path done are (AskMode p) is = mode_source_path done are p is
 
 -- ---- base reads
 
@@ -68,6 +91,12 @@ module _ (before : Nodes) (spelled : IsSpelledTree before) where
   names_spelled o IsDir has = tt
   names_spelled o IsFile has = tt
   names_spelled o (Bytes bytes) has = has
+  names_spelled o On has = tt
+  names_spelled o Off has = tt
+
+  mode_spelled : (o : Path) (answer : Answer) → IsAnswer (base_mode before o answer)
+  mode_spelled o Away = tt
+  mode_spelled o _ = tree_answers before spelled (AskMode o)
 
   settled_spelled : (question : Question) (answer : Answer) → IsQuestion question → IsReadIfAny (settled question answer)
   settled_spelled question Away is = record { question = is; answer = tt }
@@ -76,18 +105,16 @@ module _ (before : Nodes) (spelled : IsSpelledTree before) where
   settled_spelled question IsFile is = tt
   settled_spelled question (Bytes bytes) is = tt
   settled_spelled question (Names children) is = tt
+  settled_spelled question On is = tt
+  settled_spelled question Off is = tt
 
   from_spelled : (question : Question) (answer : Answer) (found : Option Path) → IsQuestion question → IsAnswer answer → IsPathIfAny found
       → IsReadIfAny (base_from before question answer found)
   from_spelled (Kind p) answer (Some o) is has path = record { question = path; answer = has }
   from_spelled (Content p) answer (Some o) is has path = record { question = path; answer = has }
   from_spelled (AskNames p) answer (Some o) is has path = record { question = path; answer = names_spelled o answer has }
+  from_spelled (AskMode p) answer (Some o) is has path = record { question = path; answer = mode_spelled o answer }
   from_spelled question answer None is has path = settled_spelled question answer is
-
-  asked_path : (question : Question) → IsQuestion question → IsPath (path_of question)
-  asked_path (Kind p) is = is
-  asked_path (Content p) is = is
-  asked_path (AskNames p) is = is
 
   cons_spelled : (place : ℕ) (found : Option Read) (rest : List Base) → IsReadIfAny found → AreBaseReads rest
       → AreBaseReads (cons_base place found rest)
@@ -99,8 +126,8 @@ module _ (before : Nodes) (spelled : IsSpelledTree before) where
   reads_spelled [] done place rest are updates more = more
   reads_spelled (read ∷ reads) done place rest are updates more =
       cons_spelled place (base_of before done read) (based_reads reads before done (suc place) rest)
-      (from_spelled read.question read.answer (source done (path_of read.question)) are.0.question are.0.answer
-      (source_path done updates (path_of read.question) (asked_path read.question are.0.question)))
+      (from_spelled read.question read.answer (origin done read.question) are.0.question are.0.answer
+      (origin_path done updates read.question are.0.question))
       (reads_spelled reads done (suc place) rest are.1 updates more)
 
   done_spelled : (done : List Update) (update : Option Update) → AllByRecursion IsUpdate done → IsOptionalUpdate update

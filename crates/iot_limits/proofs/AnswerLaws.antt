@@ -20,8 +20,9 @@ use Rattle.iot_tree.specs.Tree.{Path, Row, Nodes}
 use Rattle.iot_tree.specs.Place.{AllAfter}
 use Rattle.iot_tree.specs.Rows.{Rising}
 use Rattle.iot_tree.specs.Questions.{is_far_above, node_kind, kind_of, kind_answer, no_content, content_answer, is_child, child_of}
-use Rattle.iot_tree.specs.Questions.{children_of, names_answer}
+use Rattle.iot_tree.specs.Questions.{children_of, names_answer, mode_answer}
 use Rattle.iot_tree.specs.declared.kinds.Kind.{Kind as ChildKind}
+use Rattle.iot_tree.specs.declared.nodes.Mode.TheVariants as modes
 use Rattle.iot_tree.specs.declared.kinds.Kind.TheVariants as kinds
 use Rattle.iot_tree.specs.declared.nodes.Node.{Node}
 use Rattle.iot_tree.specs.declared.nodes.Node.TheVariants.{Dir, File, FarDir, FarFile}
@@ -42,6 +43,15 @@ kind_is_answer _ = tt
 none_is_answer : (far : Bool) → IsAnswer (no_content far)
 none_is_answer true = tt
 none_is_answer false = tt
+
+mode_is_answer : (node : Option Node) (far : Bool) → IsAnswer (mode_answer node far)
+mode_is_answer (Some (File bytes modes.Off)) far = tt
+mode_is_answer (Some (File bytes modes.On)) far = tt
+mode_is_answer (Some (FarFile modes.Off)) far = tt
+mode_is_answer (Some (FarFile modes.On)) far = tt
+mode_is_answer (Some Dir) far = tt
+mode_is_answer (Some FarDir) far = tt
+mode_is_answer None far = none_is_answer far
 
 node_is_object : (node : Node) → IsObject (node_kind node)
 node_is_object Dir = tt
@@ -175,3 +185,4 @@ module _ (t : Nodes) (tree : IsSpelledTree t) where
   tree_answers (asks.Kind path) = kind_is_answer (kind_of t path)
   tree_answers (asks.Content path) = content_is_answer path (get t path) (is_far_above t path) refl
   tree_answers (asks.Names path) = names_are_answer path (get t path) (is_far_above t path)
+  tree_answers (asks.Mode path) = mode_is_answer (get t path) (is_far_above t path)

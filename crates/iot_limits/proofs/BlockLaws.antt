@@ -14,7 +14,7 @@ use Rattle.iot_lang.specs.declared.words.Cond.TheVariants as conditions
 use Rattle.iot_exec.specs.Values.{word_value}
 use Rattle.iot_exec.specs.Operands.{is_too_large, path_or_bad, read_path}
 use Rattle.iot_exec.specs.Plans.{Plan, Done, mapped, Effect, silent, going_on}
-use Rattle.iot_exec.specs.Commands.{given, names_or, names, when, is_file_at, is_dir_at, are_same_at, path_if_any, truth}
+use Rattle.iot_exec.specs.Commands.{given, names_or, names, when, is_file_at, is_dir_at, is_on_at, are_same_at, path_if_any, truth}
 use Rattle.iot_exec.specs.Commands.{plan_of_condition, Turns, name_of, loop_ending, plan_of_loop}
 use Rattle.iot_exec.specs.declared.env.Env.{Env}
 use Rattle.iot_views.specs.Rules.{IsAnswer, IsObject}
@@ -49,6 +49,8 @@ truth_spelled env (conditions.File p) =
     when_path (path_if_any env p) (operand_is_path env p) is_file_at (λ path valid. (valid, λ answer has. tt))
 truth_spelled env (conditions.Dir p) =
     when_path (path_if_any env p) (operand_is_path env p) is_dir_at (λ path valid. (valid, λ answer has. tt))
+truth_spelled env (conditions.Exec p) =
+    when_path (path_if_any env p) (operand_is_path env p) is_on_at (λ path valid. (valid, λ answer has. tt))
 truth_spelled env (conditions.Same p q) =
     when_path (path_if_any env p) (operand_is_path env p) _ (λ first first_valid.
     when_path (path_if_any env q) (operand_is_path env q) (are_same_at first)

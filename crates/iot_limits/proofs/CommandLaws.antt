@@ -11,8 +11,9 @@ use Rattle.iot_text.specs.Paths.{IsPath, path_text, path_of}
 use Rattle.iot_text.proofs.PathsLaws.{IsPath-take}
 use Rattle.iot_tree.specs.declared.kinds.Kind.{Kind as ChildKind}
 use Rattle.iot_tree.specs.declared.kinds.Kind.TheVariants as kinds
+use Rattle.iot_tree.specs.declared.nodes.Mode.{Mode}
 use Rattle.iot_tree.specs.declared.questions.Answer.{Answer}
-use Rattle.iot_tree.specs.declared.questions.Answer.TheVariants.{Absent, IsDir, IsFile, Bytes, Names}
+use Rattle.iot_tree.specs.declared.questions.Answer.TheVariants.{Absent, IsDir, IsFile, Bytes, Names, On, Off}
 use Rattle.iot_tree.specs.declared.updates.Update.{Update}
 use Rattle.iot_tree.specs.declared.updates.Update.TheVariants as updates
 use Rattle.iot_lines.specs.Lines.{lines}
@@ -21,7 +22,7 @@ use Rattle.iot_lang.specs.Words.{is_word, is_variable}
 use Rattle.iot_lang.specs.declared.words.Piece.{Piece}
 use Rattle.iot_lang.specs.declared.words.Command.{Command}
 use Rattle.iot_lang.specs.declared.words.Command.TheVariants.{Echo, Set, Read, MakeDir, RemoveDir, Remove, Write, Append, Copy, Concat}
-use Rattle.iot_lang.specs.declared.words.Command.TheVariants.{Move, Cat, List as Ls, Keep}
+use Rattle.iot_lang.specs.declared.words.Command.TheVariants.{Move, Cat, List as Ls, Keep, Chmod}
 use Rattle.iot_acts.specs.Paths.{parent_path, is_at_or_below}
 use Rattle.iot_exec.specs.Values.{with_ok, word_value}
 use Rattle.iot_exec.specs.Operands.{is_too_large, word_operand, path_or_bad, read_path, path_operand}
@@ -30,7 +31,7 @@ use Rattle.iot_exec.specs.Endings.{ending}
 use Rattle.iot_exec.specs.Commands.{Kept, Ending, makes, prints, sets, given, echo, read, cat, list_names, name_line, contents_or}
 use Rattle.iot_exec.specs.Commands.{contents, names_or, names, in_parent, ask_parent, at_target, target, at_new_dir, make_dir, write}
 use Rattle.iot_exec.specs.Commands.{with_more, append, copy, join, concat, at_file, remove_file, when_empty, empty_dir, remove_dir}
-use Rattle.iot_exec.specs.Commands.{at_dir_target, dir_target, at_moved, move, at_kept, keep, table, command_name, plan_of_command}
+use Rattle.iot_exec.specs.Commands.{at_dir_target, dir_target, at_moved, move, mode_of, at_mode, change_mode, at_kept, keep, table, command_name, plan_of_command}
 use Rattle.iot_exec.specs.declared.env.Env.{Env}
 use Rattle.iot_views.specs.Rules.{is_printable, is_content_byte, IsAnswer, IsContents, IsLine, AreLines, IsObject, IsUpdate}
 use Rattle.iot_limits.specs.Spelled.{AreSpelledFiles}
@@ -196,6 +197,11 @@ module _ (env : Env) (spelled : IsSpelledEnv env) (name : List ℕ) (named : IsL
     file_at IsFile = made (updates.Remove path) valid
     file_at _ = failed path valid _ refl
 
+    mode_at : (mode : Mode) (answer : Answer) → IsSpelledCommand (at_mode path mode answer)
+    mode_at mode On = made (updates.SetMode path mode) valid
+    mode_at mode Off = made (updates.SetMode path mode) valid
+    mode_at mode _ = failed path valid _ refl
+
     dir_removed : IsSpelledCommand (remove_dir path)
     dir_removed =
         cond_both (length path == 0) _ _ IsSpelledCommand
@@ -257,6 +263,8 @@ module _ (env : Env) (spelled : IsSpelledEnv env) (name : List ℕ) (named : IsL
     command_spelled (RemoveDir p) is = path_given p remove_dir (λ path valid. dir_removed path valid)
     command_spelled (Move p q) is =
         path_given p _ (λ from from_valid. path_given q (move from) (λ to to_valid. moved_to from to from_valid to_valid))
+    command_spelled (Chmod switch p) is =
+        path_given p (change_mode (mode_of switch)) (λ path valid. (valid, λ answer has. mode_at path valid (mode_of switch) answer))
     command_spelled (Keep p q) is =
         path_given p _
         (λ from from_valid. path_given q (keep kept from)
