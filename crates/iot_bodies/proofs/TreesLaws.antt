@@ -8,12 +8,13 @@ use Rattle.iot_text.specs.Paths.{IsPath, path_cmp}
 use Rattle.iot_text.proofs.PathsLaws.{IsPath-drop, IsPath-append}
 use Rattle.iot_tree.specs.Questions.{is_dir}
 use Rattle.iot_tree.specs.Tree.{Path, Nodes, IsTree, root_alone}
-use Rattle.iot_tree.specs.Updates.{Fits, mode_in, renamed, updated}
+use Rattle.iot_tree.specs.Updates.{Fits, mode_in, with_mode, renamed, updated}
+use Rattle.iot_tree.specs.declared.nodes.Mode.{Mode}
 use Rattle.iot_tree.specs.declared.nodes.Node.{Node}
-use Rattle.iot_tree.specs.declared.nodes.Node.TheVariants.{Dir, File}
+use Rattle.iot_tree.specs.declared.nodes.Node.TheVariants.{Dir, File, FarDir, FarFile}
 use Rattle.iot_tree.specs.declared.updates.Update.{Update}
-use Rattle.iot_tree.specs.declared.updates.Update.TheVariants.{Put, MakeDir, Remove, Move}
-use Rattle.iot_tree.proofs.EachLaws.{EachNode, found_row, each_entry, each_inserted, each_removed, each_moved}
+use Rattle.iot_tree.specs.declared.updates.Update.TheVariants.{Put, MakeDir, Remove, Move, SetMode}
+use Rattle.iot_tree.proofs.EachLaws.{EachNode, found_row, each_entry, each_inserted, each_moded, each_removed, each_moved}
 use Rattle.iot_tree.proofs.RowLaws.{root_rows, root_map}
 use Rattle.iot_tree.proofs.UpdateLaws.{tree_updated}
 use Rattle.iot_access.specs.Access.{FitInTurn, after_updates}
@@ -28,9 +29,17 @@ renamed_is_path from to path to_valid valid =
     (λ inside. IsPath-append to (drop (length from) path) to_valid (IsPath-drop (length from) path valid))
     (λ outside. valid)
 
+mode_is_node : (mode : Mode) (node : Node) → IsNode node → IsNode (with_mode mode node)
+mode_is_node mode Dir is = tt
+mode_is_node mode (File bytes old) is = is
+mode_is_node mode FarDir is = tt
+mode_is_node mode (FarFile old) is = tt
+
 each_updated : (t : Nodes) (update : Update) → IsUpdate update → EachNode IsRowAt t → EachNode IsRowAt (updated t update)
 each_updated t (Put path bytes) is each = each_inserted IsRowAt t path (File bytes (mode_in (get t path))) each (is.0, is.1)
 each_updated t (MakeDir path) is each = each_inserted IsRowAt t path Dir each (is, tt)
+each_updated t (SetMode path mode) is each =
+    each_moded IsRowAt mode (λ path node row. (row.0, mode_is_node mode node row.1)) t path each
 each_updated t (Remove path) is each = each_removed IsRowAt t path each
 each_updated t (Move from to) is each =
     each_moved IsRowAt from to (λ path node row. (renamed_is_path from to path is.1 row.0, row.1)) t each

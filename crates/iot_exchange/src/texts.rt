@@ -1,14 +1,15 @@
 //! The lines of a client's transactions.
 ghost use Rattle.std.specs.Prelude.{◌≡◌, ◌++◌};
-ghost use Rattle.iot_exchange.specs.Words.{question_text, pending_line, OnOk, name_of, verdict_of, hoard_line, refresh_line, begin_line};
+ghost use Rattle.iot_exchange.specs.Words.{pending_line, OnOk, name_of, verdict_of, hoard_line, refresh_line, begin_line};
 ghost use Rattle.iot_exchange.specs.Words.{fetch_line, step_line, line, resolve_line, repair_line};
 ghost use Rattle.iot_exchange.specs.Saying.{place_said, resolver_said, told_text};
 
+use iot_inspect::put_question;
 use iot_laptop::{Told, Verdict};
 use iot_node::{Printed, Transaction};
 use iot_resolve::Plan;
 use iot_text::{Name, NoMemory, Path, Text};
-use iot_tree::{ACT_LIMIT, OnConflict, Question};
+use iot_tree::{ACT_LIMIT, OnConflict};
 
 /// `hoard C P`
 pub(crate) fn say_hoard(name: &Name, path: &Path, out: &mut Text) -> Result<(), NoMemory>
@@ -113,32 +114,13 @@ pub(crate) fn say_told(
             out.append(b" read ")?;
             out.append_number(*read)?;
             out.push(b' ')?;
-            say_question(question, out)?;
+            put_question(question, out)?;
             out.push(b'\n')?;
             match told.option {
                 OnConflict::Reexec | OnConflict::Resolver(_) => Ok(()),
                 OnConflict::Abort => say_of(b"abort ", transaction, out),
                 OnConflict::Manual => say_of(b"manual ", transaction, out),
             }
-        }
-    }
-}
-
-fn say_question(question: &Question, out: &mut Text) -> Result<(), NoMemory>
-    ensures { OnOk result (out.new ≡ out.old ++ question_text question.now) }
-{
-    match question {
-        Question::Kind(path) => {
-            out.append(b"kind ")?;
-            path.write_to(out)
-        }
-        Question::Content(path) => {
-            out.append(b"content ")?;
-            path.write_to(out)
-        }
-        Question::Names(path) => {
-            out.append(b"names ")?;
-            path.write_to(out)
         }
     }
 }

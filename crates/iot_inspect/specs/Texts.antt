@@ -113,6 +113,7 @@ abbrev pub question_text : Question → List ℕ
 question_text (asks.Kind p) = codes "kind " ++ path_text p
 question_text (asks.Content p) = codes "content " ++ path_text p
 question_text (asks.Names p) = codes "names " ++ path_text p
+question_text (asks.Mode p) = codes "mode " ++ path_text p
 
 -- a name in a directory, with a `/` after that of a directory
 abbrev pub child_text : List ℕ × Kind → List ℕ
@@ -137,6 +138,8 @@ answer_text answers.IsDir = codes "dir"
 answer_text answers.IsFile = codes "file"
 answer_text (answers.Bytes bytes) = quoted bytes
 answer_text (answers.Names children) = codes "[" ++ children_text children ++ codes "]"
+answer_text answers.On = codes "on"
+answer_text answers.Off = codes "off"
 
 -- the read of this number
 abbrev pub read_line : ℕ → Read → List ℕ

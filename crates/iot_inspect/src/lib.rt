@@ -10,6 +10,7 @@ mod values;
 mod waiting;
 
 pub use commits::log;
+pub use pieces::put_question;
 pub use reading::reads;
 pub use rows::show;
 pub use snapshot::Json;

@@ -43,7 +43,7 @@ pub(crate) fn put_numbered(word: &[u8], number: u64, out: &mut Text) -> Result<(
 }
 
 /// A question: its kind, and its path.
-pub(crate) fn put_question(question: &Question, out: &mut Text) -> Result<(), NoMemory>
+pub fn put_question(question: &Question, out: &mut Text) -> Result<(), NoMemory>
     ensures ok { OnOk result (out.new ≡ out.old ++ question_text question.now) }
     ensures err { OnErr result (AppendsPart out.old out.new (question_text question.now)) }
 {
@@ -58,6 +58,10 @@ pub(crate) fn put_question(question: &Question, out: &mut Text) -> Result<(), No
         }
         Question::Names(path) => {
             out.append(b"names ")?;
+            path.write_to(out)
+        }
+        Question::Mode(path) => {
+            out.append(b"mode ")?;
             path.write_to(out)
         }
     }

@@ -68,6 +68,8 @@ fn put_answer(answer: &Answer, out: &mut Text) -> Result<(), NoMemory>
             put_children(children.as_slice(), out)?;
             out.push(b']')
         }
+        Answer::On => out.append(b"on"),
+        Answer::Off => out.append(b"off"),
     }
 }
 

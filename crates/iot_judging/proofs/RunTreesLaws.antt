@@ -6,14 +6,15 @@ use Rattle.std.specs.List.{AllByRecursion}
 use Rattle.iot_text.specs.Paths.{path_cmp}
 use Rattle.iot_tree.specs.Tree.{Path, Nodes, IsTree, IsWhole, root_alone}
 use Rattle.iot_tree.specs.Snapshots.{is_known}
-use Rattle.iot_tree.specs.Updates.{mode_in, updated}
+use Rattle.iot_tree.specs.Updates.{mode_in, with_mode, updated}
 use Rattle.iot_tree.specs.declared.acts.Act.{Act}
 use Rattle.iot_tree.specs.declared.labels.Way.{Way}
+use Rattle.iot_tree.specs.declared.nodes.Mode.{Mode}
 use Rattle.iot_tree.specs.declared.nodes.Node.{Node}
 use Rattle.iot_tree.specs.declared.nodes.Node.TheVariants.{Dir, File, FarDir, FarFile}
 use Rattle.iot_tree.specs.declared.updates.Update.{Update}
-use Rattle.iot_tree.specs.declared.updates.Update.TheVariants.{Put, MakeDir, Remove, Move}
-use Rattle.iot_tree.proofs.EachLaws.{EachNode, each_inserted, each_removed, each_moved}
+use Rattle.iot_tree.specs.declared.updates.Update.TheVariants.{Put, MakeDir, Remove, Move, SetMode}
+use Rattle.iot_tree.proofs.EachLaws.{EachNode, each_inserted, each_moded, each_removed, each_moved}
 use Rattle.iot_tree.proofs.RowLaws.{root_rows, root_map}
 use Rattle.iot_stamp.proofs.PrunedLaws.{whole_known}
 use Rattle.iot_lang.specs.Code.{Code}
@@ -59,9 +60,16 @@ list_spelled commits all = from_spelled (entries_of commits) (root_alone Dir) al
 abbrev IsNear : Path → Node → Type 0
 IsNear path node = is_known node ≡ true
 
+mode_near : (mode : Mode) (node : Node) → is_known node ≡ true → is_known (with_mode mode node) ≡ true
+mode_near mode Dir near = refl
+mode_near mode (File bytes old) near = refl
+mode_near mode FarDir near = near
+mode_near mode (FarFile old) near = near
+
 update_near : (t : Nodes) (update : Update) → EachNode IsNear t → EachNode IsNear (updated t update)
 update_near t (Put path bytes) each = each_inserted IsNear t path (File bytes (mode_in (get t path))) each refl
 update_near t (MakeDir path) each = each_inserted IsNear t path Dir each refl
+update_near t (SetMode path mode) each = each_moded IsNear mode (λ path node near. mode_near mode node near) t path each
 update_near t (Remove path) each = each_removed IsNear t path each
 update_near t (Move from to) each = each_moved IsNear from to (λ path node near. near) t each
 

@@ -8,17 +8,18 @@ use Rattle.std.specs.List.{list_any}
 use Rattle.std.specs.Cmp.Lexicographic.{pointwise, pointwise_decides, bytes_decides}
 use Rattle.iot_tree.specs.Tree.{Path}
 use Rattle.iot_tree.specs.declared.updates.Update.{Update}
-use Rattle.iot_tree.specs.declared.updates.Update.TheVariants.{Put, MakeDir, Remove, Move}
+use Rattle.iot_tree.specs.declared.updates.Update.TheVariants.{Put, MakeDir, Remove, Move, SetMode}
 use Rattle.iot_tree.specs.declared.acts.Read.{Read}
 use Rattle.iot_tree.specs.declared.questions.Question.{Question}
-use Rattle.iot_tree.specs.declared.questions.Question.TheVariants.{Kind, Content, Names}
+use Rattle.iot_tree.specs.declared.questions.Question.TheVariants.{Kind, Content, Names, Mode}
 use Rattle.iot_tree.specs.declared.questions.Answer.{Answer}
 use Rattle.iot_tree.specs.declared.questions.Answer.TheVariants as answers
 use Rattle.iot_acts.specs.Paths.{parent_path, is_at_or_below}
-use Rattle.iot_acts.specs.Guards.{Asked, AskedFree, GuardsPut, GuardsRemove, GuardsMove, MayRemove, MayMove, GuardsIfAny}
-use Rattle.iot_acts.specs.Guards.{over_file, over_contents, in_free, file_goes, empty_goes, file_to_file, dir_to_empty, any_to_free}
+use Rattle.iot_acts.specs.Guards.{Asked, AskedFree, GuardsPut, GuardsRemove, GuardsMove, GuardsSetMode, MayRemove, MayMove, GuardsIfAny}
+use Rattle.iot_acts.specs.Guards.{over_file, over_contents, in_free, file_goes, empty_goes, file_to_file, dir_to_empty, any_to_free, over_on}
+use Rattle.iot_acts.specs.Guards.{over_off}
 use Rattle.iot_kept.specs.declared.guards.Saying.TheVariants as sayings
-use Rattle.iot_kept.specs.Guarding.{is_kind, is_contents, is_no_names, is_said, says, said, is_free, is_root}
+use Rattle.iot_kept.specs.Guarding.{is_kind, is_contents, is_no_names, is_mode, is_said, says, said, is_free, is_root}
 use Rattle.iot_kept.specs.Guarding.{guards_put, guards_remove, guards_move, may_move, guards}
 use Rattle.iot_kept.proofs.FollowingLaws.{left_is}
 
@@ -59,6 +60,8 @@ absent_answer answers.IsDir e = absurd cc
 absent_answer answers.IsFile e = absurd cc
 absent_answer (answers.Bytes bytes) e = absurd cc
 absent_answer (answers.Names children) e = absurd cc
+absent_answer answers.On e = absurd cc
+absent_answer answers.Off e = absurd cc
 
 absent_parts : (path : Path) (question : Question) (answer : Answer) → is_said path sayings.Absent question answer ≡ true
     → (question ≡ Kind path) × (answer ≡ answers.Absent)
@@ -67,6 +70,7 @@ absent_parts path (Kind at) answer e =
     (ap Kind (same_path at path parts.0), absent_answer answer parts.1)
 absent_parts path (Content at) answer e = not_both (pointwise bytes_eq at path) e
 absent_parts path (Names at) answer e = not_both (pointwise bytes_eq at path) e
+absent_parts path (Mode at) answer e = not_both (pointwise bytes_eq at path) e
 
 absent_read : (path : Path) (read : Read) → says path sayings.Absent read ≡ true
     → read ≡ record { question = Kind path; answer = answers.Absent }
@@ -81,6 +85,8 @@ dir_answer answers.IsDir e = refl
 dir_answer answers.IsFile e = absurd cc
 dir_answer (answers.Bytes bytes) e = absurd cc
 dir_answer (answers.Names children) e = absurd cc
+dir_answer answers.On e = absurd cc
+dir_answer answers.Off e = absurd cc
 
 dir_parts : (path : Path) (question : Question) (answer : Answer) → is_said path sayings.IsDir question answer ≡ true
     → (question ≡ Kind path) × (answer ≡ answers.IsDir)
@@ -89,6 +95,7 @@ dir_parts path (Kind at) answer e =
     (ap Kind (same_path at path parts.0), dir_answer answer parts.1)
 dir_parts path (Content at) answer e = not_both (pointwise bytes_eq at path) e
 dir_parts path (Names at) answer e = not_both (pointwise bytes_eq at path) e
+dir_parts path (Mode at) answer e = not_both (pointwise bytes_eq at path) e
 
 dir_read : (path : Path) (read : Read) → says path sayings.IsDir read ≡ true
     → read ≡ record { question = Kind path; answer = answers.IsDir }
@@ -103,6 +110,8 @@ file_answer answers.IsDir e = absurd cc
 file_answer answers.IsFile e = refl
 file_answer (answers.Bytes bytes) e = absurd cc
 file_answer (answers.Names children) e = absurd cc
+file_answer answers.On e = absurd cc
+file_answer answers.Off e = absurd cc
 
 file_parts : (path : Path) (question : Question) (answer : Answer) → is_said path sayings.IsFile question answer ≡ true
     → (question ≡ Kind path) × (answer ≡ answers.IsFile)
@@ -111,6 +120,7 @@ file_parts path (Kind at) answer e =
     (ap Kind (same_path at path parts.0), file_answer answer parts.1)
 file_parts path (Content at) answer e = not_both (pointwise bytes_eq at path) e
 file_parts path (Names at) answer e = not_both (pointwise bytes_eq at path) e
+file_parts path (Mode at) answer e = not_both (pointwise bytes_eq at path) e
 
 file_read : (path : Path) (read : Read) → says path sayings.IsFile read ≡ true
     → read ≡ record { question = Kind path; answer = answers.IsFile }
@@ -125,6 +135,8 @@ bytes_answer answers.IsDir e = absurd cc
 bytes_answer answers.IsFile e = absurd cc
 bytes_answer (answers.Bytes bytes) e = (bytes, refl)
 bytes_answer (answers.Names children) e = absurd cc
+bytes_answer answers.On e = absurd cc
+bytes_answer answers.Off e = absurd cc
 
 bytes_parts : (path : Path) (question : Question) (answer : Answer) → is_said path sayings.HasBytes question answer ≡ true
     → (question ≡ Content path) × ((bytes : List ℕ) × (answer ≡ answers.Bytes bytes))
@@ -133,6 +145,7 @@ bytes_parts path (Content at) answer e =
     let parts = and_parts (pointwise bytes_eq at path) (is_contents sayings.HasBytes answer) e in
     (ap Content (same_path at path parts.0), bytes_answer answer parts.1)
 bytes_parts path (Names at) answer e = not_both (pointwise bytes_eq at path) e
+bytes_parts path (Mode at) answer e = not_both (pointwise bytes_eq at path) e
 
 empty_list : {X : Type 0} (xs : List X) → (length xs == 0) ≡ true → xs ≡ []
 empty_list [] e = refl
@@ -145,6 +158,8 @@ empty_answer answers.IsDir e = absurd cc
 empty_answer answers.IsFile e = absurd cc
 empty_answer (answers.Bytes bytes) e = absurd cc
 empty_answer (answers.Names children) e = ap answers.Names (empty_list children e)
+empty_answer answers.On e = absurd cc
+empty_answer answers.Off e = absurd cc
 
 empty_parts : (path : Path) (question : Question) (answer : Answer) → is_said path sayings.IsEmpty question answer ≡ true
     → (question ≡ Names path) × (answer ≡ answers.Names [])
@@ -153,12 +168,32 @@ empty_parts path (Content at) answer e = not_both (pointwise bytes_eq at path) e
 empty_parts path (Names at) answer e =
     let parts = and_parts (pointwise bytes_eq at path) (is_no_names sayings.IsEmpty answer) e in
     (ap Names (same_path at path parts.0), empty_answer answer parts.1)
+empty_parts path (Mode at) answer e = not_both (pointwise bytes_eq at path) e
 
 empty_read : (path : Path) (read : Read) → says path sayings.IsEmpty read ≡ true
     → read ≡ record { question = Names path; answer = answers.Names [] }
 empty_read path read e =
     let parts = empty_parts path read.question read.answer e in
     read_is read (Names path) (answers.Names []) parts.0 parts.1
+
+mode_answer : (answer : Answer) → is_mode sayings.HasMode answer ≡ true → (answer ≡ answers.On) ⊎ (answer ≡ answers.Off)
+mode_answer answers.Away e = absurd cc
+mode_answer answers.Absent e = absurd cc
+mode_answer answers.IsDir e = absurd cc
+mode_answer answers.IsFile e = absurd cc
+mode_answer (answers.Bytes bytes) e = absurd cc
+mode_answer (answers.Names children) e = absurd cc
+mode_answer answers.On e = inl refl
+mode_answer answers.Off e = inr refl
+
+mode_parts : (path : Path) (question : Question) (answer : Answer) → is_said path sayings.HasMode question answer ≡ true
+    → (question ≡ Mode path) × ((answer ≡ answers.On) ⊎ (answer ≡ answers.Off))
+mode_parts path (Kind at) answer e = not_both (pointwise bytes_eq at path) e
+mode_parts path (Content at) answer e = not_both (pointwise bytes_eq at path) e
+mode_parts path (Names at) answer e = not_both (pointwise bytes_eq at path) e
+mode_parts path (Mode at) answer e =
+    let parts = and_parts (pointwise bytes_eq at path) (is_mode sayings.HasMode answer) e in
+    (ap Mode (same_path at path parts.0), mode_answer answer parts.1)
 
 -- ---- what reads say
 
@@ -226,6 +261,30 @@ bytes_to : (path : Path) (reads : List Read) (bytes : List ℕ) → Asked reads 
 bytes_to path reads bytes is =
     asked_to (says path sayings.HasBytes) (Content path) (answers.Bytes bytes)
     (and_from (pointwise bytes_eq path path) (is_contents sayings.HasBytes (answers.Bytes bytes)) (own_path path) refl) reads is
+
+mode_later : (path : Path) (read : Read) (reads : List Read) → GuardsSetMode reads path → GuardsSetMode (read ∷ reads) path
+mode_later path read reads (over_on asked) = over_on (inr asked)
+mode_later path read reads (over_off asked) = over_off (inr asked)
+
+mode_from : (path : Path) (reads : List Read) → said reads path sayings.HasMode ≡ true → GuardsSetMode reads path
+mode_from path [] e = absurd cc
+mode_from path (read ∷ reads) e = elim (or_cases (says path sayings.HasMode read) (said reads path sayings.HasMode) e) [
+  | inl first ↦
+      let parts = mode_parts path read.question read.answer first in
+      elim parts.1 [
+        | inl on ↦ over_on (inl (read_is read (Mode path) answers.On parts.0 on))
+        | inr off ↦ over_off (inl (read_is read (Mode path) answers.Off parts.0 off))
+      ]
+  | inr later ↦ mode_later path read reads (mode_from path reads later)
+]
+
+mode_to : (path : Path) (reads : List Read) → GuardsSetMode reads path → said reads path sayings.HasMode ≡ true
+mode_to path reads (over_on asked) =
+    asked_to (says path sayings.HasMode) (Mode path) answers.On
+    (and_from (pointwise bytes_eq path path) (is_mode sayings.HasMode answers.On) (own_path path) refl) reads asked
+mode_to path reads (over_off asked) =
+    asked_to (says path sayings.HasMode) (Mode path) answers.Off
+    (and_from (pointwise bytes_eq path path) (is_mode sayings.HasMode answers.Off) (own_path path) refl) reads asked
 
 -- ---- guards
 
@@ -359,6 +418,7 @@ guards_from reads (Some (Put path bytes)) e = put_from reads path e
 guards_from reads (Some (MakeDir path)) e = free_from reads path e
 guards_from reads (Some (Remove path)) e = remove_from reads path e
 guards_from reads (Some (Move from to)) e = may_from reads from to e
+guards_from reads (Some (SetMode path mode)) e = mode_from path reads e
 
 pub guards_to : (reads : List Read) (update : Option Update) → GuardsIfAny reads update → guards reads update ≡ true
 guards_to reads None given = refl
@@ -366,3 +426,4 @@ guards_to reads (Some (Put path bytes)) given = put_to reads path given
 guards_to reads (Some (MakeDir path)) given = free_to reads path given
 guards_to reads (Some (Remove path)) given = remove_to reads path given
 guards_to reads (Some (Move from to)) given = may_to reads from to given
+guards_to reads (Some (SetMode path mode)) given = mode_to path reads given

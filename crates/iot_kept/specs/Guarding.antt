@@ -4,10 +4,10 @@ use Rattle.std.specs.List.{list_any}
 use Rattle.std.specs.Cmp.Lexicographic.{pointwise}
 use Rattle.iot_tree.specs.Tree.{Path}
 use Rattle.iot_tree.specs.declared.updates.Update.{Update}
-use Rattle.iot_tree.specs.declared.updates.Update.TheVariants.{Put, MakeDir, Remove, Move}
+use Rattle.iot_tree.specs.declared.updates.Update.TheVariants.{Put, MakeDir, Remove, Move, SetMode}
 use Rattle.iot_tree.specs.declared.acts.Read.{Read}
 use Rattle.iot_tree.specs.declared.questions.Question.{Question}
-use Rattle.iot_tree.specs.declared.questions.Question.TheVariants.{Kind, Content, Names}
+use Rattle.iot_tree.specs.declared.questions.Question.TheVariants.{Kind, Content, Names, Mode}
 use Rattle.iot_tree.specs.declared.questions.Answer.{Answer}
 use Rattle.iot_tree.specs.declared.questions.Answer.TheVariants as answers
 use Rattle.iot_acts.specs.Paths.{parent_path, is_at_or_below}
@@ -34,17 +34,26 @@ has_no_names answers.Absent = false
 has_no_names answers.IsDir = false
 has_no_names answers.IsFile = false
 has_no_names (answers.Bytes bytes) = false
+has_no_names answers.On = false
+has_no_names answers.Off = false
 
 -- the answer to the question for the names says so
 abbrev pub is_no_names : Saying → Answer → Bool
 is_no_names sayings.IsEmpty answer = has_no_names answer
 is_no_names saying answer = false
 
+-- the answer to the question for the mode does
+abbrev pub is_mode : Saying → Answer → Bool
+is_mode sayings.HasMode answers.On = true
+is_mode sayings.HasMode answers.Off = true
+is_mode saying answer = false
+
 -- the question is about the path, and its answer says so
 abbrev pub is_said : Path → Saying → Question → Answer → Bool
 is_said path saying (Kind at) answer = pointwise bytes_eq at path && is_kind saying answer
 is_said path saying (Content at) answer = pointwise bytes_eq at path && is_contents saying answer
 is_said path saying (Names at) answer = pointwise bytes_eq at path && is_no_names saying answer
+is_said path saying (Mode at) answer = pointwise bytes_eq at path && is_mode saying answer
 
 abbrev pub says : Path → Saying → Read → Bool
 says path saying read = is_said path saying read.question read.answer
@@ -81,3 +90,4 @@ guards reads (Some (Put path bytes)) = guards_put reads path
 guards reads (Some (MakeDir path)) = is_free reads path
 guards reads (Some (Remove path)) = guards_remove reads path
 guards reads (Some (Move from to)) = may_move reads from to
+guards reads (Some (SetMode path mode)) = said reads path sayings.HasMode

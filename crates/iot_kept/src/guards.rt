@@ -2,7 +2,7 @@
 ghost use Rattle.std.specs.Prelude.{◌≡◌, ◌↔◌, IsTrue};
 ghost use Rattle.iot_acts.specs.Guards.{IsGuarded};
 ghost use Rattle.iot_acts.specs.Paths.{parent_path, is_at_or_below};
-ghost use Rattle.iot_kept.specs.Guarding.{is_kind, is_contents, has_no_names, is_no_names, says, said, is_free};
+ghost use Rattle.iot_kept.specs.Guarding.{is_kind, is_contents, has_no_names, is_no_names, is_mode, says, said, is_free};
 ghost use Rattle.iot_kept.specs.Guarding.{guards_put, guards_remove, guards_move, may_move, guards};
 
 use iot_text::{Name, Path};
@@ -21,6 +21,8 @@ pub(crate) enum Saying {
     HasBytes,
     /// A directory with no name in it is there.
     IsEmpty,
+    /// A file is there with some mode.
+    HasMode,
 }
 
 /// Whether the reads of the act guard its update. Costs a pass over the reads for each thing that is to be said.
@@ -40,6 +42,7 @@ fn guards(reads: &[Read], update: &Option<Update>) -> bool
         Some(Update::MakeDir(path)) => is_free(reads, path),
         Some(Update::Remove(path)) => guards_remove(reads, path),
         Some(Update::Move(from, to)) => may_move(reads, from, to),
+        Some(Update::SetMode(path, _)) => said(reads, path.names(), Saying::HasMode),
     }
 }
 
@@ -125,6 +128,7 @@ fn says(read: &Read, path: &[Name], saying: Saying) -> bool
         Question::Kind(at) => at.names() == path && is_kind(saying, &read.answer),
         Question::Content(at) => at.names() == path && is_contents(saying, &read.answer),
         Question::Names(at) => at.names() == path && is_no_names(saying, &read.answer),
+        Question::Mode(at) => at.names() == path && is_mode(saying, &read.answer),
     }
 }
 
@@ -138,6 +142,7 @@ fn is_kind(saying: Saying, answer: &Answer) -> bool
         Saying::IsFile => matches!(answer, Answer::IsFile),
         Saying::HasBytes => false,
         Saying::IsEmpty => false,
+        Saying::HasMode => false,
     }
 }
 
@@ -151,6 +156,7 @@ fn is_contents(saying: Saying, answer: &Answer) -> bool
         Saying::IsDir => false,
         Saying::IsFile => false,
         Saying::IsEmpty => false,
+        Saying::HasMode => false,
     }
 }
 
@@ -164,6 +170,21 @@ fn is_no_names(saying: Saying, answer: &Answer) -> bool
         Saying::IsDir => false,
         Saying::IsFile => false,
         Saying::HasBytes => false,
+        Saying::HasMode => false,
+    }
+}
+
+/// Whether the answer to the question for the mode says so.
+fn is_mode(saying: Saying, answer: &Answer) -> bool
+    ensures { result ≡ is_mode saying answer.now }
+{
+    match saying {
+        Saying::HasMode => matches!(answer, Answer::On | Answer::Off),
+        Saying::Absent => false,
+        Saying::IsDir => false,
+        Saying::IsFile => false,
+        Saying::HasBytes => false,
+        Saying::IsEmpty => false,
     }
 }
 
@@ -178,5 +199,7 @@ fn has_no_names(answer: &Answer) -> bool
         Answer::IsDir => false,
         Answer::IsFile => false,
         Answer::Bytes(_) => false,
+        Answer::On => false,
+        Answer::Off => false,
     }
 }
