@@ -8,8 +8,8 @@ use std::alloc::Global;
 use std::marker::Model;
 use std::rc::Rc;
 
-/// How many bytes lie in the value itself.
-const FEW: usize = 15;
+/// How many bytes lie in the value itself: as many as there is room for beside their number, where else an address is.
+const FEW: usize = 14;
 
 /// The contents of a file: any bytes. Contracts see it as their list. Copies share them, but a few are copied.
 #[derive(Drop)]
@@ -38,7 +38,7 @@ impl Model for Blob {
 /// Bytes that lie in the value itself.
 #[inline]
 fn few(bytes: &[u8]) -> Blob
-    requires { length bytes.now ≤ 15 }
+    requires { length bytes.now ≤ 14 }
     ensures { result ≡ bytes.now }
 {
     let mut room = [0; FEW];
