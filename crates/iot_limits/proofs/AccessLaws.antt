@@ -16,7 +16,8 @@ use Rattle.iot_tree.specs.declared.questions.Answer.{Answer}
 use Rattle.iot_tree.specs.declared.questions.Answer.TheVariants.{Away, Absent, IsDir, IsFile, Bytes, Names, On, Off}
 use Rattle.iot_access.specs.Access.{AreNumbers, access_of, cons_update, lines_of, updates_of}
 use Rattle.iot_access.specs.Asked.{cons_unless, first_asked, none_asked, or_asked}
-use Rattle.iot_access.specs.BaseReads.{Base, origin, base_names, base_mode, settled, base_from, base_of, cons_base, based_reads, based, done_more}
+use Rattle.iot_access.specs.BaseReads.{Base, origin, base_names, base_mode, settled, base_from, base_of, cons_base, based_reads, based}
+use Rattle.iot_access.specs.BaseReads.{done_more}
 use Rattle.iot_access.specs.Sources.{source, mode_source, hidden, carried}
 use Rattle.iot_access.proofs.AccessLaws.{as_many_places}
 use Rattle.iot_views.specs.Rules.{IsAccess, IsAct, IsAnswer, IsOptionalUpdate, IsQuestion, IsRead, IsUpdate, AreLines, AreReads, AreUpdates}

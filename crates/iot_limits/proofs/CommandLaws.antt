@@ -31,7 +31,8 @@ use Rattle.iot_exec.specs.Endings.{ending}
 use Rattle.iot_exec.specs.Commands.{Kept, Ending, makes, prints, sets, given, echo, read, cat, list_names, name_line, contents_or}
 use Rattle.iot_exec.specs.Commands.{contents, names_or, names, in_parent, ask_parent, at_target, target, at_new_dir, make_dir, write}
 use Rattle.iot_exec.specs.Commands.{with_more, append, copy, join, concat, at_file, remove_file, when_empty, empty_dir, remove_dir}
-use Rattle.iot_exec.specs.Commands.{at_dir_target, dir_target, at_moved, move, mode_of, at_mode, change_mode, at_kept, keep, table, command_name, plan_of_command}
+use Rattle.iot_exec.specs.Commands.{at_dir_target, dir_target, at_moved, move, mode_of, at_mode, change_mode, at_kept, keep, table}
+use Rattle.iot_exec.specs.Commands.{command_name, plan_of_command}
 use Rattle.iot_exec.specs.declared.env.Env.{Env}
 use Rattle.iot_views.specs.Rules.{is_printable, is_content_byte, IsAnswer, IsContents, IsLine, AreLines, IsObject, IsUpdate}
 use Rattle.iot_limits.specs.Spelled.{AreSpelledFiles}

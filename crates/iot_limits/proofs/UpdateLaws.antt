@@ -35,7 +35,8 @@ each_updated t (Put path bytes) is each =
     each_inserted IsSpelledRow t path (File bytes (mode_in (get t path))) each (record { is_path = is.0; is_node = is.1 })
 each_updated t (MakeDir path) is each = each_inserted IsSpelledRow t path Dir each (record { is_path = is; is_node = tt })
 each_updated t (SetMode path mode) is each =
-    each_moded IsSpelledRow mode (λ path node row. record { is_path = row.is_path; is_node = mode_spelled mode node row.is_node }) t path each
+    each_moded IsSpelledRow mode (λ path node row. record { is_path = row.is_path; is_node = mode_spelled mode node row.is_node })
+    t path each
 each_updated t (Remove path) is each = each_removed IsSpelledRow t path each
 each_updated t (Move from to) is each =
     each_moved IsSpelledRow from to

@@ -42,7 +42,8 @@ no_more rows i row lt is none =
 
 below : (p : Path) (rows : List Row) → IsTrue (below_all path_cmp p rows) → IsTrue (below_all path_cmp p (filter_map file_of rows))
 below p [] h = refl
-below p ((q, File bytes mode) ∷ rows) h = both_true (first_so (is_lt (path_cmp p q)) _ h) (below p rows (second_so (is_lt (path_cmp p q)) _ h))
+below p ((q, File bytes mode) ∷ rows) h = both_true (first_so (is_lt (path_cmp p q)) _ h)
+    (below p rows (second_so (is_lt (path_cmp p q)) _ h))
 below p ((q, Dir) ∷ rows) h = below p rows (second_so (is_lt (path_cmp p q)) _ h)
 below p ((q, FarDir) ∷ rows) h = below p rows (second_so (is_lt (path_cmp p q)) _ h)
 below p ((q, FarFile mode) ∷ rows) h = below p rows (second_so (is_lt (path_cmp p q)) _ h)
@@ -88,7 +89,8 @@ found q [] h = refl
 found q ((p, File bytes mode) ∷ rows) h = by (eq_by_cmp path_cmp q p) (found q rows (second_so (below_all path_cmp p rows) _ h))
   where
     by : (b : Bool) → find path_cmp q (filter_map file_of rows) ≡ content_at (find path_cmp q rows)
-        → cond b (Some bytes) (find path_cmp q (filter_map file_of rows)) ≡ content_at (cond b (Some (File bytes mode)) (find path_cmp q rows))
+        → cond b (Some bytes) (find path_cmp q (filter_map file_of rows)) ≡ content_at
+        (cond b (Some (File bytes mode)) (find path_cmp q rows))
     by true rest = refl
     by false rest = rest
 found q ((p, Dir) ∷ rows) h =
@@ -96,7 +98,8 @@ found q ((p, Dir) ∷ rows) h =
 found q ((p, FarDir) ∷ rows) h =
     passed q p FarDir rows refl (first_so (below_all path_cmp p rows) _ h) (found q rows (second_so (below_all path_cmp p rows) _ h))
 found q ((p, FarFile mode) ∷ rows) h =
-    passed q p (FarFile mode) rows refl (first_so (below_all path_cmp p rows) _ h) (found q rows (second_so (below_all path_cmp p rows) _ h))
+    passed q p (FarFile mode) rows refl (first_so (below_all path_cmp p rows) _ h)
+    (found q rows (second_so (below_all path_cmp p rows) _ h))
 
 -- ---- the files of a tree
 

@@ -28,7 +28,8 @@ updates_of none (Ok read) = read.0.updates
 updates_of none (Err at) = none
 
 access_updates : (bytes : List ℕ) (at : ℕ) (access : Access) (end : ℕ) → access_at bytes at ≡ Ok (access, end)
-    → (bases : (List Read × List ℕ) × ℕ) × (bases_at bytes at ≡ Ok bases) × (after : ℕ) × (updates_at bytes bases.1 ≡ Ok (access.updates, after))
+    → (bases : (List Read × List ℕ) × ℕ) × (bases_at bytes at ≡ Ok bases) × (after : ℕ) ×
+    (updates_at bytes bases.1 ≡ Ok (access.updates, after))
 unfolding access_at updates_of
 access_updates bytes at access end is =
     let one = step (bases_at bytes at) _ (access, end) is in

@@ -23,7 +23,8 @@ use Rattle.iot_tree.proofs.RowLaws.{is_tested, get_rows, entries_rows, get_middl
 use Rattle.iot_codec.specs.Places.{LiesAt, IsSpelling}
 use Rattle.iot_views.specs.Decoders.{◌>>=◌, done, tested, number_at}
 use Rattle.iot_views.specs.Decoding.{path_at, contents_at, mode_at, node_table, node_at, row_at, at_least_one, rows_at, tree_at}
-use Rattle.iot_views.specs.Rules.{IsNumber, IsContents, IsMode, IsNode, IsRow, IsTreeOfRows, has_dir, has_parent, path_follows, node_follows}
+use Rattle.iot_views.specs.Rules.{IsNumber, IsContents, IsMode, IsNode, IsRow, IsTreeOfRows, has_dir, has_parent, path_follows}
+use Rattle.iot_views.specs.Rules.{node_follows}
 use Rattle.iot_codec.specs.Spelling.{number_spelling, pair_spelling, path_spelling, contents_spelling, mode_spelling, node_spelling}
 use Rattle.iot_codec.specs.Spelling.{rows_spelling, tree_spelling}
 use Rattle.iot_codec.specs.Laws.Bases.{made_laws}

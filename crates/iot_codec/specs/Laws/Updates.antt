@@ -8,7 +8,8 @@ use Rattle.iot_tree.specs.declared.acts.Act.{Act}
 use Rattle.iot_tree.specs.declared.limits.TheConstants.{ACT_LIMIT}
 use Rattle.iot_codec.specs.Places.{LiesAt, IsSpelling}
 use Rattle.iot_views.specs.Decoders.{◌>>=◌, done, at_most}
-use Rattle.iot_views.specs.Decoding.{path_at, contents_at, mode_at, lines_at, reads_at, update_table, update_at, optional_update_at, act_at, acts_at}
+use Rattle.iot_views.specs.Decoding.{path_at, contents_at, mode_at, lines_at, reads_at, update_table, update_at, optional_update_at}
+use Rattle.iot_views.specs.Decoding.{act_at, acts_at}
 use Rattle.iot_views.specs.Rules.{IsContents, IsMode, AreLines, AreReads, IsUpdate, IsOptionalUpdate, IsAct, AreActs}
 use Rattle.iot_codec.specs.Spelling.{path_spelling, contents_spelling, mode_spelling, lines_spelling, reads_spelling, update_spelling}
 use Rattle.iot_codec.specs.Spelling.{optional_update_spelling, act_spelling, acts_spelling}
