@@ -1,15 +1,18 @@
 -- Where the cells stand, how they name a place, and which of them is in force.
 use Rattle.std.proofs.Common.{◌≡◌, ◌≢◌, ◌≤◌, ◌<◌, ◌⊎◌, inl, inr, ℕ, ◌+◌, ◌^◌, Bool, true, false, cond, List, get_or}
-use Rattle.std.proofs.Common.{refl, sym, subst, arith}
+use Rattle.std.proofs.Common.{refl, sym, ap, subst, arith}
+use Rattle.std.specs.Prelude.{nat_le}
 use Rattle.std.proofs.lemmas.Bool.{cases_eq}
 use Rattle.std.proofs.lemmas.Bool.Decides.{nat_tests}
 use Rattle.iot_records.specs.Bytes.{number_at, is_open}
-use Rattle.iot_slots.specs.Cells.{cell_at, naming, place_named, is_version_2, other_of, next, chosen, counting}
+use Rattle.iot_slots.specs.Cells.{cell_at, version_mark, naming, place_named, version_by, version_named, other_of, next, chosen, counting}
 use Rattle.iot_slots.specs.Parts.{Outranks}
 use Rattle.iot_slots.specs.declared.cell.Cell.{Cell}
 use Rattle.iot_slots.specs.declared.cell.Cell.TheVariants.{First, Second}
 use Rattle.iot_slots.specs.declared.cell.Force.{Force}
 use Rattle.iot_slots.specs.declared.cell.Force.TheVariants.{NoCell, Is}
+use Rattle.iot_slots.specs.declared.version.Version.{Version}
+use Rattle.iot_slots.specs.declared.version.Version.TheVariants.{One, Two}
 
 -- ---- where they stand
 
@@ -27,17 +30,29 @@ other_other Second = refl
 
 -- ---- how they name a place
 
-pub naming_marks : (place : ℕ) → is_version_2 (naming place) ≡ true
-naming_marks place = grind (arith, nat_tests)
+pub version_back : (version : Version) (place : ℕ) → place < 2 ^ 63 → version_named (naming version place) ≡ version
+version_back One place low =
+    let unmarked : nat_le version_mark place ≡ false = grind (arith, nat_tests) in
+    ap version_by unmarked
+version_back Two place low =
+    let marked : nat_le version_mark (place + version_mark) ≡ true = grind (arith, nat_tests) in
+    ap version_by marked
 
-pub naming_back : (place : ℕ) → place < 2 ^ 63 → place_named (naming place) ≡ place
-naming_back place low = omega (arith, low)
+pub place_back : (version : Version) (place : ℕ) → place < 2 ^ 63 → place_named (naming version place) ≡ place
+place_back One place low = omega (arith, low)
+place_back Two place low = omega (arith, low)
 
--- a number that marks version 2 is the one that names its place
-pub naming_again : (number : ℕ) → number < 2 ^ 64 → is_version_2 number ≡ true → number ≡ naming (place_named number)
-naming_again number fits marked =
-    let high : 2 ^ 63 ≤ number = grind (arith, nat_tests) in
-    omega (arith, fits, high)
+-- a number is the one that names its place in its version
+pub naming_again : (number : ℕ) → number < 2 ^ 64 → number ≡ naming (version_named number) (place_named number)
+naming_again number fits = by (nat_le version_mark number) refl
+  where
+    by : (marked : Bool) → nat_le version_mark number ≡ marked → number ≡ naming (version_by marked) (place_named number)
+    by true is =
+        let high : 2 ^ 63 ≤ number = grind (arith, nat_tests) in
+        omega (arith, fits, high)
+    by false is =
+        let low : number < 2 ^ 63 = grind (arith, nat_tests) in
+        omega (arith, low)
 
 -- ---- gates
 

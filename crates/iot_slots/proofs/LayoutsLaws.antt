@@ -1,18 +1,22 @@
 -- What is laid out, and where the next checkpoint goes.
 use Rattle.std.proofs.Common.{◌≡◌, ◌≤◌, ◌<◌, ◌⊎◌, inl, inr, ℕ, ◌+◌, Bool, true, false, cond, Option, Some, None, List, length, refl}
 use Rattle.std.proofs.Common.{sym, ◌∙◌, ap, subst, arith}
-use Rattle.std.specs.Prelude.{nat_le}
+use Rattle.std.specs.Prelude.{nat_le, nat_lt, ◌||◌}
 use Rattle.std.proofs.lemmas.Bool.{cases_lt}
 use Rattle.std.proofs.lemmas.Bool.Decides.{nat_tests}
 use Rattle.iot_disk.specs.Disk.{Torn}
 use Rattle.iot_records.proofs.BytesLaws.{byte_torn, number_torn}
-use Rattle.iot_slots.specs.Cells.{place_named, next, counting, in_force, has_cells}
+use Rattle.iot_records.specs.Records.{records}
+use Rattle.iot_slots.specs.Cells.{place_named, next, counting, in_force, has_cells, is_old}
 use Rattle.iot_slots.specs.Decoding.{Encodes, State, decoded}
-use Rattle.iot_slots.specs.Layouts.{IsOther, IsLaidOut, place_by, place_in, next_place, renewed_layout, reaches, MakesRoom}
+use Rattle.iot_slots.specs.Layouts.{IsOther, IsLaidOut, place_by, place_in, next_place, renewed_layout, reaches, is_due, MakesRoom}
 use Rattle.iot_slots.specs.declared.cell.Force.{Force}
 use Rattle.iot_slots.specs.declared.cell.Force.TheVariants.{NoCell, Is}
 use Rattle.iot_slots.specs.declared.layout.Layout.{Layout}
-use Rattle.iot_slots.proofs.CellsLaws.{naming_back, counting_is}
+use Rattle.iot_slots.specs.declared.layout.TheConstants.{MANY}
+use Rattle.iot_slots.specs.declared.version.Version.{Version}
+use Rattle.iot_slots.specs.declared.version.Version.TheVariants.{One, Two}
+use Rattle.iot_slots.proofs.CellsLaws.{place_back, counting_is}
 use Rattle.iot_slots.proofs.PartsLaws.{encodes, shut_torn}
 
 -- what is laid out is decoded as its state
@@ -35,7 +39,7 @@ laid_place header bytes state layout laid =
     sym (
     ap (λ (f : Force). place_by f bytes) force
     ∙ ap place_named cell.place
-    ∙ naming_back layout.place (omega (arith, checkpoint.end, checkpoint.limit)))
+    ∙ place_back layout.version layout.place (omega (arith, checkpoint.end, checkpoint.limit)))
 
 -- a write after the cells leaves what the other cell says
 pub other_torn : (at end : ℕ) (old new : List ℕ) (other generation : ℕ) (named : Option ℕ) → Torn at end old new →
@@ -46,6 +50,17 @@ other_torn at end old new other generation (Some place) torn past room is = (
   is.1 ∙ ap next (sym (number_torn at end old new torn (other + 1) (inl (omega arith)) (omega arith))),
   ap place_named (number_torn at end old new torn (other + 9) (inl (omega arith)) (omega arith)) ∙ is.2,
 )
+
+-- ---- the version
+
+-- if no checkpoint is due, what is laid out is of version 2
+pub not_due_is_new : (bodies : List (List ℕ)) (layout : Layout) (size : ℕ) → is_due bodies layout size ≡ false → layout.version ≡ Two
+not_due_is_new bodies layout size =
+    by layout.version (nat_lt MANY (length (records bodies)) || reaches layout.place (layout.gate + 10 + size) layout.other)
+  where
+    by : (version : Version) (rest : Bool) → (is_old version || rest) ≡ false → version ≡ Two
+    by One rest is = absurd cc
+    by Two rest is = refl
 
 -- ---- the next checkpoint
 

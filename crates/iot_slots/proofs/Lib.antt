@@ -3,3 +3,5 @@ mod DecodingLaws
 pub mod LayoutsLaws
 mod PartsLaws
 mod SlotsLaws
+mod StartLaws
+pub mod WithinLaws

@@ -11,13 +11,14 @@ use Rattle.iot_records.specs.Bytes.{Has, number, number_at, is_open}
 use Rattle.iot_records.specs.Records.{Whole, records, spelled, series_in}
 use Rattle.iot_records.proofs.BytesLaws.{length-number, has_split, has_right, has_number_first, has_torn, byte_torn, number_torn}
 use Rattle.iot_records.proofs.RecordsLaws.{length-spelled, series_whole}
-use Rattle.iot_slots.specs.Cells.{cell_at, naming, place_named, other_of, next, counting, in_force, has_cells}
-use Rattle.iot_slots.specs.Decoding.{Encodes, Damaged, Decoded, State, with_records, is_checkpoint, checkpoint_at, named_by, decoded}
-use Rattle.iot_slots.specs.Decoding.{is_foreign}
+use Rattle.iot_slots.specs.Cells.{cell_at, naming, place_named, version_named, other_of, next, counting, in_force, has_cells}
+use Rattle.iot_slots.specs.Decoding.{Encodes, Damaged, Decoded, State, state_in, with_records, is_checkpoint, checkpoint_at, named_by}
+use Rattle.iot_slots.specs.Decoding.{decoded, is_foreign}
 use Rattle.iot_slots.specs.Parts.{HasCell, HasCheckpoint, Outranks, IsInForce}
 use Rattle.iot_slots.specs.declared.cell.Force.TheVariants.{NoCell, Is}
 use Rattle.iot_slots.specs.declared.layout.Layout.{Layout}
-use Rattle.iot_slots.proofs.CellsLaws.{cell_range, naming_marks, naming_back, counting_is}
+use Rattle.iot_slots.specs.declared.version.Version.{Version}
+use Rattle.iot_slots.proofs.CellsLaws.{cell_range, version_back, place_back, counting_is}
 use Rattle.iot_slots.proofs.DecodingLaws.{decoded_force}
 
 -- ---- what they encode
@@ -60,18 +61,23 @@ module _ (bytes : List ℕ) (layout : Layout) (state : State) (has : HasCheckpoi
       let end : place + 16 + number_at bytes place < length bytes = omega (arith, size_is, has.end, has.inside) in
       grind (arith, nat_tests)
 
-  abbrev found_at : (at : ℕ) (b : Bool) → Decoded
-  found_at at b = cond b (checkpoint_at at (number_at bytes at) bytes) (Damaged (cell_at layout.cell))
+  abbrev found_at : (version : Version) (at : ℕ) (b : Bool) → Decoded
+  found_at version at b = cond b (checkpoint_at version at (number_at bytes at) bytes) (Damaged (cell_at layout.cell))
 
-  named_encodes : get_or bytes layout.gate 0 ≢ 165 → named_by layout.cell (naming place) bytes ≡ Encodes state
-  named_encodes shut =
-      ap (λ (b : Bool). found_at (place_named (naming place)) (b && is_checkpoint (place_named (naming place)) bytes)) (naming_marks place)
-      ∙ ap (λ (n : ℕ). found_at n (is_checkpoint n bytes)) (naming_back place (omega (arith, has.end, has.limit)))
-      ∙ ap (found_at place) is_there
-      ∙ ap (λ (n : ℕ). checkpoint_at place n bytes) size_is
-      ∙ ap (λ (l : List ℕ). with_records l (number_at bytes (place + 8 + size)) (series_in first (drop first bytes))) body_is
-      ∙ ap (with_records state.body (number_at bytes (place + 8 + size))) (series_is shut)
-      ∙ ap (λ (n : ℕ). Encodes (record { body = state.body; bodies = state.bodies; count = n })) has.count
+  named_encodes : layout.version ≡ state.version → get_or bytes layout.gate 0 ≢ 165 →
+      named_by layout.cell (naming layout.version place) bytes ≡ Encodes state
+  named_encodes version_is shut =
+      let number : ℕ = naming layout.version place in
+      let low : place < 2 ^ 63 = omega (arith, has.end, has.limit) in
+      let before : ℕ = number_at bytes (place + 8 + size) in
+      ap (λ (v : Version). found_at v (place_named number) (is_checkpoint (place_named number) bytes))
+      (version_back layout.version place low ∙ version_is)
+      ∙ ap (λ (n : ℕ). found_at state.version n (is_checkpoint n bytes)) (place_back layout.version place low)
+      ∙ ap (found_at state.version place) is_there
+      ∙ ap (λ (n : ℕ). checkpoint_at state.version place n bytes) size_is
+      ∙ ap (λ (l : List ℕ). with_records state.version l before (series_in first (drop first bytes))) body_is
+      ∙ ap (with_records state.version state.body before) (series_is shut)
+      ∙ ap (λ (n : ℕ). Encodes (state_in state.version state.body state.bodies n)) has.count
 
 header_starts : (header bytes : List ℕ) → Has bytes 1 header → starts_with nat_eq (drop 1 bytes) header ≡ true
 header_starts header bytes has =
@@ -94,7 +100,7 @@ encodes header bytes layout state is =
     ∙ counting_is bytes layout.cell layout.generation cell.gate cell.generation is.outranks in
     decoded_force header bytes (Is layout.cell) native force
     ∙ ap (λ (n : ℕ). named_by layout.cell n bytes) cell.place
-    ∙ named_encodes bytes layout state is.checkpoint is.shut
+    ∙ named_encodes bytes layout state is.checkpoint is.version is.shut
 
 -- ---- what a write leaves, whole or cut short
 
@@ -174,6 +180,7 @@ module _ (at end : ℕ) (old new : List ℕ) (torn : Torn at end old new) where
       Outranks new (cell_at (other_of layout.cell)) layout.generation → IsInForce header old layout state
       → IsInForce header new layout state
   in_force_torn header layout state past cell_out out outranks is = record {
+    version = is.version;
     cell = cell_torn header layout past cell_out is.cell;
     checkpoint = checkpoint_torn layout state (elim out [ inl before ↦ inl before | inr after ↦ inr (omega arith) ]) is.checkpoint;
     shut = shut_torn layout.gate (elim out [ inl before ↦ inr (omega (arith, is.checkpoint.end)) | inr after ↦ inl after ])

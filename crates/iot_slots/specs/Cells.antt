@@ -5,27 +5,43 @@ use Rattle.iot_slots.specs.declared.cell.Cell.{Cell}
 use Rattle.iot_slots.specs.declared.cell.Cell.TheVariants.{First, Second}
 use Rattle.iot_slots.specs.declared.cell.Force.{Force}
 use Rattle.iot_slots.specs.declared.cell.Force.TheVariants.{NoCell, Clash, Is}
+use Rattle.iot_slots.specs.declared.version.Version.{Version}
+use Rattle.iot_slots.specs.declared.version.Version.TheVariants.{One, Two}
 
 -- where the gate of a cell is; two numbers follow it: its generation, and the one that names the place of its checkpoint
 abbrev pub cell_at : Cell → ℕ
 cell_at First = 9
 cell_at Second = 26
 
--- what is added to a place in a cell: it marks version 2 of the format
+-- what is added to a place in a cell of version 2
 abbrev pub version_mark : ℕ
 version_mark = 2 ^ 63
 
--- the number with which a cell names the checkpoint at this place
-abbrev pub naming : (place : ℕ) → ℕ
-naming place = place + version_mark
+-- the number with which a cell names the checkpoint at this place, in either version
+abbrev pub naming : Version → (place : ℕ) → ℕ
+naming One place = place
+naming Two place = place + version_mark
 
 -- the place that such a number names
 abbrev pub place_named : ℕ → ℕ
 place_named number = number % version_mark
 
--- whether a number marks version 2
-abbrev pub is_version_2 : ℕ → Bool
-is_version_2 number = nat_le version_mark number
+abbrev pub version_by : (marked : Bool) → Version
+version_by true = Two
+version_by false = One
+
+-- and the version
+abbrev pub version_named : ℕ → Version
+version_named number = version_by (nat_le version_mark number)
+
+-- version 1 is only read
+abbrev pub is_old : Version → Bool
+is_old One = true
+is_old Two = false
+
+abbrev pub number_of : Version → ℕ
+number_of One = 1
+number_of Two = 2
 
 abbrev pub other_of : Cell → Cell
 other_of First = Second

@@ -3,7 +3,7 @@ use Rattle.std.specs.Prelude.{◌≡◌, ◌≢◌, ◌≤◌, ◌<◌, ℕ, ◌
 use Rattle.std.specs.Prelude.{List, [], ◌∷◌, length, slice_index, Option, Some, None}
 use Rattle.iot_records.specs.Bytes.{number_at, is_open}
 use Rattle.iot_records.specs.Records.{records}
-use Rattle.iot_slots.specs.Cells.{cell_at, place_named, other_of, next, in_force}
+use Rattle.iot_slots.specs.Cells.{cell_at, place_named, other_of, next, is_old, in_force}
 use Rattle.iot_slots.specs.Decoding.{State}
 use Rattle.iot_slots.specs.Parts.{IsInForce}
 use Rattle.iot_slots.specs.declared.cell.Cell.{Cell}
@@ -12,6 +12,7 @@ use Rattle.iot_slots.specs.declared.cell.Force.{Force}
 use Rattle.iot_slots.specs.declared.cell.Force.TheVariants.{NoCell, Clash, Is}
 use Rattle.iot_slots.specs.declared.layout.Layout.{Layout}
 use Rattle.iot_slots.specs.declared.layout.TheConstants.{MANY, SPARE}
+use Rattle.iot_slots.specs.declared.version.Version.TheVariants.{Two}
 
 -- ---- where the parts are
 
@@ -56,7 +57,7 @@ longer_layout old size = record old { gate = old.gate + 9 + size; count = next o
 -- a disk that was just started with a body of so many bytes
 abbrev pub fresh_layout : (size : ℕ) → Layout
 fresh_layout size =
-    record { cell = First; generation = 1; place = 43; first = 59 + size; gate = 59 + size; other = None; count = 0 }
+    record { version = Two; cell = First; generation = 1; place = 43; first = 59 + size; gate = 59 + size; other = None; count = 0 }
 
 -- right after the cells if it and the spare bytes end before the place in force, else at the end of the disk
 abbrev pub next_place : (place length size : ℕ) → ℕ
@@ -67,6 +68,7 @@ abbrev pub renewed_layout : Layout → (length size : ℕ) → Layout
 renewed_layout old length size =
     let place = next_place old.place length size in
     record {
+      version = Two;
       cell = other_of old.cell;
       generation = next old.generation;
       place = place;
@@ -88,10 +90,11 @@ abbrev pub reaches : (place gate : ℕ) → Option ℕ → Bool
 reaches place gate None = false
 reaches place gate (Some other) = nat_lt place other && nat_lt other gate
 
--- A checkpoint is to come before an append of a body of so many bytes: the records after the one in force have many bytes
--- together, or the append would reach the place that the other cell names.
+-- A checkpoint is to come before an append of a body of so many bytes: the one in force is of version 1, or the records after it have many
+-- bytes together, or the append would reach the place that the other cell names.
 abbrev pub is_due : (bodies : List (List ℕ)) → Layout → (size : ℕ) → Bool
-is_due bodies layout size = nat_lt MANY (length (records bodies)) || reaches layout.place (layout.gate + 10 + size) layout.other
+is_due bodies layout size =
+    is_old layout.version || (nat_lt MANY (length (records bodies)) || reaches layout.place (layout.gate + 10 + size) layout.other)
 
 -- How a checkpoint makes room. Only one that goes right after the cells may leave another one due, and one that replaces a
 -- checkpoint there leaves none due. So after at most two checkpoints none is due.

@@ -7,7 +7,7 @@ use Rattle.iot_slots.specs.Decoding.{State}
 use Rattle.iot_slots.specs.declared.layout.Layout.{Layout}
 
 -- byte 0 is open and the header follows it, and the gate of the layout's cell is open, and its generation and the number that names its
--- place follow it
+-- place in its version follow it
 pub record HasCell (header bytes : List ℕ) (layout : Layout) : Type 0 where
   pub header_size : length header ≡ 8
   pub room : 43 ≤ length bytes
@@ -15,7 +15,7 @@ pub record HasCell (header bytes : List ℕ) (layout : Layout) : Type 0 where
   pub front : Has bytes 1 header
   pub gate : slice_index bytes (cell_at layout.cell) ≡ 165
   pub generation : number_at bytes (cell_at layout.cell + 1) ≡ layout.generation
-  pub place : number_at bytes (cell_at layout.cell + 9) ≡ naming layout.place
+  pub place : number_at bytes (cell_at layout.cell + 9) ≡ naming layout.version layout.place
 
 -- at the layout's place is a checkpoint with the state's body, the state's records follow it, and then comes the gate
 pub record HasCheckpoint (bytes : List ℕ) (layout : Layout) (state : State) : Type 0 where
@@ -33,6 +33,7 @@ pub record Outranks (bytes : List ℕ) (other generation : ℕ) : Type 0 where
 
 -- all parts that count
 pub record IsInForce (header bytes : List ℕ) (layout : Layout) (state : State) : Type 0 where
+  pub version : layout.version ≡ state.version
   pub cell : HasCell header bytes layout
   pub checkpoint : HasCheckpoint bytes layout state
   pub shut : slice_index bytes layout.gate ≢ 165

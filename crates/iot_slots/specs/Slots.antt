@@ -7,16 +7,18 @@ use Rattle.iot_slots.specs.Decoding.{Encodes, State, decoded, state_of}
 use Rattle.iot_slots.specs.Layouts.{IsLaidOut}
 use Rattle.iot_slots.specs.declared.layout.Layout.{Layout}
 use Rattle.iot_slots.specs.declared.slots.Slots.{Slots}
+use Rattle.iot_slots.specs.declared.version.Version.{Version}
+use Rattle.iot_slots.specs.declared.version.Version.TheVariants.{Two}
 
 -- ---- states
 
 -- one record more
 abbrev pub appended : State → List ℕ → State
-appended state body = record { body = state.body; bodies = state.bodies ++ body ∷ []; count = next state.count }
+appended state body = record { version = state.version; body = state.body; bodies = state.bodies ++ body ∷ []; count = next state.count }
 
--- a checkpoint with this body, and no records
+-- a checkpoint of version 2 with this body, and no records
 abbrev pub renewed : State → List ℕ → State
-renewed state body = record { body = body; bodies = []; count = state.count }
+renewed state body = record { version = Two; body = body; bodies = []; count = state.count }
 
 -- each image encodes this state
 abbrev pub EachEncodes : (header : List ℕ) (images : List ℕ → Type 0) → State → Type 0
@@ -41,6 +43,10 @@ layout_of slots = slots.layout
 
 abbrev pub count_of : {D : Type 0} → Slots D → ℕ
 count_of slots = slots.layout.count
+
+-- the version of the checkpoint in force
+abbrev pub version_of : {D : Type 0} → Slots D → Version
+version_of slots = slots.layout.version
 
 -- the state that their disk encodes
 abbrev pub state_on : {D : Type 0} → Medium D → Slots D → State

@@ -8,6 +8,7 @@ use Rattle.iot_records.specs.Images.{Each}
 use Rattle.iot_records.specs.Records.{spelled}
 use Rattle.iot_slots.specs.Cells.{naming}
 use Rattle.iot_slots.specs.Decoding.{Decoded, Foreign, Damaged, decoded, opened}
+use Rattle.iot_slots.specs.declared.version.Version.TheVariants.{Two}
 
 -- each image encodes what these bytes encode, if a disk that is not started encodes this body with no records
 abbrev pub EachEncodesAs : (header body bytes : List ℕ) → (images : List ℕ → Type 0) → Type 0
@@ -27,15 +28,19 @@ IsReason fault.Stopped decoding = ⊥
 IsReason fault.Foreign decoding = decoding ≡ Foreign
 IsReason (fault.Damaged at) decoding = decoding ≡ Damaged at
 
--- what follows the gate of cell 0 on a disk that was just started: generation 1 and the number that names place 43, cell 1 closed, a
--- checkpoint of this body with no record before it, and a closed gate
-abbrev pub after_gate : (body : List ℕ) → List ℕ
-after_gate body = number 1 ++ (number (naming 43) ++ (replicate 17 0 ++ (spelled body ++ (number 0 ++ 0 ∷ []))))
+-- what follows the gate of cell 0 on a disk that was just started: generation 1 and the number that names place 43 in version 2, cell 1
+-- closed, a checkpoint of this body with this number of records before it, and a closed gate
+abbrev pub after_gate : (body : List ℕ) → (count : ℕ) → List ℕ
+after_gate body count = number 1 ++ (number (naming Two 43) ++ (replicate 17 0 ++ (spelled body ++ (number count ++ 0 ∷ []))))
 
 -- what follows its byte 0 before the gate of cell 0 is opened
-abbrev pub fresh : (header body : List ℕ) → List ℕ
-fresh header body = header ++ (0 ∷ after_gate body)
+abbrev pub fresh : (header body : List ℕ) → (count : ℕ) → List ℕ
+fresh header body count = header ++ (0 ∷ after_gate body count)
 
--- all its bytes: both gates are open, and what was there before goes on where they end
+-- all its bytes: both gates are open
+abbrev pub started : (header body : List ℕ) → (count : ℕ) → List ℕ
+started header body count = 165 ∷ (header ++ (165 ∷ after_gate body count))
+
+-- with no record before, and what was there before goes on where they end
 abbrev pub started_over : (header body old : List ℕ) → List ℕ
-started_over header body old = 165 ∷ (header ++ (165 ∷ (after_gate body ++ drop (1 + length (fresh header body)) old)))
+started_over header body old = 165 ∷ (header ++ (165 ∷ (after_gate body 0 ++ drop (1 + length (fresh header body 0)) old)))

@@ -19,7 +19,7 @@ pub struct Opened {
 /// Decodes the bytes of a disk; none if it is not started.
 pub fn decode(alloc: Global, header: &[u8; 8], bytes: &[u8]) -> Result<Option<Opened>, StartFault>
     ensures some { IfOk result (λ found. IfSome found (λ found. IsLaidOut header.now bytes.now
-        (state_in found.body.items found.bodies found.layout.count) found.layout)) }
+        (state_in found.layout.version found.body.items found.bodies found.layout.count) found.layout)) }
     ensures none { IfOk result (λ found. IfNone found (decoded header.now bytes.now ≡ NotStarted)) }
     ensures err { IfErr result (λ fault. IsReason fault (decoded header.now bytes.now)) }
 {

@@ -7,9 +7,9 @@ ghost use Rattle.iot_slots.specs.Layouts.{IsLaidOut, named_in};
 ghost use Rattle.iot_slots.specs.Start.{IsReason};
 ghost use Rattle.iot_slots.specs.declared.cell.Force.TheVariants.{Is};
 
-use crate::cell::{place_named, place_of_version_2};
 use crate::layout::REST;
-use crate::{Cell, Force, Layout};
+use crate::version::place_named;
+use crate::{Cell, Force, Layout, Version};
 use iot_disk::{LIMIT, StartFault};
 use iot_records::{OPEN, RecordViews, lend_records, number_at};
 
@@ -33,7 +33,7 @@ impl<'a> SlotsView<'a> {
     /// than 2^62, which no disk is.
     pub fn of(header: &[u8; 8], bytes: &'a [u8]) -> Result<Option<SlotsView<'a>>, StartFault>
         ensures some { IfOk result (λ found. IfSome found (λ view. IsLaidOut header.now bytes.now
-            (state_in view.body.now view.records view.layout.count) view.layout)) }
+            (state_in view.layout.version view.body.now view.records view.layout.count) view.layout)) }
         ensures none { IfOk result (λ found. IfNone found (decoded header.now bytes.now ≡ NotStarted)) }
         ensures err { IfErr result (λ fault. IsReason fault (decoded header.now bytes.now)) }
         ensures no_memory { IsErrOf result StartFault.NoMemory → 2 ^ 62 < length bytes.now }
@@ -136,14 +136,13 @@ fn lend_cell<'a>(header: &[u8; 8], bytes: &'a [u8], cell: Cell) -> Result<SlotsV
     requires room { 43 ≤ length bytes.now }
     requires limit { length bytes.now ≤ 2 ^ 62 }
     ensures ok { IfOk result (λ view. IsLaidOut header.now bytes.now
-        (state_in view.body.now view.records view.layout.count) view.layout) }
+        (state_in view.layout.version view.body.now view.records view.layout.count) view.layout) }
     ensures err { IfErr result (λ fault. IsReason fault (decoded header.now bytes.now)) }
     ensures no_memory { IsErrOf result StartFault.NoMemory → ⊥ }
 {
     let at = cell.at();
-    let Some(place) = place_of_version_2(number_at(bytes, at as usize + 9)) else {
-        return Err(StartFault::Damaged { at });
-    };
+    let number = number_at(bytes, at as usize + 9);
+    let place = place_named(number);
     let Some(size) = checkpoint_size(bytes, place) else {
         return Err(StartFault::Damaged { at });
     };
@@ -151,6 +150,7 @@ fn lend_cell<'a>(header: &[u8; 8], bytes: &'a [u8], cell: Cell) -> Result<SlotsV
     let first = start + size + 8;
     let found = lend_records(&bytes[first..], first as u64)?;
     let layout = Layout {
+        version: Version::named(number),
         cell,
         generation: number_at(bytes, at as usize + 1),
         place,

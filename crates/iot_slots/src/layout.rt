@@ -2,7 +2,7 @@
 ghost use Rattle.std.specs.Prelude.{◌≡◌, ◌≤◌, ◌+◌, ◌^◌};
 ghost use Rattle.iot_slots.specs.Layouts.{renewed_layout, fresh_layout, reaches};
 
-use crate::Cell;
+use crate::{Cell, Version};
 
 /// The offset after the cells.
 pub const REST: u64 = 43;
@@ -16,6 +16,8 @@ pub const MANY: u64 = 1_048_576;
 /// Where the parts of a started disk are.
 #[derive(Clone, Copy, Debug)]
 pub struct Layout {
+    /// In which version the checkpoint in force and the records after it are spelled.
+    pub version: Version,
     /// The cell in force.
     pub cell: Cell,
     pub generation: u64,
@@ -39,6 +41,7 @@ impl Layout {
     {
         let gate = REST + 16 + size;
         Layout {
+            version: Version::Two,
             cell: Cell::First,
             generation: 1,
             place: REST,
@@ -62,6 +65,7 @@ impl Layout {
         };
         let gate = place + 16 + size;
         Layout {
+            version: Version::Two,
             cell: self.cell.other(),
             generation: self.generation.wrapping_add(1),
             place,

@@ -10,9 +10,12 @@ mod slots;
 mod spelling;
 mod start;
 mod started;
+mod version;
 
 pub use cell::{Cell, Force};
 pub use decoding::SlotsView;
 pub use layout::Layout;
 pub use slots::Slots;
+pub use spelling::spell_started;
 pub use started::{Body, Started};
+pub use version::Version;

@@ -3,7 +3,7 @@ ghost use Rattle.std.specs.Prelude.{◌≡◌, ◌≢◌, ◌<◌, ◌+◌, ◌^
 ghost use Rattle.iot_disk.specs.Disk.{armed_with, Only, SameImages};
 ghost use Rattle.iot_disk.specs.Faults.{CountsJournalFault};
 ghost use Rattle.iot_records.specs.Records.{ChangesNothing, records};
-ghost use Rattle.iot_slots.specs.Cells.{next};
+ghost use Rattle.iot_slots.specs.Cells.{next, number_of};
 ghost use Rattle.iot_slots.specs.Decoding.{Encodes, NotStarted, decoded, opened, state_in};
 ghost use Rattle.iot_slots.specs.Start.{HasCause, EachEncodesAs, started_over};
 
@@ -29,7 +29,7 @@ pub struct Slots<D: Disk> {
 
 impl<D: Disk> Slots<D> {
     ghost use Rattle.iot_slots.specs.Layouts.{longer_layout, renewed_layout, place_in, is_due, MakesRoom};
-    ghost use Rattle.iot_slots.specs.Slots.{disk_of, header_of, count_of, layout_of, state_on, IsSynced};
+    ghost use Rattle.iot_slots.specs.Slots.{disk_of, header_of, count_of, layout_of, version_of, state_on, IsSynced};
     ghost use Rattle.iot_slots.specs.Slots.{appended, renewed, EachEncodes, EachEncodesEither};
 
     /// Starts slots from their disk, which no one else writes, and gives the state that it encodes. A disk that is not
@@ -41,9 +41,10 @@ impl<D: Disk> Slots<D> {
     ) -> Result<(Slots<D>, Started), (D, StartFault)>
         requires { Only (D.medium.reads disk) (D.medium.may_leave disk) }
         ensures state { IfOk result (λ made. opened [] (decoded header (D.medium.reads disk))
-            ≡ Encodes (state_in made.1.body made.1.records (count_of made.0))) }
+            ≡ Encodes (state_in (version_of made.0) made.1.body made.1.records (count_of made.0))) }
         ensures same { IfOk result (λ made. state_on D.medium made.0
-            ≡ state_in made.1.body made.1.records (count_of made.0)) }
+            ≡ state_in (version_of made.0) made.1.body made.1.records (count_of made.0)) }
+        ensures version { IfOk result (λ made. made.1.version ≡ number_of (version_of made.0)) }
         ensures synced { IfOk result (λ made. IsSynced D.medium made.0) }
         ensures header { IfOk result (λ made. header_of made.0 ≡ header) }
 
@@ -90,9 +91,10 @@ impl<D: Disk> Slots<D> {
     ) -> Result<(Slots<D>, Started), (D, StartFault)>
         requires { Only (D.medium.reads disk) (D.medium.may_leave disk) }
         ensures state { IfOk result (λ made. opened body.now (decoded header (D.medium.reads disk))
-            ≡ Encodes (state_in made.1.body made.1.records (count_of made.0))) }
+            ≡ Encodes (state_in (version_of made.0) made.1.body made.1.records (count_of made.0))) }
         ensures same { IfOk result (λ made. state_on D.medium made.0
-            ≡ state_in made.1.body made.1.records (count_of made.0)) }
+            ≡ state_in (version_of made.0) made.1.body made.1.records (count_of made.0)) }
+        ensures version { IfOk result (λ made. made.1.version ≡ number_of (version_of made.0)) }
         ensures synced { IfOk result (λ made. IsSynced D.medium made.0) }
         ensures header { IfOk result (λ made. header_of made.0 ≡ header) }
 
@@ -136,6 +138,7 @@ impl<D: Disk> Slots<D> {
                     buffer: Vec::new(alloc),
                 };
                 let started = Started {
+                    version: found.layout.version.number(),
                     body: Body::from(found.body),
                     records: found.bodies,
                 };
@@ -180,15 +183,18 @@ impl<D: Disk> Slots<D> {
         Ok(())
     }
 
-    /// Whether a checkpoint is to come before an append of a body of so many bytes. Does not allocate.
+    /// Whether a checkpoint is to come before an append of a body of so many bytes: always if the one in force is of
+    /// version 1, since records are spelled in version 2. Does not allocate.
     pub fn due(&self, size: u64) -> bool
         requires { IsSynced D.medium self.now }
         ensures { result ≡ is_due (state_on D.medium self.now).bodies (layout_of self.now) size }
     {
-        self.layout.gate - self.layout.first > MANY || self.layout.reaches_other(size)
+        self.layout.version.is_old()
+            || self.layout.gate - self.layout.first > MANY
+            || self.layout.reaches_other(size)
     }
 
-    /// Puts a new body in the place of the old one and its records: it is on the disk when this answers Ok. Makes
+    /// Puts a new body, of version 2, in the place of the old one and its records: it is on the disk when this answers Ok. Makes
     /// seven device calls. Costs as much as the body is long.
     pub fn checkpoint(&mut self, body: &[u8]) -> Result<(), JournalFault>
         requires { IsSynced D.medium self.old }

@@ -7,6 +7,7 @@ ghost use Rattle.iot_records.specs.Records.{ChangesNothing};
 ghost use Rattle.iot_slots.specs.Decoding.{Encodes, NotStarted, decoded, opened, state_in};
 ghost use Rattle.iot_slots.specs.Layouts.{IsLaidOut, fresh_layout};
 ghost use Rattle.iot_slots.specs.Start.{HasCause, EachEncodesAs, started_over};
+ghost use Rattle.iot_slots.specs.declared.version.Version.TheVariants.{Two};
 
 use crate::Layout;
 use crate::copying::{Opened, decode};
@@ -24,9 +25,9 @@ pub fn open<D: Disk>(
 ) -> Result<Opened, StartFault>
     requires { Only (D.medium.reads disk.old) (D.medium.may_leave disk.old) }
     ensures state { IfOk result (λ found. opened body.now (decoded header.now (D.medium.reads disk.old))
-        ≡ Encodes (state_in found.body.items found.bodies found.layout.count)) }
+        ≡ Encodes (state_in found.layout.version found.body.items found.bodies found.layout.count)) }
     ensures laid_out { IfOk result (λ found. IsLaidOut header.now (D.medium.reads disk.new)
-        (state_in found.body.items found.bodies found.layout.count) found.layout) }
+        (state_in found.layout.version found.body.items found.bodies found.layout.count) found.layout) }
     ensures durable { OnOk result (Only (D.medium.reads disk.new) (D.medium.may_leave disk.new)) }
 
     // However this returns, every image encodes what the disk encoded before.
@@ -77,15 +78,15 @@ fn begin<D: Disk>(
     requires only { Only (D.medium.reads disk.old) (D.medium.may_leave disk.old) }
     ensures bytes { OnOk result (D.medium.reads disk.new ≡ started_over header.now body.now (D.medium.reads disk.old)) }
     ensures laid_out { OnOk result (IsLaidOut header.now (D.medium.reads disk.new)
-        (state_in body.now [] 0) (fresh_layout (length body.now))) }
+        (state_in Two body.now [] 0) (fresh_layout (length body.now))) }
     ensures durable { OnOk result (Only (D.medium.reads disk.new) (D.medium.may_leave disk.new)) }
-    ensures images { Each (λ image. opened body.now (decoded header.now image) ≡ Encodes (state_in body.now [] 0))
+    ensures images { Each (λ image. opened body.now (decoded header.now image) ≡ Encodes (state_in Two body.now [] 0))
         (D.medium.may_leave disk.new) }
     ensures faults { CountsFault result (D.medium.faults disk.old) (D.medium.faults disk.new) }
     ensures arms { D.medium.arms disk.new ≡ D.medium.arms disk.old }
 {
     let mut fresh = Vec::new(alloc);
-    spell_fresh(&mut fresh, header, body)?;
+    spell_fresh(&mut fresh, header, body, 0)?;
     close_first(disk, header, bytes)?;
     keep(disk, 1, &fresh)?;
     keep(disk, 9, &[OPEN])?;

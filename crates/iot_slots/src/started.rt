@@ -47,6 +47,8 @@ impl From<Vec<u8>> for Body {
 /// The state that a disk encoded when slots were started from it.
 #[derive(Debug, Drop)]
 pub struct Started {
+    /// The version in which the body and the records are spelled: 1 or 2.
+    pub version: u8,
     pub body: Body,
     pub records: Bodies,
 }

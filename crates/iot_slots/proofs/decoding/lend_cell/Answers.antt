@@ -12,7 +12,7 @@ use Rattle.iot_records.specs.Bytes.{Has, number_in, number_at, is_open}
 use Rattle.iot_records.specs.Records.{spelled, records, series_in, IsSeries, IsCutReason}
 use Rattle.iot_records.proofs.BytesLaws.{split_has}
 use Rattle.iot_records.proofs.RecordsLaws.{whole_is}
-use Rattle.iot_slots.specs.Cells.{counting, in_force, cell_at, naming, place_named, is_version_2, other_of, has_cells}
+use Rattle.iot_slots.specs.Cells.{counting, in_force, cell_at, naming, place_named, version_named, other_of, has_cells}
 use Rattle.iot_slots.specs.Decoding.{Decoded, Damaged, with_records, state_in, is_checkpoint, checkpoint_at, named_by, is_foreign, decoded}
 use Rattle.iot_slots.specs.Layouts.{IsOther, IsLaidOut, named_in}
 use Rattle.iot_slots.specs.Parts.{Outranks}
@@ -20,6 +20,7 @@ use Rattle.iot_slots.specs.Start.{IsReason}
 use Rattle.iot_slots.specs.declared.cell.Cell.{Cell}
 use Rattle.iot_slots.specs.declared.cell.Force.TheVariants.{Is}
 use Rattle.iot_slots.specs.declared.layout.Layout.{Layout}
+use Rattle.iot_slots.specs.declared.version.Version.{Version}
 use Rattle.iot_slots.proofs.CellsLaws.{naming_again, counting_inv, force_inv, opened_is, shut_is}
 use Rattle.iot_slots.proofs.DecodingLaws.{decoded_force}
 use Rattle.iot_slots.proofs.decoding.lend_cell.Goals as goal
@@ -37,7 +38,8 @@ other_is bytes other generation named false is named_is outranks =
 
 module _ (header bytes : List ℕ) (cell : Cell) (native : is_foreign header bytes ≡ false) (force : in_force bytes ≡ Is cell)
     (eight : length header ≡ 8) (limit : length bytes ≤ 2 ^ 62) (small : (i : ℕ) → get_or bytes i 0 < 256) (number : ℕ)
-    (number_is : number ≡ number_at bytes (cell_at cell + 9)) (place : ℕ) (place_is : place ≡ place_named number) where
+    (number_is : number ≡ number_at bytes (cell_at cell + 9)) (place : ℕ) (place_is : place ≡ place_named number)
+    (version : Version) (version_is : version ≡ version_named number) where
   inv : (has_cells bytes ≡ true) × (counting bytes ≡ Is cell)
   inv = force_inv (has_cells bytes) (counting bytes) cell force
 
@@ -63,22 +65,18 @@ module _ (header bytes : List ℕ) (cell : Cell) (native : is_foreign header byt
       split_has bytes 1 header (drop (length header) (drop 1 bytes)) (omega (arith, room))
       ((starts_is Decides-eqb (drop 1 bytes) header (starts_with nat_eq (drop 1 bytes) header) refl).0 starts)
 
-  abbrev found_at : (at : ℕ) (b : Bool) → Decoded
-  found_at at b = cond b (checkpoint_at at (number_at bytes at) bytes) (Damaged (cell_at cell))
+  abbrev found_at : (version : Version) (at : ℕ) (b : Bool) → Decoded
+  found_at version at b = cond b (checkpoint_at version at (number_at bytes at) bytes) (Damaged (cell_at cell))
 
-  -- of version 2, or not
-  numbered : (b : Bool) → is_version_2 number ≡ b → decoded header bytes ≡ found_at place (b && is_checkpoint place bytes)
-  numbered b is =
+  named : (b : Bool) → is_checkpoint place bytes ≡ b → decoded header bytes ≡ found_at version place b
+  named b is =
       decoded_force header bytes (Is cell) native force
       ∙ ap (λ (n : ℕ). named_by cell n bytes) (sym number_is)
-      ∙ ap (λ (n : ℕ). found_at n (is_version_2 number && is_checkpoint n bytes)) (sym place_is)
-      ∙ ap (λ (b : Bool). found_at place (b && is_checkpoint place bytes)) is
+      ∙ ap (λ (n : ℕ). found_at (version_named number) n (is_checkpoint n bytes)) (sym place_is)
+      ∙ ap (λ (v : Version). found_at v place (is_checkpoint place bytes)) (sym version_is)
+      ∙ ap (found_at version place) is
 
-  named : is_version_2 number ≡ true → (b : Bool) → is_checkpoint place bytes ≡ b → decoded header bytes ≡ found_at place b
-  named marked b is = numbered true marked ∙ ap (found_at place) is
-
-  module _ (marked : is_version_2 number ≡ true) (fits : number < 2 ^ 64) (size : ℕ) (there : is_checkpoint place bytes ≡ true)
-      (size_is : size ≡ number_at bytes place) where
+  module _ (fits : number < 2 ^ 64) (size : ℕ) (there : is_checkpoint place bytes ≡ true) (size_is : size ≡ number_at bytes place) where
     past : 43 ≤ place
     past = let is = there in grind (arith, nat_tests)
 
@@ -88,8 +86,8 @@ module _ (header bytes : List ℕ) (cell : Cell) (native : is_foreign header byt
     end : place + 16 + size < length bytes
     end = omega (arith, size_is, bound)
 
-    sized : decoded header bytes ≡ checkpoint_at place size bytes
-    sized = named marked true there ∙ ap (λ (n : ℕ). checkpoint_at place n bytes) (sym size_is)
+    sized : decoded header bytes ≡ checkpoint_at version place size bytes
+    sized = named true there ∙ ap (λ (n : ℕ). checkpoint_at version place n bytes) (sym size_is)
 
     -- records that are cut short
     cut_reason : (why : StartFault) (first : ℕ) (tail : List ℕ) → first ≡ place + 16 + size → tail ≡ drop first bytes →
@@ -98,7 +96,7 @@ module _ (header bytes : List ℕ) (cell : Cell) (native : is_foreign header byt
     cut_reason fault.Stopped first tail first_is tail_is reason = reason
     cut_reason fault.Foreign first tail first_is tail_is reason = absurd reason
     cut_reason (fault.Damaged at) first tail first_is tail_is reason =
-        sized ∙ ap (with_records (take size (drop (place + 8) bytes)) (number_at bytes (place + 8 + size))) (
+        sized ∙ ap (with_records version (take size (drop (place + 8) bytes)) (number_at bytes (place + 8 + size))) (
         ap (λ (n : ℕ). series_in n (drop n bytes)) (sym first_is) ∙ ap (series_in first) (sym tail_is) ∙ reason)
 
     size_spelled : size ≡ from_be_bytes w64 (take 8 (drop place bytes))
@@ -120,7 +118,7 @@ module _ (header bytes : List ℕ) (cell : Cell) (native : is_foreign header byt
         (series : IsSeries (drop layout.first bytes) layout.first bodies layout.gate)
         (generation_is : layout.generation ≡ number_at bytes (cell_at cell + 1)) (low : layout.generation < 2 ^ 64)
         (count_is : layout.count ≡ (number_at bytes (place + 8 + size) + length bodies) % 2 ^ 64)
-        (named_is : layout.other ≡ named_in bytes (other_of cell)) where
+        (named_is : layout.other ≡ named_in bytes (other_of cell)) (layout_version : layout.version ≡ version) where
       long : length body ≡ size
       long = ap length body_is ∙ length-take-le size (drop (place + 8) bytes) (omega (arith, length-drop (place + 8) bytes, end))
 
@@ -146,9 +144,10 @@ module _ (header bytes : List ℕ) (cell : Cell) (native : is_foreign header byt
       at_cell : (P : Cell → Type 0) → P cell → P layout.cell
       at_cell P is = subst P (sym cell_is) is
 
-      laid_found : IsLaidOut header bytes (state_in body bodies layout.count) layout
+      laid_found : IsLaidOut header bytes (state_in layout.version body bodies layout.count) layout
       laid_found = record {
         in_force = record {
+          version = refl;
           cell = record {
             header_size = eight;
             room = room;
@@ -156,8 +155,11 @@ module _ (header bytes : List ℕ) (cell : Cell) (native : is_foreign header byt
             front = has_header;
             gate = at_cell (λ x. get_or bytes (cell_at x) 0 ≡ 165) (counting_inv bytes cell inv.1).0;
             generation = at_cell (λ x. number_at bytes (cell_at x + 1) ≡ layout.generation) (sym generation_is);
-            place = at_cell (λ x. number_at bytes (cell_at x + 9) ≡ naming layout.place)
-                (sym number_is ∙ naming_again number fits marked ∙ ap naming (sym (layout_place ∙ place_is)));
+            place = at_cell (λ x. number_at bytes (cell_at x + 9) ≡ naming layout.version layout.place)
+                (sym number_is
+                ∙ naming_again number fits
+                ∙ ap (naming (version_named number)) (sym (layout_place ∙ place_is))
+                ∙ ap (λ (v : Version). naming v layout.place) (sym (layout_version ∙ version_is)));
           };
           checkpoint = record {
             past = omega (arith, layout_place, past);
@@ -187,28 +189,23 @@ module _ (header bytes : List ℕ) (cell : Cell) (native : is_foreign header byt
 
 pub returns-in_default-clause-err : goal.returns-in_default-clause-err
 returns-in_default-clause-err c =
-    let number_is = c.number_at.ensures ∙ ap (λ (n : ℕ). number_at c.args.bytes.now (n + 9)) c.at-at.ensures in
-    numbered c.args.header.now c.args.bytes.now c.args.cell c.requires.native c.requires.force c.told-header c.requires.limit
-    (λ i. (c.type_inv.bytes i).fits) c.number_at.result number_is (place_named c.number_at.result) refl false c.in_default.ensures.none
-    ∙ ap Damaged (sym c.at-at.ensures)
-
-pub returns-in_default-checkpoint_size-clause-err : goal.returns-in_default-checkpoint_size-clause-err
-returns-in_default-checkpoint_size-clause-err c =
-    let number_is = c.number_at.ensures ∙ ap (λ (n : ℕ). number_at c.args.bytes.now (n + 9)) c.at-at.ensures in
+    let number_is = c.number_at-number.ensures ∙ ap (λ (n : ℕ). number_at c.args.bytes.now (n + 9)) c.at-at.ensures in
     named c.args.header.now c.args.bytes.now c.args.cell c.requires.native c.requires.force c.told-header c.requires.limit
-    (λ i. (c.type_inv.bytes i).fits) c.number_at.result number_is c.in-Some.place c.in-Some.ensures.place c.in-Some.ensures.some false
-    c.in_default-checkpoint_size.ensures.none
+    (λ i. (c.type_inv.bytes i).fits) c.number_at-number.result number_is c.place_named-place.result c.place_named-place.ensures
+    (version_named c.number_at-number.result) refl false c.in_default.ensures.none
     ∙ ap Damaged (sym c.at-at.ensures)
 
 pub returns-in_err-found-clause-err : goal.returns-in_err-found-clause-err
 returns-in_err-found-clause-err c =
     let bytes = c.args.bytes.now in
-    let there = c.in-Some-checkpoint_size in
-    let first = c.in-Some.place + 8 + there.size + 8 in
-    let number_is = c.number_at.ensures ∙ ap (λ (n : ℕ). number_at c.args.bytes.now (n + 9)) c.at-at.ensures in
+    let there = c.in-Some in
+    let number = c.number_at-number.result in
+    let place = c.place_named-place.result in
+    let first = place + 8 + there.size + 8 in
+    let number_is = c.number_at-number.ensures ∙ ap (λ (n : ℕ). number_at c.args.bytes.now (n + 9)) c.at-at.ensures in
     let reason = cut_reason c.args.header.now bytes c.args.cell c.requires.native c.requires.force c.told-header c.requires.limit
-    (λ i. (c.type_inv.bytes i).fits) c.number_at.result number_is c.in-Some.place c.in-Some.ensures.place c.in-Some.ensures.some
-    c.number_at.type_inv there.size there.ensures.some there.ensures.size
+    (λ i. (c.type_inv.bytes i).fits) number number_is place c.place_named-place.ensures (version_named number) refl
+    c.number_at-number.type_inv there.size there.ensures.some there.ensures.size
     c.in_err-found.field-0.0 first (take (length bytes - first) (drop first bytes)) (omega arith) (take_rest bytes first)
     c.in_err-found.ensures.err in
     search (rules, reason)
@@ -216,30 +213,32 @@ returns-in_err-found-clause-err c =
 pub returns-clause-ok : goal.returns-clause-ok
 returns-clause-ok c =
     let bytes = c.args.bytes.now in
-    let place = c.in-Some.place in
-    let there = c.in-Some-checkpoint_size in
+    let number = c.number_at-number.result in
+    let place = c.place_named-place.result in
+    let there = c.in-Some in
     let size = there.size in
     let start = place + 8 in
     let first = start + size + 8 in
-    let number_is = c.number_at.ensures ∙ ap (λ (n : ℕ). number_at c.args.bytes.now (n + 9)) c.at-at.ensures in
+    let number_is = c.number_at-number.ensures ∙ ap (λ (n : ℕ). number_at c.args.bytes.now (n + 9)) c.at-at.ensures in
     let exact : start + size - start ≡ size = omega arith in
     let series =
     subst (λ (l : List ℕ). IsSeries l first c.in_ok-found.found.records c.in_ok-found.found.gate) (take_rest bytes first)
     c.in_ok-found.ensures.ok in
     laid_found c.args.header.now bytes c.args.cell c.requires.native c.requires.force c.told-header c.requires.limit
-    (λ i. (c.type_inv.bytes i).fits) c.number_at.result number_is place c.in-Some.ensures.place c.in-Some.ensures.some
-    c.number_at.type_inv size there.ensures.some there.ensures.size
+    (λ i. (c.type_inv.bytes i).fits) number number_is place c.place_named-place.ensures c.named.result c.named.ensures
+    c.number_at-number.type_inv size there.ensures.some there.ensures.size
     (take (start + size - start) (drop start bytes)) c.in_ok-found.found.records (record {
+      version = c.named.result;
       cell = c.args.cell;
-      generation = c.number_at-2.result;
+      generation = c.number_at.result;
       place = place;
       first = first;
       gate = c.in_ok-found.found.gate;
       other = c.named_by.result;
-      count = (c.number_at-3.result + c.in_ok-found.found.count) % 2 ^ 64;
+      count = (c.number_at-2.result + c.in_ok-found.found.count) % 2 ^ 64;
     }) refl refl
     (ap (λ (n : ℕ). take n (drop start bytes)) exact) (omega arith) series
-    (c.number_at-2.ensures ∙ ap (λ (n : ℕ). number_at c.args.bytes.now (n + 1)) c.at-at.ensures) c.number_at-2.type_inv
-    (ap (λ (n : ℕ). (n + c.in_ok-found.found.count) % 2 ^ 64) c.number_at-3.ensures
+    (c.number_at.ensures ∙ ap (λ (n : ℕ). number_at c.args.bytes.now (n + 1)) c.at-at.ensures) c.number_at.type_inv
+    (ap (λ (n : ℕ). (n + c.in_ok-found.found.count) % 2 ^ 64) c.number_at-2.ensures
     ∙ ap (λ (n : ℕ). (number_at bytes (start + size) + n) % 2 ^ 64) c.in_ok-found.ensures.count)
-    (c.named_by.ensures ∙ ap (λ (x : Cell). named_in c.args.bytes.now x) c.other.ensures)
+    (c.named_by.ensures ∙ ap (λ (x : Cell). named_in c.args.bytes.now x) c.other.ensures) refl

@@ -2,6 +2,7 @@ use Rattle.std.proofs.Common.{◌≡◌, ℕ, List, [], ◌∷◌, ◌++◌, len
 use Rattle.std.proofs.lemmas.List.{take_at, drop_at, append-nil}
 use Rattle.iot_records.specs.Bytes.{number}
 use Rattle.iot_slots.specs.Cells.{naming}
+use Rattle.iot_slots.specs.declared.version.Version.TheVariants.{Two}
 use Rattle.iot_slots.proofs.spelling.spell_cell.Goals as goal
 
 zeros : List ℕ
@@ -26,4 +27,4 @@ returns c =
     (λ (b : List ℕ). take 8 (number c.args.generation ++ (0 ∷ 0 ∷ 0 ∷ 0 ∷ 0 ∷ 0 ∷ 0 ∷ 0 ∷ []))
     ++ (b ++ drop 8 (drop 8 (number c.args.generation ++ (0 ∷ 0 ∷ 0 ∷ 0 ∷ 0 ∷ 0 ∷ 0 ∷ 0 ∷ [])))))
     (c.copy_from_slice-2.ensures.after ∙ c.to_be_bytes-2.ensures ∙ ap number c.naming.ensures)
-    ∙ two_parts (number c.args.generation) (number (naming c.args.place)) refl
+    ∙ two_parts (number c.args.generation) (number (naming Two c.args.place)) refl

@@ -1,4 +1,4 @@
-use Rattle.std.proofs.Common.{◌≡◌, ◌≢◌, ◌≤◌, ◌<◌, inl, inr, ℕ, ◌+◌, ◌^◌, Result, Ok, Err, List, [], ◌∷◌, ◌++◌, length, replicate, get_or}
+use Rattle.std.proofs.Common.{◌≡◌, ◌≢◌, ◌≤◌, ◌<◌, inl, inr, ℕ, ◌+◌, ◌^◌, Result, Ok, Err, List, [], ◌∷◌, ◌++◌, length, get_or}
 use Rattle.std.proofs.Common.{refl, sym, ◌∙◌, ap, subst, arith, true, take, drop, append_assoc, length-append}
 use Rattle.std.proofs.lemmas.List.{take_at, drop_at, drop-drop}
 use Rattle.std.proofs.lemmas.Result.{on_ok_weaker}
@@ -7,27 +7,26 @@ use Rattle.std.proofs.lemmas.Bool.{cases_eq}
 use Rattle.std.proofs.lemmas.Bool.Decides.{nat_tests}
 use Rattle.iot_disk.specs.Disk.{overwritten, Torn, IsTornFrom, Only}
 use Rattle.iot_disk.specs.declared.disk.DiskFault.{DiskFault}
-use Rattle.iot_records.specs.Bytes.{Has, number, number_at, is_closed}
+use Rattle.iot_records.specs.Bytes.{Has, is_closed}
 use Rattle.iot_records.specs.Images.{Each}
-use Rattle.iot_records.specs.Records.{spelled}
-use Rattle.iot_records.proofs.BytesLaws.{closed_more, closed_shut, length-number, has_left, has_right, has_none, has_byte}
-use Rattle.iot_records.proofs.BytesLaws.{has_number_first, has_torn, has_written, byte_torn, torn_written}
+use Rattle.iot_records.proofs.BytesLaws.{closed_more, closed_shut, has_left, has_right, has_byte}
+use Rattle.iot_records.proofs.BytesLaws.{has_torn, has_written, byte_torn, torn_written}
 use Rattle.iot_records.proofs.ImagesLaws.{each_only, each_so, each_torn}
-use Rattle.iot_records.proofs.RecordsLaws.{length-spelled}
-use Rattle.iot_slots.specs.Cells.{naming}
 use Rattle.iot_slots.specs.Decoding.{Encodes, NotStarted, decoded, opened, state_in}
 use Rattle.iot_slots.specs.Layouts.{IsLaidOut, fresh_layout}
 use Rattle.iot_slots.specs.Parts.{IsInForce}
 use Rattle.iot_slots.specs.Start.{fresh, after_gate, started_over}
+use Rattle.iot_slots.specs.declared.version.Version.TheVariants.{Two}
 use Rattle.iot_slots.proofs.DecodingLaws.{shut_first}
 use Rattle.iot_slots.proofs.LayoutsLaws.{laid_encodes}
 use Rattle.iot_slots.proofs.PartsLaws.{encodes}
+use Rattle.iot_slots.proofs.StartLaws.{fresh_in_force}
 use Rattle.iot_slots.proofs.start.begin.Goals as goal
 
 -- ---- as long as the first gate is closed
 
 abbrev Opening : (header body image : List ℕ) → Type 0
-Opening header body image = opened body (decoded header image) ≡ Encodes (state_in body [] 0)
+Opening header body image = opened body (decoded header image) ≡ Encodes (state_in Two body [] 0)
 
 not_started : (header body image : List ℕ) → decoded header image ≡ NotStarted → Opening header body image
 not_started header body image is = ap (opened body) is
@@ -55,22 +54,10 @@ still_closed at old new bytes closed past inside is =
 -- ---- once all is there but the first gate
 
 module _ (header body first second third buffer : List ℕ) (eight : length header ≡ 8) (closed : is_closed first ≡ true)
-    (limit : length first ≤ 2 ^ 62) (buffer_is : buffer ≡ fresh header body) (second_is : second ≡ overwritten first 1 buffer)
+    (limit : length first ≤ 2 ^ 62) (buffer_is : buffer ≡ fresh header body 0) (second_is : second ≡ overwritten first 1 buffer)
     (fits : 1 + length buffer ≤ 2 ^ 62) (third_is : third ≡ overwritten second 9 (165 ∷ [])) where
-  abbrev count_on : List ℕ
-  count_on = number 0 ++ 0 ∷ []
-
-  abbrev checkpoint_on : List ℕ
-  checkpoint_on = spelled body ++ count_on
-
-  abbrev second_cell_on : List ℕ
-  second_cell_on = replicate 17 0 ++ checkpoint_on
-
-  abbrev place_on : List ℕ
-  place_on = number (naming 43) ++ second_cell_on
-
   abbrev generation_on : List ℕ
-  generation_on = number 1 ++ place_on
+  generation_on = after_gate body 0
 
   second_in : 1 ≤ length first
   second_in = closed_more first closed
@@ -87,9 +74,12 @@ module _ (header body first second third buffer : List ℕ) (eight : length head
   torn_third : Torn 9 10 second third
   torn_third = torn_written second 9 (165 ∷ []) third third_is third_in
 
-  fresh_in_force : (image : List ℕ) → Torn 0 1 third image → get_or image 0 0 ≡ 165 →
-      IsInForce header image (fresh_layout (length body)) (state_in body [] 0) × (get_or image 26 0 ≡ 0)
-  fresh_in_force image torn opening =
+  second_limit : length second ≤ 2 ^ 62
+  second_limit = omega (arith, (torn_written first 1 buffer second second_is second_in).no_longer, limit, fits)
+
+  opened_in_force : (image : List ℕ) → Torn 0 1 third image → get_or image 0 0 ≡ 165 →
+      IsInForce header image (fresh_layout (length body)) (state_in Two body [] 0) × (get_or image 26 0 ≡ 0)
+  opened_in_force image torn opening =
       let kept =
       λ (at : ℕ) (part : List ℕ) (past : 1 ≤ at) (has : Has third at part). has_torn 0 1 third image torn at part (inr past) has in
       let front = kept 1 header (omega arith) (has_torn 9 10 second third torn_third 1 header (inl (omega (arith, eight)))
@@ -97,47 +87,14 @@ module _ (header body first second third buffer : List ℕ) (eight : length head
       let gate = kept 9 (165 ∷ []) (omega arith) (has_written second 9 (165 ∷ []) third third_is third_in) in
       let generation = kept 10 generation_on (omega arith) (has_torn 9 10 second third torn_third 10 generation_on (inr (omega arith))
       (has_right second 9 10 (0 ∷ []) generation_on refl gate_there)) in
-      let place = has_right image 10 18 (number 1) place_on (omega (arith, length-number 1)) generation in
-      let second_cell = has_right image 18 26 (number (naming 43)) second_cell_on (omega (arith, length-number (naming 43))) place in
-      let checkpoint = has_right image 26 43 (replicate 17 0) checkpoint_on refl second_cell in
-      let count = has_right image 43 (51 + length body) (spelled body) count_on (omega (arith, length-spelled body)) checkpoint in
-      let last = has_right image (51 + length body) (59 + length body) (number 0) (0 ∷ []) (omega (arith, length-number 0)) count in
-      let last_shut : get_or image (59 + length body) 0 ≡ 0 = has_byte image (59 + length body) 0 last in
-      let other_shut : get_or image 26 0 ≡ 0 = second_cell.each 0 (omega arith) in
-      let none : number_at image (51 + length body) ≡ 0 = has_number_first image (51 + length body) 0 (0 ∷ []) (omega arith) count in (
-        record {
-          cell = record {
-            header_size = eight;
-            room = omega (arith, checkpoint.inside);
-            opening = opening;
-            front = front;
-            gate = has_byte image 9 165 gate;
-            generation = has_number_first image 10 1 place_on (omega arith) generation;
-            place = has_number_first image 18 (naming 43) second_cell_on (omega arith) place;
-          };
-          checkpoint = record {
-            past = omega arith;
-            body = has_left image 43 (spelled body) count_on checkpoint;
-            count = omega (arith, none);
-            follow = has_none image (59 + length body) (omega (arith, last.inside));
-            end = omega arith;
-            inside = omega (arith, last.inside);
-            limit = omega (arith, last.inside, torn.no_longer, torn_third.no_longer, second_limit, third_in, gate_there.inside);
-          };
-          shut = λ h. absurd (omega (arith, last_shut, h));
-          outranks = record { either = inl (λ h. absurd (omega (arith, other_shut, h))) };
-        },
-        other_shut,
-      )
-    where
-      second_limit : length second ≤ 2 ^ 62
-      second_limit = omega (arith, (torn_written first 1 buffer second second_is second_in).no_longer, limit, fits)
+      fresh_in_force header body 0 eight (omega arith) image front opening (has_byte image 9 165 gate) generation
+      (omega (arith, torn.no_longer, torn_third.no_longer, second_limit, third_in, gate_there.inside))
 
   fresh_laid : (now : List ℕ) → now ≡ overwritten third 0 (165 ∷ [])
-      → IsLaidOut header now (state_in body [] 0) (fresh_layout (length body))
+      → IsLaidOut header now (state_in Two body [] 0) (fresh_layout (length body))
   fresh_laid now opened_is =
       let torn = torn_written third 0 (165 ∷ []) now opened_is (omega arith) in
-      let is = fresh_in_force now torn (ap (λ (l : List ℕ). get_or l 0 0) opened_is) in
+      let is = opened_in_force now torn (ap (λ (l : List ℕ). get_or l 0 0) opened_is) in
       record {
         in_force = is.0;
         first = refl;
@@ -159,7 +116,8 @@ module _ (header body first second third buffer : List ℕ) (eight : length head
 
   opening_image : (image : List ℕ) → Torn 0 1 third image → Opening header body image
   opening_image image torn = elim (cases_eq (get_or image 0 0) 165) [
-    | inl is ↦ ap (opened body) (encodes header image (fresh_layout (length body)) (state_in body [] 0) (fresh_in_force image torn is).0)
+    | inl is ↦ ap (opened body) (encodes header image (fresh_layout (length body)) (state_in Two body [] 0)
+        (opened_in_force image torn is).0)
     | inr shut ↦ not_started header body image (shut_first header image shut)
   ]
 
@@ -168,13 +126,13 @@ module _ (header body first second third buffer : List ℕ) (eight : length head
       Each (Opening header body) images
   each_final now before images (Ok u) only torn written durable =
       each_only (Opening header body) now images durable
-      (ap (opened body) (laid_encodes header now (state_in body [] 0) (fresh_layout (length body)) (fresh_laid now written)))
+      (ap (opened body) (laid_encodes header now (state_in Two body [] 0) (fresh_layout (length body)) (fresh_laid now written)))
   each_final now before images (Err e) only torn written durable =
       each_torn (λ image. image ≡ third) (Opening header body) 0 1 before images
       (λ i j is t. opening_image j (subst (λ (b : List ℕ). Torn 0 1 b j) is t)) torn (record { each = only.is })
 
   final_laid : (now : List ℕ) (result : Result (Unit {0}) DiskFault) → OnOk result (now ≡ overwritten third 0 (165 ∷ [])) →
-      OnOk result (IsLaidOut header now (state_in body [] 0) (fresh_layout (length body)))
+      OnOk result (IsLaidOut header now (state_in Two body [] 0) (fresh_layout (length body)))
   final_laid now (Ok u) written = fresh_laid now written
   final_laid now (Err e) written = tt
 
@@ -187,18 +145,18 @@ front_one (b ∷ bytes) closed = refl
 
 -- the four writes, one over the other
 ends_over : (header body old first second third now : List ℕ) → length header ≡ 8 → is_closed first ≡ true →
-    drop 1 first ≡ drop 1 old → second ≡ overwritten first 1 (fresh header body) → third ≡ overwritten second 9 (165 ∷ []) →
+    drop 1 first ≡ drop 1 old → second ≡ overwritten first 1 (fresh header body 0) → third ≡ overwritten second 9 (165 ∷ []) →
     now ≡ overwritten third 0 (165 ∷ []) → now ≡ started_over header body old
 ends_over header body old first second third now eight closed rest second_is third_is now_is =
-    let size = length (fresh header body) in
-    let tail = after_gate body ++ drop (1 + size) old in
+    let size = length (fresh header body 0) in
+    let tail = after_gate body 0 ++ drop (1 + size) old in
     let front = take 1 first ++ header in
     let one = front_one first closed in
     let nine : length front ≡ 9 = omega (arith, length-append (take 1 first) header, one, eight) in
     let same : drop (1 + size) first ≡ drop (1 + size) old = sym (drop-drop size 1 first) ∙ ap (drop size) rest ∙ drop-drop size 1 old in
     let second_as : second ≡ front ++ (0 ∷ tail) = second_is
-    ∙ ap (λ (l : List ℕ). take 1 first ++ (fresh header body ++ l)) same
-    ∙ ap (λ (l : List ℕ). take 1 first ++ l) (append_assoc header (0 ∷ after_gate body) (drop (1 + size) old))
+    ∙ ap (λ (l : List ℕ). take 1 first ++ (fresh header body 0 ++ l)) same
+    ∙ ap (λ (l : List ℕ). take 1 first ++ l) (append_assoc header (0 ∷ after_gate body 0) (drop (1 + size) old))
     ∙ sym (append_assoc (take 1 first) header (0 ∷ tail)) in
     let left : take 9 second ≡ front = ap (take 9) second_as ∙ take_at front (0 ∷ tail) 9 nine in
     let right : drop 10 second ≡ tail = sym (drop-drop 1 9 second)

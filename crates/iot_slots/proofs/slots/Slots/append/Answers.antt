@@ -119,13 +119,15 @@ module _ (header bytes : List ℕ) (state : State) (layout : Layout) (body buffe
               let record_there = has_both image here (here + 1) (165 ∷ []) (spelled body) refl gate_there
               (has_left image (here + 1) (spelled body) (0 ∷ []) whole) in
               inr (record {
+                version = in_mid.version;
                 cell = cell_kept header image layout gate count cell;
                 checkpoint = checkpoint_more image layout state body gate count (omega (arith, gate_is, size)) checkpoint record_there
                     (omega (arith, last.inside)) (omega (arith, gate_is, fits));
                 shut = λ is. absurd (omega (arith, shut, is));
                 outranks = outranks;
               })
-          | inr is_shut ↦ inl (record { cell = cell; checkpoint = checkpoint; shut = is_shut; outranks = outranks })
+          | inr is_shut ↦
+              inl (record { version = in_mid.version; cell = cell; checkpoint = checkpoint; shut = is_shut; outranks = outranks })
         ]
 
     each_gate : (before now : List ℕ → Type 0) → Only mid before → IsTornFrom layout.gate (layout.gate + 1) before now →

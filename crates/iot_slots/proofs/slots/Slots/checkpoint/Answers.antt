@@ -15,7 +15,9 @@ use Rattle.iot_slots.specs.Layouts.{IsOther, IsLaidOut, renewed_layout, closing_
 use Rattle.iot_slots.specs.Parts.{Outranks, IsInForce}
 use Rattle.iot_slots.specs.Slots.{renewed, EachEncodesEither}
 use Rattle.iot_slots.specs.declared.layout.Layout.{Layout}
-use Rattle.iot_slots.proofs.CellsLaws.{cell_range, cells_apart, other_other, naming_back}
+use Rattle.iot_slots.specs.declared.version.Version.{Version}
+use Rattle.iot_slots.specs.declared.version.Version.TheVariants.{Two}
+use Rattle.iot_slots.proofs.CellsLaws.{cell_range, cells_apart, other_other, place_back}
 use Rattle.iot_slots.proofs.LayoutsLaws.{IsFree, laid_encodes, next_place_free, makes_room}
 use Rattle.iot_slots.proofs.PartsLaws.{encodes, shut_torn, cell_torn, outranks_number, outranks_torn, in_force_torn, in_force_aside}
 use Rattle.iot_slots.proofs.SlotsLaws.{synced, each_laid, either_before, either_after}
@@ -157,20 +159,20 @@ module _ (header bytes : List ℕ) (state : State) (layout new : Layout) (body :
   -- all is there but the open gate
   record IsReady (image : List ℕ) : Type 0 where
     alone : IsAlone image
-    cell : Has image (gate + 1) (number new.generation ++ number (naming new.place))
+    cell : Has image (gate + 1) (number new.generation ++ number (naming Two new.place))
     checkpoint : Has image new.place (spelled body ++ (number layout.count ++ 0 ∷ []))
     limit : length image ≤ 2 ^ 62
 
-  module _ (named first : List ℕ) (named_is : named ≡ number new.generation ++ number (naming new.place)) (alone : IsAlone first)
+  module _ (named first : List ℕ) (named_is : named ≡ number new.generation ++ number (naming Two new.place)) (alone : IsAlone first)
       (same_length : length first ≡ length bytes) where
     wide : length named ≡ 16
     wide =
         ap length named_is
         ∙ omega (
           arith,
-          length-append (number new.generation) (number (naming new.place)),
+          length-append (number new.generation) (number (naming Two new.place)),
           length-number new.generation,
-          length-number (naming new.place),
+          length-number (naming Two new.place),
         )
 
     each_staging : (two three : List ℕ → Type 0) → Only first two → IsTornFrom (gate + 1) (gate + 1 + length named) two three
@@ -213,7 +215,7 @@ module _ (header bytes : List ℕ) (state : State) (layout new : Layout) (body :
                 (alone_torn (gate + 1) (gate + 1 + length named) first second (omega arith) (omega (arith, wide)) second_torn alone);
             cell =
                 has_torn new.place (new.place + length buffer) second third third_torn (gate + 1)
-                (number new.generation ++ number (naming new.place))
+                (number new.generation ++ number (naming Two new.place))
                 (inl (omega (arith, ap length named_is, wide, range.1, free.0))) cell_there;
             checkpoint =
                 subst (λ (l : List ℕ). Has third new.place l) buffer_is (has_written second new.place buffer third third_is third_in);
@@ -232,15 +234,18 @@ module _ (header bytes : List ℕ) (state : State) (layout new : Layout) (body :
       let new_cell : cell_at new.cell ≡ gate = ap (λ (l : Layout). cell_at l.cell) way.is ∙ sym way.gate_is in
       let new_other : cell_at (other_of new.cell) ≡ cell_at layout.cell =
       ap (λ (l : Layout). cell_at (other_of l.cell)) way.is ∙ ap cell_at (other_other layout.cell) in
+      let version : new.version ≡ Two = ap (λ (l : Layout). l.version) way.is in
       let generation : new.generation ≡ next layout.generation = ap (λ (l : Layout). l.generation) way.is in
       let end : new.gate ≡ new.place + 16 + length body =
       ap (λ (l : Layout). l.gate) way.is ∙ ap (λ (l : Layout). l.place + 16 + length body) (sym way.is) in
       let cell = cell_torn gate (gate + 1) i j torn header layout (omega (arith, range.0))
       (elim apart [ inl before ↦ inl (omega arith) | inr after ↦ inr (omega arith) ]) is.cell in
       let cell_there =
-      has_torn gate (gate + 1) i j torn (gate + 1) (number new.generation ++ number (naming new.place)) (inr (omega arith)) ready.cell in
+      has_torn gate (gate + 1) i j torn (gate + 1) (number new.generation ++ number (naming Two new.place))
+      (inr (omega arith)) ready.cell in
       let place_there =
-      has_right j (gate + 1) (gate + 9) (number new.generation) (number (naming new.place)) (omega (arith, length-number new.generation))
+      has_right j (gate + 1) (gate + 9) (number new.generation) (number (naming Two new.place))
+      (omega (arith, length-number new.generation))
       cell_there in
       let all =
       has_torn gate (gate + 1) i j torn new.place (spelled body ++ (number layout.count ++ 0 ∷ []))
@@ -257,6 +262,7 @@ module _ (header bytes : List ℕ) (state : State) (layout new : Layout) (body :
       let limit : new.gate < 2 ^ 62 = omega (arith, ready.limit, last.inside, torn.no_longer, range.1, ready.alone.in_force.cell.room) in
       elim (cases_eq (get_or j gate 0) 165) [
         | inl is_open ↦ inr (record {
+          version = version;
           cell = record {
             header_size = cell.header_size;
             room = cell.room;
@@ -265,10 +271,11 @@ module _ (header bytes : List ℕ) (state : State) (layout new : Layout) (body :
             gate = ap (λ (n : ℕ). get_or j n 0) new_cell ∙ is_open;
             generation =
                 ap (λ (n : ℕ). number_at j (n + 1)) new_cell
-                ∙ has_number_first j (gate + 1) new.generation (number (naming new.place)) (omega (arith, generation)) cell_there;
+                ∙ has_number_first j (gate + 1) new.generation (number (naming Two new.place)) (omega (arith, generation)) cell_there;
             place =
                 ap (λ (n : ℕ). number_at j (n + 9)) new_cell
-                ∙ has_number j (gate + 9) (naming new.place) (omega (arith, end, limit)) place_there;
+                ∙ has_number j (gate + 9) (naming Two new.place) (omega (arith, end, limit)) place_there
+                ∙ ap (λ (v : Version). naming v new.place) (sym version);
           };
           checkpoint = record {
             past = free.0;
@@ -327,7 +334,7 @@ module _ (header bytes : List ℕ) (state : State) (layout new : Layout) (body :
         let named : IsOther now (cell_at layout.cell) new.generation (Some layout.place) = (
           cell.gate,
           generation ∙ ap next (sym cell.generation),
-          ap place_named cell.place ∙ naming_back layout.place (omega (arith, checkpoint.end, checkpoint.limit)),
+          ap place_named cell.place ∙ place_back layout.version layout.place (omega (arith, checkpoint.end, checkpoint.limit)),
         ) in
         record {
           in_force = new_one;

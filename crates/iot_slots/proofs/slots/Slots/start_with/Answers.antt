@@ -7,7 +7,7 @@ use Rattle.iot_slots.proofs.slots.Slots.start_with.Goals as goal
 pub returns-in-Ok-clause-same : goal.returns-in-Ok-clause-same
 returns-in-Ok-clause-same g c =
     ap state_of (laid_encodes _ _ _ _ c.in-Ok.ensures.laid_out)
-    ∙ ap (λ (l : List ℕ). state_in l c.in-Ok.found.bodies c.in-Ok.found.layout.count) (sym c.from.ensures)
+    ∙ ap (λ (l : List ℕ). state_in c.in-Ok.found.layout.version l c.in-Ok.found.bodies c.in-Ok.found.layout.count) (sym c.from.ensures)
 
 pub returns-in-Ok-clause-synced : goal.returns-in-Ok-clause-synced
 returns-in-Ok-clause-synced g c = synced _ _ _ c.in-Ok.ensures.durable c.in-Ok.ensures.laid_out
