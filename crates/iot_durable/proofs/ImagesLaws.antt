@@ -1,12 +1,15 @@
 -- What the bytes of a disk and its images stand for, by what they encode.
-use Rattle.std.proofs.Common.{◌≡◌, ◌≢◌, ℕ, List, [], inl, inr, refl, sym, ap, ◌∙◌, subst}
+use Rattle.std.proofs.Common.{◌≡◌, ◌≢◌, ℕ, List, [], ◌∷◌, ◌++◌, inl, inr, refl, sym, ap, ◌∙◌, subst}
 use Rattle.iot_disk.specs.Disk.{Only, SameImages}
 use Rattle.iot_slots.specs.Cells.{next}
 use Rattle.iot_slots.specs.Decoding.{Decoded, Encodes, NotStarted, Foreign, Damaged, State, decoded, opened, state_in, state_of}
 use Rattle.iot_slots.specs.Slots.{appended, renewed, EachEncodes, EachEncodesEither}
 use Rattle.iot_slots.specs.Start.{EachEncodesAs}
+use Rattle.iot_slots.specs.declared.version.Version.{Version}
+use Rattle.iot_slots.specs.declared.version.Version.TheVariants.{Two}
 use Rattle.iot_durable.specs.Rules.{Rules}
-use Rattle.iot_durable.specs.Standing.{Makes, MakesBy, StandFor, StandWith, EachStands, EachStandsEither, EachStays, header, records_in}
+use Rattle.iot_durable.specs.Standing.{Makes, MakesOf, MakesBy, IsNext, StandFor, StandWith, EachStands, EachStandsEither, EachStays}
+use Rattle.iot_durable.specs.Standing.{header, records_in}
 use Rattle.iot_durable.specs.Standing.{IsAlone, IsRenewed}
 use Rattle.iot_durable.proofs.StandingLaws.{leads_push}
 
@@ -28,22 +31,22 @@ start_count first d encoded is = sym (opened_count first d) ∙ ap (λ (o : Deco
 pub not_both : (d : Decoded) (state : State) → d ≡ NotStarted → d ≡ Encodes state → ⊥
 not_both d state none is = let clash : NotStarted ≡ Encodes state = sym none ∙ is in absurd cc
 
-module _ {S C : Type 0} (rules : Rules S C) where
+module _ {S C : Type 0} (rules : Version → Rules S C) where
   -- ---- of what is encoded
 
   -- a checkpoint of the whole state
-  pub makes_whole : (body : List ℕ) (now : S) → rules.IsBody body now → Makes rules body [] now
+  pub makes_whole : (body : List ℕ) (now : S) → (rules Two).IsBody body now → Makes (rules Two) body [] now
   makes_whole body now spells = record { start = now; spells = spells; leads = refl }
 
   pub one_makes : (image : List ℕ) (encoded : State) (count : ℕ) (now : S) → decoded header image ≡ Encodes encoded →
-      encoded.count ≡ count → Makes rules encoded.body encoded.bodies now → StandWith rules image count now
+      encoded.count ≡ count → MakesOf rules encoded now → StandWith rules image count now
   one_makes image encoded count now is counted makes = record {
     stands = record { decoding = Encodes encoded; is = is; makes = makes };
     counted = ap (λ (d : Decoded). (state_of d).count) is ∙ counted;
   }
 
   pub each_makes : (head : List ℕ) (images : List ℕ → Type 0) (encoded : State) (count : ℕ) (now : S) → head ≡ header →
-      EachEncodes head images encoded → encoded.count ≡ count → Makes rules encoded.body encoded.bodies now →
+      EachEncodes head images encoded → encoded.count ≡ count → MakesOf rules encoded now →
       EachStands rules images count now
   each_makes head images encoded count now is encodes counted makes = record {
     each = λ image left.
@@ -54,7 +57,7 @@ module _ {S C : Type 0} (rules : Rules S C) where
   -- one record more
   pub either_makes : (head : List ℕ) (images : List ℕ → Type 0) (encoded : State) (body : List ℕ) (count : ℕ) (old new : S) →
       head ≡ header → EachEncodesEither head images encoded (appended encoded body) → encoded.count ≡ count →
-      Makes rules encoded.body encoded.bodies old → Makes rules (appended encoded body).body (appended encoded body).bodies new →
+      MakesOf rules encoded old → MakesOf rules (appended encoded body) new →
       EachStandsEither rules images count old new
   either_makes head images encoded body count old new is encodes counted makes_old makes_new = record {
     each = λ image left.
@@ -68,7 +71,7 @@ module _ {S C : Type 0} (rules : Rules S C) where
   -- a checkpoint of the whole
   pub both_make : (head : List ℕ) (images : List ℕ → Type 0) (encoded : State) (body : List ℕ) (count : ℕ) (now : S) →
       head ≡ header → EachEncodesEither head images encoded (renewed encoded body) → encoded.count ≡ count →
-      Makes rules encoded.body encoded.bodies now → rules.IsBody body now → EachStands rules images count now
+      MakesOf rules encoded now → (rules Two).IsBody body now → EachStands rules images count now
   both_make head images encoded body count now is encodes counted makes spells = record {
     each = λ image left.
         let head_is = ap (λ (h : List ℕ). decoded h image) (sym is) in
@@ -82,7 +85,7 @@ module _ {S C : Type 0} (rules : Rules S C) where
 
   -- nothing was done
   pub idle_stays : (head bytes : List ℕ) (images : List ℕ → Type 0) (was : State) (count : ℕ) (now : S) → head ≡ header →
-      Only bytes images → decoded head bytes ≡ Encodes was → was.count ≡ count → Makes rules was.body was.bodies now →
+      Only bytes images → decoded head bytes ≡ Encodes was → was.count ≡ count → MakesOf rules was now →
       EachStays rules images count was now
   idle_stays head bytes images was count now is only encodes counted makes =
       let each : EachEncodes head images was = record { each = λ image left. ap (decoded head) (only.is image left) ∙ encodes } in
@@ -93,8 +96,8 @@ module _ {S C : Type 0} (rules : Rules S C) where
 
   -- a checkpoint of the whole, or none
   pub both_stay : (head : List ℕ) (images : List ℕ → Type 0) (was : State) (body : List ℕ) (count : ℕ) (now : S) → head ≡ header →
-      EachEncodesEither head images was (renewed was body) → was.count ≡ count → Makes rules was.body was.bodies now →
-      rules.IsBody body now → EachStays rules images count was now
+      EachEncodesEither head images was (renewed was body) → was.count ≡ count → MakesOf rules was now →
+      (rules Two).IsBody body now → EachStays rules images count was now
   both_stay head images was body count now is encodes counted makes spells = record {
     stands = both_make head images was body count now is encodes counted makes spells;
     encodes = λ image left.
@@ -124,48 +127,53 @@ module _ {S C : Type 0} (rules : Rules S C) where
   }
 
   -- one record more
-  pub makes_push : (encoded : State) (body : List ℕ) (change : C) (now : S) → Makes rules encoded.body encoded.bodies now →
-      rules.IsRecord body change → rules.CanFollow now change →
-      Makes rules (appended encoded body).body (appended encoded body).bodies (rules.after now change)
-  makes_push encoded body change now makes is follows = record {
-    start = makes.start;
-    spells = makes.spells;
-    leads = leads_push rules encoded.bodies makes.start now body change makes.leads is follows;
-  }
+  pub makes_push : (encoded : State) (body : List ℕ) (change : C) (now : S) → MakesOf rules encoded now → IsNext rules encoded body change →
+      (rules Two).CanFollow now change → MakesOf rules (appended encoded body) ((rules Two).after now change)
+  makes_push encoded body change now makes next follows =
+      subst (λ (v : Version). Makes (rules v) encoded.body (encoded.bodies ++ body ∷ []) ((rules Two).after now change)) (sym next.version)
+      (push (subst (λ (v : Version). Makes (rules v) encoded.body encoded.bodies now) next.version makes))
+    where
+      push : Makes (rules Two) encoded.body encoded.bodies now →
+          Makes (rules Two) encoded.body (encoded.bodies ++ body ∷ []) ((rules Two).after now change)
+      push two = record {
+        start = two.start;
+        spells = two.spells;
+        leads = leads_push (rules Two) encoded.bodies two.start now body change two.leads next.spells follows;
+      }
 
-  pub makes_same : (one other : State) (a b : S) → one ≡ other → a ≡ b → Makes rules other.body other.bodies b →
-      Makes rules one.body one.bodies a
+  pub makes_same : (one other : State) (a b : S) → one ≡ other → a ≡ b → MakesOf rules other b →
+      MakesOf rules one a
   makes_same one other a b same now makes =
-      subst (λ (e : State). Makes rules e.body e.bodies a) (sym same)
-      (subst (λ (s : S). Makes rules other.body other.bodies s) (sym now) makes)
+      subst (λ (e : State). MakesOf rules e a) (sym same)
+      (subst (λ (s : S). MakesOf rules other s) (sym now) makes)
 
   -- ---- of a start
 
-  module _ (first : List ℕ) (spells : rules.IsBody first rules.opening) where
+  module _ (first : List ℕ) (spells : (rules Two).IsBody first (rules Two).opening) where
     -- what is opened is a disk that encodes this, or one that is not started
     pub stands_made : (d : Decoded) (encoded : State) (now : S) → opened first d ≡ Encodes encoded → MakesBy rules d now →
-        Makes rules encoded.body encoded.bodies now
-    stands_made (Encodes state) encoded now is makes = subst (λ (e : State). Makes rules e.body e.bodies now) (ap state_of is) makes
+        MakesOf rules encoded now
+    stands_made (Encodes state) encoded now is makes = subst (λ (e : State). MakesOf rules e now) (ap state_of is) makes
     stands_made NotStarted encoded now is makes =
-        subst (λ (e : State). Makes rules e.body e.bodies now) (ap state_of is)
-        (subst (λ (s : S). Makes rules first [] s) (sym makes) (makes_whole first rules.opening spells))
+        subst (λ (e : State). MakesOf rules e now) (ap state_of is)
+        (subst (λ (s : S). Makes (rules Two) first [] s) (sym makes) (makes_whole first (rules Two).opening spells))
     stands_made Foreign encoded now is makes = absurd makes
     stands_made (Damaged at) encoded now is makes = absurd makes
 
     pub made_stands : (d : Decoded) (encoded : State) (now : S) → opened first d ≡ Encodes encoded →
-        ((state : S) → Makes rules encoded.body encoded.bodies state → now ≡ state) → Makes rules encoded.body encoded.bodies now →
+        ((state : S) → MakesOf rules encoded state → now ≡ state) → MakesOf rules encoded now →
         MakesBy rules d now
     made_stands (Encodes state) encoded now is only makes =
-        subst (λ (e : State). Makes rules e.body e.bodies now) (sym (ap state_of is)) makes
+        subst (λ (e : State). MakesOf rules e now) (sym (ap state_of is)) makes
     made_stands NotStarted encoded now is only makes =
-        only rules.opening (stands_made NotStarted encoded rules.opening is refl)
+        only (rules Two).opening (stands_made NotStarted encoded (rules Two).opening is refl)
     made_stands Foreign encoded now is only makes = absurd cc
     made_stands (Damaged at) encoded now is only makes = absurd cc
 
     -- an image that was opened alike, of a disk that was not started
-    fresh_stands : (d : Decoded) → opened first d ≡ Encodes (state_in first [] 0) → MakesBy rules d rules.opening
+    fresh_stands : (d : Decoded) → opened first d ≡ Encodes (state_in Two first [] 0) → MakesBy rules d (rules Two).opening
     fresh_stands (Encodes state) is =
-        subst (λ (e : State). Makes rules e.body e.bodies rules.opening) (sym (ap state_of is)) (makes_whole first rules.opening spells)
+        subst (λ (e : State). MakesOf rules e (rules Two).opening) (sym (ap state_of is)) (makes_whole first (rules Two).opening spells)
     fresh_stands NotStarted is = refl
     fresh_stands Foreign is = absurd cc
     fresh_stands (Damaged at) is = absurd cc

@@ -1,20 +1,21 @@
 -- What bytes stand for, by what is lent out of them.
-use Rattle.std.proofs.Common.{◌≡◌, ℕ, List, Option, Some, sym, ◌∙◌, subst}
+use Rattle.std.proofs.Common.{◌≡◌, ℕ, List, Option, Some, sym, ap, ◌∙◌, subst}
 use Rattle.std.specs.Prelude.{IfSome}
 use Rattle.iot_disk.specs.declared.faults.StartFault.{StartFault}
 use Rattle.iot_disk.specs.declared.faults.StartFault.TheVariants as fault
-use Rattle.iot_slots.specs.Decoding.{Decoded, Encodes, Foreign, State, decoded, state_in}
+use Rattle.iot_slots.specs.Decoding.{Decoded, Encodes, Foreign, State, decoded, state_in, state_of}
 use Rattle.iot_slots.specs.Layouts.{IsLaidOut, place_in}
 use Rattle.iot_slots.specs.declared.decoding.SlotsView.{SlotsView}
 use Rattle.iot_slots.proofs.LayoutsLaws.{laid_encodes, laid_place}
+use Rattle.iot_slots.specs.declared.version.Version.{Version}
 use Rattle.iot_durable.specs.Rules.{Rules}
-use Rattle.iot_durable.specs.Standing.{Makes, MakesBy, StandFor, header}
+use Rattle.iot_durable.specs.Standing.{MakesOf, MakesBy, StandFor, StandWith, header}
 use Rattle.iot_durable.specs.Damage.{BreaksAt, DamageBy, IsDamagedAt}
 use Rattle.iot_durable.specs.Causes.{IsReason, IsRefusal}
 
 -- what a view lends
 abbrev pub encoded_in : SlotsView → State
-encoded_in view = state_in view.body.now view.records view.layout.count
+encoded_in view = state_in view.layout.version view.body.now view.records view.layout.count
 
 -- a view that was lent is laid out so
 pub lent_laid : (bytes : List ℕ) (found : Option SlotsView) (view : SlotsView) → found ≡ Some view →
@@ -22,7 +23,7 @@ pub lent_laid : (bytes : List ℕ) (found : Option SlotsView) (view : SlotsView)
 lent_laid bytes found view is laid =
     subst (λ (o : Option SlotsView). IfSome o (λ lent. IsLaidOut header bytes (encoded_in lent) lent.layout)) is laid
 
-module _ {S C : Type 0} (rules : Rules S C) (bytes : List ℕ) where
+module _ {S C : Type 0} (rules : Version → Rules S C) (bytes : List ℕ) where
   -- what they stand for, and where they are damaged, by what they encode
   makes_by : (d : Decoded) (now : S) → decoded header bytes ≡ d → StandFor rules bytes now → MakesBy rules d now
   makes_by d now is stands = subst (λ (e : Decoded). MakesBy rules e now) (sym stands.is ∙ is) stands.makes
@@ -45,25 +46,30 @@ module _ {S C : Type 0} (rules : Rules S C) (bytes : List ℕ) where
     here : place ≡ place_in bytes
     here = laid_place header bytes encoded view.layout laid
 
-    pub read_stands : (now : S) → Makes rules encoded.body encoded.bodies now → StandFor rules bytes now
-    read_stands now makes = record { decoding = Encodes encoded; is = is; makes = makes }
+    pub read_stands : (now : S) → MakesOf rules encoded now → StandWith rules bytes view.layout.count now
+    read_stands now makes = record {
+      stands = record { decoding = Encodes encoded; is = is; makes = makes };
+      counted = ap (λ (d : Decoded). (state_of d).count) is;
+    }
 
-    pub stands_read : (now : S) → StandFor rules bytes now → Makes rules encoded.body encoded.bodies now
+    pub stands_read : (now : S) → StandFor rules bytes now → MakesOf rules encoded now
     stands_read now stands = makes_by (Encodes encoded) now is stands
 
-    pub refuses_read : (why : StartFault) → IsReason rules why encoded.body encoded.bodies place → IsRefusal rules why bytes
+    pub refuses_read : (why : StartFault) → IsReason (rules encoded.version) why encoded.body encoded.bodies place
+        → IsRefusal rules why bytes
     refuses_read fault.NoMemory reason = tt
     refuses_read fault.Stopped reason = reason
     refuses_read fault.Foreign reason = absurd reason
     refuses_read (fault.Damaged at) reason = record {
       decoding = Encodes encoded;
       is = is;
-      damage = subst (λ (p : ℕ). BreaksAt rules encoded.body encoded.bodies p at) here reason;
+      damage = subst (λ (p : ℕ). BreaksAt (rules encoded.version) encoded.body encoded.bodies p at) here reason;
     }
 
-    pub damage_read : (at : ℕ) → IsDamagedAt rules bytes at → BreaksAt rules encoded.body encoded.bodies place at
+    pub damage_read : (at : ℕ) → IsDamagedAt rules bytes at → BreaksAt (rules encoded.version) encoded.body encoded.bodies place at
     damage_read at damage =
-        subst (λ (p : ℕ). BreaksAt rules encoded.body encoded.bodies p at) (sym here) (damage_by (Encodes encoded) at is damage)
+        subst (λ (p : ℕ). BreaksAt (rules encoded.version) encoded.body encoded.bodies p at) (sym here)
+        (damage_by (Encodes encoded) at is damage)
 
     pub read_not_foreign : decoded header bytes ≡ Foreign → ⊥
     read_not_foreign foreign = let clash : Encodes encoded ≡ Foreign = sym is ∙ foreign in absurd cc

@@ -4,6 +4,7 @@ use Rattle.iot_count.specs.Counts.{Rose, Stayed}
 use Rattle.iot_disk.specs.declared.faults.StartFault.{StartFault}
 use Rattle.iot_disk.specs.declared.faults.StartFault.TheVariants as fault
 use Rattle.iot_slots.specs.Decoding.{Foreign, decoded}
+use Rattle.iot_slots.specs.declared.version.Version.{Version}
 use Rattle.iot_durable.specs.Rules.{Rules}
 use Rattle.iot_durable.specs.Standing.{header}
 use Rattle.iot_durable.specs.Damage.{BreaksAt, IsDamagedAt}
@@ -29,7 +30,7 @@ SaysDamaged at fault.Stopped = Unit {0}
 SaysDamaged at fault.Foreign = ⊥
 SaysDamaged at (fault.Damaged there) = there ≡ at
 
-module _ {S C : Type 0} (rules : Rules S C) where
+module _ {S C : Type 0} (rules : Version → Rules S C) where
   -- by the fault: what the disk's bytes are, and its count of faults before and now
   abbrev pub HasCause : StartFault → List ℕ → ℕ → ℕ → Type 0
   HasCause fault.NoMemory bytes before now = Stayed before now
@@ -44,6 +45,7 @@ module _ {S C : Type 0} (rules : Rules S C) where
   IsRefusal fault.Foreign bytes = decoded header bytes ≡ Foreign
   IsRefusal (fault.Damaged at) bytes = IsDamagedAt rules bytes at
 
+module _ {S C : Type 0} (rules : Rules S C) where
   -- why a checkpoint at this place and the records after it make no state, or memory for what they hold ran out
   abbrev pub IsReason : StartFault → (body : List ℕ) → (bodies : List (List ℕ)) → (place : ℕ) → Type 0
   IsReason fault.NoMemory body bodies place = Unit {0}

@@ -3,6 +3,7 @@ use Rattle.std.specs.Prelude.{◌≡◌, ◌⊎◌, ℕ, ◌+◌, List, ◌∷�
 use Rattle.iot_records.specs.Records.{records}
 use Rattle.iot_slots.specs.Decoding.{Decoded, Encodes, NotStarted, Foreign, Damaged, decoded}
 use Rattle.iot_slots.specs.Layouts.{place_in}
+use Rattle.iot_slots.specs.declared.version.Version.{Version}
 use Rattle.iot_durable.specs.Rules.{Rules, CannotFollow}
 use Rattle.iot_durable.specs.Standing.{Leads, header}
 
@@ -33,9 +34,10 @@ module _ {S C : Type 0} (rules : Rules S C) where
   abbrev pub BreaksAt : (body : List ℕ) → (bodies : List (List ℕ)) → (place at : ℕ) → Type 0
   BreaksAt body bodies place at = HasNoState body place at ⊎ HasBadRecord body bodies place at
 
+module _ {S C : Type 0} (rules : Version → Rules S C) where
   -- what the bytes encode is damaged there, if the checkpoint in force is at this place
   abbrev pub DamageBy : Decoded → (place at : ℕ) → Type 0
-  DamageBy (Encodes encoded) place at = BreaksAt encoded.body encoded.bodies place at
+  DamageBy (Encodes encoded) place at = BreaksAt (rules encoded.version) encoded.body encoded.bodies place at
   DamageBy NotStarted place at = ⊥
   DamageBy Foreign place at = ⊥
   DamageBy (Damaged there) place at = at ≡ there

@@ -1,4 +1,4 @@
--- What is kept on a disk: states and changes, and how both are spelled.
+-- What is kept on a disk: states and changes, and how both are spelled in one version of the format.
 use Rattle.std.specs.Prelude.{◌≡◌, ℕ, Bool, true, false, List, Option, Some, None}
 
 -- The state with which a disk begins, and which bytes spell the whole of a state. Which changes have a spelling, and which bytes spell

@@ -3,7 +3,9 @@ use Rattle.std.specs.Prelude.{◌≡◌, ◌⊎◌, ℕ, List, [], ◌∷◌, co
 use Rattle.iot_slots.specs.Cells.{next}
 use Rattle.iot_slots.specs.Decoding.{Decoded, Encodes, NotStarted, Foreign, Damaged, State, decoded, state_in, state_of}
 use Rattle.iot_slots.specs.Slots.{appended, renewed, EachEncodesEither}
-use Rattle.iot_slots.specs.Start.{started_over}
+use Rattle.iot_slots.specs.Start.{started, started_over}
+use Rattle.iot_slots.specs.declared.version.Version.{Version}
+use Rattle.iot_slots.specs.declared.version.Version.TheVariants.{Two}
 use Rattle.iot_durable.specs.Rules.{Rules}
 
 -- what follows byte 0 of a disk
@@ -27,10 +29,15 @@ module _ {S C : Type 0} (rules : Rules S C) where
     pub spells : rules.IsBody body start
     pub leads : Leads bodies start now
 
+module _ {S C : Type 0} (rules : Version → Rules S C) where
+  -- what is encoded makes the state, by the rules of its version
+  abbrev pub MakesOf : State → S → Type 0
+  MakesOf encoded now = Makes (rules encoded.version) encoded.body encoded.bodies now
+
   -- what the bytes of a disk encode makes the state; a disk that is not started makes the opening state
   abbrev pub MakesBy : Decoded → S → Type 0
-  MakesBy (Encodes encoded) now = Makes encoded.body encoded.bodies now
-  MakesBy NotStarted now = now ≡ rules.opening
+  MakesBy (Encodes encoded) now = MakesOf encoded now
+  MakesBy NotStarted now = now ≡ (rules Two).opening
   MakesBy Foreign now = ⊥
   MakesBy (Damaged at) now = ⊥
 
@@ -58,7 +65,7 @@ module _ {S C : Type 0} (rules : Rules S C) where
   -- a checkpoint of the state alone in the place of what was encoded
   pub record IsAlone (was : State) (now : S) (encoded : State) : Type 0 where
     pub body : List ℕ
-    pub spells : rules.IsBody body now
+    pub spells : (rules Two).IsBody body now
     pub is : encoded ≡ renewed was body
 
   -- what was encoded, or that
@@ -70,16 +77,21 @@ module _ {S C : Type 0} (rules : Rules S C) where
     pub stands : EachStands images count now
     pub encodes : (image : List ℕ) → images image → (encoded : State) × (decoded header image ≡ Encodes encoded) × IsRenewed was now encoded
 
+  -- the body spells the change, and what it is to follow is of version 2 as well
+  pub record IsNext (before : State) (body : List ℕ) (change : C) : Type 0 where
+    pub version : before.version ≡ Two
+    pub spells : (rules Two).IsRecord body change
+
   -- each image encodes what was there, or a checkpoint of the state alone; or such with one record more, which spells the change
   pub record EachGoes (images : List ℕ → Type 0) (was : State) (now : S) (change : C) : Type 0 where
     pub encodes : (image : List ℕ) → images image → (encoded : State) × IsRenewed was now encoded
         × ((decoded header image ≡ Encodes encoded)
-        ⊎ ((body : List ℕ) × rules.IsRecord body change × (decoded header image ≡ Encodes (appended encoded body))))
+        ⊎ ((body : List ℕ) × IsNext encoded body change × (decoded header image ≡ Encodes (appended encoded body))))
 
   -- each image is of a disk that is not started, or was just started with a checkpoint of the opening state
   pub record EachOpens (images : List ℕ → Type 0) : Type 0 where
     pub each : (image : List ℕ) → images image → (decoded header image ≡ NotStarted)
-        ⊎ ((body : List ℕ) × rules.IsBody body rules.opening × (decoded header image ≡ Encodes (state_in body [] 0)))
+        ⊎ ((body : List ℕ) × (rules Two).IsBody body (rules Two).opening × (decoded header image ≡ Encodes (state_in Two body [] 0)))
 
   -- What was on the disk, or a checkpoint of the state alone in its place, makes the state; and each image encodes that, or it and one
   -- record more, which spells the change.
@@ -87,12 +99,18 @@ module _ {S C : Type 0} (rules : Rules S C) where
     pub before : State
     pub body : List ℕ
     pub renews : IsRenewed was now before
-    pub makes : Makes before.body before.bodies now
-    pub spells : rules.IsRecord body change
+    pub makes : MakesOf before now
+    pub next : IsNext before body change
     pub either : EachEncodesEither header images before (appended before body)
+
+  -- the bytes of a disk that was just started with a checkpoint of this state alone, after so many records
+  pub record IsNew (now : S) (count : ℕ) (bytes : List ℕ) : Type 0 where
+    pub body : List ℕ
+    pub spells : (rules Two).IsBody body now
+    pub is : bytes ≡ started header body count
 
   -- the bytes of a disk that was just started with a checkpoint of the opening state, over those that were there
   pub record IsFresh (old new : List ℕ) : Type 0 where
     pub body : List ℕ
-    pub spells : rules.IsBody body rules.opening
+    pub spells : (rules Two).IsBody body (rules Two).opening
     pub is : new ≡ started_over header body old

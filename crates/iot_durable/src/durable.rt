@@ -8,6 +8,7 @@ ghost use Rattle.iot_slots.specs.Cells.{next};
 ghost use Rattle.iot_slots.specs.Decoding.{Foreign, NotStarted, decoded};
 ghost use Rattle.iot_slots.specs.Layouts.{MakesRoom};
 ghost use Rattle.iot_slots.specs.Slots as on_slots;
+ghost use Rattle.iot_slots.specs.declared.version.Version.TheVariants.{Two};
 ghost use Rattle.iot_durable.specs.Standing.{StandFor, StandWith, EachStands, EachStandsEither, EachStays, EachOpens};
 ghost use Rattle.iot_durable.specs.Standing.{IsAlone, IsRenewed, IsFresh, IsInDoubt, header, records_in};
 ghost use Rattle.iot_durable.specs.Causes.{HasCause, TakesBytes, SaysForeign, SaysDamaged};
@@ -117,6 +118,7 @@ impl<R: Recorded, D: Disk> Durable<R, D> {
         let layout = slots.layout();
         match replay(
             alloc,
+            layout.version,
             started.body.as_slice(),
             started.records.iter(),
             layout.place,
@@ -141,13 +143,13 @@ impl<R: Recorded, D: Disk> Durable<R, D> {
     /// the change. `StoppedInDoubt` if it failed in the record: each stands for the state before the change or for the one after it.
     pub fn note(&mut self, alloc: Global, change: R::Change) -> Result<(), NoteFault>
         requires synced { IsSynced D.medium R.rules R.kept R.IsSound self.old }
-        requires change { R.rules.IsChange change }
-        requires follows { R.rules.CanFollow (R.kept (memory_of self.old)) change }
+        requires change { (R.rules Two).IsChange change }
+        requires follows { (R.rules Two).CanFollow (R.kept (memory_of self.old)) change }
 
         // However this returns, each image stands for the state before, or for the one after with one record more: after Ok for the
         // latter, in doubt for either, and else for the former.
         ensures images { EachStandsEither R.rules (D.medium.may_leave (disk_of self.new)) (count_of self.old)
-            (R.kept (memory_of self.old)) (R.rules.after (R.kept (memory_of self.old)) change) }
+            (R.kept (memory_of self.old)) ((R.rules Two).after (R.kept (memory_of self.old)) change) }
         ensures no_memory { IsErrOf result NoteFault.NoMemory → EachStays R.rules (D.medium.may_leave (disk_of self.new))
             (count_of self.old) (encoded_on D.medium self.old) (R.kept (memory_of self.old)) }
         ensures before { IsErrOf result NoteFault.StoppedBefore → EachStays R.rules (D.medium.may_leave (disk_of self.new))
@@ -155,16 +157,16 @@ impl<R: Recorded, D: Disk> Durable<R, D> {
         ensures in_doubt { IsErrOf result NoteFault.StoppedInDoubt → IsInDoubt R.rules (D.medium.may_leave (disk_of self.new))
             (encoded_on D.medium self.old) (R.kept (memory_of self.old)) change }
         ensures noted { OnOk result (EachStands R.rules (D.medium.may_leave (disk_of self.new)) (next (count_of self.old))
-            (R.rules.after (R.kept (memory_of self.old)) change)) }
+            ((R.rules Two).after (R.kept (memory_of self.old)) change)) }
 
-        ensures state { OnOk result (R.kept (memory_of self.new) ≡ R.rules.after (R.kept (memory_of self.old)) change) }
+        ensures state { OnOk result (R.kept (memory_of self.new) ≡ (R.rules Two).after (R.kept (memory_of self.old)) change) }
         ensures makes { OnOk result (R.Makes (memory_of self.old) change (memory_of self.new)) }
         ensures synced { OnOk result (IsSynced D.medium R.rules R.kept R.IsSound self.new) }
 
         // A stop before the record leaves what is in memory; in doubt the change is made there.
         ensures before_memory { IsErrOf result NoteFault.StoppedBefore → memory_of self.new ≡ memory_of self.old }
         ensures doubt_memory { IsErrOf result NoteFault.StoppedInDoubt
-            → R.kept (memory_of self.new) ≡ R.rules.after (R.kept (memory_of self.old)) change }
+            → R.kept (memory_of self.new) ≡ (R.rules Two).after (R.kept (memory_of self.old)) change }
 
         // The last record on the disk is that of the change. Before it is what was there, or a checkpoint alone if one was due.
         ensures recorded { OnOk result (IsRecorded D.medium R.rules R.kept self.old self.new change) }
@@ -193,14 +195,14 @@ impl<R: Recorded, D: Disk> Durable<R, D> {
         body: &[u8],
     ) -> Result<(), NoteFault>
         requires synced { IsSynced D.medium R.rules R.kept R.IsSound self.old }
-        requires change { R.rules.IsChange change }
-        requires spelled { R.rules.IsRecord body.now change }
-        requires follows { R.rules.CanFollow (R.kept (memory_of self.old)) change }
+        requires change { (R.rules Two).IsChange change }
+        requires spelled { (R.rules Two).IsRecord body.now change }
+        requires follows { (R.rules Two).CanFollow (R.kept (memory_of self.old)) change }
 
         // However this returns, each image stands for the state before, or for the one after with one record more: after Ok for the
         // latter, in doubt for either, and else for the former.
         ensures images { EachStandsEither R.rules (D.medium.may_leave (disk_of self.new)) (count_of self.old)
-            (R.kept (memory_of self.old)) (R.rules.after (R.kept (memory_of self.old)) change) }
+            (R.kept (memory_of self.old)) ((R.rules Two).after (R.kept (memory_of self.old)) change) }
         ensures no_memory { IsErrOf result NoteFault.NoMemory → EachStays R.rules (D.medium.may_leave (disk_of self.new))
             (count_of self.old) (encoded_on D.medium self.old) (R.kept (memory_of self.old)) }
         ensures before { IsErrOf result NoteFault.StoppedBefore → EachStays R.rules (D.medium.may_leave (disk_of self.new))
@@ -208,16 +210,16 @@ impl<R: Recorded, D: Disk> Durable<R, D> {
         ensures in_doubt { IsErrOf result NoteFault.StoppedInDoubt → IsInDoubt R.rules (D.medium.may_leave (disk_of self.new))
             (encoded_on D.medium self.old) (R.kept (memory_of self.old)) change }
         ensures noted { OnOk result (EachStands R.rules (D.medium.may_leave (disk_of self.new)) (next (count_of self.old))
-            (R.rules.after (R.kept (memory_of self.old)) change)) }
+            ((R.rules Two).after (R.kept (memory_of self.old)) change)) }
 
-        ensures state { OnOk result (R.kept (memory_of self.new) ≡ R.rules.after (R.kept (memory_of self.old)) change) }
+        ensures state { OnOk result (R.kept (memory_of self.new) ≡ (R.rules Two).after (R.kept (memory_of self.old)) change) }
         ensures makes { OnOk result (R.Makes (memory_of self.old) change (memory_of self.new)) }
         ensures synced { OnOk result (IsSynced D.medium R.rules R.kept R.IsSound self.new) }
 
         // A stop before the record leaves what is in memory; in doubt the change is made there.
         ensures before_memory { IsErrOf result NoteFault.StoppedBefore → memory_of self.new ≡ memory_of self.old }
         ensures doubt_memory { IsErrOf result NoteFault.StoppedInDoubt
-            → R.kept (memory_of self.new) ≡ R.rules.after (R.kept (memory_of self.old)) change }
+            → R.kept (memory_of self.new) ≡ (R.rules Two).after (R.kept (memory_of self.old)) change }
 
         // The last record on the disk is that of the change. Before it is what was there, or a checkpoint alone if one was due.
         ensures recorded { OnOk result (IsRecorded D.medium R.rules R.kept self.old self.new change) }
@@ -337,7 +339,7 @@ impl<R: Recorded, D: Disk> Durable<R, D> {
 
 /// Spells the opening state.
 fn spell_opening<R: Recorded>(alloc: Global, out: &mut Text) -> Result<(), NoMemory>
-    ensures { OnOk result (R.rules.IsBody out.new R.rules.opening) }
+    ensures { OnOk result ((R.rules Two).IsBody out.new (R.rules Two).opening) }
 {
     R::opening(alloc)?.spell(out)
 }

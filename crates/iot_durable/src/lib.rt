@@ -10,5 +10,5 @@ mod replay;
 
 pub use durable::Durable;
 pub use fault::NoteFault;
-pub use image::read_image;
+pub use image::{Found, read_image, spell_disk};
 pub use recorded::Recorded;
