@@ -1,0 +1,7 @@
+mod ChangesLaws
+mod ClientsLaws
+mod FrontLaws
+pub mod OneLaws
+mod ReadingLaws
+mod RespellingLaws
+mod ServersLaws

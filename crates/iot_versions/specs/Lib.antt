@@ -1,0 +1,6 @@
+pub mod Decoding
+pub mod Laws
+pub mod Respelling
+pub mod Spelling
+pub mod Values
+pub mod Versions
