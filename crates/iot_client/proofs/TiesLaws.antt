@@ -25,8 +25,7 @@ use Rattle.iot_changes.specs.declared.changes.Change.TheVariants.{Repaired, Left
 use Rattle.iot_kept.specs.States.{Transaction, State, acts_of, after_each, after_items, view}
 use Rattle.iot_access.specs.Access.{no_access}
 use Rattle.iot_kept.specs.Changes.{CanFollow, with_acts, left, stage_by, stays_in, conflicted, repaired, after}
-use Rattle.iot_kept.specs.Memory.{transaction_of, class_of, class_after, classed, IsSecond}
-use Rattle.iot_kept.specs.declared.running.Running.{Running}
+use Rattle.iot_kept.specs.Memory.{class_after, classed}
 use Rattle.iot_kept.proofs.StatesLaws.{head_after, view_after}
 use Rattle.iot_client.specs.Calls.{ChangesHead}
 use Rattle.iot_client.specs.Doing.{Starts, IsAgain, IsAgainIfAny, Did, DidIfAny}

@@ -1,6 +1,6 @@
 -- What the calls of a client refuse, change and answer.
 use Rattle.std.specs.Prelude.{◌≡◌, ℕ, ◌+◌, ◌<◌, ◌||◌, Bool, true, false, List, [], ◌∷◌, drop, leb, length, if◌then◌else◌}
-use Rattle.std.specs.Prelude.{⊤, IsOk, IsSome, Option, Some, None, Result, Ok, Err}
+use Rattle.std.specs.Prelude.{⊤, IsSome, Option, Some, None, Result, Ok, Err}
 use Rattle.iot_access.specs.Access.{access_of}
 use Rattle.iot_acts.specs.Traces.{after_acts}
 use Rattle.iot_disk.specs.Disk.{Medium}

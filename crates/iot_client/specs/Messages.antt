@@ -1,5 +1,5 @@
 -- What a client sends to the server, and what it reads of the replies.
-use Rattle.std.specs.Prelude.{◌≡◌, ℕ, ⊤, Bool, if◌then◌else◌, length, List, [], ◌∷◌, Result, Ok, Err}
+use Rattle.std.specs.Prelude.{◌≡◌, ℕ, ⊤, Bool, length, List, [], ◌∷◌, Result, Ok, Err}
 use Rattle.std.specs.FinMap.{entries}
 use Rattle.std.specs.List.{list_all}
 use Rattle.iot_tree.specs.Snapshots.{is_known}

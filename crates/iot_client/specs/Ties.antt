@@ -1,5 +1,5 @@
 -- What contracts see of a client, and what ties its state to the run of its script.
-use Rattle.std.specs.Prelude.{◌≡◌, ℕ, ◌≤◌, Bool, true, false, List, [], length, Option, Some, None}
+use Rattle.std.specs.Prelude.{◌≡◌, ℕ, ◌≤◌, Bool, true, false, [], length, Option, Some, None}
 use Rattle.std.specs.FinMap.{empty}
 use Rattle.iot_disk.specs.Disk.{Medium}
 use Rattle.iot_tree.specs.declared.limits.TheConstants.{ACT_LIMIT}

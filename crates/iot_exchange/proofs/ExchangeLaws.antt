@@ -1,10 +1,13 @@
 -- An exchange of a client with the server; what a client asks for, and holds if it comes; and what it knows of its transactions.
-use Rattle.std.proofs.Common.{◌≡◌, ℕ, ◌+◌, List, ◌++◌, Option, Some, None, Result, Ok, Err, Bool, false, Vec, refl, sym, ap, subst, ◌∙◌, []}
+use Rattle.std.proofs.Common.{◌≡◌, ℕ, ◌+◌, List, ◌++◌, Option, Some, None, Result, Ok, Err, Bool, true, false, Vec, refl, sym, ap, subst, ◌∙◌, []}
 use Rattle.std.proofs.Common.{◌∷◌, is_some, ◌<◌, ◌^◌, length, map, arith}
 use Rattle.std.specs.Prelude.{IfErr}
 use Rattle.std.specs.declared.alloc.Global.{Global}
 use Rattle.iot_server_node.proofs.ServersLaws.{up_is}
 use Rattle.iot_standing.proofs.StatesLaws.{runs_is, waits_is}
+use Rattle.iot_link.specs.Links.{passage_by}
+use Rattle.iot_link.specs.declared.passages.Loss.{Loss}
+use Rattle.iot_link.specs.declared.passages.Loss.TheVariants as losses
 use Rattle.iot_exchange.specs.Words.{IsFree, passage, Passage, Away, RequestLost, ReplyLost, Both as Reaches, At, its_server, break}
 use Rattle.iot_exchange.specs.Words.{Handles, exchange_by, Brings, holds, HavingAnswered, ServesBy, Served, Relinked, after_passage, Nodes}
 use Rattle.iot_exchange.specs.Words.{Want, Item, State, Medium, Call, Declared, ClientState, Client, Commit, Pair, Node, Submission, Lends}
@@ -134,6 +137,19 @@ passed {medium = medium} {old} {new} up is after how = record {
   is = sym how ∙ is ∙ ap (passage old.link) up;
   after = subst (λ (r : Passage). Relinked medium (after_passage r) old new) how after;
 }
+
+-- a reply comes only of a server that is up
+reached_up : (link_up : Bool) (armed : Option Loss) (server_up : Bool) → passage_by link_up armed server_up ≡ Reaches → server_up ≡ true
+reached_up false armed server_up is = absurd cc
+reached_up true (Some losses.Request) server_up is = absurd cc
+reached_up true (Some losses.Reply) false is = absurd cc
+reached_up true (Some losses.Reply) true is = absurd cc
+reached_up true None false is = absurd cc
+reached_up true None true is = refl
+
+pub reached : {D : Type 0} {medium : Medium D} {old new : Laptop D} {server : ServerNode D} → Passed medium old new server Reaches
+    → is_up server ≡ true
+reached {old = old} {server = server} it = reached_up old.link.up old.link.armed (is_up server) (sym it.is)
 
 module _ {D : Type 0} {medium : Medium D} {old new : Laptop D} {server : ServerNode D} where
   module _ {scripts : List Declared} {names : List (List ℕ)} {c : ℕ} where

@@ -1,9 +1,8 @@
 -- Reads that guard an update, by the tests and by the definition.
 use Rattle.std.proofs.Common.{◌≡◌, ◌≢◌, ◌⊎◌, ℕ, ◌==◌, Bool, true, false, not, ◌&&◌, ◌||◌, List, [], ◌∷◌, length, get_or}
-use Rattle.std.proofs.Common.{drop, ◌<◌, ◌≤◌, ◌+◌, Option, Some, None, inl, inr, refl, ap, ◌∙◌, arith, bytes_eq}
+use Rattle.std.proofs.Common.{drop, ◌<◌, ◌+◌, Option, Some, None, inl, inr, refl, ap, ◌∙◌, arith, bytes_eq}
 use Rattle.std.proofs.lemmas.Bool.{and_from, and_parts, or_cases, or_left, or_right, both_ways, not_from_false}
 use Rattle.std.proofs.lemmas.Bool.{false_from_ne_true, eqb-true}
-use Rattle.std.proofs.lemmas.List.{drop_all}
 use Rattle.std.specs.List.{list_any}
 use Rattle.std.specs.Cmp.Lexicographic.{pointwise, pointwise_decides, bytes_decides}
 use Rattle.iot_tree.specs.Tree.{Path}
@@ -16,7 +15,8 @@ use Rattle.iot_tree.specs.declared.questions.Answer.{Answer}
 use Rattle.iot_tree.specs.declared.questions.Answer.TheVariants as answers
 use Rattle.iot_acts.specs.Paths.{parent_path, is_at_or_below}
 use Rattle.iot_acts.specs.Guards.{Asked, AskedFree, GuardsPut, GuardsRemove, GuardsMove, GuardsSetMode, MayRemove, MayMove, GuardsIfAny}
-use Rattle.iot_acts.specs.Guards.{over_file, over_contents, in_free, file_goes, empty_goes, file_to_file, dir_to_empty, any_to_free, over_on}
+use Rattle.iot_acts.specs.Guards.{over_file, over_contents, in_free, file_goes, empty_goes, file_to_file, dir_to_empty, any_to_free}
+use Rattle.iot_acts.specs.Guards.{over_on}
 use Rattle.iot_acts.specs.Guards.{over_off}
 use Rattle.iot_kept.specs.declared.guards.Saying.TheVariants as sayings
 use Rattle.iot_kept.specs.Guarding.{is_kind, is_contents, is_no_names, is_mode, is_said, says, said, is_free, is_root}

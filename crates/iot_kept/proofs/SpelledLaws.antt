@@ -1,30 +1,19 @@
 -- Changes that have spellings keep that all parts of a state have them.
-use Rattle.std.proofs.Common.{◌≡◌, ℕ, ◌<◌, List, [], ◌∷◌, ◌++◌, length, drop, Option, Some, None, bytes_eq}
-use Rattle.std.proofs.Common.{refl, sym, ◌∙◌, subst, arith, lit<, length-append}
-use Rattle.std.proofs.lemmas.Bool.{cond_both}
-use Rattle.std.proofs.lemmas.Option.{none-some}
-use Rattle.std.specs.List.{starts_with, AllByRecursion}
-use Rattle.std.specs.FinMap.{empty, entries, get-empty, get-entries}
+use Rattle.std.proofs.Common.{◌≡◌, ℕ, ◌<◌, List, [], ◌∷◌, ◌++◌, length, Option, Some, None}
+use Rattle.std.proofs.Common.{refl, sym, subst, arith, lit<, length-append}
+use Rattle.std.specs.List.{AllByRecursion}
 use Rattle.iot_text.specs.Names.{IsName}
-use Rattle.iot_text.specs.Paths.{IsPath, path_cmp}
-use Rattle.iot_text.proofs.PathsLaws.{IsPath-drop, IsPath-append}
-use Rattle.iot_tree.specs.Tree.{Path, Nodes, IsTree, root_alone}
-use Rattle.iot_tree.specs.Updates.{renamed, updated}
+use Rattle.iot_tree.specs.Tree.{Nodes, root_alone}
 use Rattle.iot_tree.specs.declared.access.Access.{Access}
 use Rattle.iot_tree.specs.declared.acts.Act.{Act}
 use Rattle.iot_tree.specs.declared.labels.OnConflict.{OnConflict}
 use Rattle.iot_tree.specs.declared.labels.OnConflict.TheVariants as options
 use Rattle.iot_tree.specs.declared.limits.TheConstants.{ACT_LIMIT}
-use Rattle.iot_tree.specs.declared.nodes.Node.{Node}
-use Rattle.iot_tree.specs.declared.nodes.Node.TheVariants.{Dir, File, FarDir}
+use Rattle.iot_tree.specs.declared.nodes.Node.TheVariants.{FarDir}
 use Rattle.iot_tree.specs.declared.updates.Update.{Update}
-use Rattle.iot_tree.specs.declared.updates.Update.TheVariants.{Put, MakeDir, Remove, Move}
-use Rattle.iot_tree.proofs.EachLaws.{EachNode, found_row, each_entry, each_inserted, each_removed, each_moved}
-use Rattle.iot_tree.proofs.RowLaws.{root_rows, root_map}
 use Rattle.iot_access.specs.Access.{no_access}
 use Rattle.iot_acts.specs.Traces.{ActsHold, FitsIfAny, after_update, after_acts}
-use Rattle.iot_acts.proofs.TraceLaws.{tree_after}
-use Rattle.iot_views.specs.Rules.{IsAccess, IsRow, IsUpdate, IsOptionalUpdate, IsAct, AreActs, IsTreeOfRows, IsBudget}
+use Rattle.iot_views.specs.Rules.{IsAccess, IsOptionalUpdate, IsAct, AreActs, IsTreeOfRows, IsBudget}
 use Rattle.iot_queue.specs.Queues.{with_head, staged}
 use Rattle.iot_queue.specs.declared.items.Item.{Item}
 use Rattle.iot_queue.specs.declared.items.Stage.{Stage}

@@ -1,16 +1,33 @@
--- Records, and the states for which images of a disk stand.
-use Rattle.std.proofs.Common.{◌≡◌, ◌<◌, ◌^◌, ℕ, List, length, sym}
-use Rattle.iot_wire.proofs.MessagesLaws.{call_one}
+-- Records of changes.
+use Rattle.std.proofs.Common.{◌≡◌, ◌<◌, ◌^◌, List, ℕ, length, Option, Some, None, Result, Ok, Err, sym, ap}
+use Rattle.std.specs.Prelude.{IfOk, IfSome}
 use Rattle.iot_changes.specs.Rules.{IsChange}
 use Rattle.iot_changes.specs.Spelling.{change_spelling}
 use Rattle.iot_changes.specs.declared.changes.Change.{Change}
-use Rattle.iot_changes.proofs.ChangesLaws.{change_laws}
-use Rattle.iot_kept.specs.Rules.{IsRecord}
+use Rattle.iot_slots.specs.declared.version.Version.{Version}
+use Rattle.iot_slots.specs.declared.version.Version.TheVariants.{One, Two}
+use Rattle.iot_versions.specs.Versions.{ReadsAs, SpellsChange}
+use Rattle.iot_versions.proofs.OneLaws.{change_one}
 
 -- the spelling of a change is its record
-pub is_record : (change : Change) (body : List ℕ) → IsChange change → body ≡ change_spelling change → IsRecord body change
+pub is_record : (change : Change) (body : List ℕ) → IsChange change → body ≡ change_spelling change → SpellsChange Two body change
 is_record change body has spelled = record { value = has; spelled = sym spelled }
 
--- a body is the spelling of one change at most
-pub record_alone : (body : List ℕ) (one other : Change) → length body < 2 ^ 64 → IsRecord body one → IsRecord body other → one ≡ other
-record_alone body one other short p q = call_one _ _ _ change_laws body short one other p q
+-- a change that is spelled has a spelling
+change_has : (version : Version) (body : List ℕ) (change : Change) → SpellsChange version body change → IsChange change
+change_has One body change is = is.value.0
+change_has Two body change is = is.value
+
+module _ {E : Type 0} (version : Version) (body : List ℕ) where
+  -- what was read is the change that is spelled
+  pub read_only : (result : Result (Option Change) E) → length body < 2 ^ 64 → IfOk result (ReadsAs (SpellsChange version body))
+      → (change : Change) → SpellsChange version body change → IfOk result (λ read. read ≡ Some change)
+  read_only (Ok (Some made)) short reads change is = ap Some (change_one version body made change short reads is)
+  read_only (Ok None) short reads change is = absurd (reads change is)
+  read_only (Err fault) short reads change is = tt
+
+  pub read_has : (result : Result (Option Change) E) → IfOk result (ReadsAs (SpellsChange version body))
+      → IfOk result (λ read. IfSome read IsChange)
+  read_has (Ok (Some made)) reads = change_has version body made reads
+  read_has (Ok None) reads = tt
+  read_has (Err fault) reads = tt

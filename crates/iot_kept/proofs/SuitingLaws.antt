@@ -1,12 +1,12 @@
 -- Acts that suit a tree in turn, and acts that hold in turn and are guarded.
-use Rattle.std.proofs.Common.{◌≡◌, List, [], ◌∷◌, refl}
+use Rattle.std.proofs.Common.{List, [], ◌∷◌}
 use Rattle.iot_tree.specs.Tree.{Nodes}
 use Rattle.iot_tree.specs.declared.acts.Act.{Act}
 use Rattle.iot_acts.specs.Guards.{AllGuarded}
 use Rattle.iot_acts.specs.Traces.{ActsHold, after_update, after_acts}
 use Rattle.iot_queue.specs.declared.items.Item.{Item}
-use Rattle.iot_kept.specs.Reading.{ActsSuit, EachSuit, AllSuit, after_turns}
-use Rattle.iot_kept.specs.States.{State, acts_of, after_each, after_items, EachHold, EachGuarded, AllHold, AreGuarded}
+use Rattle.iot_kept.specs.Reading.{ActsSuit, EachSuit, AllSuit}
+use Rattle.iot_kept.specs.States.{State, acts_of, after_items, EachHold, EachGuarded, AllHold, AreGuarded}
 
 suit_hold : (acts : List Act) (t : Nodes) → ActsSuit acts t → ActsHold t acts
 suit_hold [] t suit = tt

@@ -8,9 +8,10 @@ use Rattle.iot_queue.specs.declared.items.Item.{Item}
 use Rattle.iot_queue.specs.declared.items.Stage.{Stage}
 use Rattle.iot_queue.specs.declared.items.Stage.TheVariants as stages
 use Rattle.iot_bodies.specs.Rules.{IsStage, waiting_of}
-use Rattle.iot_bodies.specs.Spelling.{client_spelling}
 use Rattle.iot_bodies.specs.declared.client.ClientBody.{ClientBody}
 use Rattle.iot_bodies.specs.declared.client.Running.{Running}
+use Rattle.iot_slots.specs.declared.version.Version.{Version}
+use Rattle.iot_versions.specs.Versions.{SpellsClient}
 use Rattle.iot_kept.specs.Changes.{stage_by}
 use Rattle.iot_kept.specs.Spelled.{IsSpelledState}
 use Rattle.iot_kept.specs.States.{Transaction, State, AllHold, AreGuarded}
@@ -70,7 +71,7 @@ body_of state = record {
   last = state.last;
 }
 
--- the body spells the whole of this state
-pub record IsBody (body : List ℕ) (state : State) : Type 0 where
+-- the body spells the whole of this state, in this version
+pub record IsBody (version : Version) (body : List ℕ) (state : State) : Type 0 where
   pub value : IsState state
-  pub spelled : client_spelling (body_of state) ≡ body
+  pub spelled : SpellsClient version body (body_of state)

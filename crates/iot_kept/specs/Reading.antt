@@ -9,9 +9,6 @@ use Rattle.iot_acts.specs.Guards.{IsGuarded}
 use Rattle.iot_acts.specs.Traces.{ReadsHold, FitsIfAny, after_update, after_acts}
 use Rattle.iot_queue.specs.declared.items.Item.{Item}
 use Rattle.iot_queue.specs.declared.items.Stage.TheVariants as stages
-use Rattle.iot_wire.specs.Messages.{IsMessage}
-use Rattle.iot_bodies.specs.Rules.{IsClientBody}
-use Rattle.iot_bodies.specs.Spelling.{client_spelling}
 use Rattle.iot_bodies.specs.declared.client.ClientBody.{ClientBody}
 use Rattle.iot_bodies.specs.declared.client.Running.{Running}
 use Rattle.iot_bodies.specs.declared.client.Waiting.{Waiting}
@@ -20,11 +17,6 @@ use Rattle.iot_kept.specs.Memory.{durable_state, Sees}
 use Rattle.iot_kept.specs.States.{Transaction, State, acts_of, after_each, after_items, view}
 use Rattle.iot_kept.specs.declared.durable.Durable.{Durable}
 use Rattle.iot_kept.specs.declared.memory.Memory.{Memory}
-
--- the parts that the bytes spell, or none if they spell none
-abbrev pub IsReadAs : List ℕ → Option ClientBody → Type 0
-IsReadAs bytes (Some parts) = IsMessage IsClientBody client_spelling bytes parts
-IsReadAs bytes None = (parts : ClientBody) → IsMessage IsClientBody client_spelling bytes parts → ⊥
 
 -- ---- the state of parts
 

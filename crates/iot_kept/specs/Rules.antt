@@ -1,11 +1,11 @@
 -- How what is durable of a client is kept behind checkpoints.
-use Rattle.std.specs.Prelude.{◌≡◌, ℕ, List}
-use Rattle.iot_wire.specs.Messages.{IsMessage}
+use Rattle.std.specs.Prelude.{◌≡◌}
 use Rattle.iot_changes.specs.Rules.{IsChange}
-use Rattle.iot_changes.specs.Spelling.{change_spelling}
 use Rattle.iot_changes.specs.declared.changes.Change.{Change}
 use Rattle.iot_durable.specs.Rules.{Rules}
 use Rattle.iot_stamp.specs.Stamps.{nodes_of, unstamped}
+use Rattle.iot_slots.specs.declared.version.Version.{Version}
+use Rattle.iot_versions.specs.Versions.{SpellsChange}
 use Rattle.iot_kept.specs.Bodies.{IsBody, IsState}
 use Rattle.iot_kept.specs.Changes.{CanFollow, after}
 use Rattle.iot_kept.specs.Memory.{memory_state, class_of, class_after, IsSecond, Sees}
@@ -13,13 +13,16 @@ use Rattle.iot_kept.specs.Stamps.{restamped}
 use Rattle.iot_kept.specs.States.{State, opening}
 use Rattle.iot_kept.specs.declared.memory.Memory.{Memory}
 
--- the body is the spelling of this change
-abbrev pub IsRecord : List ℕ → Change → Type 0
-IsRecord body change = IsMessage IsChange change_spelling body change
-
--- the states are a client's, and what changes them are its changes
-abbrev pub rules : Rules State Change
-rules = record { opening = opening; IsBody = IsBody; IsChange = IsChange; IsRecord = IsRecord; CanFollow = CanFollow; after = after }
+-- the states are a client's, and what changes them are its changes; the versions differ only in how both are spelled
+abbrev pub rules : Version → Rules State Change
+rules version = record {
+  opening = opening;
+  IsBody = IsBody version;
+  IsChange = IsChange;
+  IsRecord = SpellsChange version;
+  CanFollow = CanFollow;
+  after = after;
+}
 
 -- what is in memory has a state that a client may have, and its view beside it
 pub record IsMemory (memory : Memory) : Type 0 where

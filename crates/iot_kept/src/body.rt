@@ -4,7 +4,7 @@ ghost use Rattle.iot_durable.specs.Rules.{IsThis};
 ghost use Rattle.iot_stamp.specs.Stamps.{nodes_of, unstamped};
 ghost use Rattle.iot_kept.specs.Bodies.{IsBody};
 ghost use Rattle.iot_kept.specs.Memory.{memory_state, durable_state, transaction_of, class_of, IsSecond};
-ghost use Rattle.iot_kept.specs.Reading.{IsReadAs, IsChecked, state_from, items_of, access_of, transaction_from};
+ghost use Rattle.iot_kept.specs.Reading.{IsChecked, state_from, items_of, access_of, transaction_from};
 ghost use Rattle.iot_kept.specs.Rules.{IsMemory, IsStarted};
 ghost use Rattle.iot_kept.specs.States.{State};
 
@@ -12,38 +12,32 @@ use crate::durable::Durable;
 use crate::memory::Memory;
 use crate::running::Running;
 use iot_access::of_nothing;
-use iot_bodies::{ClientBody, Running as Spelled, Waiting, read_client};
-use iot_codec::CodecFault;
+use iot_bodies::{ClientBody, Running as Spelled, Waiting};
 use iot_held::Held;
 use iot_queue::Queue;
+use iot_slots::Version;
 use iot_text::NoMemory;
 use iot_tree::{Access, Sequence};
+use iot_versions::read_client;
 use std::alloc::Global;
 use std::collections::VecDeque;
 
-/// What is in memory after a checkpoint with this body, if it spells the whole of a client's state.
-pub(crate) fn read_body(alloc: Global, body: &[u8]) -> Result<Option<Memory>, NoMemory>
-    ensures found { IfOk result (λ read. IfSome read (λ made. IsBody body.now (memory_state made))) }
-    ensures only { (state : State) → IsBody body.now state → IfOk result (IsThis memory_state state) }
+/// What is in memory after a checkpoint with this body, if it spells the whole of a client's state in this version.
+pub(crate) fn read_body(
+    alloc: Global,
+    version: Version,
+    body: &[u8],
+) -> Result<Option<Memory>, NoMemory>
+    ensures found { IfOk result (λ read. IfSome read (λ made. IsBody version body.now (memory_state made))) }
+    ensures only { (state : State) → IsBody version body.now state → IfOk result (IsThis memory_state state) }
     ensures sound { IfOk result (λ read. IfSome read IsMemory) }
     ensures fresh { IfOk result (λ read. IfSome read IsStarted) }
 {
-    let Some(parts) = read_parts(alloc, body)? else {
+    let Some(parts) = read_client(alloc, version, body)? else {
         return Ok(None);
     };
     let durable = durable_from(alloc, parts)?;
     checked(alloc, durable)
-}
-
-/// The parts that the body spells, if it spells some.
-fn read_parts(alloc: Global, body: &[u8]) -> Result<Option<ClientBody>, NoMemory>
-    ensures { IfOk result (IsReadAs body.now) }
-{
-    match read_client(alloc, body) {
-        Ok(parts) => Ok(Some(parts)),
-        Err(CodecFault::Malformed { .. }) => Ok(None),
-        Err(CodecFault::NoMemory) => Err(NoMemory),
-    }
 }
 
 /// The state of the parts, if it passes the tests beside those that the parts have passed: what was written by no client is refused.

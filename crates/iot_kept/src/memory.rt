@@ -8,6 +8,7 @@ ghost use Rattle.iot_kept.specs.States.{opening};
 ghost use Rattle.iot_kept.specs.Changes.{CanFollow, after, seen, FitsView};
 ghost use Rattle.iot_kept.specs.Memory.{memory_state, class_of, classed};
 ghost use Rattle.iot_kept.specs.Rules.{rules, ChangesMemory, IsMemory, IsStarted};
+ghost use Rattle.iot_slots.specs.declared.version.Version.TheVariants.{Two};
 
 use crate::durable::Durable;
 use iot_access::of_nothing;
@@ -84,7 +85,7 @@ impl Memory {
     pub(crate) fn replay(&mut self, alloc: Global, change: Change) -> Result<bool, NoMemory>
         requires sound { IsMemory self.old }
         requires change { IsChange change }
-        ensures follows { IfOk result (λ follows. FollowsIf rules follows change (memory_state self.old) (memory_state self.new)) }
+        ensures follows { IfOk result (λ follows. FollowsIf (rules Two) follows change (memory_state self.old) (memory_state self.new)) }
         ensures sound { IfOk result (λ follows. follows ≡ true → IsMemory self.new) }
         ensures fresh { IfOk result (λ follows. follows ≡ true → IsStarted self.old → IsStarted self.new) }
     {

@@ -9,10 +9,11 @@ use crate::body::read_body;
 use crate::memory::Memory;
 use crate::running::{acts_of, order_of};
 use iot_bodies::put_client;
-use iot_changes::{Change, put_change, read_change};
-use iot_codec::CodecFault;
+use iot_changes::{Change, put_change};
 use iot_durable::Recorded;
+use iot_slots::Version;
 use iot_text::{NoMemory, Text};
+use iot_versions::read_change;
 use std::alloc::Global;
 
 impl Recorded for Memory {
@@ -48,8 +49,8 @@ impl Recorded for Memory {
         )
     }
 
-    fn read(alloc: Global, body: &[u8]) -> Result<Option<Memory>, NoMemory> {
-        read_body(alloc, body)
+    fn read(alloc: Global, version: Version, body: &[u8]) -> Result<Option<Memory>, NoMemory> {
+        read_body(alloc, version, body)
     }
 
     fn spell_change(change: &Change, out: &mut Text) -> Result<(), NoMemory> {
@@ -57,8 +58,8 @@ impl Recorded for Memory {
         put_change(change, out)
     }
 
-    fn follow(&mut self, alloc: Global, body: &[u8]) -> Result<bool, NoMemory> {
-        match read(alloc, body)? {
+    fn follow(&mut self, alloc: Global, version: Version, body: &[u8]) -> Result<bool, NoMemory> {
+        match read(alloc, version, body)? {
             Some(change) => self.replay(alloc, change),
             None => Ok(false),
         }
@@ -69,17 +70,13 @@ impl Recorded for Memory {
     }
 }
 
-/// The change whose spelling the body is, if it is one.
-fn read(alloc: Global, body: &[u8]) -> Result<Option<Change>, NoMemory>
-    ensures found { IfOk result (λ read. IfSome read (of_client.IsRecord body.now)) }
+/// The change that the body spells in this version, if it spells one.
+fn read(alloc: Global, version: Version, body: &[u8]) -> Result<Option<Change>, NoMemory>
+    ensures found { IfOk result (λ read. IfSome read ((of_client version).IsRecord body.now)) }
 
     // The bytes spell no other change, and if they spell one it is given.
-    ensures only { (change : ChangeValue) → of_client.IsRecord body.now change → IfOk result (λ read. read ≡ Some change) }
-    ensures change { IfOk result (λ read. IfSome read of_client.IsChange) }
+    ensures only { (change : ChangeValue) → (of_client version).IsRecord body.now change → IfOk result (λ read. read ≡ Some change) }
+    ensures change { IfOk result (λ read. IfSome read (of_client version).IsChange) }
 {
-    match read_change(alloc, body) {
-        Ok(change) => Ok(Some(change)),
-        Err(CodecFault::Malformed { .. }) => Ok(None),
-        Err(CodecFault::NoMemory) => Err(NoMemory),
-    }
+    read_change(alloc, version, body)
 }

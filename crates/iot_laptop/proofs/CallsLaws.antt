@@ -8,7 +8,8 @@ use Rattle.std.proofs.lemmas.List.{append-nil}
 use Rattle.std.proofs.lemmas.Option.{slice_get_within, same_Some}
 use Rattle.iot_access.specs.Access.{access_of}
 use Rattle.iot_laptop.specs.Below.{Try, Nodes, IsTree, IsSpelledTree, IsScript, Resolved, State, acts_of, CanFollow, after, Notes}
-use Rattle.iot_laptop.specs.Below.{IsRefresh, Live, IsTied, state_of, live_of, disk_of, records_of, IsOwnRunIfAny, place_of, Client, StandWith, next}
+use Rattle.iot_laptop.specs.Below.{IsRefresh, Live, IsTied, state_of, live_of, disk_of, records_of, IsOwnRunIfAny, place_of, Client}
+use Rattle.iot_laptop.specs.Below.{StandWith, next}
 use Rattle.iot_laptop.specs.Below.{ClientFault, Stopped, Medium, Declared, ClientState, leave, repair, begin, Node, Appends, Writes}
 use Rattle.iot_laptop.specs.Below.{KeepsDisk, Appended, UpStands, StepsFrom, Answered, is_on, StepsTo, Halt, NoMemory, Over, Post, Up}
 use Rattle.iot_laptop.specs.Below.{Between, no_text, name_of, SpellsVerdict, Laptop, Seated, Read, Resolution, Code, Ran, IsHeadsRun}

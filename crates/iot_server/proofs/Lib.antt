@@ -2,3 +2,4 @@ mod CopiesLaws
 mod ChangesLaws
 mod RepliesLaws
 mod StandingLaws
+mod FaultsLaws

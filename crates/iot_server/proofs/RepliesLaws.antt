@@ -37,7 +37,7 @@ if_ok P Q (Err e) follows is = tt
 -- what a store noted is one record more
 pub grown_by : {D : Type 0} {medium : Medium D} {old new : Store D} {commit : CommitOf} → IsRecorded medium old new commit
     → IsGrown (encoded_on medium old) (state_of old) commit (encoded_on medium new)
-grown_by it = record { body = it.body; spells = it.spells; mid = it.before; renews = it.renews; is = it.is }
+grown_by it = record { body = it.body; mid = it.before; next = it.next; renews = it.renews; is = it.is }
 
 -- the verdict on the store's tree
 pub judged_so : (here tree : Nodes) (access : Access) (verdict : Verdict) (read : ℕ) (answer : Answer) → here ≡ tree

@@ -1,6 +1,7 @@
 -- From which states each image of the server's disk goes on.
 use Rattle.iot_server_node.proofs.Common.{◌≡◌, ℕ, List, [], ◌∷◌, ◌++◌, Option, Some, None, inl, inr, refl, sym, ap, subst, ◌∙◌}
 use Rattle.iot_server_node.proofs.Common.{lists, Handles, Refuses, IsImage, state_of, disk_of, ServerStands}
+use Rattle.iot_slots.specs.declared.version.Version.TheVariants.{Two}
 use Rattle.iot_server_node.specs.Prelude.{Medium, JournalFault, Commit, Node, Lasts, Post, Server, IsRecord, Leads, StandFor, State, rules}
 use Rattle.iot_server_node.specs.Prelude.{CanFollow, after_commit, next, Reply, Request, ServerKeeper, ServerNode, Label, IsAnswered}
 use Rattle.iot_server_node.specs.Prelude.{Submits, IsMessage, IsRequest, request_spelling}
@@ -83,11 +84,11 @@ module _ {D : Type 0} (medium : Medium D) (is_image : (disk : D) → medium.may_
     before = servers.state_of was
 
     -- records lead from there to its state, for which alone its disk stands
-    leads_here : (records : List (List ℕ)) × Leads rules records from before
+    leads_here : (records : List (List ℕ)) × Leads (rules Two) records from before
     leads_here =
         let first = had.each (medium.reads (servers.disk_of was)) (is_image (servers.disk_of was)) in
         let same : first.state ≡ before = store_alone medium (servers.store_of was) synced first.state first.stands in
-        (first.records, subst (λ (s : State). Leads rules first.records from s) same first.leads)
+        (first.records, subst (λ (s : State). Leads (rules Two) first.records from s) same first.leads)
 
     same_on : {bytes : List ℕ} → StandFor bytes before → GoesOnFrom from bytes
     same_on stands = record { state = before; stands = stands; records = leads_here.0; leads = leads_here.1 }
@@ -100,7 +101,8 @@ module _ {D : Type 0} (medium : Medium D) (is_image : (disk : D) → medium.may_
       stands = stands;
       records = leads_here.0 ++ body ∷ [];
       leads =
-          leads_push rules leads_here.0 from before body (record { label = label; access = access; lines = lines }) leads_here.1 is follows;
+          leads_push (rules Two) leads_here.0 from before body
+          (record { label = label; access = access; lines = lines }) leads_here.1 is follows;
     }
 
     -- bytes that stand for the state after a submission

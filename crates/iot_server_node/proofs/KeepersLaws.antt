@@ -10,7 +10,8 @@ use Rattle.iot_server_node.specs.Prelude.{records_in, next, Decoded, Encodes, No
 use Rattle.iot_tree.specs.declared.labels.Way.{Way}
 use Rattle.iot_disk.specs.Disk.{Only, SameImages}
 use Rattle.iot_durable.specs.Causes.{HasCause, TakesBytes}
-use Rattle.iot_durable.specs.Standing.{EachOpens, EachStands, Makes}
+use Rattle.iot_slots.specs.declared.version.Version.TheVariants.{Two}
+use Rattle.iot_durable.specs.Standing.{EachOpens, EachStands, MakesOf}
 use Rattle.iot_durable.proofs.ImagesLaws.{not_both}
 use Rattle.iot_server.specs.Servers as servers
 use Rattle.iot_access.specs.Access.{access_of, lines_of}
@@ -94,7 +95,7 @@ pub renewed_list : (was encoded : Encoded) (commits : List Commit) → IsRenewed
     → EncodesList was commits → EncodesList encoded commits
 renewed_list was encoded commits (inl same) list = subst (λ (e : Encoded). EncodesList e commits) (sym same) list
 renewed_list was encoded commits (inr alone) list =
-    let whole : EncodesList (record { body = alone.body; bodies = []; count = was.count }) commits = record {
+    let whole : EncodesList (record { version = Two; body = alone.body; bodies = []; count = was.count }) commits = record {
       front = commits;
       later = [];
       split = sym (append-nil commits);
@@ -151,17 +152,17 @@ stays_images images n was commits stays list counted = record {
 -- a disk that is not started has no commits, and so has one that was just started
 opened_list : (bytes other : List ℕ) (commits : List Commit) → decoded header bytes ≡ NotStarted → HasList (decoded header bytes) commits
     → (decoded header other ≡ NotStarted)
-    ⊎ ((body : List ℕ) × rules.IsBody body rules.opening × (decoded header other ≡ Encodes (state_in body [] 0)))
+    ⊎ ((body : List ℕ) × (rules Two).IsBody body (rules Two).opening × (decoded header other ≡ Encodes (state_in Two body [] 0)))
     → HasList (decoded header other) commits
 opened_list bytes other commits none list opens =
     let empty : commits ≡ [] = subst (λ (d : Decoded). HasList d commits) none list in
     elim opens [
       | inl still ↦ subst (λ (d : Decoded). HasList d commits) (sym still) empty
       | inr fresh ↦
-          let whole : EncodesList (state_in fresh.0 [] 0) [] =
+          let whole : EncodesList (state_in Two fresh.0 [] 0) [] =
           record { front = []; later = []; split = refl; spells = fresh.1; records = refl } in
           subst (λ (d : Decoded). HasList d commits) (sym fresh.2)
-          (subst (λ (cs : List Commit). EncodesList (state_in fresh.0 [] 0) cs) (sym empty) whole)
+          (subst (λ (cs : List Commit). EncodesList (state_in Two fresh.0 [] 0) cs) (sym empty) whole)
     ]
 
 -- images of a disk that is started, or has the same images as before, hold the same
@@ -270,7 +271,7 @@ module _ {D : Type 0} {medium : Medium D} {it : Server D} {n : ℕ} {commits : L
       let was : Encoded = servers.encoded_on medium it in
       let cut =
       cut_off was n (state_of commits) (sym is.synced.slots.layout.count ∙ is.many)
-      (subst (λ (s : State). Makes rules was.body was.bodies s) is.has_state is.synced.makes) noted
+      (subst (λ (s : State). MakesOf rules was s) is.has_state is.synced.makes) noted
       (subst (λ (s : State). CanFollow s label access) is.has_state follows) {images = images}
       (subst (λ (s : State). EachGoes rules images was s noted) is.has_state goes) in
       record {
@@ -280,7 +281,7 @@ module _ {D : Type 0} {medium : Medium D} {it : Server D} {n : ℕ} {commits : L
             elim it.either [
               | inl without ↦ inl (image_is bytes n commits without.0 list without.1 is.counted)
               | inr one ↦ inr (image_is bytes (next n) (add_commit commit commits) one.2
-                  (record_is commits are it.encoded one.0 one.1 list)
+                  (record_is commits are it.encoded one.0 one.1.spells list)
                   (subst (λ (s : State). StandWith rules bytes (next n) s) (sym (state_is commits are)) one.3)
                   (one_counted commit))
             ];

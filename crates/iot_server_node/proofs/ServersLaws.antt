@@ -4,6 +4,7 @@ use Rattle.iot_server_node.proofs.Common.{◌≡◌, ℕ, suc, zero, ◌+◌, �
 use Rattle.iot_server_node.proofs.Common.{drop, Option, Some, None, IsSome, codes, refl, sym, ap, subst, ◌∙◌, arith, inl, inr}
 use Rattle.iot_server_node.proofs.Common.{slice_index_or, length-append, lists, Handles, KeepsList, ServerStands, AreOf, EncodesList}
 use Rattle.iot_server_node.proofs.Common.{state_of, bind, asks}
+use Rattle.iot_slots.specs.declared.version.Version.TheVariants.{Two}
 use Rattle.iot_server_node.specs.Prelude.{Medium, Encoded, NotStarted, header, next, IsGrown, IsRenewed, Leads, rules, State}
 use Rattle.iot_server_node.specs.Prelude.{after_commit, Server, Label, Call, Says, Nothing, Then}
 use Rattle.iot_server_node.specs.Prelude.{either, Commit, add_commit, tree_after, Node, fallen, changed, back, unopened, Refines}
@@ -73,7 +74,7 @@ module _ (names : List (List ℕ)) where
 
   -- also if the server stops as it appends a commit that is known, and that can follow
   pub known_stopped : (commit : Commit) (node after : Node (List Commit)) (text body : List ℕ) → IsKnown names commit
-      → Leads rules (body ∷ []) (state_of node.durable) (state_of (add_commit commit node.durable))
+      → Leads (rules Two) (body ∷ []) (state_of node.durable) (state_of (add_commit commit node.durable))
       → Appends server_name (add_commit commit) node text false after → NodeIsKnown names node → NodeIsKnown names after
   known_stopped commit node after text body one leads (inl done) known = absurd cc
   known_stopped commit node after text body one leads (inr stop) known = subst (NodeIsKnown names) (sym stop.2.is) (record {
@@ -273,7 +274,7 @@ module _ {D : Type 0} (medium : Medium D) (names : List (List ℕ)) where
           synced = it.synced;
           has_list =
               subst (λ (e : Encoded). EncodesList e (add_commit commit node.durable)) (sym grown.is)
-              (record_is node.durable are grown.mid grown.body grown.spells list);
+              (record_is node.durable are grown.mid grown.body grown.next.spells list);
           many =
               it.synced.slots.layout.count ∙ grown_count _ _ _ _ grown ∙ ap next counted_before;
           has_state =

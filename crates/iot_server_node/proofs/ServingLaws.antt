@@ -9,6 +9,7 @@ use Rattle.iot_server_node.proofs.Common.{◌≡◌, ℕ, List, [], ◌++◌, le
 use Rattle.iot_server_node.proofs.Common.{◌-◌, true, false, cond, ◌∷◌, map, ◌⊎◌, None, option_map, slice_get, inr, append-nil, lists}
 use Rattle.iot_server_node.proofs.Common.{Handles, Refuses, KeepsList, committed_since, said_of, SpellsCut, printed_under, disk_of}
 use Rattle.iot_server_node.proofs.Common.{ServerStands, AreOf, IsImage, label_of, state_of, bind, asks, says_this, answers}
+use Rattle.iot_slots.specs.declared.version.Version.TheVariants.{Two}
 use Rattle.iot_server_node.specs.Prelude.{Medium, JournalFault, Nodes, IsTree, IsWhole, Want, IsAnswered, Submits, EncodesAfter, Server}
 use Rattle.iot_server_node.specs.Prelude.{State, CanFollow, Leads, rules, after_commit, IsMessage, IsRequest, request_spelling, Request}
 use Rattle.iot_server_node.specs.Prelude.{next, run_entry, snapshot, Commit, add_commit, tree_after, Call, Then, Node, changed, doubting}
@@ -320,7 +321,7 @@ module _ {message : Message} {it : Submission} (hands : IsHanded message it) whe
           cut_images keeps there_are follows (rw (its_own.0, its_own.1, its_own.2) at goes)
 
       -- the state of the list is that before it, and it leads to the state after it
-      leads_on : Leads rules (message.request.items ∷ []) (state_of commits) (state_of (add_commit it.commit commits))
+      leads_on : Leads (rules Two) (message.request.items ∷ []) (state_of commits) (state_of (add_commit it.commit commits))
       leads_on = (
         record { label = label; access = access; lines = lines_of acts },
         hands.asked,

@@ -4,6 +4,7 @@ use Rattle.iot_server_node.specs.Prelude.{Medium, Nodes, run_entry, State, recor
 use Rattle.iot_access.specs.Access.{access_of, lines_of}
 use Rattle.iot_server_node.specs.Prelude.{StandFor, rules, Leads, header, records_in, Decoded, Encodes, NotStarted, Foreign, Damaged}
 use Rattle.iot_server_node.specs.Prelude.{Encoded, decoded}
+use Rattle.iot_slots.specs.declared.version.Version.TheVariants.{Two}
 use Rattle.iot_store.specs.Bodies.{IsBody}
 pub use Rattle.iot_judging.specs.Lists.{stamps_from, state_of}
 pub use Rattle.iot_machine.specs.Recorded.{label_of}
@@ -20,7 +21,7 @@ pub record EncodesList (encoded : Encoded) (commits : List Commit) : Type 0 wher
   pub front : List Commit
   pub later : List Commit
   pub split : commits ≡ front ++ later
-  pub spells : IsBody encoded.body (state_of front)
+  pub spells : IsBody encoded.version encoded.body (state_of front)
   pub records : encoded.bodies ≡ records_from later (tree_after front)
 
 -- a disk that is not started has no commits
@@ -45,7 +46,7 @@ pub record GoesOnFrom (from : State) (bytes : List ℕ) : Type 0 where
   pub state : State
   pub stands : StandFor bytes state
   pub records : List (List ℕ)
-  pub leads : Leads rules records from state
+  pub leads : Leads (rules Two) records from state
 
 -- so is each image of the disk
 pub record EachGoesOn {D : Type 0} (medium : Medium D) (from : State) (disk : D) : Type 0 where

@@ -8,6 +8,7 @@ use Rattle.iot_server_node.specs.Prelude.{Nodes, IsTree, Act, Label, reads_of, M
 use Rattle.iot_server_node.specs.Prelude.{Node, server_name, kept_text, Appends, transaction_name, acts_output, IsEmpty, Appended, Doubts}
 use Rattle.iot_server_node.specs.Prelude.{PostStands, UpStands, StepsFrom, is_on, StepsTo, Doubt, Post, Up, Down, Between, Server}
 use Rattle.iot_server_node.specs.Prelude.{IsMessage, IsRequest, request_spelling, ServerKeeper, Handed, Message, Served, ServerNode, Leads}
+use Rattle.iot_slots.specs.declared.version.Version.TheVariants.{Two}
 use Rattle.iot_server_node.specs.Prelude.{rules}
 use Rattle.iot_judging.specs.Entries.{IsSpelledEntry}
 use Rattle.iot_machine.specs.Serving.{Submission}
@@ -87,7 +88,7 @@ pub record IsOneMore (commits longer : List Commit) : Type 0 where
   pub commit : Commit
   pub is : longer ≡ commits ++ commit ∷ []
   pub body : List ℕ
-  pub leads : Leads rules (body ∷ []) (state_of commits) (state_of longer)
+  pub leads : Leads (rules Two) (body ∷ []) (state_of commits) (state_of longer)
 
 abbrev pub IsOneMoreIfAny : List Commit → Option (List Commit) → Type 0
 IsOneMoreIfAny commits None = Unit {0}

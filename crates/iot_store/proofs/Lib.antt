@@ -7,4 +7,3 @@ mod RecordsLaws
 mod RowsLaws
 pub mod StandingLaws
 pub mod StatesLaws
-mod WithinLaws

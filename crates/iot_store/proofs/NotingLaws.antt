@@ -10,8 +10,9 @@ use Rattle.iot_durable.specs.declared.fault.NoteFault.{NoteFault}
 use Rattle.iot_durable.specs.declared.fault.NoteFault.TheVariants as note
 use Rattle.iot_durable.proofs.ImagesLaws.{idle_stays}
 use Rattle.iot_slots.specs.Decoding.{State}
+use Rattle.iot_slots.specs.declared.version.Version.{Version}
 
-module _ {S C : Type 0} (rules : Rules S C) (images : List ℕ → Type 0) (count : ℕ) (was : State) (now : S) (change : C) where
+module _ {S C : Type 0} (rules : Version → Rules S C) (images : List ℕ → Type 0) (count : ℕ) (was : State) (now : S) (change : C) where
   pub goes_from_stays : EachStays rules images count was now → EachGoes rules images was now change
   goes_from_stays it = record {
     encodes = λ image left. let e = it.encodes image left in (e.0, e.2, inl e.1);
@@ -21,7 +22,7 @@ module _ {S C : Type 0} (rules : Rules S C) (images : List ℕ → Type 0) (coun
   goes_from_doubt it = record {
     encodes = λ image left. elim (it.either.each image left) [
       | inl before ↦ (it.before, it.renews, inl before)
-      | inr after ↦ (it.before, it.renews, inr (it.body, it.spells, after))
+      | inr after ↦ (it.before, it.renews, inr (it.body, it.next, after))
     ];
   }
 
@@ -35,11 +36,12 @@ module _ {S C : Type 0} (rules : Rules S C) (images : List ℕ → Type 0) (coun
   goes_from_fault note.StoppedInDoubt no_memory before in_doubt = goes_from_doubt (in_doubt refl)
 
 -- of an equal change
-pub goes_same : {S C : Type 0} (rules : Rules S C) (images : List ℕ → Type 0) (was : State) (now : S) (change other : C) → change ≡ other
+pub goes_same : {S C : Type 0} (rules : Version → Rules S C) (images : List ℕ → Type 0) (was : State) (now : S) (change other : C)
+    → change ≡ other
     → EachGoes rules images was now change → EachGoes rules images was now other
 goes_same rules images was now change other same goes = subst (λ c. EachGoes rules images was now c) same goes
 
-module _ {R D S C : Type 0} (medium : Medium D) (rules : Rules S C) (kept : R → S) (IsSound : R → Type 0) where
+module _ {R D S C : Type 0} (medium : Medium D) (rules : Version → Rules S C) (kept : R → S) (IsSound : R → Type 0) where
   -- a commit that was not noted leaves the disk as it was
   pub stays_synced : (it : Durable R D) → durable.IsSynced medium rules kept IsSound it
       → EachStays rules (medium.may_leave (durable.disk_of it)) (durable.count_of it) (durable.encoded_on medium it) (kept it.state)

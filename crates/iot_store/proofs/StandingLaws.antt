@@ -1,12 +1,12 @@
 -- For which state bytes stand: for one at most; and for which they stand after a commit.
-use Rattle.std.proofs.Common.{◌≡◌, ◌≤◌, ◌<◌, ◌⊎◌, ◌^◌, inl, inr, ℕ, List, [], ◌∷◌, length, sym, ap, ◌∙◌, subst, arith}
+use Rattle.std.proofs.Common.{◌≡◌, ◌<◌, ◌⊎◌, ◌^◌, inl, inr, ℕ, List, length, sym, ap, ◌∙◌, subst, arith}
 use Rattle.iot_disk.specs.Disk.{Medium}
-use Rattle.iot_durable.specs.Standing.{EachGoes, IsRenewed, Leads, Makes, MakesBy, StandWith, header}
+use Rattle.iot_durable.specs.Standing.{EachGoes, IsNext, IsRenewed, MakesOf, StandWith, header}
+use Rattle.iot_durable.proofs.OneLaws as durable
 use Rattle.iot_durable.proofs.ImagesLaws.{idle_stays, makes_push, makes_whole, one_makes}
 use Rattle.iot_slots.specs.Cells.{next}
-use Rattle.iot_slots.specs.Decoding.{Decoded, Encodes, NotStarted, Foreign, Damaged, State as Encoded, decoded, state_of as state_in}
+use Rattle.iot_slots.specs.Decoding.{Encodes, State as Encoded, decoded, state_of as state_in}
 use Rattle.iot_slots.specs.Slots.{appended}
-use Rattle.iot_store.specs.Records.{IsRecord}
 use Rattle.iot_store.specs.Rules.{rules}
 use Rattle.iot_store.specs.Standing.{EachStays, IsGrown, StandFor}
 use Rattle.iot_store.specs.States.{State, CanFollow, after_commit}
@@ -15,35 +15,10 @@ use Rattle.iot_store.specs.declared.commit.Commit.{Commit}
 use Rattle.iot_store.specs.declared.store.Store.{Store}
 use Rattle.iot_store.proofs.BodiesLaws.{body_one}
 use Rattle.iot_store.proofs.RecordsLaws.{record_alone}
-use Rattle.iot_store.proofs.WithinLaws.{AreWithin, IsWithin, decoded_within}
 
--- ---- bytes stand for one state
-
-leads_one : (bodies : List (List ℕ)) (n : ℕ) (before a b : State) → n < 2 ^ 64 → AreWithin n bodies → Leads rules bodies before a
-    → Leads rules bodies before b → a ≡ b
-leads_one [] n before a b few within one other = one ∙ sym other
-leads_one (body ∷ bodies) n before a b few within one other =
-    let same : one.0 ≡ other.0 = record_alone body one.0 other.0 (omega (arith, few, within.0)) one.1 other.1 in
-    leads_one bodies n (rules.after before other.0) a b few within.1
-    (subst (λ (commit : Commit). Leads rules bodies (rules.after before commit) a) same one.3) other.3
-
-makes_one : (body : List ℕ) (bodies : List (List ℕ)) (n : ℕ) (a b : State) → n < 2 ^ 64 → length body ≤ n → AreWithin n bodies
-    → Makes rules body bodies a → Makes rules body bodies b → a ≡ b
-makes_one body bodies n a b few body_in bodies_in one other =
-    let same : one.start ≡ other.start = body_one body one.start other.start (omega (arith, few, body_in)) one.spells other.spells in
-    leads_one bodies n other.start a b few bodies_in (subst (λ (s : State). Leads rules bodies s a) same one.leads) other.leads
-
-one_by : (d : Decoded) (n : ℕ) (a b : State) → n < 2 ^ 64 → IsWithin n d → MakesBy rules d a → MakesBy rules d b → a ≡ b
-one_by (Encodes encoded) n a b few within one other = makes_one encoded.body encoded.bodies n a b few within.0 within.1 one other
-one_by NotStarted n a b few within one other = one ∙ sym other
-one_by Foreign n a b few within one other = absurd one
-one_by (Damaged at) n a b few within one other = absurd one
-
+-- bytes stand for one state
 pub stands_one : (bytes : List ℕ) (a b : State) → length bytes < 2 ^ 64 → StandFor bytes a → StandFor bytes b → a ≡ b
-stands_one bytes a b short one other =
-    one_by (decoded header bytes) (length bytes) a b short (decoded_within header bytes)
-    (subst (λ (d : Decoded). MakesBy rules d a) (sym one.is) one.makes)
-    (subst (λ (d : Decoded). MakesBy rules d b) (sym other.is) other.makes)
+stands_one = durable.stands_one rules body_one record_alone
 
 -- ---- a store under which nothing is under way
 
@@ -81,19 +56,19 @@ pub grown_count : (was : Encoded) (before : State) (commit : Commit) (now : Enco
 grown_count was before commit now it =
     ap (λ (e : Encoded). e.count) it.is ∙ ap next (renewed_count was it.mid before it.renews)
 
-module _ (was : Encoded) (count : ℕ) (before : State) (counted : was.count ≡ count) (makes : Makes rules was.body was.bodies before) where
+module _ (was : Encoded) (count : ℕ) (before : State) (counted : was.count ≡ count) (makes : MakesOf rules was before) where
   -- a checkpoint of the state alone makes the same
-  renewed_makes : (encoded : Encoded) → IsRenewed rules was before encoded → Makes rules encoded.body encoded.bodies before
-  renewed_makes encoded (inl same) = subst (λ (e : Encoded). Makes rules e.body e.bodies before) (sym same) makes
+  renewed_makes : (encoded : Encoded) → IsRenewed rules was before encoded → MakesOf rules encoded before
+  renewed_makes encoded (inl same) = subst (λ (e : Encoded). MakesOf rules e before) (sym same) makes
   renewed_makes encoded (inr alone) =
-      subst (λ (e : Encoded). Makes rules e.body e.bodies before) (sym alone.is) (makes_whole rules alone.body before alone.spells)
+      subst (λ (e : Encoded). MakesOf rules e before) (sym alone.is) (makes_whole rules alone.body before alone.spells)
 
   -- an image of a commit that was cut off: what is encoded without its record, and for what that stands; and what with it
   pub record IsCutOff (commit : Commit) (image : List ℕ) : Type 0 where
     pub encoded : Encoded
     pub renews : IsRenewed rules was before encoded
     pub either : ((decoded header image ≡ Encodes encoded) × StandWith rules image count before)
-        ⊎ ((body : List ℕ) × IsRecord body commit.label commit.access commit.lines
+        ⊎ ((body : List ℕ) × IsNext rules encoded body commit
         × (decoded header image ≡ Encodes (appended encoded body))
         × StandWith rules image (next count) (after_commit before commit.label commit.access))
 
@@ -102,7 +77,7 @@ module _ (was : Encoded) (count : ℕ) (before : State) (counted : was.count ≡
   cut_off commit follows goes image left =
       let it = goes.encodes image left in
       let kept : it.0.count ≡ count = renewed_count was it.0 before it.1 ∙ counted in
-      let made : Makes rules it.0.body it.0.bodies before = renewed_makes it.0 it.1 in
+      let made : MakesOf rules it.0 before = renewed_makes it.0 it.1 in
       record {
         encoded = it.0;
         renews = it.1;

@@ -7,8 +7,9 @@ use Rattle.iot_tree.specs.declared.labels.Label.{Label}
 use Rattle.iot_views.specs.Rules.{IsLabel, IsTreeOfRows}
 use Rattle.iot_stamp.specs.Agreement.{IsPositive, UpTo}
 use Rattle.iot_stamp.specs.Stamps.{Entry, Stamps, nodes_of}
-use Rattle.iot_bodies.specs.Spelling.{server_spelling}
+use Rattle.iot_slots.specs.declared.version.Version.{Version}
 use Rattle.iot_bodies.specs.declared.server.ServerBody.{ServerBody}
+use Rattle.iot_versions.specs.Versions.{SpellsServer}
 use Rattle.iot_store.specs.States.{State, is_of}
 
 -- the stamps in the order of the rows
@@ -37,7 +38,7 @@ pub record IsState (state : State) : Type 0 where
 abbrev pub body_of : State → ServerBody
 body_of state = record { tree = state.tree; labels = state.labels; stamps = stamps_in_order state.stamps }
 
--- the body spells the whole of this state
-pub record IsBody (body : List ℕ) (state : State) : Type 0 where
+-- the body spells the whole of this state, in this version
+pub record IsBody (version : Version) (body : List ℕ) (state : State) : Type 0 where
   pub value : IsState state
-  pub spelled : server_spelling (body_of state) ≡ body
+  pub spelled : SpellsServer version body (body_of state)

@@ -3,7 +3,7 @@ use Rattle.std.specs.Prelude.{◌≡◌, ℕ, List}
 use Rattle.iot_disk.specs.declared.faults.StartFault.{StartFault}
 use Rattle.iot_disk.specs.declared.faults.StartFault.TheVariants as start
 use Rattle.iot_durable.specs.Damage.{IsDamagedAt}
-use Rattle.iot_durable.specs.Standing.{header}
+use Rattle.iot_durable.specs.Standing.{IsNew, StandWith, header}
 use Rattle.iot_slots.specs.Decoding.{Foreign, decoded}
 use Rattle.iot_store.specs.Rules.{rules}
 use Rattle.iot_store.specs.Standing.{StandFor}
@@ -22,6 +22,14 @@ pub record IsImageIn (bytes : List ℕ) (image : Image) : Type 0 where
   pub state : State
   pub stands : StandFor bytes state
   pub holds : IsImageOf image state
+
+-- the bytes of a disk that was just started in version 2, with a checkpoint of the state alone for which the other bytes stand, after as
+-- many records
+pub record IsUpgraded (bytes disk : List ℕ) : Type 0 where
+  pub state : State
+  pub count : ℕ
+  pub stands : StandWith rules bytes count state
+  pub new : IsNew rules state count disk
 
 -- what a start answers, if there is no disk
 abbrev pub fault_of : StartFault → ImageFault

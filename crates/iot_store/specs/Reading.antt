@@ -1,19 +1,10 @@
 -- What is read of the body of a checkpoint.
-use Rattle.std.specs.Prelude.{◌≡◌, ◌≤◌, ◌<◌, ◌+◌, ℕ, true, List, [], ◌∷◌, Option, Some, None}
+use Rattle.std.specs.Prelude.{◌≡◌, ◌≤◌, ◌<◌, ◌+◌, ℕ, true, List, [], ◌∷◌}
 use Rattle.iot_tree.specs.Snapshots.{is_known}
 use Rattle.iot_tree.specs.Tree.{Row}
 use Rattle.iot_tree.specs.declared.labels.Label.{Label}
 use Rattle.iot_stamp.specs.Stamps.{Stamps, nodes_of}
-use Rattle.iot_wire.specs.Messages.{IsMessage}
-use Rattle.iot_bodies.specs.Rules.{IsServerBody}
-use Rattle.iot_bodies.specs.Spelling.{server_spelling}
-use Rattle.iot_bodies.specs.declared.server.ServerBody.{ServerBody}
 use Rattle.iot_store.specs.States.{State}
-
--- the parts that the bytes spell, or none if they spell none
-abbrev pub IsReadAs : List ℕ → Option ServerBody → Type 0
-IsReadAs bytes (Some parts) = IsMessage IsServerBody server_spelling bytes parts
-IsReadAs bytes None = (parts : ServerBody) → IsMessage IsServerBody server_spelling bytes parts → ⊥
 
 -- as many stamps as rows, each from 1 to the number of commits plus 1, and no row is far
 abbrev pub FitStamps : List Row → List ℕ → (commits : ℕ) → Type 0

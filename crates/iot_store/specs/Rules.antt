@@ -1,8 +1,9 @@
 -- How what a server keeps is kept behind checkpoints.
 use Rattle.iot_views.specs.Rules.{AreLines, IsAccess, IsLabel}
+use Rattle.iot_slots.specs.declared.version.Version.{Version}
 use Rattle.iot_durable.specs.Rules.{Rules}
 use Rattle.iot_store.specs.Bodies.{IsBody}
-use Rattle.iot_store.specs.Records.{IsRecord}
+use Rattle.iot_store.specs.Records.{IsRecordIn}
 use Rattle.iot_store.specs.States.{State, opening, CanFollow, after_commit}
 use Rattle.iot_store.specs.declared.commit.Commit.{Commit}
 
@@ -12,13 +13,13 @@ pub record IsCommit (commit : Commit) : Type 0 where
   pub access : IsAccess commit.access
   pub lines : AreLines commit.lines
 
--- the states are a server's, and what changes them are commits
-abbrev pub rules : Rules State Commit
-rules = record {
+-- the states are a server's, and what changes them are commits; the versions differ only in how both are spelled
+abbrev pub rules : Version → Rules State Commit
+rules version = record {
   opening = opening;
-  IsBody = IsBody;
+  IsBody = IsBody version;
   IsChange = IsCommit;
-  IsRecord = λ body commit. IsRecord body commit.label commit.access commit.lines;
+  IsRecord = IsRecordIn version;
   CanFollow = λ state commit. CanFollow state commit.label commit.access;
   after = λ state commit. after_commit state commit.label commit.access;
 }

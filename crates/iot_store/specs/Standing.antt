@@ -3,7 +3,6 @@ use Rattle.std.specs.Prelude.{◌≡◌, ℕ, List}
 use Rattle.iot_durable.specs.Standing as durable
 use Rattle.iot_slots.specs.Decoding.{State as Encoded}
 use Rattle.iot_slots.specs.Slots.{appended}
-use Rattle.iot_store.specs.Records.{IsRecord}
 use Rattle.iot_store.specs.Rules.{rules}
 use Rattle.iot_store.specs.States.{State}
 use Rattle.iot_store.specs.declared.commit.Commit.{Commit}
@@ -23,8 +22,8 @@ EachStandsEither images count before after = durable.EachStandsEither rules imag
 -- what is encoded has the record of this commit last; before it is what was there, or a checkpoint of the state before alone
 pub record IsGrown (was : Encoded) (before : State) (commit : Commit) (now : Encoded) : Type 0 where
   pub body : List ℕ
-  pub spells : IsRecord body commit.label commit.access commit.lines
   pub mid : Encoded
+  pub next : durable.IsNext rules mid body commit
   pub renews : durable.IsRenewed rules was before mid
   pub is : now ≡ appended mid body
 

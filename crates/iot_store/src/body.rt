@@ -2,25 +2,30 @@
 ghost use Rattle.std.specs.Prelude.{◌≡◌, ◌↔◌, IfOk, IfSome, IsTrue};
 ghost use Rattle.iot_durable.specs.Rules.{IsThis};
 ghost use Rattle.iot_store.specs.Bodies.{IsBody, IsState};
-ghost use Rattle.iot_store.specs.Reading.{FitStamps, IsReadAs};
+ghost use Rattle.iot_store.specs.Reading.{FitStamps};
 ghost use Rattle.iot_store.specs.States.{State};
 ghost use Rattle.iot_tree.specs.Snapshots.{is_known};
 
 use crate::commits::Commits;
-use iot_bodies::{ServerBody, read_server};
-use iot_codec::CodecFault;
+use iot_bodies::ServerBody;
+use iot_slots::Version;
 use iot_stamp::Stamped;
 use iot_text::{NoMemory, Path};
 use iot_tree::Node;
+use iot_versions::read_server;
 use std::alloc::Global;
 
-/// The commits of which the body spells the whole, if it does.
-pub(crate) fn read_body(alloc: Global, body: &[u8]) -> Result<Option<Commits>, NoMemory>
-    ensures found { IfOk result (λ read. IfSome read (λ made. IsBody body.now made)) }
-    ensures only { (state : State) → IsBody body.now state → IfOk result (IsThis (λ (s : State). s) state) }
+/// The commits of which the body spells the whole in this version, if it does.
+pub(crate) fn read_body(
+    alloc: Global,
+    version: Version,
+    body: &[u8],
+) -> Result<Option<Commits>, NoMemory>
+    ensures found { IfOk result (λ read. IfSome read (λ made. IsBody version body.now made)) }
+    ensures only { (state : State) → IsBody version body.now state → IfOk result (IsThis (λ (s : State). s) state) }
     ensures sound { IfOk result (λ read. IfSome read IsState) }
 {
-    let Some(parts) = read_parts(alloc, body)? else {
+    let Some(parts) = read_server(alloc, version, body)? else {
         return Ok(None);
     };
     let ServerBody {
@@ -33,17 +38,6 @@ pub(crate) fn read_body(alloc: Global, body: &[u8]) -> Result<Option<Commits>, N
     }
     let tree = Stamped::from_tree(tree, stamps.into_vec());
     Commits::with_labels(alloc, tree, labels)
-}
-
-/// The parts that the body spells, if it spells some.
-fn read_parts(alloc: Global, body: &[u8]) -> Result<Option<ServerBody>, NoMemory>
-    ensures { IfOk result (IsReadAs body.now) }
-{
-    match read_server(alloc, body) {
-        Ok(parts) => Ok(Some(parts)),
-        Err(CodecFault::Malformed { .. }) => Ok(None),
-        Err(CodecFault::NoMemory) => Err(NoMemory),
-    }
 }
 
 /// Whether the rows are those of a whole tree, and each has a stamp, from 1 to the number of commits plus 1.

@@ -9,6 +9,7 @@ use crate::commits::Commits;
 use crate::records::lend;
 use iot_bodies::put_server;
 use iot_durable::Recorded;
+use iot_slots::Version;
 use iot_text::{NoMemory, Text};
 use iot_wire::put_commit;
 use std::alloc::Global;
@@ -38,8 +39,8 @@ impl Recorded for Commits {
         put_server(self.tree(), self.labels(), self.stamped().stamps(), out)
     }
 
-    fn read(alloc: Global, body: &[u8]) -> Result<Option<Commits>, NoMemory> {
-        read_body(alloc, body)
+    fn read(alloc: Global, version: Version, body: &[u8]) -> Result<Option<Commits>, NoMemory> {
+        read_body(alloc, version, body)
     }
 
     fn spell_change(commit: &Commit, out: &mut Text) -> Result<(), NoMemory> {
@@ -47,8 +48,8 @@ impl Recorded for Commits {
         put_commit(&commit.label, &commit.access, &commit.lines, out)
     }
 
-    fn follow(&mut self, alloc: Global, body: &[u8]) -> Result<bool, NoMemory> {
-        match lend(body) {
+    fn follow(&mut self, alloc: Global, version: Version, body: &[u8]) -> Result<bool, NoMemory> {
+        match lend(alloc, version, body)? {
             Some(commit) => self.replay(alloc, &commit),
             None => Ok(false),
         }

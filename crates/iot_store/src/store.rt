@@ -1,6 +1,6 @@
 //! The store itself.
 ghost use Rattle.std.specs.List.{AllByRecursion};
-ghost use Rattle.std.specs.Prelude.{◌≡◌, ◌≢◌, ◌↔◌, ◌+◌, ℕ, length, IfOk, IfErr, OnOk, IsErrOf, IsTrue, MatchResult};
+ghost use Rattle.std.specs.Prelude.{◌≡◌, ◌≢◌, ◌↔◌, ◌+◌, ℕ, List, length, IfOk, IfErr, OnOk, IsErrOf, IsTrue, MatchResult};
 ghost use Rattle.iot_access.specs.Access.{FitInTurn};
 ghost use Rattle.iot_views.specs.Rules.{AreLines, IsAccess, IsLabel};
 ghost use Rattle.iot_disk.specs.Disk.{armed_with, Only, SameImages};
@@ -12,7 +12,7 @@ ghost use Rattle.iot_records.specs.Records.{ChangesNothing};
 ghost use Rattle.iot_slots.specs.Cells.{next};
 ghost use Rattle.iot_slots.specs.Decoding.{Foreign, NotStarted, decoded};
 ghost use Rattle.iot_stamp.specs.Stamps.{nodes_of};
-ghost use Rattle.iot_store.specs.Images.{IsImageIn, IsImageOf, IsRefusal, TakesImage};
+ghost use Rattle.iot_store.specs.Images.{IsImageIn, IsImageOf, IsRefusal, IsUpgraded, TakesImage};
 ghost use Rattle.iot_store.specs.Images.{SaysDamaged as SaysImageDamaged, SaysForeign as SaysImageForeign};
 ghost use Rattle.iot_store.specs.Numbers.{number_in};
 ghost use Rattle.iot_store.specs.Records.{IsRecord};
@@ -23,7 +23,7 @@ ghost use Rattle.iot_store.specs.States.{State, CanFollow, after_commit};
 use crate::commits::Commits;
 use crate::{Commit, Image, ImageFault};
 use iot_disk::{Disk, JournalFault, Pick, StartFault};
-use iot_durable::{Durable, read_image};
+use iot_durable::{Durable, read_image, spell_disk};
 use iot_stamp::Stamped;
 use iot_text::NoMemory;
 use iot_tree::{Access, Duplicate, Label, Labels, Lines, Sequence, Tree, Updates};
@@ -126,8 +126,34 @@ impl<D: Disk> Store<D> {
         ensures damaged { (at : ℕ) → IsDamagedAt rules bytes.now at → MatchResult result (λ _. ⊥) (SaysImageDamaged at) }
         ensures cause { IfErr result (IsRefusal bytes.now) }
     {
-        match read_image(alloc, bytes) {
-            Ok(commits) => Ok(Image::of(alloc, commits)?),
+        match read_image::<Commits>(alloc, bytes) {
+            Ok(found) => Ok(Image::of(alloc, found.state)?),
+            Err(fault) => Err(ImageFault::from(fault)),
+        }
+    }
+
+    /// The bytes of a disk that stands for the same state as these, in version 2: it was just started with a checkpoint of this state
+    /// alone, after as many records. Nothing is written to a disk. Costs as much as a start.
+    ///
+    /// # Errors
+    ///
+    /// Those of `image`.
+    pub fn upgrade(alloc: Global, bytes: &[u8]) -> Result<Vec<u8>, ImageFault>
+        ensures upgraded { IfOk result (λ disk. IsUpgraded bytes.now disk.items) }
+
+        // There are no other such bytes, and they are their own: who upgrades them gets them again. If the bytes stand for a state, they
+        // are not refused.
+        ensures only { (disk : List ℕ) → IsUpgraded bytes.now disk → IfOk result (λ made. made.items ≡ disk) }
+        ensures again { IfOk result (λ disk. IsUpgraded disk.items disk.items) }
+        ensures never { (state : State) → StandFor bytes.now state → IfErr result TakesImage }
+
+        // What something else wrote, and what is damaged, is refused for that, unless memory runs out.
+        ensures foreign { decoded header bytes.now ≡ Foreign → MatchResult result (λ _. ⊥) SaysImageForeign }
+        ensures damaged { (at : ℕ) → IsDamagedAt rules bytes.now at → MatchResult result (λ _. ⊥) (SaysImageDamaged at) }
+        ensures cause { IfErr result (IsRefusal bytes.now) }
+    {
+        match read_image::<Commits>(alloc, bytes) {
+            Ok(found) => Ok(spell_disk(alloc, &found.state, found.count)?),
             Err(fault) => Err(ImageFault::from(fault)),
         }
     }

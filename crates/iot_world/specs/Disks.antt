@@ -15,8 +15,8 @@ pub record IsUnarmed {D : Type 0} (medium : Medium D) (old new : D) : Type 0 whe
   pub arms : medium.arms new ≡ medium.arms old
   pub faults : (medium.faults new ≡ medium.faults old) ⊎ Rose (medium.faults old) (medium.faults new)
 
--- Each image of the first disk begins with these commits: it stands for their state, or for one to which more commits lead from theirs, each
--- of which can follow the ones before it.
+-- Each image of the first disk begins with these commits: it stands for their state, or for one to which more commits lead from theirs,
+-- each of which can follow the ones before it.
 pub record FirstBegins {D : Type 0} (medium : Medium D) (commits : List Commit) (disks : List D) : Type 0 where
   pub first : D
   pub rest : List D

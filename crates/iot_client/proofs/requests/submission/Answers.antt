@@ -12,7 +12,8 @@ pub returns : goal.returns
 returns c =
     let written : c.put_commit.new.out ≡ request_spelling (Commit c.args.label.now c.args.access.now c.in_ok-lines.lines) =
     c.in_ok-put_commit.ensures
-    ∙ ap (λ (front : List ℕ). front ++ request_spelling (Commit c.args.label.now c.args.access.now c.in_ok-lines.lines)) c.in_ok-out.ensures in
+    ∙ ap (λ (front : List ℕ). front ++ request_spelling (Commit c.args.label.now c.args.access.now c.in_ok-lines.lines))
+    c.in_ok-out.ensures in
     record {
       value = (c.requires.label, (c.requires.access, lines_spelled c.args.acts.now c.requires.acts));
       spelled =

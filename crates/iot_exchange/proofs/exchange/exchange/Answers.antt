@@ -1,5 +1,5 @@
 use Rattle.std.proofs.Common.{◌∙◌}
-use Rattle.iot_exchange.proofs.ExchangeLaws.{on_err, passed, away, request_lost, reply_lost, comes, none_comes}
+use Rattle.iot_exchange.proofs.ExchangeLaws.{on_err, passed, away, request_lost, reply_lost, comes, none_comes, reached}
 use Rattle.iot_exchange.proofs.DoesLaws.{keeps_served}
 use Rattle.iot_exchange.proofs.FollowingLaws.{grows}
 use Rattle.iot_exchange.proofs.exchange.exchange.Goals as goal
@@ -16,6 +16,10 @@ returns-in-RequestLost-clause-asked g c scripts = record {
       request_lost (passed c.is_up-up.ensures c.pass.ensures.passage c.pass.ensures.after c.in-RequestLost.is);
   disks = let keeps = c.requires.ready.keeps in keeps_served keeps c.pass.ensures.disk keeps.server keeps.records;
 }
+
+pub serve-requires-in-Both-clause-up : goal.serve-requires-in-Both-clause-up
+serve-requires-in-Both-clause-up g c =
+    reached (passed c.is_up-up.ensures c.pass.ensures.passage c.pass.ensures.after c.in-Both.is)
 
 pub returns-in_ok-_lost-in-ReplyLost-clause-asked : goal.returns-in_ok-_lost-in-ReplyLost-clause-asked
 returns-in_ok-_lost-in-ReplyLost-clause-asked g c scripts = record {

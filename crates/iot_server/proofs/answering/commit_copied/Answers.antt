@@ -30,7 +30,8 @@ commit_if_fit-requires-clause-holds g c =
     c.requires.holds
 
 pub returns-clause-answered : goal.returns-clause-answered
-returns-clause-answered g c = answered_as _ _ _ _ _ c.args.commit.now c.in_ok-copy.copy c.in_ok-copy.ensures c.commit_if_fit.ensures.answered
+returns-clause-answered g c = answered_as _ _ _ _ _ c.args.commit.now c.in_ok-copy.copy c.in_ok-copy.ensures
+    c.commit_if_fit.ensures.answered
 
 pub returns-clause-stopped : goal.returns-clause-stopped
 returns-clause-stopped g c = λ stopped.

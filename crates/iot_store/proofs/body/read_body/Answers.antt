@@ -1,7 +1,7 @@
 use Rattle.std.proofs.Common.{◌≡◌, true, false, List, ℕ, IfOk, IfSome, sym, ap, ◌∙◌, subst, arith, length}
 use Rattle.std.specs.FinMap.{entries}
 use Rattle.iot_stamp.specs.Pairing.{AreStamps, stamps_of}
-use Rattle.iot_store.specs.Reading.{IsReadAs}
+use Rattle.iot_versions.specs.Versions.{ReadsAs, SpellsServer}
 use Rattle.iot_store.specs.States.{State}
 use Rattle.iot_store.proofs.BodiesLaws.{AreMade, fit_same, parts_fit, read_found, read_only, read_sound, spells_parts, state_with_parts}
 use Rattle.iot_store.proofs.RowsLaws.{fit_are}
@@ -9,15 +9,16 @@ use Rattle.iot_store.proofs.body.read_body.Goals as goal
 
 pub returns-in_default-clause-only : goal.returns-in_default-clause-only
 returns-in_default-clause-only c = λ state is.
-    spells_parts c.args.body.now state is (subst (IsReadAs c.args.body.now) c.in_default.is c.in_ok-parts.ensures)
+    spells_parts c.args.version c.args.body.now state is (subst
+    (ReadsAs (SpellsServer c.args.version c.args.body.now)) c.in_default.is c.in_ok-parts.ensures)
 
 pub returns-then-not-are_stamps-clause-only : goal.returns-then-not-are_stamps-clause-only
 returns-then-not-are_stamps-clause-only c = λ state is.
     let parts = c.in-Some.parts in
-    let m = subst (IsReadAs c.args.body.now) c.in-Some.is c.in_ok-parts.ensures in
+    let m = subst (ReadsAs (SpellsServer c.args.version c.args.body.now)) c.in-Some.is c.in_ok-parts.ensures in
     let fit =
     fit_same _ _ _ _ _ _ (sym (c.as_slice.ensures ∙ c.rows.ensures.rows)) (sym c.as_slice-2.ensures) (sym c.len.ensures)
-    (parts_fit c.args.body.now state is (omega arith) parts m) in
+    (parts_fit c.args.version c.args.body.now state is (omega arith) parts m) in
     let clash : false ≡ true = sym c.if-not-are_stamps.true ∙ c.are_stamps.ensures.1 fit in
     absurd cc
 
@@ -33,7 +34,7 @@ pub returns : goal.returns
 returns c =
     let body = c.args.body.now in
     let parts = c.in-Some.parts in
-    let m = subst (IsReadAs body) c.in-Some.is c.in_ok-parts.ensures in
+    let m = subst (ReadsAs (SpellsServer c.args.version body)) c.in-Some.is c.in_ok-parts.ensures in
     let fit =
     fit_same _ (entries parts.tree) _ parts.stamps _ (length parts.labels) (c.as_slice.ensures ∙ c.rows.ensures.rows) c.as_slice-2.ensures
     c.len.ensures (c.are_stamps.ensures.0 c.if-not-are_stamps.false) in
@@ -48,9 +49,9 @@ returns c =
       none = made.none;
       few = made.few;
     } in
-    let found = read_found body parts m c.with_labels.result fit are in
+    let found = read_found c.args.version body parts m c.with_labels.result fit are in
     record {
       found = found;
-      only = λ state is. read_only body parts m c.with_labels.result (omega arith) are state is;
-      sound = read_sound body c.with_labels.result found;
+      only = λ state is. read_only c.args.version body parts m c.with_labels.result (omega arith) are state is;
+      sound = read_sound c.args.version body c.with_labels.result found;
     }

@@ -1,12 +1,12 @@
 use Rattle.std.proofs.lemmas.Result.{IfOk-at_ok, IfOk-weaker}
-use Rattle.std.proofs.Common.{ap, ◌∙◌, rules}
+use Rattle.std.proofs.Common.{ap, refl, ◌∙◌, rules}
 use Rattle.iot_laptop.specs.Below.{Laptop}
 use Rattle.iot_laptop.specs.Laptops.{state_in}
 use Rattle.iot_standing.specs.States.{waits_of}
 use Rattle.iot_laptop.proofs.NodesLaws.{lent_at}
 use Rattle.iot_laptop.proofs.TrailsLaws.{goes_trails}
 use Rattle.iot_client.proofs.TrailsLaws.{noted_trails}
-use Rattle.iot_laptop.proofs.CallsLaws.{ends, is_done, waits_now}
+use Rattle.iot_laptop.proofs.CallsLaws.{ends, is_done, is_gone, waits_now}
 use Rattle.iot_laptop.proofs.laptop.Laptop.end.Goals as goal
 
 pub returns-in-Ok-clause-does : goal.returns-in-Ok-clause-does
@@ -45,3 +45,11 @@ returns-in-Err-clause-trails g c =
     rw c.in-Err.is at (goes_trails c.in-Up.is c.goes_on.ensures.goes c.goes_on.ensures.down
     (IfOk-weaker c.end-answer.result _ _ (λ _. noted_trails _ c.in-Up.seated.client c.end-answer.new.self _ tt tied)
     c.end-answer.ensures.notes))
+
+pub returns-in-Ok-clause-gone : goal.returns-in-Ok-clause-gone
+returns-in-Ok-clause-gone g c =
+    is_gone c.in-Up.is c.in-Ok.ended _
+    (c.transaction.ensures
+    ∙ ap (λ (l : Laptop g.row.D.Denot). record { client = l.name; number = c.in-Ok.ended.tid }) c.goes_on.ensures.goes.rest)
+    refl c.in_ok-output.ensures
+    (IfOk-at_ok _ (IfOk-at_ok _ c.in-Ok.is c.goes_on.ensures.goes.answers) c.end-answer.ensures.ends)

@@ -6,6 +6,9 @@ use Rattle.iot_laptop.proofs.NodesLaws.{lent_at}
 use Rattle.iot_laptop.proofs.CallsLaws.{steps_by, next_by}
 use Rattle.iot_laptop.proofs.laptop.Laptop.step.Goals as goal
 
+pub step-answer-requires-clause-begun : goal.step-answer-requires-clause-begun
+step-answer-requires-clause-begun g c = (lent_at _ _ _ c.in-Up.is c.requires.stands).begun
+
 pub returns-clause-next : goal.returns-clause-next
 returns-clause-next g c =
     let is = c.step-answer.ensures in

@@ -1,4 +1,7 @@
-use Rattle.iot_text.proofs.TextsLaws.{extends_nothing}
+use Rattle.std.proofs.Common.{◌≡◌, ◌++◌, ℕ, List, [], subst, sym, refl, rules}
+use Rattle.std.specs.Prelude.{Result, Ok, Err, OnOk, OnErr}
+use Rattle.iot_text.specs.Texts.{Extends}
+use Rattle.iot_text.proofs.TextsLaws.{extends_by, extends_nothing}
 use Rattle.iot_world.proofs.DecidingLaws.{decides_behind}
 use Rattle.iot_world.proofs.EventsLaws.{then_ok, behind, steps_some}
 use Rattle.iot_world.proofs.world.World.apply.Goals as goal
@@ -25,3 +28,11 @@ returns-clause-decided g c =
     then_ok c.append_text.result c.append_text.ensures.ok
     (λ wrote. decides_behind g.D.Disk.medium c.args.out.now c.append_text.new.self c.act-2.new.out wrote c.args.event.now
     c.args.self.now c.act-2.new.self (rw (← c.new-said.ensures) c.in_ok-act.ensures.decided))
+
+extends_if : {T E : Type 0} (result : Result T E) (old new more : List ℕ) → OnOk result (new ≡ old ++ more) → OnErr result (new ≡ old)
+    → Extends old new
+extends_if (Ok t) old new more is same = extends_by old new more is
+extends_if (Err e) old new more is same = extends_by old new [] (search (rules, same))
+
+pub returns-clause-text : goal.returns-clause-text
+returns-clause-text g c = extends_if c.append_text.result _ _ _ c.append_text.ensures.ok c.append_text.ensures.err
