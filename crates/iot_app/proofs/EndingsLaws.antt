@@ -8,16 +8,18 @@ use Rattle.iot_words.specs.Jobs.{job_of}
 use Rattle.iot_words.specs.declared.faults.WordsFault.{WordsFault}
 use Rattle.iot_words.specs.declared.faults.WordsFault.TheVariants as words
 use Rattle.iot_words.specs.declared.jobs.Job.{Job}
-use Rattle.iot_words.specs.declared.jobs.Job.TheVariants.{Run as Does, Image}
+use Rattle.iot_words.specs.declared.jobs.Job.TheVariants.{Run as Does, Image, Upgrade}
 use Rattle.iot_words.specs.declared.jobs.Run.{Run}
 use Rattle.iot_words.specs.declared.jobs.Run.TheVariants.{Transcript, Json, Generate, Save}
 use Rattle.iot_app.specs.Doing.{Did}
-use Rattle.iot_app.specs.Endings.{Effects, DidNothing, ReadInPart, OnEvents, UsageEnds, RunEnds, JobEnds, EndsBy, Ends}
+use Rattle.iot_app.specs.Endings.{Effects, DidNothing, ReadInPart, OnEvents, UsageEnds, RunEnds, ImageEnds, JobEnds, EndsBy, Ends}
 use Rattle.iot_app.specs.Input.{TookSome, IsRefused, too_long, no_script, TookFor}
 use Rattle.iot_app.specs.Job.{TextEnds, whole, front, NothingEnds, RefusalEnds, WordsEnd, GivesNone}
 use Rattle.iot_app.specs.Outputs.{is_generated, GivesEvents}
 use Rattle.iot_app.specs.Played.{WroteFront}
 use Rattle.iot_app.specs.Refusals.{usage_line, too_long_line, refusal_line}
+use Rattle.iot_app.specs.declared.image.Telling.{Telling}
+use Rattle.iot_app.specs.declared.image.Telling.TheVariants as tells
 use Rattle.iot_app.specs.declared.input.TheConstants.{INPUT_LIMIT}
 use Rattle.iot_app.specs.declared.input.InputFault.{InputFault}
 use Rattle.iot_app.specs.declared.input.InputFault.TheVariants as inputs
@@ -45,13 +47,17 @@ module _ (it : Effects) where
   -- ---- the words
 
   -- nothing was done for want of memory, whatever the words name
-  pub nothing_ends : (job : Option Job) → DidNothing it (it.wrote []) → EndsBy job it statuses.NoMemory
-  nothing_ends None did = did
-  nothing_ends (Some (Does run)) did = inl did
-  nothing_ends (Some Image) did = record {
+  shows_nothing : (telling : Telling) → DidNothing it (it.wrote []) → ImageEnds telling it statuses.NoMemory
+  shows_nothing telling did = record {
     undone = did.undone;
     showed = record { some = record { front = []; taken = did.unread; within = omega arith }; written = did.wrote };
   }
+
+  pub nothing_ends : (job : Option Job) → DidNothing it (it.wrote []) → EndsBy job it statuses.NoMemory
+  nothing_ends None did = did
+  nothing_ends (Some (Does run)) did = inl did
+  nothing_ends (Some Image) did = shows_nothing tells.Text did
+  nothing_ends (Some Upgrade) did = shows_nothing tells.Disk did
 
   nothing_did : (written : Type 0) → it.took [] → it.untouched → written → DidNothing it written
   nothing_did written none undone wrote = record { unread = none; undone = undone; wrote = wrote }

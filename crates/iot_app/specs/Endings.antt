@@ -5,7 +5,7 @@ use Rattle.iot_machine.specs.Machine.{Machine}
 use Rattle.iot_machine.specs.Nodes.{Counts}
 use Rattle.iot_words.specs.Jobs.{job_of}
 use Rattle.iot_words.specs.declared.jobs.Job.{Job}
-use Rattle.iot_words.specs.declared.jobs.Job.TheVariants.{Run as Does, Image}
+use Rattle.iot_words.specs.declared.jobs.Job.TheVariants.{Run as Does, Image, Upgrade}
 use Rattle.iot_words.specs.declared.jobs.Run.{Run}
 use Rattle.iot_app.specs.Doing.{Did}
 use Rattle.iot_app.specs.Images.{Showed}
@@ -13,6 +13,8 @@ use Rattle.iot_app.specs.Input.{TookSome, IsRefused}
 use Rattle.iot_app.specs.Outputs.{is_generated, GivesEvents}
 use Rattle.iot_app.specs.Played.{WroteFront}
 use Rattle.iot_app.specs.Refusals.{usage_line}
+use Rattle.iot_app.specs.declared.image.Telling.{Telling}
+use Rattle.iot_app.specs.declared.image.Telling.TheVariants.{Text, Disk}
 use Rattle.iot_app.specs.declared.input.TheConstants.{INPUT_LIMIT}
 use Rattle.iot_app.specs.declared.status.Status.{Status}
 use Rattle.iot_app.specs.declared.status.Status.TheVariants.{Done, Refused, Usage, ReadFailed, WriteFailed, NoMemory, SaveFailed}
@@ -69,15 +71,16 @@ RunEnds it run WriteFailed = OnRefusal it (WroteFront it.wrote) run ⊎ OnEvents
 RunEnds it run NoMemory = DidNothing it (it.wrote []) ⊎ ReadInPart it run ⊎ OnEvents it run NoMemory
 RunEnds it run SaveFailed = OnEvents it run SaveFailed
 
--- how one ends that shows an image
-pub record ImageEnds (it : Effects) (status : Status) : Type 0 where
+-- how one ends that writes an image so
+pub record ImageEnds (telling : Telling) (it : Effects) (status : Status) : Type 0 where
   pub undone : it.untouched
-  pub showed : Showed it.took it.at_end it.wrote status
+  pub showed : Showed it.took it.at_end telling it.wrote status
 
 -- how one ends whose words name this job
 abbrev pub JobEnds : Effects → Job → Status → Type 0
 JobEnds it (Does run) status = RunEnds it run status
-JobEnds it Image status = ImageEnds it status
+JobEnds it Image status = ImageEnds Text it status
+JobEnds it Upgrade status = ImageEnds Disk it status
 
 -- and one whose words name none
 abbrev pub UsageEnds : Effects → Status → Type 0

@@ -1,18 +1,26 @@
--- What was done of the job that shows an image, by the status with which it ends: `took bytes` says that these bytes were taken from the
--- source, `at_end` that nothing is left there, and `wrote bytes` that these were written to the sink.
+-- What was done of a job that writes something of an image, by the status with which it ends: `took bytes` says that these bytes were
+-- taken from the source, `at_end` that nothing is left there, and `wrote bytes` that these were written to the sink.
 use Rattle.std.specs.Prelude.{◌≡◌, ◌⊎◌, ℕ, ◌≤◌, List, [], ◌++◌, length, codes, decimal}
 use Rattle.iot_durable.specs.Damage.{IsDamagedAt}
 use Rattle.iot_durable.specs.Standing.{header}
 use Rattle.iot_image.specs.Shown.{IsShown}
 use Rattle.iot_machine.specs.Texts.{line}
 use Rattle.iot_slots.specs.Decoding.{Foreign, decoded}
+use Rattle.iot_store.specs.Images.{IsUpgraded}
 use Rattle.iot_store.specs.Rules.{rules}
 use Rattle.iot_app.specs.Input.{TookSome, TookTooMuch}
 use Rattle.iot_app.specs.Played.{WroteFront}
 use Rattle.iot_app.specs.Refusals.{too_long_line}
+use Rattle.iot_app.specs.declared.image.Telling.{Telling}
+use Rattle.iot_app.specs.declared.image.Telling.TheVariants.{Text, Disk}
 use Rattle.iot_app.specs.declared.image.TheConstants.{IMAGE_LIMIT}
 use Rattle.iot_app.specs.declared.status.Status.{Status}
 use Rattle.iot_app.specs.declared.status.Status.TheVariants.{Done, Refused, Usage, ReadFailed, WriteFailed, NoMemory, SaveFailed}
+
+-- what an image is written as: the text that tells it, or the disk into which it is upgraded, and which is upgraded into itself
+abbrev pub Says : Telling → (image text : List ℕ) → Type 0
+Says Text image text = IsShown image text
+Says Disk image text = IsUpgraded image text × IsUpgraded text text
 
 abbrev pub foreign_line : List ℕ
 foreign_line = line (codes "image: foreign")
@@ -33,12 +41,12 @@ module _ (took : List ℕ → Type 0) (at_end : Type 0) where
     foreign : (image : List ℕ) → TookImage image → decoded header image ≡ Foreign → text ≡ foreign_line → IsNoImage text
     damaged : (image : List ℕ) (at : ℕ) → TookImage image → IsDamagedAt rules image at → text ≡ damaged_line at → IsNoImage text
 
-  -- so much was written of what the image shows
-  pub record Shows (wrote : List ℕ → Type 0) : Type 0 where
+  -- so much was written of what the image is written as
+  pub record Shows (telling : Telling) (wrote : List ℕ → Type 0) : Type 0 where
     pub image : List ℕ
     pub given : TookImage image
     pub text : List ℕ
-    pub shown : IsShown image text
+    pub shown : Says telling image text
     pub written : wrote text
 
   -- or of the line that says why it shows nothing
@@ -52,12 +60,12 @@ module _ (took : List ℕ → Type 0) (at_end : Type 0) where
     pub some : TookSome IMAGE_LIMIT took
     pub written : wrote []
 
-  module _ (wrote : List ℕ → Type 0) where
+  module _ (telling : Telling) (wrote : List ℕ → Type 0) where
     abbrev pub Showed : Status → Type 0
-    Showed Done = Shows wrote
+    Showed Done = Shows telling wrote
     Showed Refused = ShowsNone wrote
     Showed Usage = ⊥
     Showed ReadFailed = ShowsNothing wrote
-    Showed WriteFailed = Shows (WroteFront wrote) ⊎ ShowsNone (WroteFront wrote)
+    Showed WriteFailed = Shows telling (WroteFront wrote) ⊎ ShowsNone (WroteFront wrote)
     Showed NoMemory = ShowsNothing wrote
     Showed SaveFailed = ⊥

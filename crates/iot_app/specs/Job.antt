@@ -7,13 +7,13 @@ use Rattle.iot_words.specs.declared.jobs.Run.{Run}
 use Rattle.iot_words.specs.declared.jobs.Run.TheVariants.{Generate}
 use Rattle.iot_durable.specs.Damage.{IsDamagedAt}
 use Rattle.iot_durable.specs.Standing.{header}
-use Rattle.iot_image.specs.Shown.{IsShown}
 use Rattle.iot_slots.specs.Decoding.{Foreign, decoded}
 use Rattle.iot_store.specs.Rules.{rules}
-use Rattle.iot_app.specs.Images.{damaged_line, foreign_line}
+use Rattle.iot_app.specs.Images.{Says, damaged_line, foreign_line}
 use Rattle.iot_app.specs.Input.{TookFor}
 use Rattle.iot_app.specs.Played.{WroteFront}
 use Rattle.iot_app.specs.Refusals.{usage_line, too_long_line, refusal_line}
+use Rattle.iot_app.specs.declared.image.Telling.{Telling}
 use Rattle.iot_app.specs.declared.input.InputFault.{InputFault}
 use Rattle.iot_app.specs.declared.input.InputFault.TheVariants as inputs
 use Rattle.iot_app.specs.declared.status.Status.{Status}
@@ -50,12 +50,14 @@ abbrev pub GivesNone : Run → InputFault → (List ℕ → Type 0) → Type 0 �
 GivesNone (Generate n) fault took at_end = (fault ≡ inputs.NoMemory) × took []
 GivesNone other fault took at_end = TookFor fault took at_end
 
--- how a run ends that has these bytes for an image: their text or the line that says why they have none was written, or a front of it;
--- or nothing was for want of memory
-pub data ImageShows (image : List ℕ) (status : Status) (wrote : List ℕ → Type 0) (faults empties : Counted) : Type 0 where
-  shows : (text : List ℕ) → IsShown image text → TextEnds Done text status wrote faults empties → ImageShows image status wrote faults empties
+-- how a run ends that has these bytes for an image: what they are written as was written, or the line that says why they are none, or a
+-- front of it; or nothing was for want of memory
+pub data ImageShows (telling : Telling) (image : List ℕ) (status : Status) (wrote : List ℕ → Type 0)
+    (faults empties : Counted) : Type 0 where
+  shows : (text : List ℕ) → Says telling image text → TextEnds Done text status wrote faults empties
+      → ImageShows telling image status wrote faults empties
   foreign : decoded header image ≡ Foreign → TextEnds Refused foreign_line status wrote faults empties
-      → ImageShows image status wrote faults empties
+      → ImageShows telling image status wrote faults empties
   damaged : (at : ℕ) → IsDamagedAt rules image at → TextEnds Refused (damaged_line at) status wrote faults empties
-      → ImageShows image status wrote faults empties
-  nothing : NothingEnds NoMemory status wrote faults empties → ImageShows image status wrote faults empties
+      → ImageShows telling image status wrote faults empties
+  nothing : NothingEnds NoMemory status wrote faults empties → ImageShows telling image status wrote faults empties

@@ -10,7 +10,7 @@ ghost use Rattle.iot_app.specs.Status.{HasStatus, SourceCounts, SinkCounts};
 
 use crate::doing::do_events;
 use crate::events::events_of;
-use crate::image::show_source;
+use crate::image::{Telling, show_source};
 use crate::refusing::{refuse, refuse_words};
 use crate::status::Status;
 use iot_disk::Disk;
@@ -39,6 +39,8 @@ pub struct Outcome<D> {
 /// - `--image`: reads the source to its end as an image of a server's disk, as `--save` writes one, and writes the tree and the commits of
 ///   the state for which it stands, as the events `show server` and `log` print them. An image that is not started is that of a server
 ///   without a commit. A client goes by its place, 0 to 7, since an image holds no names. No disk is touched.
+/// - `--upgrade`: reads the source in the same way, and writes the bytes of a disk that stands for the same state, in version 2: one that
+///   was just started with a checkpoint of it, after as many records. What it writes is upgraded into itself. No disk is touched.
 ///
 /// Of the nine disks, which are empty and come back, the first is the server's, and the client at place i, counted from 0 in order
 /// of declaration, has disk i + 1.
@@ -46,7 +48,7 @@ pub struct Outcome<D> {
 /// # Statuses
 ///
 /// - 0: the input was read to its end and is an event script, or none is read; all events were done, and the whole output was written. Or
-///   an image was read to its end, and all that it shows was written.
+///   an image was read to its end, and all that it is written as was written.
 /// - 1: the input has more than 4,194,304 bytes, or was read to its end and is no event script; or an image has more than 268,435,456
 ///   bytes, or was read to its end and is foreign or damaged. One line that says so was written.
 /// - 2: the words name no job, or two. Nothing was read, and the usage line was written.
@@ -62,7 +64,7 @@ pub struct Outcome<D> {
 ///
 /// # The disks
 ///
-/// If the words name no job or an image is shown, or the input is refused or was not read to its end, the disks are as they were, whatever
+/// If the words name no job or an image is read, or the input is refused or was not read to its end, the disks are as they were, whatever
 /// the status.
 ///
 /// Else, with the statuses 0, 4 and 6, the first disk holds the commits, and the disk of each client what it keeps, whichever of its
@@ -169,7 +171,8 @@ fn do_job<S: Source, K: Sink, D: Disk>(
 {
     match job {
         Job::Run(run) => do_run(alloc, run, source, sink, disks),
-        Job::Image => (show_source(alloc, source, sink), disks),
+        Job::Image => (show_source(alloc, Telling::Text, source, sink), disks),
+        Job::Upgrade => (show_source(alloc, Telling::Disk, source, sink), disks),
     }
 }
 

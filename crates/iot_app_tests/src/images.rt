@@ -201,7 +201,7 @@ fn each_damaged_byte_is_named(rt: HostRuntime) -> Result<(), Fail> {
             // The disk or its only cell is closed.
             0 | 9 => Ok(0),
             1..=8 => Err(StartFault::Foreign),
-            // The number in the cell does not mark version 2, or no checkpoint is at the place that it names.
+            // No checkpoint is at the place that the cell names.
             18..=25 => Err(StartFault::Damaged { at: 9 }),
             // An only cell may have any generation. The other one is closed, or is open with the generation before.
             _ => Ok(RECORDS),
@@ -219,8 +219,7 @@ fn each_damaged_byte_after_a_checkpoint_is_named(rt: HostRuntime) -> Result<(), 
         let found = match place {
             0 => Ok(0),
             1..=8 => Err(StartFault::Foreign),
-            // Neither generation is the one after the other, the number in the cell does not mark version 2, or no checkpoint is at the
-            // place that it names.
+            // Neither generation is the one after the other, or no checkpoint is at the place that the cell names.
             10..=17 | 27..=42 => Err(StartFault::Damaged { at: 26 }),
             // The cell in force is closed, and what was there before the checkpoint counts again.
             26 => Ok(RECORDS),

@@ -19,7 +19,7 @@ pub(crate) const STARTED: &[u8] = b"\xa5IOTSLOT1\
 /// What no events leave.
 pub(crate) const NOTHING: &[u8] = b"{\"clients\":[],\"commits\":[],\"server\":[[\"/\",\"dir\"]]}\n";
 
-pub(crate) const USAGE: &[u8] = b"usage: iot [--json | --gen N | --save | --image]\n";
+pub(crate) const USAGE: &[u8] = b"usage: iot [--json | --gen N | --save | --image | --upgrade]\n";
 
 /// A client that has crashed with a transaction that waits, and a server that is down.
 const DOWN: &[u8] = b"client laptop\nclient desk\nscript s {\necho a\n}\ndisconnect desk\n\

@@ -32,4 +32,6 @@ mod stamps;
 #[cfg(test)]
 mod trees;
 #[cfg(test)]
+mod versions;
+#[cfg(test)]
 mod views;

@@ -48,7 +48,7 @@ const ALREADY: &[u8] = b"\x03\0\0\0\0\0\0\0\x01";
 const CONFLICT: &[u8] = b"\x04\0\0\0\0\0\0\0\x01\x03";
 
 /// A server that is started after a restart.
-fn started<D: Disk + Drop>(alloc: Global, mut disk: D) -> Result<Server<D>, StartFault>
+pub(crate) fn started<D: Disk + Drop>(alloc: Global, mut disk: D) -> Result<Server<D>, StartFault>
     ensures { IfOk result (λ server. IsSynced D.medium server) }
 {
     disk.restart();

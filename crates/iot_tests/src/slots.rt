@@ -78,8 +78,6 @@ fn other_bytes_are_refused(rt: HostRuntime) -> Result<(), Fail> {
         let want = match at {
             0 | 9 => Ok((0, 0, 0)),
             1..=8 => Err(StartFault::Foreign),
-            // The number in the cell in force is 43, as it was in version 1.
-            18 => Err(StartFault::Damaged { at: 9 }),
             // No whole checkpoint is at the place that the cell names.
             19..=25 | 43..=50 => Err(StartFault::Damaged { at: 9 }),
             _ => Ok((2, 0, 0)),

@@ -1,21 +1,22 @@
 -- The job: words that spell one use name its job.
 use Rattle.std.proofs.Common.{◌≡◌, ◌∙◌, ◌==◌, ◌+◌, suc, ℕ, Bool, true, false, refl, sym, ap, subst, List, [], ◌∷◌, ◌++◌, map, Option}
-use Rattle.std.proofs.Common.{Some, None, codes, arith, drop, length, is_some}
+use Rattle.std.proofs.Common.{Some, None, codes, append-nil, arith, cond, drop, length, is_some, is_none}
 use Rattle.std.specs.Prelude.{if◌then◌else◌, nat_eq, nat_le, ◌&&◌, ◌||◌, option_map, ⊤}
 use Rattle.std.specs.List.{starts_with}
 use Rattle.std.specs.Str.{bytes_eq, chars}
 use Rattle.std.specs.Prelude.{slice_get}
-use Rattle.std.proofs.lemmas.Bool.{false_from_ne_true}
+use Rattle.std.proofs.lemmas.Bool.{and_parts, false_from_ne_true, false≢true}
 use Rattle.std.proofs.lemmas.Bool.Decides.{Decides-eqb, nat_tests}
 use Rattle.std.proofs.lemmas.Slice.Eq.{bytes_eq-Decides, starts_is}
 use Rattle.clap.specs.Lexer.{long_of, long_of_rest, name_and_value, short_of}
 use Rattle.clap.specs.Walk.{Text, has_row}
 use Rattle.iot_words.specs.Jobs.{chosen, generate_of, job_of, named, without_end}
 use Rattle.iot_words.specs.declared.jobs.Job.{Job}
-use Rattle.iot_words.specs.declared.jobs.Job.TheVariants.{Run, Image}
+use Rattle.iot_words.specs.declared.jobs.Job.TheVariants.{Run, Image, Upgrade}
 use Rattle.iot_words.specs.declared.jobs.Run.TheVariants.{Transcript, Json, Generate, Save}
-use Rattle.iot_words.proofs.Uses.{Flag, Kind, Use, Wait, add, bind, by_kind, ends, flag, gen, given, image, is_last, json, kind, name_kind}
-use Rattle.iot_words.proofs.Uses.{name_of, names, nothing, plain, row, save, short_kind}
+use Rattle.iot_words.proofs.Uses.{Arg, Flag, arg_kind, arg_name, arg_named, args, image, json, number, save, the, upgrade}
+use Rattle.iot_words.proofs.Uses.{Kind, Use, Wait, add, bind, by_kind, ends, flag, gen, given, is_last, kind, name_kind}
+use Rattle.iot_words.proofs.Uses.{name_of, names, nothing, plain, row, short_kind}
 use Rattle.iot_words.proofs.Uses.{settle, spelled, unknown, wanting, wants}
 use Rattle.iot_words.proofs.WalksLaws.{Apart}
 use Rattle.iot_words.proofs.MatchesLaws.{gen_in, has}
@@ -88,30 +89,26 @@ WordIs word wants = word ≡ codes "--gen"
 WordIs word (unknown fault) = Hyphen word
 WordIs word plain = ⊤
 
+arg_has : (name : Text) (xs : List Arg) (a : Arg) → arg_named name xs ≡ Some a → arg_name a ≡ name
+arg_has name [] a e = absurd cc
+arg_has name (x ∷ xs) a e = go (bytes_eq (arg_name x) name) refl (arg_has name xs a) e
+  where
+    go : (hit : Bool) → bytes_eq (arg_name x) name ≡ hit → (arg_named name xs ≡ Some a → arg_name a ≡ name)
+        → cond hit (Some x) (arg_named name xs) ≡ Some a → arg_name a ≡ name
+    go true is more e = let first : a ≡ x = cc in ap arg_name first ∙ same (arg_name x) name is
+    go false is more e = more e
+
 name_is : (word name : Text) (v : Option Text) → word ≡ 45 ∷ 45 ∷ (name ++ tail v) → WordIs word (name_kind name v)
-name_is word name None is = go (bytes_eq (codes "json") name) refl (bytes_eq (codes "gen") name) refl
-    (bytes_eq (codes "save") name) refl (bytes_eq (codes "image") name) refl
+name_is word name v is = go (arg_named name args) (arg_has name args) v is
   where
-    go : (j : Bool) → bytes_eq (codes "json") name ≡ j → (g : Bool) → bytes_eq (codes "gen") name ≡ g
-        → (s : Bool) → bytes_eq (codes "save") name ≡ s → (i : Bool) → bytes_eq (codes "image") name ≡ i
-        → WordIs word (name_kind name None)
-    go true ej g eg s es i ei = rw ej (is ∙ ap (λ (n : Text). 45 ∷ 45 ∷ (n ++ [])) (sym (same (codes "json") name ej)))
-    go false ej true eg s es i ei = rw (ej, eg) (is ∙ ap (λ (n : Text). 45 ∷ 45 ∷ (n ++ [])) (sym (same (codes "gen") name eg)))
-    go false ej false eg true es i ei = rw (ej, eg, es) (is ∙ ap (λ (n : Text). 45 ∷ 45 ∷ (n ++ [])) (sym (same (codes "save") name es)))
-    go false ej false eg false es true ei =
-        rw (ej, eg, es, ei) (is ∙ ap (λ (n : Text). 45 ∷ 45 ∷ (n ++ [])) (sym (same (codes "image") name ei)))
-    go false ej false eg false es false ei = rw (ej, eg, es, ei) (45 ∷ (name ++ []), is)
-name_is word name (Some v) is = go (bytes_eq (codes "json") name) refl (bytes_eq (codes "gen") name) refl
-    (bytes_eq (codes "save") name) refl (bytes_eq (codes "image") name) refl
-  where
-    go : (j : Bool) → bytes_eq (codes "json") name ≡ j → (g : Bool) → bytes_eq (codes "gen") name ≡ g
-        → (s : Bool) → bytes_eq (codes "save") name ≡ s → (i : Bool) → bytes_eq (codes "image") name ≡ i
-        → WordIs word (name_kind name (Some v))
-    go true ej g eg s es i ei = rw ej (45 ∷ (name ++ 61 ∷ v), is)
-    go false ej true eg s es i ei = rw (ej, eg) (is ∙ ap (λ (n : Text). 45 ∷ 45 ∷ (n ++ 61 ∷ v)) (sym (same (codes "gen") name eg)))
-    go false ej false eg true es i ei = rw (ej, eg, es) (45 ∷ (name ++ 61 ∷ v), is)
-    go false ej false eg false es true ei = rw (ej, eg, es, ei) (45 ∷ (name ++ 61 ∷ v), is)
-    go false ej false eg false es false ei = rw (ej, eg, es, ei) (45 ∷ (name ++ 61 ∷ v), is)
+    go : (a : Option Arg) → ((x : Arg) → a ≡ Some x → arg_name x ≡ name) → (v : Option Text) → word ≡ 45 ∷ 45 ∷ (name ++ tail v)
+        → WordIs word (arg_kind a v)
+    go None known v is = (45 ∷ (name ++ tail v), is)
+    go (Some (the f)) known None is =
+        is ∙ ap (λ (n : Text). 45 ∷ 45 ∷ n) (append-nil name ∙ sym (known (the f) refl))
+    go (Some (the f)) known (Some v) is = (45 ∷ (name ++ 61 ∷ v), is)
+    go (Some number) known None is = is ∙ ap (λ (n : Text). 45 ∷ 45 ∷ (n ++ [])) (sym (known number refl))
+    go (Some number) known (Some v) is = is ∙ ap (λ (n : Text). 45 ∷ 45 ∷ (n ++ 61 ∷ v)) (sym (known number refl))
 
 short_is : (word : Text) (flags : Option Text) → short_of word ≡ flags → WordIs word (short_kind flags)
 short_is word None e = tt
@@ -133,12 +130,26 @@ word_is word = go (bytes_eq word (codes "--")) refl (long_of word) refl
         rw (e, long) (name_is word p.0 p.1 (found.1 ∙ ap (λ (t : Text). 45 ∷ 45 ∷ t) parts))
     go false e None long = rw (e, long) (short_is word (short_of word) refl)
 
+-- ---- flags
+
+abbrev flag_job : Flag → Job
+flag_job json = Run Json
+flag_job save = Run Save
+flag_job image = Image
+flag_job upgrade = Upgrade
+
+-- a flag's word names its job if it is alone
+alone : (f : Flag) → (kind (45 ∷ 45 ∷ name_of f) ≡ names (flag f)) × (named ((45 ∷ 45 ∷ name_of f) ∷ []) ≡ Some (flag_job f))
+    × ((next : Text) → named ((45 ∷ 45 ∷ name_of f) ∷ next ∷ []) ≡ None)
+alone json = (refl, refl, λ next. refl)
+alone save = (refl, refl, λ next. refl)
+alone image = (refl, refl, λ next. refl)
+alone upgrade = (refl, refl, λ next. refl)
+
 -- ---- words that name nothing
 
 record Unnamed (word : Text) : Type 0 where
-  json : bytes_eq word (codes "--json") ≡ false
-  save : bytes_eq word (codes "--save") ≡ false
-  image : bytes_eq word (codes "--image") ≡ false
+  flags : (f : Flag) → bytes_eq word (45 ∷ 45 ∷ name_of f) ≡ false
   gen : bytes_eq word (codes "--gen") ≡ false
   prefix : starts_with nat_eq word (codes "--gen=") ≡ false
 
@@ -147,15 +158,13 @@ from_prefix word e = (starts_is Decides-eqb word (codes "--gen=") _ refl).0 e
 
 unnamed : (word : Text) → ((u : Use) → kind word ≡ names u → ⊥) → (kind word ≡ wants → ⊥) → Unnamed word
 unnamed word no_use no_wants = record {
-  json = false_from_ne_true _ (λ e. no_use (flag json) (ap kind (same word (codes "--json") e)));
-  save = false_from_ne_true _ (λ e. no_use (flag save) (ap kind (same word (codes "--save") e)));
-  image = false_from_ne_true _ (λ e. no_use (flag image) (ap kind (same word (codes "--image") e)));
+  flags = λ f. false_from_ne_true _ (λ e. no_use (flag f) (ap kind (same word (45 ∷ 45 ∷ name_of f) e) ∙ (alone f).0));
   gen = false_from_ne_true _ (λ e. no_wants (ap kind (same word (codes "--gen") e)));
   prefix = false_from_ne_true _ (λ e. no_use (gen (drop 6 word)) (ap kind (from_prefix word e)));
 }
 
 named-Unnamed : (word : Text) (more : List Text) → Unnamed word → named (word ∷ more) ≡ None
-named-Unnamed word [] un = rw (un.json, un.save, un.image, un.prefix) refl
+named-Unnamed word [] un = rw (un.flags json, un.flags save, un.flags image, un.flags upgrade, un.prefix) refl
 named-Unnamed word (next ∷ []) un = rw un.gen refl
 named-Unnamed word (next ∷ other ∷ more) un = refl
 
@@ -167,11 +176,6 @@ not_ends word no_end = false_from_ne_true _ (λ e. no_end (ap kind (same word (c
 abbrev is_nil : List Text → Bool
 is_nil [] = true
 is_nil (word ∷ more) = false
-
-abbrev flag_job : Flag → Job
-flag_job json = Run Json
-flag_job save = Run Save
-flag_job image = Image
 
 abbrev use_job : Use → Option Job
 use_job (flag f) = Some (flag_job f)
@@ -186,18 +190,8 @@ pick (Some (u ∷ v ∷ us)) = None
 
 named_use : (u : Use) (word : Text) (more : List Text) → WordIs word (names u) → named (word ∷ more)
     ≡ (if is_nil more then use_job u else None)
-named_use (flag f) word [] is = subst (λ (w : Text). named (w ∷ []) ≡ Some (flag_job f)) (sym is) (alone f)
-  where
-    alone : (f : Flag) → named ((45 ∷ 45 ∷ name_of f) ∷ []) ≡ Some (flag_job f)
-    alone json = refl
-    alone save = refl
-    alone image = refl
-named_use (flag f) word (next ∷ []) is = subst (λ (w : Text). named (w ∷ next ∷ []) ≡ None) (sym is) (no_gen f)
-  where
-    no_gen : (f : Flag) → named ((45 ∷ 45 ∷ name_of f) ∷ next ∷ []) ≡ None
-    no_gen json = refl
-    no_gen save = refl
-    no_gen image = refl
+named_use (flag f) word [] is = ap (λ (w : Text). named (w ∷ [])) is ∙ (alone f).1
+named_use (flag f) word (next ∷ []) is = ap (λ (w : Text). named (w ∷ next ∷ [])) is ∙ (alone f).2 next
 named_use (flag f) word (next ∷ other ∷ more) is = refl
 named_use (gen v) word [] is = subst (λ (w : Text). named (w ∷ []) ≡ generate_of v) (sym is) refl
 named_use (gen v) word (next ∷ []) is = subst (λ (w : Text). named (w ∷ next ∷ []) ≡ None) (sym is) refl
@@ -207,7 +201,8 @@ named_gen : (value : Text) (more : List Text) → named (codes "--gen" ∷ value
 named_gen value [] = refl
 named_gen value (next ∷ more) = refl
 
-refused : (some first small : Bool) (n : ℕ) → option_map Run (option_map Generate (if some && false && first && small then Some n else None)) ≡ None
+refused : (some first small : Bool) (n : ℕ)
+    → option_map Run (option_map Generate (if some && false && first && small then Some n else None)) ≡ None
 refused true first small n = refl
 refused false first small n = refl
 
@@ -410,54 +405,73 @@ job_is (word ∷ rest) = first_kind word rest (kind word) refl (word_is word)
 
 -- ---- the job by flags
 
-json_and_image : (s : Bool) (text : Option Text) → None ≡ chosen true s true text
-json_and_image true text = refl
-json_and_image false text = refl
+abbrev every : (Flag → Bool) → Bool
+every p = p json && (p save && (p image && p upgrade))
 
-save_and_image : (j : Bool) (text : Option Text) → None ≡ chosen j true true text
-save_and_image true text = refl
-save_and_image false text = refl
+every_at : (p : Flag → Bool) → every p ≡ true → (f : Flag) → p f ≡ true
+every_at p e f =
+    let first = and_parts (p json) (p save && (p image && p upgrade)) e in
+    let second = and_parts (p save) (p image && p upgrade) first.1 in
+    let third = and_parts (p image) (p upgrade) second.1 in
+    go f first.0 second.0 third.0 third.1
+  where
+    go : (f : Flag) → p json ≡ true → p save ≡ true → p image ≡ true → p upgrade ≡ true → p f ≡ true
+    go json j s i u = j
+    go save j s i u = s
+    go image j s i u = i
+    go upgrade j s i u = u
 
-json_and_gen : (s i : Bool) (v : Text) → None ≡ chosen true s i (Some v)
-json_and_gen true i v = refl
-json_and_gen false true v = refl
-json_and_gen false false v = refl
+abbrev both : (Bool → Bool) → Bool
+both p = p true && p false
 
-save_and_gen : (j i : Bool) (v : Text) → None ≡ chosen j true i (Some v)
-save_and_gen true i v = refl
-save_and_gen false true v = refl
-save_and_gen false false v = refl
+both_at : (p : Bool → Bool) → both p ≡ true → (b : Bool) → p b ≡ true
+both_at p e true = (and_parts (p true) (p false) e).0
+both_at p e false = (and_parts (p true) (p false) e).1
 
-image_and_gen : (j s : Bool) (v : Text) → None ≡ chosen j s true (Some v)
-image_and_gen true s v = json_and_image s (Some v)
-image_and_gen false true v = refl
-image_and_gen false false v = refl
+-- whether there is no job, by which other flags are given
+abbrev NoneFor : Type 0
+NoneFor = (json save image upgrade : Bool) → Bool
 
--- two uses that are apart name no job
-two_uses : (u v : Use) (us : List Use) → Apart (u ∷ v ∷ us) → None ≡ chosen (has (codes "json") (u ∷ v ∷ us))
-    (has (codes "save") (u ∷ v ∷ us)) (has (codes "image") (u ∷ v ∷ us)) (gen_in (u ∷ v ∷ us))
-two_uses (flag json) (flag json) us apart = absurd cc
-two_uses (flag json) (flag save) us apart = refl
-two_uses (flag json) (flag image) us apart = json_and_image (has (codes "save") us) (gen_in us)
-two_uses (flag json) (gen v) us apart = json_and_gen (has (codes "save") us) (has (codes "image") us) v
-two_uses (flag save) (flag json) us apart = refl
-two_uses (flag save) (flag save) us apart = absurd cc
-two_uses (flag save) (flag image) us apart = save_and_image (has (codes "json") us) (gen_in us)
-two_uses (flag save) (gen v) us apart = save_and_gen (has (codes "json") us) (has (codes "image") us) v
-two_uses (flag image) (flag json) us apart = json_and_image (has (codes "save") us) (gen_in us)
-two_uses (flag image) (flag save) us apart = save_and_image (has (codes "json") us) (gen_in us)
-two_uses (flag image) (flag image) us apart = absurd cc
-two_uses (flag image) (gen v) us apart = image_and_gen (has (codes "json") us) (has (codes "save") us) v
-two_uses (gen v) (flag json) us apart = json_and_gen (has (codes "save") us) (has (codes "image") us) v
-two_uses (gen v) (flag save) us apart = save_and_gen (has (codes "json") us) (has (codes "image") us) v
-two_uses (gen v) (flag image) us apart = image_and_gen (has (codes "json") us) (has (codes "save") us) v
-two_uses (gen v) (gen w) us apart = absurd cc
+abbrev always : NoneFor → Bool
+always p = both (λ j. both (λ s. both (λ i. both (p j s i))))
 
-pub chosen_is : (us : List Use) → Apart us
-    → pick (Some us) ≡ chosen (has (codes "json") us) (has (codes "save") us) (has (codes "image") us) (gen_in us)
+always_at : (p : NoneFor) → always p ≡ true → (j s i u : Bool) → p j s i u ≡ true
+always_at p e j s i = both_at (p j s i) (both_at (λ i. both (p j s i)) (both_at (λ s. both (λ i. both (p j s i)))
+    (both_at (λ j. both (λ s. both (λ i. both (p j s i)))) e j) s) i)
+
+no_job : (job : Option Job) → is_none job ≡ true → None ≡ job
+no_job None e = refl
+no_job (Some job) e = absurd (false≢true e)
+
+-- whether there is no job with this flag
+abbrev refuses : Flag → Option Text → NoneFor
+refuses f text j s i u = is_none (chosen (bytes_eq (name_of f) (codes "json") || j) (bytes_eq (name_of f) (codes "save") || s)
+    (bytes_eq (name_of f) (codes "image") || i) (bytes_eq (name_of f) (codes "upgrade") || u) text)
+
+abbrev refuses_two : Flag → Flag → Option Text → NoneFor
+refuses_two f g text j s i u = refuses f text (bytes_eq (name_of g) (codes "json") || j) (bytes_eq (name_of g) (codes "save") || s)
+    (bytes_eq (name_of g) (codes "image") || i) (bytes_eq (name_of g) (codes "upgrade") || u)
+
+flag_and_gen : (f : Flag) (v : Text) (j s i u : Bool) → refuses f (Some v) j s i u ≡ true
+flag_and_gen f v = always_at (refuses f (Some v)) (every_at (λ f. always (refuses f (Some v))) refl f)
+
+two_flags : (f g : Flag) → bytes_eq (name_of f) (name_of g) ≡ false → (text : Option Text) (j s i u : Bool)
+    → refuses_two f g text j s i u ≡ true
+two_flags f g apart text = always_at (refuses_two f g text) (rw apart at
+    (every_at (λ g. bytes_eq (name_of f) (name_of g) || always (refuses_two f g text))
+    (every_at (λ f. every (λ g. bytes_eq (name_of f) (name_of g) || always (refuses_two f g text))) refl f) g))
+
+abbrev chosen_of : List Use → Option Job
+chosen_of us = chosen (has (codes "json") us) (has (codes "save") us) (has (codes "image") us) (has (codes "upgrade") us) (gen_in us)
+
+pub chosen_is : (us : List Use) → Apart us → pick (Some us) ≡ chosen_of us
 chosen_is [] apart = refl
 chosen_is (flag json ∷ []) apart = refl
 chosen_is (flag save ∷ []) apart = refl
 chosen_is (flag image ∷ []) apart = refl
+chosen_is (flag upgrade ∷ []) apart = refl
 chosen_is (gen v ∷ []) apart = refl
-chosen_is (u ∷ v ∷ us) apart = two_uses u v us apart
+chosen_is (flag f ∷ flag g ∷ us) apart = no_job (chosen_of (flag f ∷ flag g ∷ us)) (two_flags f g apart (gen_in us) _ _ _ _)
+chosen_is (flag f ∷ gen v ∷ us) apart = no_job (chosen_of (flag f ∷ gen v ∷ us)) (flag_and_gen f v _ _ _ _)
+chosen_is (gen v ∷ flag f ∷ us) apart = no_job (chosen_of (gen v ∷ flag f ∷ us)) (flag_and_gen f v _ _ _ _)
+chosen_is (gen v ∷ gen w ∷ us) apart = absurd cc

@@ -1,6 +1,7 @@
 -- One word: what `clap` makes of it, by its kind.
 use Rattle.std.proofs.Common.{◌≡◌, ◌∙◌, ℕ, Bool, true, false, zero, suc, refl, sym, ap, List, [], ◌∷◌, length, Option, Some, None, codes}
-use Rattle.std.specs.Prelude.{slice_get}
+use Rattle.std.proofs.Common.{cond, map, subst, ◌||◌}
+use Rattle.std.specs.Prelude.{option_map, slice_get}
 use Rattle.std.specs.Str.{bytes_eq, chars}
 use Rattle.clap.specs.Lexer.{long_of, short_of}
 use Rattle.clap.specs.Kinds.{Kinds, or_else}
@@ -10,6 +11,7 @@ use Rattle.clap.specs.Walk.{option}
 use Rattle.clap.specs.Walk.{next, positional, plain_word, reacted, settled, subcommand_met, waits, walked, plain as no_flag}
 use Rattle.clap.specs.declared.error.kind.ErrorKind.{ErrorKind}
 use Rattle.clap.specs.declared.error.kind.ErrorKind.TheVariants.{UnknownArgument}
+use Rattle.iot_words.proofs.Uses.{Arg, arg_kind, arg_named, arg_rule, args, name_of, number, the}
 use Rattle.iot_words.proofs.Uses.{Kind, Use, Wait, ends, given, given_to, held, kind, name_kind, names, nothing, plain, rule, short_kind}
 use Rattle.iot_words.proofs.Uses.{state, top, unknown, waiting, walk_at, wanting, wants}
 
@@ -22,39 +24,43 @@ or_else-nil (k ∷ ks) = refl
 
 -- ---- `--name` and `--name=value`
 
-abbrev pub LongIs : Text → Option Text → Kind → Type 0
-LongIs name v (names u) = (h : Held)
-    → (long_fault rules false (arg_by_long rules name) v h ≡ react_fault rules false (rule u) (given_to u) h)
-    × (long_met rules (arg_by_long rules name) v h ≡ (reacted rules (rule u) (given_to u) h, done))
-LongIs name v wants = (h : Held) → (long_fault rules false (arg_by_long rules name) v h ≡ settle_fault rules false h)
-    × (long_met rules (arg_by_long rules name) v h ≡ (record (settled rules h) { pending = Some (codes "gen", []) }, waits (codes "gen")))
-LongIs name v (unknown fault) = (h : Held) → long_fault rules false (arg_by_long rules name) v h ≡ fault ∷ []
-LongIs name v ends = ⊥
-LongIs name v plain = ⊥
+-- the argument of a name, among the rules and among the arguments
+rule_named : (name : Text) (xs : List Arg) → arg_by_long (map arg_rule xs) name ≡ option_map arg_rule (arg_named name xs)
+rule_named name [] = refl
+rule_named name (a ∷ xs) = by_kind a (rule_named name xs)
+  where
+    first : (a : Arg) (hit : Bool) → cond (hit || false) (Some (arg_rule a)) (option_map arg_rule (arg_named name xs))
+        ≡ option_map arg_rule (cond hit (Some a) (arg_named name xs))
+    first a true = refl
+    first a false = refl
 
-long_is : (name : Text) (v : Option Text) → LongIs name v (name_kind name v)
-long_is name None = go (bytes_eq (codes "json") name) refl (bytes_eq (codes "gen") name) refl (bytes_eq (codes "save") name) refl
-    (bytes_eq (codes "image") name) refl
-  where
-    go : (j : Bool) → bytes_eq (codes "json") name ≡ j → (g : Bool) → bytes_eq (codes "gen") name ≡ g
-        → (s : Bool) → bytes_eq (codes "save") name ≡ s → (i : Bool) → bytes_eq (codes "image") name ≡ i
-        → LongIs name None (name_kind name None)
-    go true ej g eg s es i ei = rw ej λ h. (rw ej refl, rw ej refl)
-    go false ej true eg s es i ei = rw (ej, eg) λ h. (rw (ej, eg) refl, rw (ej, eg) refl)
-    go false ej false eg true es i ei = rw (ej, eg, es) λ h. (rw (ej, eg, es) refl, rw (ej, eg, es) refl)
-    go false ej false eg false es true ei = rw (ej, eg, es, ei) λ h. (rw (ej, eg, es, ei) refl, rw (ej, eg, es, ei) refl)
-    go false ej false eg false es false ei = rw (ej, eg, es, ei) λ h. rw (ej, eg, es, ei) refl
-long_is name (Some v) = go (bytes_eq (codes "json") name) refl (bytes_eq (codes "gen") name) refl (bytes_eq (codes "save") name) refl
-    (bytes_eq (codes "image") name) refl
-  where
-    go : (j : Bool) → bytes_eq (codes "json") name ≡ j → (g : Bool) → bytes_eq (codes "gen") name ≡ g
-        → (s : Bool) → bytes_eq (codes "save") name ≡ s → (i : Bool) → bytes_eq (codes "image") name ≡ i
-        → LongIs name (Some v) (name_kind name (Some v))
-    go true ej g eg s es i ei = rw ej λ h. rw ej refl
-    go false ej true eg s es i ei = rw (ej, eg) λ h. (rw (ej, eg) refl, rw (ej, eg) refl)
-    go false ej false eg true es i ei = rw (ej, eg, es) λ h. rw (ej, eg, es) refl
-    go false ej false eg false es true ei = rw (ej, eg, es, ei) λ h. rw (ej, eg, es, ei) refl
-    go false ej false eg false es false ei = rw (ej, eg, es, ei) λ h. rw (ej, eg, es, ei) refl
+    by_kind : (a : Arg) → arg_by_long (map arg_rule xs) name ≡ option_map arg_rule (arg_named name xs)
+        → arg_by_long (map arg_rule (a ∷ xs)) name ≡ option_map arg_rule (arg_named name (a ∷ xs))
+    by_kind (the f) more = ap (cond (bytes_eq (name_of f) name || false) (Some (arg_rule (the f)))) more
+        ∙ first (the f) (bytes_eq (name_of f) name)
+    by_kind number more = ap (cond (bytes_eq (codes "gen") name || false) (Some (arg_rule number))) more
+        ∙ first number (bytes_eq (codes "gen") name)
+
+abbrev pub LongIs : Option Rule → Option Text → Kind → Type 0
+LongIs a v (names u) = (h : Held)
+    → (long_fault rules false a v h ≡ react_fault rules false (rule u) (given_to u) h)
+    × (long_met rules a v h ≡ (reacted rules (rule u) (given_to u) h, done))
+LongIs a v wants = (h : Held) → (long_fault rules false a v h ≡ settle_fault rules false h)
+    × (long_met rules a v h ≡ (record (settled rules h) { pending = Some (codes "gen", []) }, waits (codes "gen")))
+LongIs a v (unknown fault) = (h : Held) → long_fault rules false a v h ≡ fault ∷ []
+LongIs a v ends = ⊥
+LongIs a v plain = ⊥
+
+arg_is : (a : Option Arg) (v : Option Text) → LongIs (option_map arg_rule a) v (arg_kind a v)
+arg_is None v = λ h. refl
+arg_is (Some (the f)) None = λ h. (refl, refl)
+arg_is (Some (the f)) (Some v) = λ h. refl
+arg_is (Some number) None = λ h. (refl, refl)
+arg_is (Some number) (Some v) = λ h. (refl, refl)
+
+long_is : (name : Text) (v : Option Text) → LongIs (arg_by_long rules name) v (name_kind name v)
+long_is name v =
+    subst (λ (a : Option Rule). LongIs a v (name_kind name v)) (sym (rule_named name args)) (arg_is (arg_named name args) v)
 
 -- ---- a word that is not `--`
 
@@ -103,7 +109,7 @@ end_turn us wait word e = (rw (no_subcommand (waiting wait) word, e) refl, rw (n
 
 pub long_turn : (us : List Use) (wait : Wait) (word : Text) → bytes_eq word (codes "--") ≡ false → (p : Text × Option Text)
     → long_of word ≡ Some p
-    → (k : Kind) → LongIs p.0 p.1 k → TurnIs us wait word k
+    → (k : Kind) → LongIs (arg_by_long rules p.0) p.1 k → TurnIs us wait word k
 long_turn us wait word e p long (names u) is =
     let step : met us wait word ≡ (reacted rules (rule u) (given_to u) (held us wait), next idle) = rw (long, (is (held us wait)).1) refl in
     (turn_is us wait word e ∙ rw (step, long, (is (held us wait)).0) (or_else-nil _), walked_is us wait word e ∙ rw step refl)

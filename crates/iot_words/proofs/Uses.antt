@@ -1,6 +1,7 @@
 -- What the words name, one after the other, in the steps of `clap`'s walk over them: the flags and options that were used so
 -- far, and whether `--gen` waits for its value.
 use Rattle.std.specs.Prelude.{Bool, true, false, List, [], ◌∷◌, ◌++◌, map, Option, Some, None, is_some, if◌then◌else◌, codes, slice_get}
+use Rattle.std.specs.Prelude.{find}
 use Rattle.std.specs.Str.{bytes_eq, chars}
 use Rattle.clap.specs.Lexer.{long_of, short_of}
 use Rattle.clap.specs.Walk.{Held, Row, Rule, Text, Waiting, Walk, idle, option, has_row}
@@ -18,6 +19,7 @@ pub data Flag : Type 0 where
   json : Flag
   save : Flag
   image : Flag
+  upgrade : Flag
 
 pub data Use : Type 0 where
   flag : Flag → Use
@@ -36,14 +38,31 @@ abbrev pub name_of : Flag → Text
 name_of json = codes "json"
 name_of save = codes "save"
 name_of image = codes "image"
+name_of upgrade = codes "upgrade"
 
 -- what building makes of a flag
 abbrev pub flag_rule : Text → Rule
 flag_rule name = filled (record (new_rule name) { long = Some name; action = Some SetTrue })
 
+-- the command's arguments
+pub data Arg : Type 0 where
+  the : Flag → Arg
+  number : Arg
+
+abbrev pub args : List Arg
+args = the json ∷ number ∷ the save ∷ the image ∷ the upgrade ∷ []
+
+abbrev pub arg_name : Arg → Text
+arg_name (the f) = name_of f
+arg_name number = codes "gen"
+
+abbrev pub arg_rule : Arg → Rule
+arg_rule (the f) = flag_rule (name_of f)
+arg_rule number = filled gen_rule
+
 abbrev pub rule : Use → Rule
-rule (flag f) = flag_rule (name_of f)
-rule (gen v) = filled gen_rule
+rule (flag f) = arg_rule (the f)
+rule (gen v) = arg_rule number
 
 -- the values that the words give it
 abbrev pub given_to : Use → List Text
@@ -79,19 +98,18 @@ pub data Kind : Type 0 where
   unknown : ErrorKind → Kind
   plain : Kind
 
+abbrev pub arg_kind : Option Arg → Option Text → Kind
+arg_kind None v = unknown UnknownArgument
+arg_kind (Some (the f)) None = names (flag f)
+arg_kind (Some (the f)) (Some v) = unknown TooManyValues
+arg_kind (Some number) None = wants
+arg_kind (Some number) (Some v) = names (gen v)
+
+abbrev pub arg_named : Text → List Arg → Option Arg
+arg_named name = find (λ a. bytes_eq (arg_name a) name)
+
 abbrev pub name_kind : Text → Option Text → Kind
-name_kind name None =
-    if bytes_eq (codes "json") name then names (flag json)
-    else if bytes_eq (codes "gen") name then wants
-    else if bytes_eq (codes "save") name then names (flag save)
-    else if bytes_eq (codes "image") name then names (flag image)
-    else unknown UnknownArgument
-name_kind name (Some v) =
-    if bytes_eq (codes "json") name then unknown TooManyValues
-    else if bytes_eq (codes "gen") name then names (gen v)
-    else if bytes_eq (codes "save") name then unknown TooManyValues
-    else if bytes_eq (codes "image") name then unknown TooManyValues
-    else unknown UnknownArgument
+name_kind name = arg_kind (arg_named name args)
 
 abbrev pub short_kind : Option Text → Kind
 short_kind None = plain

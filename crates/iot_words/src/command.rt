@@ -29,6 +29,7 @@ pub fn read_words(alloc: Global, words: &[&str]) -> Result<Job, WordsFault>
         matches.get_flag("json"),
         matches.get_flag("save"),
         matches.get_flag("image"),
+        matches.get_flag("upgrade"),
         matches.get_str("gen"),
     ) {
         Some(job) => Ok(job),
@@ -50,13 +51,17 @@ fn command<'a>(alloc: Global) -> Result<Command<'a>, AllocError>
     let image = Arg::new(alloc, "image")
         .long("image")
         .action(ArgAction::SetTrue);
+    let upgrade = Arg::new(alloc, "upgrade")
+        .long("upgrade")
+        .action(ArgAction::SetTrue);
     Command::new(alloc, "iot")
         .no_binary_name(true)
         .disable_help_flag(true)
         .arg(json)?
         .arg(number)?
         .arg(save)?
-        .arg(image)
+        .arg(image)?
+        .arg(upgrade)
 }
 
 /// The fault that a failed parse is.

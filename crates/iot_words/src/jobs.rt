@@ -12,6 +12,9 @@ pub enum Job {
 
     /// Write the tree and the log of the state for which the input stands, which is an image of a server's disk.
     Image,
+
+    /// Write a disk of version 2 that stands for the same state as the input, which is an image of a server's disk.
+    Upgrade,
 }
 
 /// Which events are done, and what is written of them.
@@ -31,15 +34,24 @@ pub enum Run {
 }
 
 /// The job, by which flags were given and the text that `--gen` was given.
-pub(crate) fn chosen(json: bool, save: bool, image: bool, text: Option<&str>) -> Option<Job>
-    ensures { result ≡ chosen json save image (option_map (λ s. s.now) text.entry) }
+pub(crate) fn chosen(
+    json: bool,
+    save: bool,
+    image: bool,
+    upgrade: bool,
+    text: Option<&str>,
+) -> Option<Job>
+    ensures { result ≡ chosen json save image upgrade (option_map (λ s. s.now) text.entry) }
 {
-    match (json, save, image, text) {
-        (false, false, false, None) => Some(Job::Run(Run::Transcript)),
-        (true, false, false, None) => Some(Job::Run(Run::Json)),
-        (false, true, false, None) => Some(Job::Run(Run::Save)),
-        (false, false, true, None) => Some(Job::Image),
-        (false, false, false, Some(text)) => number_of(text).map(Run::Generate).map(Job::Run),
+    match (json, save, image, upgrade, text) {
+        (false, false, false, false, None) => Some(Job::Run(Run::Transcript)),
+        (true, false, false, false, None) => Some(Job::Run(Run::Json)),
+        (false, true, false, false, None) => Some(Job::Run(Run::Save)),
+        (false, false, true, false, None) => Some(Job::Image),
+        (false, false, false, true, None) => Some(Job::Upgrade),
+        (false, false, false, false, Some(text)) => {
+            number_of(text).map(Run::Generate).map(Job::Run)
+        }
         _ => None,
     }
 }

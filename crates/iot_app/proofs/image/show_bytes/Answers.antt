@@ -1,14 +1,15 @@
 use Rattle.std.proofs.Common.{◌∙◌, List, ℕ, sym, subst}
 use Rattle.std.specs.Io.KnownBytes.{Appends}
-use Rattle.iot_image.specs.Shown.{IsShown}
 use Rattle.iot_store.specs.Images.{IsRefusal}
+use Rattle.iot_app.specs.Images.{Says}
 use Rattle.iot_app.specs.Job.{TextEnds, shows, damaged}
 use Rattle.iot_app.specs.declared.status.Status.TheVariants.{Refused}
 use Rattle.iot_app.proofs.image.show_bytes.Goals as goal
 
 pub returns-in-Ok : goal.returns-in-Ok
 returns-in-Ok g c =
-    shows c.as_bytes.result.now (subst (IsShown c.args.bytes.now) (sym c.as_bytes.ensures) c.in-Ok.ensures.shown) c.write_text.ensures
+    shows c.deref.result.now (subst (Says c.args.telling c.args.bytes.now) (sym c.deref.ensures.value) c.in-Ok.ensures.says)
+    c.write_text.ensures
 
 pub returns-in-Ok-damaged_line : goal.returns-in-Ok-damaged_line
 returns-in-Ok-damaged_line g c =
@@ -19,4 +20,4 @@ returns-in-Ok-damaged_line g c =
     (Appends (g.K.Sink.written c.args.sink.now) (g.K.Sink.written sink))
     (record { before = g.K.Sink.faults c.args.sink.now; after = g.K.Sink.faults sink })
     (record { before = g.K.Sink.empties c.args.sink.now; after = g.K.Sink.empties sink }))
-    (c.as_bytes-in-Ok-damaged_line.ensures ∙ c.in-Ok-damaged_line.ensures) c.write_text-in-Ok-damaged_line.ensures)
+    (c.as_bytes.ensures ∙ c.in-Ok-damaged_line.ensures) c.write_text-in-Ok-damaged_line.ensures)

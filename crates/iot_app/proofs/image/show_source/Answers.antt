@@ -15,4 +15,4 @@ returns-in-Ok-clause-showed g c =
       whole = c.in-Ok.ensures.end;
       within = subst (λ (n : ℕ). n ≤ IMAGE_LIMIT) (sym c.deref.ensures.len) c.in-Ok.ensures.within;
     } in
-    image_shown took at_end _ _ _ c.deref.result.now c.show_bytes.result given c.show_bytes.ensures
+    image_shown took at_end c.args.telling _ _ _ c.deref.result.now c.show_bytes.result given c.show_bytes.ensures

@@ -7,7 +7,8 @@ use Rattle.iot_client.specs.declared.fault.ClientFault.TheVariants.{BadReply}
 use Rattle.iot_tests.proofs.refreshes.is_bad_at_its_end.Goals as goal
 
 -- a reply that is bad leaves the client as it was
-same_if_bad : {D X T : Type 0} (refusal : Option ClientFault) (Reads : Result X ℕ → Type 0) (old new : Client D) (answer : Result T ClientFault)
+same_if_bad : {D X T : Type 0} (refusal : Option ClientFault) (Reads : Result X ℕ → Type 0) (old new : Client D)
+    (answer : Result T ClientFault)
     (at : ℕ) → answer ≡ Err (BadReply at) → RefusesReply refusal Reads old new answer → new ≡ old
 same_if_bad None Reads old new answer at is refuses = (subst (EndsBy Reads old new) is refuses).1
 same_if_bad (Some fault) Reads old new answer at is refuses = refuses.1
