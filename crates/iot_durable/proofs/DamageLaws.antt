@@ -9,7 +9,7 @@ use Rattle.iot_slots.specs.Layouts.{place_in}
 use Rattle.iot_slots.specs.declared.version.Version.{Version}
 use Rattle.iot_slots.specs.declared.version.Version.TheVariants.{Two}
 use Rattle.iot_durable.specs.Rules.{Rules}
-use Rattle.iot_durable.specs.Standing.{header}
+use Rattle.iot_durable.specs.Standing.{header_of}
 use Rattle.iot_durable.specs.Damage.{BreaksAt, IsDamagedAt}
 use Rattle.iot_durable.specs.Causes.{HasCause, IsReason}
 use Rattle.iot_durable.proofs.ImagesLaws.{not_both}
@@ -48,7 +48,7 @@ module _ {S C : Type 0} (rules : Version → Rules S C) where
     refused_same (fault.Damaged at) (Damaged there) version body bodies count place P is reason kept = absurd cc
 
     damaged : (bytes : List ℕ) (d : Decoded) (version : Version) (body : List ℕ) (bodies : List (List ℕ)) (count place at : ℕ)
-        → decoded header bytes ≡ d →
+        → decoded (header_of rules) bytes ≡ d →
         opened first d ≡ Encodes (state_in version body bodies count) → (d ≢ NotStarted → place ≡ place_in bytes) →
         BreaksAt (rules version) body bodies place at → IsDamagedAt rules bytes at
     damaged bytes (Encodes state) version body bodies count place at is opens here damage =
@@ -66,12 +66,12 @@ module _ {S C : Type 0} (rules : Version → Rules S C) where
 
     pub cause_of : (fault : StartFault) (bytes : List ℕ) (version : Version) (body : List ℕ) (bodies : List (List ℕ))
         (count place before now : ℕ) →
-        opened first (decoded header bytes) ≡ Encodes (state_in version body bodies count) →
-        (decoded header bytes ≢ NotStarted → place ≡ place_in bytes) → IsReason (rules version) fault body bodies place
+        opened first (decoded (header_of rules) bytes) ≡ Encodes (state_in version body bodies count) →
+        (decoded (header_of rules) bytes ≢ NotStarted → place ≡ place_in bytes) → IsReason (rules version) fault body bodies place
         → Stayed before now →
         HasCause rules fault bytes before now
     cause_of fault.NoMemory bytes version body bodies count place before now opens here reason stayed = stayed
     cause_of fault.Stopped bytes version body bodies count place before now opens here reason stayed = absurd reason
     cause_of fault.Foreign bytes version body bodies count place before now opens here reason stayed = absurd reason
     cause_of (fault.Damaged at) bytes version body bodies count place before now opens here reason stayed =
-        (damaged bytes (decoded header bytes) version body bodies count place at refl opens here reason, stayed)
+        (damaged bytes (decoded (header_of rules) bytes) version body bodies count place at refl opens here reason, stayed)

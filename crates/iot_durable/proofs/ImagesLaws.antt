@@ -9,7 +9,7 @@ use Rattle.iot_slots.specs.declared.version.Version.{Version}
 use Rattle.iot_slots.specs.declared.version.Version.TheVariants.{Two}
 use Rattle.iot_durable.specs.Rules.{Rules}
 use Rattle.iot_durable.specs.Standing.{Makes, MakesOf, MakesBy, IsNext, StandFor, StandWith, EachStands, EachStandsEither, EachStays}
-use Rattle.iot_durable.specs.Standing.{header, records_in}
+use Rattle.iot_durable.specs.Standing.{header_of, records_in}
 use Rattle.iot_durable.specs.Standing.{IsAlone, IsRenewed}
 use Rattle.iot_durable.proofs.StandingLaws.{leads_push}
 
@@ -38,14 +38,14 @@ module _ {S C : Type 0} (rules : Version → Rules S C) where
   pub makes_whole : (body : List ℕ) (now : S) → (rules Two).IsBody body now → Makes (rules Two) body [] now
   makes_whole body now spells = record { start = now; spells = spells; leads = refl }
 
-  pub one_makes : (image : List ℕ) (encoded : State) (count : ℕ) (now : S) → decoded header image ≡ Encodes encoded →
+  pub one_makes : (image : List ℕ) (encoded : State) (count : ℕ) (now : S) → decoded (header_of rules) image ≡ Encodes encoded →
       encoded.count ≡ count → MakesOf rules encoded now → StandWith rules image count now
   one_makes image encoded count now is counted makes = record {
     stands = record { decoding = Encodes encoded; is = is; makes = makes };
     counted = ap (λ (d : Decoded). (state_of d).count) is ∙ counted;
   }
 
-  pub each_makes : (head : List ℕ) (images : List ℕ → Type 0) (encoded : State) (count : ℕ) (now : S) → head ≡ header →
+  pub each_makes : (head : List ℕ) (images : List ℕ → Type 0) (encoded : State) (count : ℕ) (now : S) → head ≡ header_of rules →
       EachEncodes head images encoded → encoded.count ≡ count → MakesOf rules encoded now →
       EachStands rules images count now
   each_makes head images encoded count now is encodes counted makes = record {
@@ -56,7 +56,7 @@ module _ {S C : Type 0} (rules : Version → Rules S C) where
 
   -- one record more
   pub either_makes : (head : List ℕ) (images : List ℕ → Type 0) (encoded : State) (body : List ℕ) (count : ℕ) (old new : S) →
-      head ≡ header → EachEncodesEither head images encoded (appended encoded body) → encoded.count ≡ count →
+      head ≡ header_of rules → EachEncodesEither head images encoded (appended encoded body) → encoded.count ≡ count →
       MakesOf rules encoded old → MakesOf rules (appended encoded body) new →
       EachStandsEither rules images count old new
   either_makes head images encoded body count old new is encodes counted makes_old makes_new = record {
@@ -70,7 +70,7 @@ module _ {S C : Type 0} (rules : Version → Rules S C) where
 
   -- a checkpoint of the whole
   pub both_make : (head : List ℕ) (images : List ℕ → Type 0) (encoded : State) (body : List ℕ) (count : ℕ) (now : S) →
-      head ≡ header → EachEncodesEither head images encoded (renewed encoded body) → encoded.count ≡ count →
+      head ≡ header_of rules → EachEncodesEither head images encoded (renewed encoded body) → encoded.count ≡ count →
       MakesOf rules encoded now → (rules Two).IsBody body now → EachStands rules images count now
   both_make head images encoded body count now is encodes counted makes spells = record {
     each = λ image left.
@@ -84,7 +84,7 @@ module _ {S C : Type 0} (rules : Version → Rules S C) where
   -- ---- what stays
 
   -- nothing was done
-  pub idle_stays : (head bytes : List ℕ) (images : List ℕ → Type 0) (was : State) (count : ℕ) (now : S) → head ≡ header →
+  pub idle_stays : (head bytes : List ℕ) (images : List ℕ → Type 0) (was : State) (count : ℕ) (now : S) → head ≡ header_of rules →
       Only bytes images → decoded head bytes ≡ Encodes was → was.count ≡ count → MakesOf rules was now →
       EachStays rules images count was now
   idle_stays head bytes images was count now is only encodes counted makes =
@@ -95,7 +95,7 @@ module _ {S C : Type 0} (rules : Version → Rules S C) where
       }
 
   -- a checkpoint of the whole, or none
-  pub both_stay : (head : List ℕ) (images : List ℕ → Type 0) (was : State) (body : List ℕ) (count : ℕ) (now : S) → head ≡ header →
+  pub both_stay : (head : List ℕ) (images : List ℕ → Type 0) (was : State) (body : List ℕ) (count : ℕ) (now : S) → head ≡ header_of rules →
       EachEncodesEither head images was (renewed was body) → was.count ≡ count → MakesOf rules was now →
       (rules Two).IsBody body now → EachStays rules images count was now
   both_stay head images was body count now is encodes counted makes spells = record {
@@ -179,28 +179,29 @@ module _ {S C : Type 0} (rules : Version → Rules S C) where
     fresh_stands (Damaged at) is = absurd cc
 
     pub each_start : (bytes : List ℕ) (before now : List ℕ → Type 0) (state : S) → Only bytes before →
-        EachEncodesAs header first bytes now → (decoded header bytes ≢ NotStarted → SameImages before now) →
-        StandFor rules bytes state → EachStands rules now (records_in bytes) state
+        EachEncodesAs (header_of rules) first bytes now → (decoded (header_of rules) bytes ≢ NotStarted → SameImages before now) →
+        StandFor rules bytes state → EachStands rules now (records_in rules bytes) state
     each_start bytes before now state only alike kept stands = by stands.decoding stands.is stands.makes
       where
-        same : SameImages before now → EachStands rules now (records_in bytes) state
+        same : SameImages before now → EachStands rules now (records_in rules bytes) state
         same images = record {
           each = λ image left.
-              subst (λ (l : List ℕ). StandWith rules l (records_in bytes) state) (sym (only.is image (images.was image left)))
+              subst (λ (l : List ℕ). StandWith rules l (records_in rules bytes) state) (sym (only.is image (images.was image left)))
               (record { stands = stands; counted = refl });
         }
 
-        by : (d : Decoded) → decoded header bytes ≡ d → MakesBy rules d state → EachStands rules now (records_in bytes) state
+        by : (d : Decoded) → decoded (header_of rules) bytes ≡ d → MakesBy rules d state
+            → EachStands rules now (records_in rules bytes) state
         by (Encodes encoded) is makes = same (kept (λ none. not_both _ encoded none is))
         by NotStarted is makes = record {
           each = λ image left. record {
             stands = record {
-              decoding = decoded header image;
+              decoding = decoded (header_of rules) image;
               is = refl;
-              makes = subst (λ (s : S). MakesBy rules (decoded header image) s) (sym makes)
-                  (fresh_stands (decoded header image) (alike.each image left ∙ ap (opened first) is));
+              makes = subst (λ (s : S). MakesBy rules (decoded (header_of rules) image) s) (sym makes)
+                  (fresh_stands (decoded (header_of rules) image) (alike.each image left ∙ ap (opened first) is));
             };
-            counted = same_count first (decoded header image) (decoded header bytes) (alike.each image left);
+            counted = same_count first (decoded (header_of rules) image) (decoded (header_of rules) bytes) (alike.each image left);
           };
         }
         by Foreign is makes = absurd makes

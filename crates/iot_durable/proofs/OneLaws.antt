@@ -4,7 +4,7 @@ use Rattle.iot_slots.specs.Decoding.{Decoded, Encodes, NotStarted, Foreign, Dama
 use Rattle.iot_slots.specs.declared.version.Version.{Version}
 use Rattle.iot_slots.proofs.WithinLaws.{AreWithin, IsWithin, decoded_within}
 use Rattle.iot_durable.specs.Rules.{Rules}
-use Rattle.iot_durable.specs.Standing.{Leads, Makes, MakesBy, StandFor, header}
+use Rattle.iot_durable.specs.Standing.{Leads, Makes, MakesBy, StandFor, header_of}
 
 -- in one version
 module _ {S C : Type 0} (rules : Rules S C)
@@ -40,6 +40,6 @@ module _ {S C : Type 0} (rules : Version → Rules S C)
 
   pub stands_one : (bytes : List ℕ) (a b : S) → length bytes < 2 ^ 64 → StandFor rules bytes a → StandFor rules bytes b → a ≡ b
   stands_one bytes a b short one other =
-      one_by (decoded header bytes) (length bytes) a b short (decoded_within header bytes)
+      one_by (decoded (header_of rules) bytes) (length bytes) a b short (decoded_within (header_of rules) bytes)
       (subst (λ (d : Decoded). MakesBy rules d a) (sym one.is) one.makes)
       (subst (λ (d : Decoded). MakesBy rules d b) (sym other.is) other.makes)

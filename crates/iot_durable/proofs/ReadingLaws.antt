@@ -9,7 +9,7 @@ use Rattle.iot_slots.specs.declared.decoding.SlotsView.{SlotsView}
 use Rattle.iot_slots.proofs.LayoutsLaws.{laid_encodes, laid_place}
 use Rattle.iot_slots.specs.declared.version.Version.{Version}
 use Rattle.iot_durable.specs.Rules.{Rules}
-use Rattle.iot_durable.specs.Standing.{MakesOf, MakesBy, StandFor, StandWith, header}
+use Rattle.iot_durable.specs.Standing.{MakesOf, MakesBy, StandFor, StandWith, header_of}
 use Rattle.iot_durable.specs.Damage.{BreaksAt, DamageBy, IsDamagedAt}
 use Rattle.iot_durable.specs.Causes.{IsReason, IsRefusal}
 
@@ -17,34 +17,37 @@ use Rattle.iot_durable.specs.Causes.{IsReason, IsRefusal}
 abbrev pub encoded_in : SlotsView → State
 encoded_in view = state_in view.layout.version view.body.now view.records view.layout.count
 
--- a view that was lent is laid out so
-pub lent_laid : (bytes : List ℕ) (found : Option SlotsView) (view : SlotsView) → found ≡ Some view →
-    IfSome found (λ lent. IsLaidOut header bytes (encoded_in lent) lent.layout) → IsLaidOut header bytes (encoded_in view) view.layout
-lent_laid bytes found view is laid =
-    subst (λ (o : Option SlotsView). IfSome o (λ lent. IsLaidOut header bytes (encoded_in lent) lent.layout)) is laid
-
 module _ {S C : Type 0} (rules : Version → Rules S C) (bytes : List ℕ) where
+  -- a view that was lent is laid out so
+  pub lent_laid : (header : List ℕ) (found : Option SlotsView) (view : SlotsView) → header ≡ header_of rules → found ≡ Some view →
+      IfSome found (λ lent. IsLaidOut header bytes (encoded_in lent) lent.layout) →
+      IsLaidOut (header_of rules) bytes (encoded_in view) view.layout
+  lent_laid header found view ours is laid =
+      subst (λ (h : List ℕ). IsLaidOut h bytes (encoded_in view) view.layout) ours
+      (subst (λ (o : Option SlotsView). IfSome o (λ lent. IsLaidOut header bytes (encoded_in lent) lent.layout)) is laid)
+
   -- what they stand for, and where they are damaged, by what they encode
-  makes_by : (d : Decoded) (now : S) → decoded header bytes ≡ d → StandFor rules bytes now → MakesBy rules d now
+  makes_by : (d : Decoded) (now : S) → decoded (header_of rules) bytes ≡ d → StandFor rules bytes now → MakesBy rules d now
   makes_by d now is stands = subst (λ (e : Decoded). MakesBy rules e now) (sym stands.is ∙ is) stands.makes
 
-  damage_by : (d : Decoded) (at : ℕ) → decoded header bytes ≡ d → IsDamagedAt rules bytes at → DamageBy rules d (place_in bytes) at
+  damage_by : (d : Decoded) (at : ℕ) → decoded (header_of rules) bytes ≡ d → IsDamagedAt rules bytes at
+      → DamageBy rules d (place_in bytes) at
   damage_by d at is damage = subst (λ (e : Decoded). DamageBy rules e (place_in bytes) at) (sym damage.is ∙ is) damage.damage
 
   -- ---- bytes that encode a state
 
-  module _ (view : SlotsView) (laid : IsLaidOut header bytes (encoded_in view) view.layout) where
+  module _ (view : SlotsView) (laid : IsLaidOut (header_of rules) bytes (encoded_in view) view.layout) where
     abbrev pub encoded : State
     encoded = encoded_in view
 
     abbrev pub place : ℕ
     place = view.layout.place
 
-    is : decoded header bytes ≡ Encodes encoded
-    is = laid_encodes header bytes encoded view.layout laid
+    is : decoded (header_of rules) bytes ≡ Encodes encoded
+    is = laid_encodes (header_of rules) bytes encoded view.layout laid
 
     here : place ≡ place_in bytes
-    here = laid_place header bytes encoded view.layout laid
+    here = laid_place (header_of rules) bytes encoded view.layout laid
 
     pub read_stands : (now : S) → MakesOf rules encoded now → StandWith rules bytes view.layout.count now
     read_stands now makes = record {
@@ -71,5 +74,5 @@ module _ {S C : Type 0} (rules : Version → Rules S C) (bytes : List ℕ) where
         subst (λ (p : ℕ). BreaksAt (rules encoded.version) encoded.body encoded.bodies p at) (sym here)
         (damage_by (Encodes encoded) at is damage)
 
-    pub read_not_foreign : decoded header bytes ≡ Foreign → ⊥
+    pub read_not_foreign : decoded (header_of rules) bytes ≡ Foreign → ⊥
     read_not_foreign foreign = let clash : Encodes encoded ≡ Foreign = sym is ∙ foreign in absurd cc

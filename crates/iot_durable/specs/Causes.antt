@@ -6,7 +6,7 @@ use Rattle.iot_disk.specs.declared.faults.StartFault.TheVariants as fault
 use Rattle.iot_slots.specs.Decoding.{Foreign, decoded}
 use Rattle.iot_slots.specs.declared.version.Version.{Version}
 use Rattle.iot_durable.specs.Rules.{Rules}
-use Rattle.iot_durable.specs.Standing.{header}
+use Rattle.iot_durable.specs.Standing.{header_of}
 use Rattle.iot_durable.specs.Damage.{BreaksAt, IsDamagedAt}
 
 -- the bytes are not refused
@@ -35,14 +35,14 @@ module _ {S C : Type 0} (rules : Version → Rules S C) where
   abbrev pub HasCause : StartFault → List ℕ → ℕ → ℕ → Type 0
   HasCause fault.NoMemory bytes before now = Stayed before now
   HasCause fault.Stopped bytes before now = Rose before now
-  HasCause fault.Foreign bytes before now = (decoded header bytes ≡ Foreign) × Stayed before now
+  HasCause fault.Foreign bytes before now = (decoded (header_of rules) bytes ≡ Foreign) × Stayed before now
   HasCause (fault.Damaged at) bytes before now = IsDamagedAt rules bytes at × Stayed before now
 
   -- by the fault, if there is no disk that could fail
   abbrev pub IsRefusal : StartFault → List ℕ → Type 0
   IsRefusal fault.NoMemory bytes = Unit {0}
   IsRefusal fault.Stopped bytes = ⊥
-  IsRefusal fault.Foreign bytes = decoded header bytes ≡ Foreign
+  IsRefusal fault.Foreign bytes = decoded (header_of rules) bytes ≡ Foreign
   IsRefusal (fault.Damaged at) bytes = IsDamagedAt rules bytes at
 
 module _ {S C : Type 0} (rules : Rules S C) where

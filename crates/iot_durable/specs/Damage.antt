@@ -5,7 +5,7 @@ use Rattle.iot_slots.specs.Decoding.{Decoded, Encodes, NotStarted, Foreign, Dama
 use Rattle.iot_slots.specs.Layouts.{place_in}
 use Rattle.iot_slots.specs.declared.version.Version.{Version}
 use Rattle.iot_durable.specs.Rules.{Rules, CannotFollow}
-use Rattle.iot_durable.specs.Standing.{Leads, header}
+use Rattle.iot_durable.specs.Standing.{Leads, header_of}
 
 module _ {S C : Type 0} (rules : Rules S C) where
   -- the body spells no state, and the checkpoint is there
@@ -45,5 +45,5 @@ module _ {S C : Type 0} (rules : Version → Rules S C) where
   -- the bytes of a disk are damaged there
   pub record IsDamagedAt (bytes : List ℕ) (at : ℕ) : Type 0 where
     pub decoding : Decoded
-    pub is : decoded header bytes ≡ decoding
+    pub is : decoded (header_of rules) bytes ≡ decoding
     pub damage : DamageBy decoding (place_in bytes) at

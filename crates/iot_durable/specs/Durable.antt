@@ -6,7 +6,7 @@ use Rattle.iot_slots.specs.Layouts.{is_due}
 use Rattle.iot_slots.specs.Slots as on_slots
 use Rattle.iot_slots.specs.declared.version.Version.{Version}
 use Rattle.iot_durable.specs.Rules.{Rules}
-use Rattle.iot_durable.specs.Standing.{MakesOf, IsNext, IsRenewed, header}
+use Rattle.iot_durable.specs.Standing.{MakesOf, IsNext, IsRenewed, header_of}
 use Rattle.iot_durable.specs.declared.durable.Durable.{Durable}
 
 -- what is in memory
@@ -29,7 +29,7 @@ encoded_on medium durable = on_slots.state_on medium durable.slots
 pub record IsSynced {R D S C : Type 0} (medium : Medium D) (rules : Version → Rules S C) (kept : R → S) (IsSound : R → Type 0)
     (durable : Durable R D) : Type 0 where
   pub slots : on_slots.IsSynced medium durable.slots
-  pub header_is : on_slots.header_of durable.slots ≡ header
+  pub header_is : on_slots.header_of durable.slots ≡ header_of rules
   pub makes : MakesOf rules (encoded_on medium durable) (kept durable.state)
   pub sound : IsSound durable.state
 

@@ -1,9 +1,10 @@
 -- What is kept on a disk: states and changes, and how both are spelled in one version of the format.
 use Rattle.std.specs.Prelude.{◌≡◌, ℕ, Bool, true, false, List, Option, Some, None}
 
--- The state with which a disk begins, and which bytes spell the whole of a state. Which changes have a spelling, and which bytes spell
--- one. Which change can follow a state, and the state after it.
+-- The header of a disk, which tells what is kept there. The state with which a disk begins, and which bytes spell the whole of a state.
+-- Which changes have a spelling, and which bytes spell one. Which change can follow a state, and the state after it.
 pub record Rules (S C : Type 0) : Type 1 where
+  pub header : List ℕ
   pub opening : S
   pub IsBody : List ℕ → S → Type 0
   pub IsChange : C → Type 0

@@ -1,5 +1,5 @@
 -- The state for which the bytes of a disk stand.
-use Rattle.std.specs.Prelude.{◌≡◌, ◌⊎◌, ℕ, List, [], ◌∷◌, codes}
+use Rattle.std.specs.Prelude.{◌≡◌, ◌⊎◌, ℕ, List, [], ◌∷◌}
 use Rattle.iot_slots.specs.Cells.{next}
 use Rattle.iot_slots.specs.Decoding.{Decoded, Encodes, NotStarted, Foreign, Damaged, State, decoded, state_in, state_of}
 use Rattle.iot_slots.specs.Slots.{appended, renewed, EachEncodesEither}
@@ -8,13 +8,13 @@ use Rattle.iot_slots.specs.declared.version.Version.{Version}
 use Rattle.iot_slots.specs.declared.version.Version.TheVariants.{Two}
 use Rattle.iot_durable.specs.Rules.{Rules}
 
--- what follows byte 0 of a disk
-abbrev pub header : List ℕ
-header = codes "IOTSLOT1"
+-- what follows byte 0 of a disk, in whichever version the rest is
+abbrev pub header_of : {S C : Type 0} → (rules : Version → Rules S C) → List ℕ
+header_of rules = (rules Two).header
 
 -- how many records were ever appended to what the bytes encode, modulo 2 ^ 64: none, if nothing was started there
-abbrev pub records_in : List ℕ → ℕ
-records_in bytes = (state_of (decoded header bytes)).count
+abbrev pub records_in : {S C : Type 0} → (rules : Version → Rules S C) → List ℕ → ℕ
+records_in rules bytes = (state_of (decoded (header_of rules) bytes)).count
 
 module _ {S C : Type 0} (rules : Rules S C) where
   -- each body in turn spells a change that can follow, and these lead from one state to the other
@@ -44,13 +44,13 @@ module _ {S C : Type 0} (rules : Version → Rules S C) where
   -- the bytes of a disk stand for the state
   pub record StandFor (bytes : List ℕ) (now : S) : Type 0 where
     pub decoding : Decoded
-    pub is : decoded header bytes ≡ decoding
+    pub is : decoded (header_of rules) bytes ≡ decoding
     pub makes : MakesBy decoding now
 
   -- and so many records were ever appended to them, modulo 2 ^ 64
   pub record StandWith (bytes : List ℕ) (count : ℕ) (now : S) : Type 0 where
     pub stands : StandFor bytes now
-    pub counted : records_in bytes ≡ count
+    pub counted : records_in rules bytes ≡ count
 
   -- each image stands for the state, with so many records
   pub record EachStands (images : List ℕ → Type 0) (count : ℕ) (now : S) : Type 0 where
@@ -75,7 +75,8 @@ module _ {S C : Type 0} (rules : Version → Rules S C) where
   -- each image stands for the state, with so many records, and encodes what was there, or a checkpoint of the state alone
   pub record EachStays (images : List ℕ → Type 0) (count : ℕ) (was : State) (now : S) : Type 0 where
     pub stands : EachStands images count now
-    pub encodes : (image : List ℕ) → images image → (encoded : State) × (decoded header image ≡ Encodes encoded) × IsRenewed was now encoded
+    pub encodes : (image : List ℕ) → images image
+        → (encoded : State) × (decoded (header_of rules) image ≡ Encodes encoded) × IsRenewed was now encoded
 
   -- the body spells the change, and what it is to follow is of version 2 as well
   pub record IsNext (before : State) (body : List ℕ) (change : C) : Type 0 where
@@ -85,13 +86,14 @@ module _ {S C : Type 0} (rules : Version → Rules S C) where
   -- each image encodes what was there, or a checkpoint of the state alone; or such with one record more, which spells the change
   pub record EachGoes (images : List ℕ → Type 0) (was : State) (now : S) (change : C) : Type 0 where
     pub encodes : (image : List ℕ) → images image → (encoded : State) × IsRenewed was now encoded
-        × ((decoded header image ≡ Encodes encoded)
-        ⊎ ((body : List ℕ) × IsNext encoded body change × (decoded header image ≡ Encodes (appended encoded body))))
+        × ((decoded (header_of rules) image ≡ Encodes encoded)
+        ⊎ ((body : List ℕ) × IsNext encoded body change × (decoded (header_of rules) image ≡ Encodes (appended encoded body))))
 
   -- each image is of a disk that is not started, or was just started with a checkpoint of the opening state
   pub record EachOpens (images : List ℕ → Type 0) : Type 0 where
-    pub each : (image : List ℕ) → images image → (decoded header image ≡ NotStarted)
-        ⊎ ((body : List ℕ) × (rules Two).IsBody body (rules Two).opening × (decoded header image ≡ Encodes (state_in Two body [] 0)))
+    pub each : (image : List ℕ) → images image → (decoded (header_of rules) image ≡ NotStarted)
+        ⊎ ((body : List ℕ) × (rules Two).IsBody body (rules Two).opening
+        × (decoded (header_of rules) image ≡ Encodes (state_in Two body [] 0)))
 
   -- What was on the disk, or a checkpoint of the state alone in its place, makes the state; and each image encodes that, or it and one
   -- record more, which spells the change.
@@ -101,16 +103,16 @@ module _ {S C : Type 0} (rules : Version → Rules S C) where
     pub renews : IsRenewed was now before
     pub makes : MakesOf before now
     pub next : IsNext before body change
-    pub either : EachEncodesEither header images before (appended before body)
+    pub either : EachEncodesEither (header_of rules) images before (appended before body)
 
   -- the bytes of a disk that was just started with a checkpoint of this state alone, after so many records
   pub record IsNew (now : S) (count : ℕ) (bytes : List ℕ) : Type 0 where
     pub body : List ℕ
     pub spells : (rules Two).IsBody body now
-    pub is : bytes ≡ started header body count
+    pub is : bytes ≡ started (header_of rules) body count
 
   -- the bytes of a disk that was just started with a checkpoint of the opening state, over those that were there
   pub record IsFresh (old new : List ℕ) : Type 0 where
     pub body : List ℕ
     pub spells : (rules Two).IsBody body (rules Two).opening
-    pub is : new ≡ started_over header body old
+    pub is : new ≡ started_over (header_of rules) body old

@@ -10,7 +10,7 @@ ghost use Rattle.iot_slots.specs.Layouts.{MakesRoom};
 ghost use Rattle.iot_slots.specs.Slots as on_slots;
 ghost use Rattle.iot_slots.specs.declared.version.Version.TheVariants.{Two};
 ghost use Rattle.iot_durable.specs.Standing.{StandFor, StandWith, EachStands, EachStandsEither, EachStays, EachOpens};
-ghost use Rattle.iot_durable.specs.Standing.{IsAlone, IsRenewed, IsFresh, IsInDoubt, header, records_in};
+ghost use Rattle.iot_durable.specs.Standing.{IsAlone, IsRenewed, IsFresh, IsInDoubt, header_of, records_in};
 ghost use Rattle.iot_durable.specs.Causes.{HasCause, TakesBytes, SaysForeign, SaysDamaged};
 ghost use Rattle.iot_durable.specs.Damage.{IsDamagedAt};
 ghost use Rattle.iot_durable.specs.Faults.{CountsNoteFault};
@@ -23,9 +23,6 @@ use iot_slots::Slots;
 use iot_text::{NoMemory, Text};
 use std::alloc::Global;
 use std::mem::replace;
-
-/// What follows byte 0 of a disk.
-pub(crate) const HEADER: [u8; 8] = *b"IOTSLOT1";
 
 /// A state in memory, and on a disk to which each change is appended as one record. A checkpoint of the whole state comes before an
 /// append if the records since the last one have grown long, or if there is no room for the record.
@@ -66,8 +63,8 @@ impl<R: Recorded, D: Disk> Durable<R, D> {
         // However this returns, each image stands for the state for which the disk stood, with as many records; and if it stood for
         // one, its bytes are not refused.
         ensures images { (state : R.Kept) → StandFor R.rules (D.medium.reads disk) state → MatchResult result
-            (λ made. EachStands R.rules (D.medium.may_leave (disk_of made)) (records_in (D.medium.reads disk)) state)
-            (λ refused. EachStands R.rules (D.medium.may_leave refused.0) (records_in (D.medium.reads disk)) state) }
+            (λ made. EachStands R.rules (D.medium.may_leave (disk_of made)) (records_in R.rules (D.medium.reads disk)) state)
+            (λ refused. EachStands R.rules (D.medium.may_leave refused.0) (records_in R.rules (D.medium.reads disk)) state) }
         ensures never { (state : R.Kept) → StandFor R.rules (D.medium.reads disk) state
             → IfErr result (λ refused. TakesBytes refused.1) }
 
@@ -76,7 +73,7 @@ impl<R: Recorded, D: Disk> Durable<R, D> {
             HasCause R.rules refused.1 (D.medium.reads disk) (D.medium.faults disk) (D.medium.faults refused.0)) }
 
         // What something else wrote, and what is damaged, is refused for that, unless memory or the disk fails.
-        ensures foreign { decoded header (D.medium.reads disk) ≡ Foreign
+        ensures foreign { decoded (header_of R.rules) (D.medium.reads disk) ≡ Foreign
             → MatchResult result (λ _. ⊥) (λ refused. SaysForeign refused.1) }
         ensures damaged { (at : ℕ) → IsDamagedAt R.rules (D.medium.reads disk) at
             → MatchResult result (λ _. ⊥) (λ refused. SaysDamaged at refused.1) }
@@ -88,18 +85,18 @@ impl<R: Recorded, D: Disk> Durable<R, D> {
             ChangesNothing refused.1 (SameImages (D.medium.may_leave disk) (D.medium.may_leave refused.0))) }
 
         // A disk that is started is only read, whatever the answer, and so is each whose bytes are refused.
-        ensures only_read { decoded header (D.medium.reads disk) ≢ NotStarted → MatchResult result
+        ensures only_read { decoded (header_of R.rules) (D.medium.reads disk) ≢ NotStarted → MatchResult result
             (λ made. D.medium.reads (disk_of made) ≡ D.medium.reads disk)
             (λ refused. D.medium.reads refused.0 ≡ D.medium.reads disk) }
-        ensures only_read_images { decoded header (D.medium.reads disk) ≢ NotStarted → MatchResult result
+        ensures only_read_images { decoded (header_of R.rules) (D.medium.reads disk) ≢ NotStarted → MatchResult result
             (λ made. SameImages (D.medium.may_leave disk) (D.medium.may_leave (disk_of made)))
             (λ refused. SameImages (D.medium.may_leave disk) (D.medium.may_leave refused.0)) }
 
         // However this returns, a disk that was not started is not, or was just started. After Ok it has these bytes.
-        ensures opens { decoded header (D.medium.reads disk) ≡ NotStarted → MatchResult result
+        ensures opens { decoded (header_of R.rules) (D.medium.reads disk) ≡ NotStarted → MatchResult result
             (λ made. EachOpens R.rules (D.medium.may_leave (disk_of made)))
             (λ refused. EachOpens R.rules (D.medium.may_leave refused.0)) }
-        ensures fresh { decoded header (D.medium.reads disk) ≡ NotStarted → IfOk result (λ made.
+        ensures fresh { decoded (header_of R.rules) (D.medium.reads disk) ≡ NotStarted → IfOk result (λ made.
             IsFresh R.rules (D.medium.reads disk) (D.medium.reads (disk_of made))) }
 
         ensures arms { MatchResult result
@@ -111,7 +108,7 @@ impl<R: Recorded, D: Disk> Durable<R, D> {
             Ok(()) => (),
             Err(_) => return Err((disk, StartFault::NoMemory)),
         }
-        let (slots, started) = match Slots::start_with(alloc, disk, HEADER, body.as_bytes()) {
+        let (slots, started) = match Slots::start_with(alloc, disk, R::header(), body.as_bytes()) {
             Ok(started) => started,
             Err(refused) => return Err(refused),
         };

@@ -3,10 +3,9 @@ ghost use Rattle.std.specs.Prelude.{◌≡◌, ℕ, IfOk, IfErr, MatchResult};
 ghost use Rattle.iot_slots.specs.Decoding.{Foreign, decoded};
 ghost use Rattle.iot_durable.specs.Causes.{IsRefusal, SaysDamaged, SaysForeign, TakesBytes};
 ghost use Rattle.iot_durable.specs.Damage.{IsDamagedAt};
-ghost use Rattle.iot_durable.specs.Standing.{IsNew, StandFor, StandWith, header};
+ghost use Rattle.iot_durable.specs.Standing.{IsNew, StandFor, StandWith, header_of};
 
 use crate::Recorded;
-use crate::durable::HEADER;
 use crate::replay::replay;
 use iot_disk::StartFault;
 use iot_slots::{SlotsView, spell_started};
@@ -41,11 +40,11 @@ pub fn read_image<R: Recorded>(alloc: Global, bytes: &[u8]) -> Result<Found<R>, 
     ensures sound { IfOk result (λ found. R.IsSound found.state) }
 
     // What something else wrote, and what is damaged, is refused for that, unless memory runs out.
-    ensures foreign { decoded header bytes.now ≡ Foreign → MatchResult result (λ _. ⊥) SaysForeign }
+    ensures foreign { decoded (header_of R.rules) bytes.now ≡ Foreign → MatchResult result (λ _. ⊥) SaysForeign }
     ensures damaged { (at : ℕ) → IsDamagedAt R.rules bytes.now at → MatchResult result (λ _. ⊥) (SaysDamaged at) }
     ensures cause { IfErr result (λ fault. IsRefusal R.rules fault bytes.now) }
 {
-    match SlotsView::of(&HEADER, bytes)? {
+    match SlotsView::of(&R::header(), bytes)? {
         Some(view) => {
             let state = replay(
                 alloc,
@@ -78,5 +77,5 @@ pub fn spell_disk<R: Recorded>(alloc: Global, state: &R, count: u64) -> Result<V
     if body.len() > ROOM {
         return Err(NoMemory);
     }
-    Ok(spell_started(alloc, &HEADER, body.as_bytes(), count)?)
+    Ok(spell_started(alloc, &R::header(), body.as_bytes(), count)?)
 }

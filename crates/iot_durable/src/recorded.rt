@@ -21,7 +21,8 @@ pub trait Recorded: Drop {
     /// What is kept of this one.
     ghost kept: { Self → Kept };
 
-    /// In each version of the format how states and changes are spelled, which change can follow a state, and the state after it.
+    /// The header of a disk; and in each version of the format how states and changes are spelled, which change can follow a state, and the
+    /// state after it.
     ghost rules: { VersionValue → Rules Kept Self.Change };
 
     /// What is true of each one in memory.
@@ -32,6 +33,10 @@ pub trait Recorded: Drop {
 
     /// What a change makes of that.
     ghost Makes: { Self → Self.Change → Self → Type 0 };
+
+    /// What follows byte 0 of a disk, and tells what is kept there.
+    fn header() -> [u8; 8]
+        ensures { result ≡ (rules Two).header };
 
     /// The one with which a disk begins.
     fn opening(alloc: Global) -> Result<Self, NoMemory>

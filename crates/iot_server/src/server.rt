@@ -3,15 +3,15 @@ ghost use Rattle.std.specs.Prelude.{◌≡◌, ◌≢◌, ℕ, length, IfOk, IfE
 ghost use Rattle.iot_disk.specs.Disk.{Only, SameImages, armed_with};
 ghost use Rattle.iot_durable.specs.Causes.{HasCause, SaysDamaged, SaysForeign, TakesBytes};
 ghost use Rattle.iot_durable.specs.Damage.{IsDamagedAt};
-ghost use Rattle.iot_durable.specs.Standing.{EachOpens, IsFresh, StandWith, header, records_in};
+ghost use Rattle.iot_durable.specs.Standing.{EachOpens, IsFresh, StandWith};
 ghost use Rattle.iot_records.specs.Records.{ChangesNothing};
 ghost use Rattle.iot_slots.specs.Decoding.{Foreign, NotStarted, decoded};
 ghost use Rattle.iot_server.specs.Faults.{CountsServerFault, CutsOff, EndsBy, IsNotMalformed};
 ghost use Rattle.iot_server.specs.Replies.{IsHandled};
 ghost use Rattle.iot_server.specs.Traffic.{no_traffic, traffic_after};
 ghost use Rattle.iot_server.specs.declared.fault.ServerFault.TheVariants.{NoMemory, Malformed, Stopped};
-ghost use Rattle.iot_store.specs.Rules.{rules};
-ghost use Rattle.iot_store.specs.Standing.{EachStands, EachStays, StandFor};
+ghost use Rattle.iot_store.specs.Rules.{header, rules};
+ghost use Rattle.iot_store.specs.Standing.{EachStands, EachStays, StandFor, records_in};
 ghost use Rattle.iot_store.specs.States.{State};
 ghost use Rattle.iot_wire.specs.Decoding.{request_at};
 ghost use Rattle.iot_wire.specs.Messages.{IsMessage, whole};

@@ -3,11 +3,11 @@ use Rattle.std.proofs.Common.{◌≡◌, ℕ, List, sym, ap, ◌∙◌}
 use Rattle.iot_disk.specs.declared.faults.StartFault.{StartFault}
 use Rattle.iot_disk.specs.declared.faults.StartFault.TheVariants as start
 use Rattle.iot_durable.specs.Causes as durable
-use Rattle.iot_durable.specs.Standing.{header}
 use Rattle.iot_slots.specs.Start.{started}
 use Rattle.iot_bodies.specs.Spelling.{server_spelling}
 use Rattle.iot_store.specs.Bodies.{body_of}
 use Rattle.iot_store.specs.Images.{fault_of, IsUpgraded, SaysDamaged, TakesImage}
+use Rattle.iot_store.specs.Rules.{header}
 use Rattle.iot_store.specs.States.{State}
 
 pub takes_image : (why : StartFault) → durable.TakesBytes why → TakesImage (fault_of why)

@@ -1,13 +1,13 @@
 -- For which state bytes stand: for one at most; and for which they stand after a commit.
 use Rattle.std.proofs.Common.{◌≡◌, ◌<◌, ◌⊎◌, ◌^◌, inl, inr, ℕ, List, length, sym, ap, ◌∙◌, subst, arith}
 use Rattle.iot_disk.specs.Disk.{Medium}
-use Rattle.iot_durable.specs.Standing.{EachGoes, IsNext, IsRenewed, MakesOf, StandWith, header}
+use Rattle.iot_durable.specs.Standing.{EachGoes, IsNext, IsRenewed, MakesOf, StandWith}
 use Rattle.iot_durable.proofs.OneLaws as durable
 use Rattle.iot_durable.proofs.ImagesLaws.{idle_stays, makes_push, makes_whole, one_makes}
 use Rattle.iot_slots.specs.Cells.{next}
 use Rattle.iot_slots.specs.Decoding.{Encodes, State as Encoded, decoded, state_of as state_in}
 use Rattle.iot_slots.specs.Slots.{appended}
-use Rattle.iot_store.specs.Rules.{rules}
+use Rattle.iot_store.specs.Rules.{header, rules}
 use Rattle.iot_store.specs.Standing.{EachStays, IsGrown, StandFor}
 use Rattle.iot_store.specs.States.{State, CanFollow, after_commit}
 use Rattle.iot_store.specs.Store.{IsSynced, count_of, disk_of, encoded_on, state_of}

@@ -3,9 +3,9 @@ use Rattle.std.specs.Prelude.{◌≡◌, ℕ, List}
 use Rattle.iot_disk.specs.declared.faults.StartFault.{StartFault}
 use Rattle.iot_disk.specs.declared.faults.StartFault.TheVariants as start
 use Rattle.iot_durable.specs.Damage.{IsDamagedAt}
-use Rattle.iot_durable.specs.Standing.{IsNew, StandWith, header}
+use Rattle.iot_durable.specs.Standing.{IsNew, StandWith}
 use Rattle.iot_slots.specs.Decoding.{Foreign, decoded}
-use Rattle.iot_store.specs.Rules.{rules}
+use Rattle.iot_store.specs.Rules.{header, rules}
 use Rattle.iot_store.specs.Standing.{StandFor}
 use Rattle.iot_store.specs.States.{State}
 use Rattle.iot_store.specs.declared.image.Image.{Image}

@@ -30,6 +30,10 @@ impl Recorded for Commits {
 
     ghost Makes = { λ old commit new. Unit {0} };
 
+    fn header() -> [u8; 8] {
+        *b"IOTSLOT1"
+    }
+
     fn opening(alloc: Global) -> Result<Commits, NoMemory> {
         Commits::new(alloc)
     }

@@ -7,7 +7,7 @@ ghost use Rattle.iot_disk.specs.Disk.{armed_with, Only, SameImages};
 ghost use Rattle.iot_disk.specs.Faults.{CountsJournalFault};
 ghost use Rattle.iot_durable.specs.Causes.{HasCause, SaysDamaged, SaysForeign, TakesBytes};
 ghost use Rattle.iot_durable.specs.Damage.{IsDamagedAt};
-ghost use Rattle.iot_durable.specs.Standing.{EachGoes, EachOpens, IsFresh, StandWith, header, records_in};
+ghost use Rattle.iot_durable.specs.Standing.{EachGoes, EachOpens, IsFresh, StandWith};
 ghost use Rattle.iot_records.specs.Records.{ChangesNothing};
 ghost use Rattle.iot_slots.specs.Cells.{next};
 ghost use Rattle.iot_slots.specs.Decoding.{Foreign, NotStarted, decoded};
@@ -16,8 +16,8 @@ ghost use Rattle.iot_store.specs.Images.{IsImageIn, IsImageOf, IsRefusal, IsUpgr
 ghost use Rattle.iot_store.specs.Images.{SaysDamaged as SaysImageDamaged, SaysForeign as SaysImageForeign};
 ghost use Rattle.iot_store.specs.Numbers.{number_in};
 ghost use Rattle.iot_store.specs.Records.{IsRecord};
-ghost use Rattle.iot_store.specs.Rules.{IsCommit, rules};
-ghost use Rattle.iot_store.specs.Standing.{EachStands, EachStandsEither, EachStays, StandFor};
+ghost use Rattle.iot_store.specs.Rules.{IsCommit, header, rules};
+ghost use Rattle.iot_store.specs.Standing.{EachStands, EachStandsEither, EachStays, StandFor, records_in};
 ghost use Rattle.iot_store.specs.States.{State, CanFollow, after_commit};
 
 use crate::commits::Commits;
