@@ -4,3 +4,4 @@ pub mod AccessLaws
 mod SilentLaws
 mod AsksLaws
 mod BasesLaws
+pub mod LongestLaws

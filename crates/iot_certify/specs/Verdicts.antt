@@ -1,5 +1,5 @@
 -- What certification says.
-use Rattle.std.specs.Prelude.{◌≡◌, ◌⊎◌, ℕ, zero, suc, ◌+◌, List, [], ◌∷◌, length}
+use Rattle.std.specs.Prelude.{◌≡◌, ◌⊎◌, ◌≤◌, ℕ, zero, suc, ◌+◌, List, [], ◌∷◌, length, take}
 use Rattle.std.specs.List.{zip}
 use Rattle.iot_tree.specs.Tree.{Nodes}
 use Rattle.iot_tree.specs.Questions.{answer_of}
@@ -26,6 +26,12 @@ abbrev pub IsVerdictOnActs : Nodes → List Act → Verdict → Type 0
 IsVerdictOnActs t acts Holds = ActsHold t acts
 IsVerdictOnActs t acts (Differs read answer) =
     ActDiffers t acts 1 read answer ⊎ (ActMisfits t acts × (read ≡ length (reads_of acts) + 1) × (answer ≡ Away))
+
+-- so many of the acts, from the first one on, hold on the tree, and no more do
+pub record IsLongest (t : Nodes) (acts : List Act) (count : ℕ) : Type 0 where
+  pub few : count ≤ length acts
+  pub holds : ActsHold t (take count acts)
+  pub most : (n : ℕ) → n ≤ length acts → ActsHold t (take n acts) → n ≤ count
 
 -- if the verdict is that a read differs, then this is so of its place and of the answer
 abbrev pub IfDiffers : Verdict → (ℕ → Answer → Type 0) → Type 0

@@ -6,6 +6,7 @@ mod acts;
 mod asking;
 mod children;
 mod places;
+mod prefix;
 mod reads;
 mod updates;
 mod verdict;
@@ -13,5 +14,6 @@ mod views;
 
 pub use access::certify;
 pub use acts::certify_acts;
+pub use prefix::longest;
 pub use verdict::Verdict;
 pub use views::certify_view;
