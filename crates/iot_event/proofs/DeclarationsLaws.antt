@@ -80,8 +80,8 @@ module _ (scripts : List (List ℕ)) where
   task_declared tasks.Refresh fit = some_fits tasks.Refresh tt
   task_declared (tasks.Begin script option) fit =
       script_declared script option (λ s o. tasks.Begin s o) (λ s o few resolves. (few, resolves))
-  task_declared (tasks.Step count) fit = some_fits (tasks.Step count) fit
-  task_declared tasks.End fit = some_fits tasks.End tt
+  task_declared (tasks.Step count transaction) fit = some_fits (tasks.Step count transaction) fit
+  task_declared (tasks.End transaction) fit = some_fits (tasks.End transaction) fit
   task_declared tasks.Sync fit = some_fits tasks.Sync tt
   task_declared tasks.Drain fit = some_fits tasks.Drain tt
   task_declared (tasks.Repair script) fit = map_fits _ _ (within script scripts (place_of script scripts) refl) (λ s few. few)

@@ -8,7 +8,7 @@ use Rattle.std.proofs.lemmas.Bool.Decides.{nat_tests}
 use Rattle.iot_text.specs.Names.{is_name}
 use Rattle.iot_text.specs.Paths.{IsPath, path_of}
 use Rattle.iot_text.proofs.PathTextsLaws.{path_of-spells}
-use Rattle.iot_event.specs.declared.form.TheConstants.{STEP_LIMIT, READS_LIMIT, STOP_LIMIT}
+use Rattle.iot_event.specs.declared.form.TheConstants.{STEP_LIMIT, TRANSACTION_LIMIT, READS_LIMIT, STOP_LIMIT}
 use Rattle.iot_event.specs.declared.event.Choice.{Choice}
 use Rattle.iot_event.specs.declared.event.NodeEvent.{NodeEvent}
 use Rattle.iot_event.specs.declared.event.NodeEvent.TheVariants.{Show, Stop, Crash, Restart}
@@ -20,10 +20,10 @@ use Rattle.iot_event.specs.declared.event.ClientEvent.TheVariants.{Node, Link, T
 use Rattle.iot_event.specs.declared.form.Form.{Form}
 use Rattle.iot_event.specs.declared.form.Form.TheVariants as forms
 use Rattle.iot_event.specs.Numbers.{is_number, number_of}
-use Rattle.iot_event.specs.Declarations.{IsWithin}
+use Rattle.iot_event.specs.Declarations.{MayBeNamed, IsWithin}
 use Rattle.iot_event.specs.Forms.{node_event, link_event, lone_task, lone_event, two_words}
 use Rattle.iot_event.specs.Forms.{loss_of, event_with, event_of_words, three_words, plain_choice, resolver_choice, script_task}
-use Rattle.iot_event.specs.Forms.{choosing_form, pick_of, node_form, stop_words, form_of}
+use Rattle.iot_event.specs.Forms.{choosing_form, pick_of, node_form, stop_words, step_words, form_of}
 
 -- ---- what fits, whatever is declared
 
@@ -62,10 +62,11 @@ then_fits f (Some x) fit follows = follows x fit.fits
 
 -- ---- a form's numbers and its path
 
--- the path of a task is one, and its number is within the limits
+-- the path of a task is one, and its numbers are within the limits
 abbrev pub TaskFits : Task (List ℕ) → Type 0
 TaskFits (tasks.Hoard path) = IsPath path
-TaskFits (tasks.Step count) = (1 ≤ count) × (count ≤ STEP_LIMIT)
+TaskFits (tasks.Step count transaction) = (1 ≤ count) × (count ≤ STEP_LIMIT) × MayBeNamed transaction
+TaskFits (tasks.End transaction) = MayBeNamed transaction
 TaskFits (tasks.Reads item) = (1 ≤ item) × (item ≤ READS_LIMIT)
 TaskFits _ = Unit {0}
 
@@ -106,8 +107,8 @@ node_event_fits word =
 lone_task_fits : (word : List ℕ) → Fits TaskFits (lone_task word)
 lone_task_fits word =
     if_fits _ _ _ (some_fits tasks.Refresh tt)
-    (if_fits _ _ _ (some_fits (tasks.Step 1) (omega arith, omega arith))
-    (if_fits _ _ _ (some_fits tasks.End tt)
+    (if_fits _ _ _ (some_fits (tasks.Step 1 None) (omega arith, omega arith, tt))
+    (if_fits _ _ _ (some_fits (tasks.End None) tt)
     (if_fits _ _ _ (some_fits tasks.Sync tt)
     (if_fits _ _ _ (some_fits tasks.Drain tt)
     (if_fits _ _ _ (some_fits tasks.Discard tt)
@@ -122,13 +123,15 @@ lone_event_fits word =
 event_with_fits : (first word : List ℕ) → Fits EventFits (event_with first word)
 event_with_fits first word =
     if_fits (bytes_eq first (codes "step")) _ _
-    (map_fits (λ count. Does (tasks.Step count)) _ (number_fits word STEP_LIMIT) (λ count fit. fit))
+    (map_fits (λ count. Does (tasks.Step count None)) _ (number_fits word STEP_LIMIT) (λ count fit. (fit.0, fit.1, tt)))
+    (if_fits (bytes_eq first (codes "end")) _ _
+    (map_fits (λ number. Does (tasks.End (Some number))) _ (number_fits word TRANSACTION_LIMIT) (λ number fit. fit))
     (if_fits (bytes_eq first (codes "reads")) _ _
     (map_fits (λ item. Does (tasks.Reads item)) _ (number_fits word READS_LIMIT) (λ item fit. fit))
     (if_fits (bytes_eq first (codes "lose")) _ _
     (map_fits (λ loss. Link (Lose loss)) _ (any_fits (loss_of word)) (λ loss any. tt))
     (if_fits (bytes_eq first (codes "repair")) _ _
-    (if_fits (is_name word) _ _ (some_fits (Does (tasks.Repair word)) tt) none_fits) none_fits)))
+    (if_fits (is_name word) _ _ (some_fits (Does (tasks.Repair word)) tt) none_fits) none_fits))))
 
 event_of_words_fits : (first word : List ℕ) → Fits EventFits (event_of_words first word)
 event_of_words_fits first word =
@@ -166,11 +169,19 @@ stop_words_fits node calls pick =
     then_fits _ _ (number_fits calls STOP_LIMIT)
     (λ k within. then_fits _ _ (any_fits (pick_of pick)) (λ p any. node_form_fits node (Stop k p) within))
 
+step_words_fits : (client count transaction : List ℕ) → Fits FormFits (step_words client count transaction)
+step_words_fits client count transaction =
+    if_fits _ _ _
+    (then_fits _ _ (number_fits count STEP_LIMIT)
+    (λ k few. map_fits _ _ (number_fits transaction TRANSACTION_LIMIT) (λ n within. (few.0, few.1, within))))
+    none_fits
+
 pub form_fits : (found : List (List ℕ)) → Fits FormFits (form_of found)
 form_fits [] = none_fits
 form_fits (a ∷ []) = if_fits _ _ _ (some_fits forms.Log tt) none_fits
 form_fits (a ∷ b ∷ []) = two_words_fits a b
 form_fits (a ∷ b ∷ c ∷ []) = three_words_fits a b c
-form_fits (a ∷ b ∷ c ∷ d ∷ []) = if_fits _ _ _ (stop_words_fits b c d) (choosing_fits a b c (plain_choice d))
+form_fits (a ∷ b ∷ c ∷ d ∷ []) =
+    if_fits _ _ _ (stop_words_fits b c d) (if_fits _ _ _ (step_words_fits b c d) (choosing_fits a b c (plain_choice d)))
 form_fits (a ∷ b ∷ c ∷ d ∷ e ∷ []) = choosing_fits a b c (resolver_choice d e)
 form_fits (a ∷ b ∷ c ∷ d ∷ e ∷ f ∷ more) = none_fits

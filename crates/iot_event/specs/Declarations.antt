@@ -1,9 +1,9 @@
 -- Events name only what was declared before them.
-use Rattle.std.specs.Prelude.{◌≡◌, ℕ, ◌+◌, ◌<◌, ◌≤◌, false, List, [], ◌∷◌, ◌++◌, length}
+use Rattle.std.specs.Prelude.{◌≡◌, ℕ, ◌+◌, ◌<◌, ◌≤◌, false, List, [], ◌∷◌, ◌++◌, length, Option, IfSome}
 use Rattle.iot_text.specs.Paths.{IsPath}
 use Rattle.iot_event.specs.Meanings.{is_declared}
 use Rattle.iot_event.specs.declared.declared.TheConstants.{CLIENT_LIMIT, SCRIPT_LIMIT}
-use Rattle.iot_event.specs.declared.form.TheConstants.{STEP_LIMIT, READS_LIMIT, STOP_LIMIT}
+use Rattle.iot_event.specs.declared.form.TheConstants.{STEP_LIMIT, TRANSACTION_LIMIT, READS_LIMIT, STOP_LIMIT}
 use Rattle.iot_event.specs.declared.event.Choice.{Choice}
 use Rattle.iot_event.specs.declared.event.Choice.TheVariants.{Reexec, Resolver, Abort, Manual}
 use Rattle.iot_event.specs.declared.event.NodeEvent.{NodeEvent}
@@ -23,14 +23,18 @@ ResolverIsDeclared (Resolver script) scripts = script < scripts
 ResolverIsDeclared Abort scripts = Unit {0}
 ResolverIsDeclared Manual scripts = Unit {0}
 
--- its script and its resolver are of so many, its path is a path, and its number is within the limits
+-- its transaction, if it names one, has a number within the limit
+abbrev pub MayBeNamed : Option ℕ → Type 0
+MayBeNamed transaction = IfSome transaction (λ number. (1 ≤ number) × (number ≤ TRANSACTION_LIMIT))
+
+-- its script and its resolver are of so many, its path is a path, and its numbers are within the limits
 abbrev pub TaskIsDeclared : Task ℕ → (scripts : ℕ) → Type 0
 TaskIsDeclared (Run script option) scripts = (script < scripts) × ResolverIsDeclared option scripts
 TaskIsDeclared (Hoard path) scripts = IsPath path
 TaskIsDeclared Refresh scripts = Unit {0}
 TaskIsDeclared (Begin script option) scripts = (script < scripts) × ResolverIsDeclared option scripts
-TaskIsDeclared (Step count) scripts = (1 ≤ count) × (count ≤ STEP_LIMIT)
-TaskIsDeclared End scripts = Unit {0}
+TaskIsDeclared (Step count transaction) scripts = (1 ≤ count) × (count ≤ STEP_LIMIT) × MayBeNamed transaction
+TaskIsDeclared (End transaction) scripts = MayBeNamed transaction
 TaskIsDeclared Sync scripts = Unit {0}
 TaskIsDeclared Drain scripts = Unit {0}
 TaskIsDeclared (Repair script) scripts = script < scripts

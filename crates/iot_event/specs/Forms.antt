@@ -8,7 +8,7 @@ use Rattle.iot_link.specs.declared.passages.Loss.TheVariants.{Request, Reply}
 use Rattle.iot_disk.specs.declared.disk.Pick.{Pick}
 use Rattle.iot_disk.specs.declared.disk.Pick.TheVariants.{Old, New, Fill}
 use Rattle.iot_event.specs.Numbers.{number_of, byte_of}
-use Rattle.iot_event.specs.declared.form.TheConstants.{STEP_LIMIT, READS_LIMIT, STOP_LIMIT}
+use Rattle.iot_event.specs.declared.form.TheConstants.{STEP_LIMIT, TRANSACTION_LIMIT, READS_LIMIT, STOP_LIMIT}
 use Rattle.iot_event.specs.declared.event.Choice.{Choice}
 use Rattle.iot_event.specs.declared.event.Choice.TheVariants.{Reexec, Resolver, Abort, Manual}
 use Rattle.iot_event.specs.declared.event.NodeEvent.{NodeEvent}
@@ -45,8 +45,8 @@ link_event word =
 abbrev pub lone_task : List ℕ → Option (tasks.Task (List ℕ))
 lone_task word =
     if bytes_eq word (codes "refresh") then Some Refresh
-    else if bytes_eq word (codes "step") then Some (Step 1)
-    else if bytes_eq word (codes "end") then Some End
+    else if bytes_eq word (codes "step") then Some (Step 1 None)
+    else if bytes_eq word (codes "end") then Some (End None)
     else if bytes_eq word (codes "sync") then Some Sync
     else if bytes_eq word (codes "drain") then Some Drain
     else if bytes_eq word (codes "discard") then Some Discard
@@ -82,10 +82,11 @@ loss_of word =
     else if bytes_eq word (codes "reply") then Some Reply
     else None
 
--- `step C k`, `reads C i`, `lose C request`, `lose C reply` or `repair C S`, without the client
+-- `step C k`, `end C N`, `reads C i`, `lose C request`, `lose C reply` or `repair C S`, without the client
 abbrev pub event_with : List ℕ → List ℕ → Option (ClientEvent (List ℕ))
 event_with first word =
-    if bytes_eq first (codes "step") then option_map (λ count. Task (Step count)) (number_of word STEP_LIMIT)
+    if bytes_eq first (codes "step") then option_map (λ count. Task (Step count None)) (number_of word STEP_LIMIT)
+    else if bytes_eq first (codes "end") then option_map (λ number. Task (End (Some number))) (number_of word TRANSACTION_LIMIT)
     else if bytes_eq first (codes "reads") then option_map (λ item. Task (Reads item)) (number_of word READS_LIMIT)
     else if bytes_eq first (codes "lose") then option_map (λ loss. Link (Lose loss)) (loss_of word)
     else if bytes_eq first (codes "repair") then (if is_name word then Some (Task (Repair word)) else None)
@@ -153,10 +154,19 @@ stopping_form node calls pick = option_and_then (λ k. option_and_then (λ p. no
 abbrev pub stop_words : (node calls pick : List ℕ) → Option Form
 stop_words node calls pick = stopping_form node (number_of calls STOP_LIMIT) (pick_of pick)
 
--- `stop NODE k PICK`, or `run C S OPTION` or `begin C S OPTION`, where the option is one word
+-- `step C k N`, if the client is a name and both numbers are
+abbrev pub step_words : (client count transaction : List ℕ) → Option Form
+step_words client count transaction =
+    if is_name client
+    then option_and_then (λ k. option_map (λ n. At client (Task (Step k (Some n)))) (number_of transaction TRANSACTION_LIMIT))
+    (number_of count STEP_LIMIT)
+    else None
+
+-- `stop NODE k PICK`, `step C k N`, or `run C S OPTION` or `begin C S OPTION`, where the option is one word
 abbrev pub four_words : List ℕ → List ℕ → List ℕ → List ℕ → Option Form
 four_words first second third fourth =
     if bytes_eq first (codes "stop") then stop_words second third fourth
+    else if bytes_eq first (codes "step") then step_words second third fourth
     else choosing_form first second third (plain_choice fourth)
 
 -- `run C S OPTION` or `begin C S OPTION`, where the option is two words

@@ -85,8 +85,8 @@ fn task_of(scripts: &IndexSet<Name>, task: Task<Name>, number: u64) -> Result<Ta
             let option = choice_of(scripts, option, number)?;
             Ok(Task::Begin { script, option })
         }
-        Task::Step { count } => Ok(Task::Step { count }),
-        Task::End => Ok(Task::End),
+        Task::Step { count, transaction } => Ok(Task::Step { count, transaction }),
+        Task::End { transaction } => Ok(Task::End { transaction }),
         Task::Sync => Ok(Task::Sync),
         Task::Drain => Ok(Task::Drain),
         Task::Repair { script } => {

@@ -58,22 +58,36 @@ pub enum LinkEvent {
 #[derive(Drop)]
 pub enum Task<S> {
     /// `run C S OPTION`: it runs the script. The option says what is done if that is in conflict.
-    Run { script: S, option: Choice<S> },
+    Run {
+        script: S,
+        option: Choice<S>,
+    },
 
     /// `hoard C P`: it fetches what lies on the way to the path, at it and below it.
-    Hoard { path: Path },
+    Hoard {
+        path: Path,
+    },
 
     /// `refresh C`: it fetches anew what it knows.
     Refresh,
 
     /// `begin C S OPTION`: it begins a transaction of the script. The option says what is done if that is in conflict.
-    Begin { script: S, option: Choice<S> },
+    Begin {
+        script: S,
+        option: Choice<S>,
+    },
 
-    /// `step C` or `step C k`: it makes at most so many steps of its transaction.
-    Step { count: u64 },
+    /// `step C`, `step C k` or `step C k N`: it makes at most so many steps of its running transaction with this number; without a
+    /// number, of the one that has the least.
+    Step {
+        count: u64,
+        transaction: Option<u64>,
+    },
 
-    /// `end C`: it ends its transaction.
-    End,
+    /// `end C` or `end C N`: it ends that one.
+    End {
+        transaction: Option<u64>,
+    },
 
     /// `sync C`: it sends the first transaction that it has queued.
     Sync,
@@ -82,16 +96,20 @@ pub enum Task<S> {
     Drain,
 
     /// `repair C S`: the first transaction that it has queued, which waits for a decision by hand, gets this script as its resolver.
-    Repair { script: S },
+    Repair {
+        script: S,
+    },
 
     /// `discard C`: the first transaction that it has queued, which waits for a decision by hand, is given up.
     Discard,
 
-    /// `queue C`: its transactions that wait, and the one that runs, are printed.
+    /// `queue C`: its transactions that wait, and those that run, are printed.
     Queue,
 
     /// `reads C i`: what the i-th transaction that waits has read in its first run is printed; `item` is i, from 1.
-    Reads { item: u64 },
+    Reads {
+        item: u64,
+    },
 }
 
 /// An event of a client.

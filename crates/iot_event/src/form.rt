@@ -5,7 +5,8 @@ ghost use Rattle.iot_text.specs.Names.{is_name};
 ghost use Rattle.iot_text.specs.Paths.{path_of};
 ghost use Rattle.iot_event.specs.Forms.{one_word, node_event, link_event, lone_task, lone_event, server_form, client_form, two_words};
 ghost use Rattle.iot_event.specs.Forms.{loss_of, event_with, event_of_words, three_words, plain_choice, resolver_choice};
-ghost use Rattle.iot_event.specs.Forms.{script_task, script_form, pick_of, node_form, stop_words, four_words, five_words, form_of};
+ghost use Rattle.iot_event.specs.Forms.{script_task, script_form, pick_of, node_form, stop_words, step_words, four_words, five_words};
+ghost use Rattle.iot_event.specs.Forms.{form_of};
 
 use crate::event::{Choice, ClientEvent, LinkEvent, NodeEvent, Task};
 use crate::number::{byte_of, number_of};
@@ -18,7 +19,10 @@ use std::alloc::Global;
 /// How many steps one line asks for at most.
 pub const STEP_LIMIT: u64 = 100_000;
 
-/// The greatest number of a transaction that waits in a line.
+/// The greatest number of a running transaction in a line.
+pub const TRANSACTION_LIMIT: u64 = 1_000_000;
+
+/// The greatest place of a transaction that waits in a line.
 pub const READS_LIMIT: u64 = 1_000_000;
 
 /// The greatest number of a device call that is to fail in a line.
@@ -111,10 +115,13 @@ fn lone_task(word: &[u8]) -> Option<Task<Name>>
         return Some(Task::Refresh);
     }
     if word == b"step".as_slice() {
-        return Some(Task::Step { count: 1 });
+        return Some(Task::Step {
+            count: 1,
+            transaction: None,
+        });
     }
     if word == b"end".as_slice() {
-        return Some(Task::End);
+        return Some(Task::End { transaction: None });
     }
     if word == b"sync".as_slice() {
         return Some(Task::Sync);
@@ -197,6 +204,12 @@ fn event_with(first: &[u8], word: &[u8]) -> Option<ClientEvent<Name>>
     if first == b"step".as_slice() {
         return Some(ClientEvent::Task(Task::Step {
             count: number_of(word, STEP_LIMIT)?,
+            transaction: None,
+        }));
+    }
+    if first == b"end".as_slice() {
+        return Some(ClientEvent::Task(Task::End {
+            transaction: Some(number_of(word, TRANSACTION_LIMIT)?),
         }));
     }
     if first == b"reads".as_slice() {
@@ -337,12 +350,28 @@ fn stop_words(node: &[u8], calls: &[u8], pick: &[u8]) -> Option<Form>
     node_form(node, NodeEvent::Stop { calls, pick })
 }
 
+/// The form of a line that has a client make so many steps of this transaction.
+fn step_words(client: &[u8], count: &[u8], transaction: &[u8]) -> Option<Form>
+    ensures { result ≡ step_words client.now count.now transaction.now }
+{
+    let client = name_of(client)?;
+    let count = number_of(count, STEP_LIMIT)?;
+    let transaction = Some(number_of(transaction, TRANSACTION_LIMIT)?);
+    Some(Form::At {
+        client,
+        what: ClientEvent::Task(Task::Step { count, transaction }),
+    })
+}
+
 /// The form of a line of four words.
 fn four_words(first: &[u8], second: &[u8], third: &[u8], fourth: &[u8]) -> Option<Form>
     ensures { result ≡ four_words first.now second.now third.now fourth.now }
 {
     if first == b"stop".as_slice() {
         return stop_words(second, third, fourth);
+    }
+    if first == b"step".as_slice() {
+        return step_words(second, third, fourth);
     }
     script_form(
         first,

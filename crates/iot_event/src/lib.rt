@@ -15,7 +15,7 @@ pub use bytes::LINE_LIMIT;
 pub use declared::{CLIENT_LIMIT, SCRIPT_LIMIT};
 pub use event::{Choice, ClientEvent, Event, LinkEvent, NodeEvent, SharedScript, Task};
 pub use fault::EventFault;
-pub use form::{READS_LIMIT, STEP_LIMIT, STOP_LIMIT};
+pub use form::{READS_LIMIT, STEP_LIMIT, STOP_LIMIT, TRANSACTION_LIMIT};
 pub use iot_disk::Pick;
 pub use iot_text::NoMemory;
 pub use parsing::parse;

@@ -13,7 +13,8 @@ use std::alloc::Global;
 /// Parses an event script: the events that it asks for, in order.
 ///
 /// A line has at most `LINE_LIMIT` bytes; there are at most `CLIENT_LIMIT` clients and `SCRIPT_LIMIT` scripts; a line asks for
-/// at most `STEP_LIMIT` steps, and names at most the `READS_LIMIT`-th transaction that waits.
+/// at most `STEP_LIMIT` steps, and names running transactions with at most `TRANSACTION_LIMIT` as their number, and at most the
+/// `READS_LIMIT`-th transaction that waits.
 ///
 /// # Errors
 ///
