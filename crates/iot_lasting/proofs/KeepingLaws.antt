@@ -1,5 +1,5 @@
 -- The machine's calls keep what the server's list begins with.
-use Rattle.std.proofs.Common.{ℕ, ◌*◌, Bool, true, false, List, [], ◌∷◌, Option, Some, None, codes}
+use Rattle.std.proofs.Common.{ℕ, ◌*◌, Bool, true, false, List, [], ◌∷◌, Option, Some, None, codes, sym, subst}
 use Rattle.iot_tree.specs.Tree.{Nodes, Path}
 use Rattle.iot_tree.specs.declared.want.Want.{Want}
 use Rattle.iot_tree.specs.declared.want.Want.TheVariants as wanted
@@ -9,20 +9,21 @@ use Rattle.iot_queue.specs.declared.items.Item as queue
 use Rattle.iot_machine.specs.Calls.{Call, Try, Answers, Tells, At}
 use Rattle.iot_machine.specs.Clients as stages
 use Rattle.iot_machine.specs.Clients.{Declared, Stage, Item, Running, ClientState, Next, AtEnd, AtLimit}
-use Rattle.iot_machine.specs.Clients.{Acts, Fetches, Plan, new_client, hold}
+use Rattle.iot_machine.specs.Clients.{Acts, Fetches, Plan, new_client}
 use Rattle.iot_machine.specs.Machine.{Machine, Commit, Client, Pair, its_server, server, client_at, pair_at, script_at}
 use Rattle.iot_machine.specs.Nodes.{Node}
 use Rattle.iot_machine.specs.Options as options
 use Rattle.iot_machine.specs.Options.{OnConflict}
 use Rattle.iot_machine.specs.Serving.{Submission, Verdict, Settled, Conflict, Lends, Judges, server_name, kept_text}
 use Rattle.iot_machine.specs.Transactions as transactions
-use Rattle.iot_machine.specs.Transactions.{Notes, unless_stopped, Exchange, Refuses, IfIdle, IfNonePends, if_runs, IfRuns, Holds, took}
-use Rattle.iot_machine.specs.Transactions.{Takes, Starts, starts_if, Begins, step_by, step_of, Steps, Synced, Moved, Stays, Unanswered}
-use Rattle.iot_machine.specs.Transactions.{NotesAloud, Misses, conflicted, told, resolved_on, resolves, Resolves, sync_at, sync_head, Syncs}
+use Rattle.iot_machine.specs.Transactions.{Notes, unless_stopped, Exchange, Refuses, IfIdle, IfRoom, IfNonePends, if_runs, IfRuns}
+use Rattle.iot_machine.specs.Transactions.{Holds, took, Takes, Starts, starts_if, Begins, step_by, step_of, Steps, yield_if, Yields}
+use Rattle.iot_machine.specs.Transactions.{Synced, Moved, Stays, Unanswered}
+use Rattle.iot_machine.specs.Transactions.{NotesAloud, conflicted, told, resolved_on, resolves, Resolves, sync_at, sync_head, Syncs}
 use Rattle.iot_machine.specs.Transactions.{moves, sync_if, SyncsAll, is_manual, if_manual, IfManual, Ended, waits_unless, syncs_or_waits}
-use Rattle.iot_machine.specs.Transactions.{joins, end_by, Ends}
-use Rattle.iot_machine.specs.Events.{Declares, Hoards, Refreshes, BeginsAloud, StepsAloud, run_steps, Runs, Drains, Repairs, Discards}
-use Rattle.iot_machine.specs.Events.{chosen, task_part, says_reads, ReadsOf, IfUp, OfClient, counts_anew, RestartsServer}
+use Rattle.iot_machine.specs.Transactions.{joins, Compared, Same, Differs, Compares, same, parts, ends_by, certifies, end_by, Ends}
+use Rattle.iot_machine.specs.Events.{Declares, Hoards, Refreshes, BeginsAloud, StepsAloud, run_steps, runs_through, Runs, Drains, Repairs}
+use Rattle.iot_machine.specs.Events.{Discards, chosen, task_part, says_reads, ReadsOf, IfUp, OfClient, counts_anew, RestartsServer}
 use Rattle.iot_machine.proofs.KeepsLaws.{Keeps, Stays as KeepsOn, IfGoes, keeps_gets, keeps_does, keeps_tells, stays_says, keeps_then}
 use Rattle.iot_machine.proofs.KeepsLaws.{stays_then, asks_then, keeps_either, stays_goes_on, keeps_goes, keeps_repeats, keeps_whole}
 use Rattle.iot_machine.proofs.KeepsLaws.{keeps_or_says}
@@ -75,11 +76,15 @@ module _ (b : Node (List Commit)) where
   if_idle : {A : Type 0} {call : Try Pair A} → Keeping call → Keeping (IfIdle call)
   if_idle call = asks_then (keeps_either (refuses (codes "busy")) call)
 
+  if_room : {A : Type 0} {call : Try Pair A} → Keeping call → Keeping (IfRoom call)
+  if_room call = asks_then (keeps_either (refuses (codes "busy")) call)
+
   if_none_pends : {A : Type 0} {call : Try Pair A} → Keeping call → Keeping (IfNonePends call)
   if_none_pends call = asks_then (keeps_either (refuses (codes "pending")) call)
 
-  if_running : {A : Type 0} {call : Running → Try Pair A} → ((it : Running) → Keeping (call it)) → Keeping (IfRuns call)
-  if_running {call = call} each = asks_then by_running
+  if_running : {A : Type 0} (which : Option ℕ) {call : Running → Try Pair A} → ((it : Running) → Keeping (call it))
+      → Keeping (IfRuns which call)
+  if_running which {call = call} each = asks_then by_running
     where
       by_running : (running : Option Running) → Keeping (if_runs call running)
       by_running None = refuses (codes "idle")
@@ -111,25 +116,32 @@ module _ (b : Node (List Commit)) where
   -- ---- begin and steps
 
   begins : (script : Declared) (option : OnConflict Declared) → Keeping (Begins script option)
-  begins script option = if_idle (asks_then by_pending)
+  begins script option = if_room (asks_then by_pending)
     where
       starts : (first : Bool) → Keeping (Starts script option first)
-      starts first = keeps_goes (notes _) (λ _. keeps_gets (λ m here. here))
+      starts first = asks_then (λ number. keeps_goes (notes _) (λ _. keeps_gets (λ m here. here)))
 
       by_pending : (pends : Bool) → Keeping (starts_if script option pends)
       by_pending true = starts false
       by_pending false = keeps_goes (brings_and_holds _ wanted.Nothing) starts
 
-  steps : (loud : Bool) → Keeping (Steps loud)
-  steps loud = asks_then by_running
+  yields : (number : ℕ) → KeepsOn Kept (Yields number)
+  yields number = keeps_does (λ m here. by_pending (transactions.pends m) m here)
     where
-      by_next : (next : Next) → Keeping (step_by loud next)
+      by_pending : (pends : Bool) (m : Pair) → Kept m → Kept (yield_if number pends m)
+      by_pending true m here = here
+      by_pending false m here = here
+
+  steps : (number : ℕ) (loud : Bool) → Keeping (Steps number loud)
+  steps number loud = stays_then (yields number) (λ _. asks_then by_running)
+    where
+      by_next : (next : Next) → Keeping (step_by number loud next)
       by_next AtEnd = answers (Some false)
       by_next AtLimit = answers (Some false)
       by_next Acts = keeps_goes (notes _) (λ _. answers (Some true))
       by_next (Fetches path) = keeps_goes (brings_and_holds _ (wanted.Path path)) (λ came. keeps_either tells (answers (Some _)) loud)
 
-      by_running : (running : Option Running) → Keeping (step_of loud running)
+      by_running : (running : Option Running) → Keeping (step_of number loud running)
       by_running None = answers (Some false)
       by_running (Some it) = asks_then by_next
 
@@ -185,8 +197,15 @@ module _ (b : Node (List Commit)) where
 
   -- ---- a client's events
 
-  pub ends : Keeping Ends
-  ends = if_running (λ it. asks_then (by_next it))
+  compares : (it : Running) → KeepsOn Kept (Compares it)
+  compares it = record { at = λ m n text found here step. by_step m n text found here step }
+    where
+      by_step : (m n : Pair) (text : List ℕ) (found : Compared) → Kept m → Compares it m text found n → Kept n
+      by_step m n text found here (same is said answer stays) = subst Kept (sym stays) here
+      by_step m n text found here (parts read question differ said answer stays) = subst Kept (sym stays) here
+
+  pub ends : (which : Option ℕ) → Keeping (Ends which)
+  ends which = if_running which (λ it. asks_then (by_next it))
     where
       by_synced : (gone : Ended) (synced : Synced) → Keeping (waits_unless gone synced)
       by_synced gone Unanswered = tells
@@ -200,9 +219,16 @@ module _ (b : Node (List Commit)) where
       queues : (gone : Ended) → Keeping (joins gone)
       queues gone = keeps_goes (notes _) (λ _. stays_then stays_says (λ _. by_class gone gone.first))
 
+      by_found : (gone : Ended) (found : Compared) → Keeping (ends_by gone found)
+      by_found gone Same = queues gone
+      by_found gone (Differs read question) = keeps_goes (notes _) (λ _. tells)
+
+      is_certified : (it : Running) → Keeping (certifies it)
+      is_certified it = stays_then (yields it.number) (λ _. asks_then (λ gone. stays_then (compares it) (by_found gone)))
+
       by_next : (it : Running) (next : Next) → Keeping (end_by it next)
-      by_next it AtEnd = asks_then queues
-      by_next it AtLimit = asks_then queues
+      by_next it AtEnd = is_certified it
+      by_next it AtLimit = is_certified it
       by_next it Acts = refuses (codes "not at end")
       by_next it (Fetches path) = refuses (codes "not at end")
 
@@ -215,12 +241,15 @@ module _ (b : Node (List Commit)) where
   pub begins_aloud : (script : Declared) (option : OnConflict Declared) → Keeping (BeginsAloud script option)
   begins_aloud script option = keeps_goes (begins script option) (λ _. tells)
 
-  pub steps_aloud : (most : ℕ) → Keeping (StepsAloud most)
-  steps_aloud most = if_running (λ _. keeps_goes (keeps_repeats (steps true) most) (λ _. tells))
+  pub steps_aloud : (most : ℕ) (which : Option ℕ) → Keeping (StepsAloud most which)
+  steps_aloud most which = if_running which (λ it. keeps_goes (keeps_repeats (steps it.number true) most) (λ _. tells))
 
   pub runs_it : (script : Declared) (option : OnConflict Declared) → Keeping (Runs script option)
-  runs_it script option = if_idle (asks_then (λ up. keeps_goes (keeps_either syncs_all (answers (Some tt)) up) (λ _.
-      keeps_goes (begins script option) (λ _. keeps_goes (keeps_repeats (steps false) run_steps) (λ _. ends)))))
+  runs_it script option = if_room (asks_then (λ up. keeps_goes (keeps_either syncs_all (answers (Some tt)) up) (λ _.
+      keeps_goes (begins script option) through)))
+    where
+      through : (number : ℕ) → Keeping (runs_through number)
+      through number = keeps_goes (keeps_repeats (steps number false) run_steps) (λ _. ends (Some number))
 
   pub drains : Keeping Drains
   drains = keeps_or_says (keeps_goes syncs_all (λ _. asks_then (keeps_either refreshes (answers (Some tt)))))
@@ -243,8 +272,8 @@ module _ (b : Node (List Commit)) where
   does_task scripts (tasks.Hoard path) = hoards path
   does_task scripts tasks.Refresh = refreshes
   does_task scripts (tasks.Begin script option) = begins_aloud (script_at scripts script) (chosen scripts option)
-  does_task scripts (tasks.Step count) = steps_aloud count
-  does_task scripts tasks.End = ends
+  does_task scripts (tasks.Step count transaction) = steps_aloud count transaction
+  does_task scripts (tasks.End transaction) = ends transaction
   does_task scripts tasks.Sync = keeps_goes syncs (λ _. answers (Some tt))
   does_task scripts tasks.Drain = drains
   does_task scripts (tasks.Repair script) = repairs (script_at scripts script)

@@ -4,6 +4,7 @@ use Rattle.std.proofs.Common.{slice_set, refl, sym, ap, subst, ◌∙◌, inl, i
 use Rattle.std.proofs.lemmas.List.{append-nil}
 use Rattle.iot_tree.specs.Tree.{Nodes, Path}
 use Rattle.iot_tree.specs.declared.acts.Act.{Act}
+use Rattle.iot_tree.specs.declared.questions.Question.{Question}
 use Rattle.iot_tree.specs.declared.want.Want.{Want}
 use Rattle.iot_tree.specs.declared.want.Want.TheVariants as wanted
 use Rattle.iot_event.specs.declared.event.LinkEvent.{LinkEvent}
@@ -19,8 +20,8 @@ use Rattle.iot_queue.specs.declared.items.Item as queue
 use Rattle.iot_machine.specs.Calls.{Call, Try, Gets, Asks, Answers, Tells, Then, Goes, At}
 use Rattle.iot_machine.specs.Clients as stages
 use Rattle.iot_machine.specs.Clients.{Declared, Stage, Item, Running, ClientState, Next, AtEnd, AtLimit}
-use Rattle.iot_machine.specs.Clients.{Acts, Fetches, Plan, new_client, hold, view, base, so_far}
-use Rattle.iot_machine.specs.Machine.{Commit, Client, Pair, its_client, its_server, node, kept, break_link, add_commit, script_at}
+use Rattle.iot_machine.specs.Clients.{Acts, Fetches, Plan, new_client, view, so_far, numbered}
+use Rattle.iot_machine.specs.Machine.{Commit, Client, Pair, its_client, its_server, node, kept, is_first, break_link, add_commit, script_at}
 use Rattle.iot_machine.specs.Nodes.{Node, changed}
 use Rattle.iot_machine.specs.Options as options
 use Rattle.iot_machine.specs.Options.{OnConflict}
@@ -28,18 +29,20 @@ use Rattle.iot_machine.specs.Serving.{Submission, Verdict, Settled, Conflict, Le
 use Rattle.iot_machine.specs.Serving.{committed, commit_text, server_name}
 use Rattle.iot_machine.specs.Stops.{Appends, OpensNode, ComesBack, Crashes, ArmsDisk}
 use Rattle.iot_machine.specs.Texts.{line, transaction_name, stopped_line, lose_line, cut_line, fetch_line, settled_line, conflict_line}
-use Rattle.iot_machine.specs.Texts.{resolve_line, pending_line, hoard_line, refresh_line, begin_line, step_line, repair_line}
+use Rattle.iot_machine.specs.Texts.{again_line, resolve_line, pending_line, hoard_line, refresh_line, begin_line, step_line, repair_line}
 use Rattle.iot_machine.specs.Texts.{reads_text, acts_output}
 use Rattle.iot_machine.specs.Transactions as transactions
 use Rattle.iot_machine.specs.Transactions.{Writes, Notes, unless_stopped, counted, Handles, received, exchange_by, Exchange}
-use Rattle.iot_machine.specs.Transactions.{Refuses, IfIdle, IfNonePends, if_runs, IfRuns, Holds, took}
-use Rattle.iot_machine.specs.Transactions.{Takes, Starts, starts_if, Begins, step_by, step_of, Steps, Synced, Moved, Stays, Unanswered}
-use Rattle.iot_machine.specs.Transactions.{NotesAloud, Misses, conflicted, told, resolved_on, resolves, Resolves, sync_at, sync_head, Syncs}
+use Rattle.iot_machine.specs.Transactions.{Refuses, IfIdle, IfRoom, IfNonePends, if_runs, IfRuns, Holds, took}
+use Rattle.iot_machine.specs.Transactions.{Takes, Starts, starts_if, Begins, step_by, step_of, Steps, yield_if, Yields}
+use Rattle.iot_machine.specs.Transactions.{Synced, Moved, Stays, Unanswered}
+use Rattle.iot_machine.specs.Transactions.{NotesAloud, conflicted, told, resolved_on, resolves, Resolves, sync_at, sync_head, Syncs}
 use Rattle.iot_machine.specs.Transactions.{moves, sync_if, SyncsAll, is_manual, if_manual, IfManual, Ended, waits_unless, syncs_or_waits}
-use Rattle.iot_machine.specs.Transactions.{waits, joins, ended_of, end_by, Ends, item_name, next_of}
-use Rattle.iot_machine.specs.Events.{Hoards, Refreshes, said_of, BeginsAloud, place_text, StepsAloud, run_steps, Runs, Drains, Repairs}
-use Rattle.iot_machine.specs.Events.{Discards, running_of, Queues, chosen, task_part, says_reads, ReadsOf, IfUp, cuts_off, CutsOff}
-use Rattle.iot_machine.specs.Events.{no_text, comes_back, RestartsClient, link_part, node_part}
+use Rattle.iot_machine.specs.Transactions.{waits, joins, ended_of, Compared, Same, Differs, Compares, ends_by, certifies, end_by, Ends}
+use Rattle.iot_machine.specs.Transactions.{item_name, next_of}
+use Rattle.iot_machine.specs.Events.{Hoards, Refreshes, said_of, BeginsAloud, place_text, StepsAloud, run_steps, runs_through, Runs, Drains}
+use Rattle.iot_machine.specs.Events.{Repairs, Discards, running_in, Queues, chosen, task_part, says_reads, ReadsOf, IfUp, FindsLongest}
+use Rattle.iot_machine.specs.Events.{cuts_off, CutsOff, no_text, comes_back, RestartsClient, link_part, node_part}
 use Rattle.iot_machine.specs.Recorded.{queue_kept}
 use Rattle.iot_lasting.specs.Ledger.{Row, Ledger, row_of, row_at, IsNode, IsTransaction}
 use Rattle.iot_lasting.specs.Sayings as forms
@@ -222,14 +225,20 @@ module _ (rows : List Row) (c : ℕ) where
     cuts : TellingOf CutsOff
     cuts = asks_then by_running
       where
-        says_cut : (it : Running) (client : Client) → IsHere client
-            → Told (client_book client) (cut_line (transaction_name client.name it.number) it.acts) (client_book client)
-        says_cut it client here = told_other (client_book client) _
-            (forms.cut (transaction_name client.name it.number) it.acts (is_transaction client here it.number) refl)
+        finds : (it : Running) → TellingOf (FindsLongest it)
+        finds it = record {
+          at = λ client n text acts here step. rw (step.0, step.2) (told_nothing (client_book client) (client_book client) refl, here);
+        }
 
-        by_running : (running : Option Running) → TellingOf (cuts_off running)
-        by_running None = silent
-        by_running (Some it) = then_told (writes_told _) (either_told (says_told (says_cut it)) silent)
+        says_cut : (it : Running) (acts : ℕ) (client : Client) → IsHere client
+            → Told (client_book client) (cut_line (transaction_name client.name it.number) acts) (client_book client)
+        says_cut it acts client here = told_other (client_book client) _
+            (forms.cut (transaction_name client.name it.number) acts (is_transaction client here it.number) refl)
+
+        by_running : (running : List Running) → TellingOf (cuts_off running)
+        by_running [] = silent
+        by_running (it ∷ running) = then_told (finds it) (λ acts. then_told (writes_told _)
+            (either_told (then_told (says_told (says_cut it acts)) (λ _. by_running running)) silent))
 
     restarts : TellingOf RestartsClient
     restarts = asks_then by_alive
@@ -378,11 +387,15 @@ module _ (rows : List Row) (c : ℕ) where
   if_idle : {A : Type 0} {call : Try Pair A} → TellingWith call → TellingWith (IfIdle call)
   if_idle call = asks_then (either_told (refuses (codes "busy") (among 2 refl)) call)
 
+  if_room : {A : Type 0} {call : Try Pair A} → TellingWith call → TellingWith (IfRoom call)
+  if_room call = asks_then (either_told (refuses (codes "busy") (among 2 refl)) call)
+
   if_none_pends : {A : Type 0} {call : Try Pair A} → TellingWith call → TellingWith (IfNonePends call)
   if_none_pends call = asks_then (either_told (refuses (codes "pending") (among 4 refl)) call)
 
-  if_running : {A : Type 0} {call : Running → Try Pair A} → ((it : Running) → TellingWith (call it)) → TellingWith (IfRuns call)
-  if_running {call = call} each = asks_then by_running
+  if_running : {A : Type 0} (which : Option ℕ) {call : Running → Try Pair A} → ((it : Running) → TellingWith (call it))
+      → TellingWith (IfRuns which call)
+  if_running which {call = call} each = asks_then by_running
     where
       by_running : (running : Option Running) → TellingWith (if_runs call running)
       by_running None = refuses (codes "idle") (among 3 refl)
@@ -420,29 +433,37 @@ module _ (rows : List Row) (c : ℕ) where
   -- ---- begin and steps
 
   begins : (script : Declared) (option : OnConflict Declared) → TellingWith (Begins script option)
-  begins script option = if_idle (asks_then by_pending)
+  begins script option = if_room (asks_then by_pending)
     where
       starts : (first : Bool) → TellingWith (Starts script option first)
-      starts first = goes (notes _) (λ _. others (λ pair at. (refl, at)))
+      starts first = asks_then (λ number. goes (notes _) (λ _. others (λ pair at. (refl, at))))
 
       by_pending : (pends : Bool) → TellingWith (starts_if script option pends)
       by_pending true = starts false
       by_pending false = goes (brings_and_holds _ wanted.Nothing) starts
 
-  steps : (loud : Bool) → TellingWith (Steps loud)
-  steps loud = asks_then by_running
+  yields : (number : ℕ) → TellingWith (Yields number)
+  yields number = does_told (λ pair at. by_pending (transactions.pends pair) pair at)
+    where
+      by_pending : (pends : Bool) (pair : Pair) → AtPlace pair
+          → Told (pair_book pair) [] (pair_book (yield_if number pends pair)) × AtPlace (yield_if number pends pair)
+      by_pending true pair at = (told_nothing (pair_book pair) (pair_book pair) refl, at)
+      by_pending false pair at = (told_nothing (pair_book pair) (pair_book pair) refl, at)
+
+  steps : (number : ℕ) (loud : Bool) → TellingWith (Steps number loud)
+  steps number loud = then_told (yields number) (λ _. asks_then by_running)
     where
       says_fetch : (path : Path) (away : Bool) → Says (λ _. fetch_line path away)
       says_fetch path away pair at = told_other (pair_book pair) (fetch_line path away) (forms.fetch path away refl)
 
-      by_next : (next : Next) → TellingWith (step_by loud next)
+      by_next : (next : Next) → TellingWith (step_by number loud next)
       by_next AtEnd = answers (Some false)
       by_next AtLimit = answers (Some false)
       by_next Acts = goes (notes _) (λ _. answers (Some true))
       by_next (Fetches path) = goes (brings_and_holds _ (wanted.Path path))
           (λ came. either_told (tells (says_fetch path (not came))) (answers (Some _)) loud)
 
-      by_running : (running : Option Running) → TellingWith (step_of loud running)
+      by_running : (running : Option Running) → TellingWith (step_of number loud running)
       by_running None = answers (Some false)
       by_running (Some it) = asks_then by_next
 
@@ -535,10 +556,22 @@ module _ (rows : List Row) (c : ℕ) where
 
   ended : (pair : Pair) → AtPlace pair → (it : Running) → IsEnded (ended_of it pair)
   ended pair at it =
-      record { name = own_name pair at it.number; acts = (so_far (base (kept pair)) it).acts; printed = refl }
+      record { name = own_name pair at it.number; acts = (so_far it).acts; printed = refl }
 
-  ends : TellingWith Ends
-  ends = if_running (λ it. asks_then (by_next it))
+  compares : (it : Running) → TellingWith (Compares it)
+  compares it = record { at = λ pair n text found at step. by_step pair n text found at step }
+    where
+      same_pair : (pair n : Pair) (text : List ℕ) → AtPlace pair → text ≡ [] → n ≡ pair
+          → Told (pair_book pair) text (pair_book n) × AtPlace n
+      same_pair pair n text at said is = rw (said, is) (told_nothing (pair_book pair) (pair_book pair) refl, at)
+
+      by_step : (pair n : Pair) (text : List ℕ) (found : Compared) → AtPlace pair → Compares it pair text found n
+          → Told (pair_book pair) text (pair_book n) × AtPlace n
+      by_step pair n text found at (transactions.same is said answer stays) = same_pair pair n text at said stays
+      by_step pair n text found at (transactions.parts read question differ said answer stays) = same_pair pair n text at said stays
+
+  ends : (which : Option ℕ) → TellingWith (Ends which)
+  ends which = if_running which (λ it. asks_then (by_next it))
     where
       says_waits : (gone : Ended) → IsEnded gone → TellingWith (waits gone)
       says_waits gone is = tells (λ pair at. told_then (pair_book pair) (pair_book pair) (pair_book pair) (pending_line gone.name)
@@ -560,10 +593,18 @@ module _ (rows : List Row) (c : ℕ) where
           then_told (says_told (of_own (codes "end ") gone.name (among 0 refl) is.name))
           (λ _. by_class gone is gone.first))
 
-      ends_it : (it : Running) → TellingWith (Then (Asks (ended_of it)) joins)
-      ends_it it = then_told {Q = λ gone pair. IsEnded gone × AtPlace pair}
+      says_again : (gone : Ended) → IsEnded gone → (read : ℕ) (question : Question) → Says (λ _. again_line gone.name read question)
+      says_again gone is read question pair at = told_other (pair_book pair) (again_line gone.name read question)
+          (forms.again gone.name read question (own_here gone.name is.name pair at) refl)
+
+      by_found : (gone : Ended) → IsEnded gone → (found : Compared) → TellingWith (ends_by gone found)
+      by_found gone is Same = queues gone is
+      by_found gone is (Differs read question) = goes (notes _) (λ _. tells (says_again gone is read question))
+
+      ends_it : (it : Running) → TellingWith (certifies it)
+      ends_it it = then_told (yields it.number) (λ _. then_told {Q = λ gone pair. IsEnded gone × AtPlace pair}
           (asks_told (λ pair at. (ended pair at it, at)))
-          (λ gone. knowing (queues gone))
+          (λ gone. knowing (λ is. then_told (compares it) (by_found gone is))))
 
       by_next : (it : Running) (next : Next) → TellingWith (end_by it next)
       by_next it AtEnd = ends_it it
@@ -579,31 +620,35 @@ module _ (rows : List Row) (c : ℕ) where
   refreshes = goes (takes wanted.Nothing) (λ _. tells (λ pair at. told_other (pair_book pair) (refresh_line pair.client.name)
       (forms.of_node (codes "refresh ") pair.client.name (among 5 refl) (node_here pair at) refl)))
 
-  -- of the transaction that runs
-  says_running : (text : Pair → Running → List ℕ) → ((it : Running) → Says (λ pair. text pair it))
-      → Says (λ pair. said_of (text pair) (kept pair).running)
-  says_running text each pair at = by_running (kept pair).running
+  -- of the transaction with this number, if it runs
+  says_running : (number : ℕ) (text : Pair → Running → List ℕ) → ((it : Running) → Says (λ pair. text pair it))
+      → Says (λ pair. said_of (text pair) (numbered number (kept pair)))
+  says_running number text each pair at = by_running (numbered number (kept pair))
     where
       by_running : (running : Option Running) → Told (pair_book pair) (said_of (text pair) running) (pair_book pair)
       by_running None = told_nothing (pair_book pair) (pair_book pair) refl
       by_running (Some it) = each it pair at
 
   begins_aloud : (script : Declared) (option : OnConflict Declared) → TellingWith (BeginsAloud script option)
-  begins_aloud script option = goes (begins script option) (λ _. tells (says_running
-      (λ pair it. begin_line (transaction_name pair.client.name it.number) it.script.name pair.client.first)
+  begins_aloud script option = goes (begins script option) (λ number. tells (says_running number
+      (λ pair it. begin_line (transaction_name pair.client.name number) it.script.name (is_first number pair.client))
       (λ it pair at. told_other (pair_book pair) _
-      (forms.begin (transaction_name pair.client.name it.number) it.script.name pair.client.first (transaction_here pair at it.number)
-      refl))))
+      (forms.begin (transaction_name pair.client.name number) it.script.name (is_first number pair.client)
+      (transaction_here pair at number) refl))))
 
-  steps_aloud : (most : ℕ) → TellingWith (StepsAloud most)
-  steps_aloud most = if_running (λ _. goes (repeats_told (steps true) most) (λ _. tells (says_running
-      (λ pair it. step_line (transaction_name pair.client.name it.number) it.acts (place_text (next_of it pair)))
-      (λ it pair at. told_other (pair_book pair) _
-      (forms.step (transaction_name pair.client.name it.number) it.acts (next_of it pair) (transaction_here pair at it.number) refl)))))
+  steps_aloud : (most : ℕ) (which : Option ℕ) → TellingWith (StepsAloud most which)
+  steps_aloud most which = if_running which (λ it. goes (repeats_told (steps it.number true) most) (λ _. tells (says_running it.number
+      (λ pair now. step_line (transaction_name pair.client.name it.number) now.acts (place_text (next_of now pair)))
+      (λ now pair at. told_other (pair_book pair) _
+      (forms.step (transaction_name pair.client.name it.number) now.acts (next_of now pair) (transaction_here pair at it.number)
+      refl)))))
 
   runs_it : (script : Declared) (option : OnConflict Declared) → TellingWith (Runs script option)
-  runs_it script option = if_idle (asks_then (λ up. goes (either_told syncs_all (answers (Some tt)) up) (λ _.
-      goes (begins script option) (λ _. goes (repeats_told (steps false) run_steps) (λ _. ends)))))
+  runs_it script option = if_room (asks_then (λ up. goes (either_told syncs_all (answers (Some tt)) up) (λ _.
+      goes (begins script option) through)))
+    where
+      through : (number : ℕ) → TellingWith (runs_through number)
+      through number = goes (repeats_told (steps number false) run_steps) (λ _. ends (Some number))
 
   drains : TellingWith Drains
   drains = or_says_told (λ l. told_word l (codes "nothing") (among 5 refl))
@@ -620,7 +665,7 @@ module _ (rows : List Row) (c : ℕ) where
 
   queues : TellingWith Queues
   queues = tells (λ pair at. told_other (pair_book pair) _ (forms.queue pair.client.name (queue_kept (kept pair))
-      (running_of pair.client.first (kept pair).running) (node_here pair at) refl))
+      (running_in pair.client) (node_here pair at) refl))
 
   reads_of : (place : ℕ) → TellingWith (ReadsOf place)
   reads_of place = asks_then by_item
@@ -634,8 +679,8 @@ module _ (rows : List Row) (c : ℕ) where
   does_task scripts (tasks.Hoard path) = hoards path
   does_task scripts tasks.Refresh = refreshes
   does_task scripts (tasks.Begin script option) = begins_aloud (script_at scripts script) (chosen scripts option)
-  does_task scripts (tasks.Step count) = steps_aloud count
-  does_task scripts tasks.End = ends
+  does_task scripts (tasks.Step count transaction) = steps_aloud count transaction
+  does_task scripts (tasks.End transaction) = ends transaction
   does_task scripts tasks.Sync = goes syncs (λ _. answers (Some tt))
   does_task scripts tasks.Drain = drains
   does_task scripts (tasks.Repair script) = repairs (script_at scripts script)

@@ -12,8 +12,8 @@ use Rattle.iot_machine.specs.Clients.{Next}
 use Rattle.iot_machine.specs.Events.{place_text}
 use Rattle.iot_machine.specs.Recorded.{labels_of}
 use Rattle.iot_machine.specs.Texts.{line, stopped_line, kept_line, lost_line, stop_line, lose_line, hoard_line, fetch_line, begin_line}
-use Rattle.iot_machine.specs.Texts.{step_line, cut_line, settled_line, conflict_line, resolve_line, repair_line, acts_output, tree_text}
-use Rattle.iot_machine.specs.Texts.{queue_text, reads_text, log_text}
+use Rattle.iot_machine.specs.Texts.{step_line, again_line, cut_line, settled_line, conflict_line, resolve_line, repair_line, acts_output}
+use Rattle.iot_machine.specs.Texts.{tree_text, queue_text, reads_text, log_text}
 use Rattle.iot_lasting.specs.Ledger.{Ledger, names_of, IsNode, IsTransaction}
 
 -- it is one of these
@@ -51,6 +51,7 @@ pub data IsOther (l : Ledger) (text : List ℕ) : Type 0 where
   of_transaction : (word tid : List ℕ) → IsAmong transaction_words word → IsTransaction l tid → text ≡ line (word ++ tid) → IsOther l text
   begin : (tid script : List ℕ) (first : Bool) → IsTransaction l tid → text ≡ begin_line tid script first → IsOther l text
   step : (tid : List ℕ) (acts : ℕ) (next : Next) → IsTransaction l tid → text ≡ step_line tid acts (place_text next) → IsOther l text
+  again : (tid : List ℕ) (read : ℕ) (question : Question) → IsTransaction l tid → text ≡ again_line tid read question → IsOther l text
   cut : (tid : List ℕ) (acts : ℕ) → IsTransaction l tid → text ≡ cut_line tid acts → IsOther l text
   settled : (tid : List ℕ) (number : ℕ) → IsTransaction l tid → text ≡ settled_line tid number → IsOther l text
   conflict : (tid : List ℕ) (read : ℕ) (question : Question) → IsTransaction l tid → text ≡ conflict_line tid read question

@@ -1,5 +1,7 @@
 -- What a client that is alive does with the server keeps the two sound, and each node stops at most once.
-use Rattle.std.proofs.Common.{◌≡◌, ℕ, ◌*◌, Bool, true, false, List, [], ◌∷◌, Option, Some, None, refl, sym, subst, codes}
+use Rattle.std.proofs.Common.{◌≡◌, ℕ, ◌*◌, ◌<◌, not, nat_lt, length, Bool, true, false, List, [], ◌∷◌, Option, Some, None}
+use Rattle.std.proofs.Common.{refl, sym, subst, codes, arith}
+use Rattle.std.proofs.lemmas.Bool.Decides.{nat_tests}
 use Rattle.iot_tree.specs.Tree.{Nodes, Path}
 use Rattle.iot_tree.specs.declared.want.Want.{Want}
 use Rattle.iot_tree.specs.declared.want.Want.TheVariants as wanted
@@ -9,28 +11,29 @@ use Rattle.iot_queue.specs.declared.items.Item as queue
 use Rattle.iot_machine.specs.Calls.{Try, Asks, Answers, Tells, either}
 use Rattle.iot_machine.specs.Clients as stages
 use Rattle.iot_machine.specs.Clients.{Declared, Stage, Item, Running, ClientState, Next, AtEnd, AtLimit, Acts, Fetches, Plan, resolution_of}
-use Rattle.iot_machine.specs.Clients.{new_client, hold, fetch, leave, resolved_by}
+use Rattle.iot_machine.specs.Clients.{most_running, new_client, hold, begin, leave, resolved_by}
 use Rattle.iot_machine.specs.Machine.{Commit, Pair, kept, script_at}
 use Rattle.iot_machine.specs.Options as options
 use Rattle.iot_machine.specs.Options.{OnConflict}
 use Rattle.iot_machine.specs.Serving.{Verdict, Settled, Conflict}
 use Rattle.iot_machine.specs.Transactions as transactions
-use Rattle.iot_machine.specs.Transactions.{Notes, Refuses, IfIdle, IfNonePends, if_runs, IfRuns, Holds, took, Takes, Starts, starts_if}
-use Rattle.iot_machine.specs.Transactions.{Begins, fetched, step_by, step_of, Steps, Synced, Moved, Stays, Unanswered, NotesAloud, Misses}
+use Rattle.iot_machine.specs.Transactions.{Notes, Refuses, is_full, IfIdle, IfRoom, IfNonePends, if_runs, IfRuns, Holds, took, Takes}
+use Rattle.iot_machine.specs.Transactions.{Starts, starts_if, Begins, step_by, step_of, Steps, yield_if, Yields}
+use Rattle.iot_machine.specs.Transactions.{Synced, Moved, Stays, Unanswered, NotesAloud}
 use Rattle.iot_machine.specs.Transactions.{conflicted, told, resolved_on, resolves, Resolves, sync_at, sync_head, Syncs, moves, sync_if}
-use Rattle.iot_machine.specs.Transactions.{SyncsAll, is_manual, if_manual, IfManual, Ended, waits_unless, syncs_or_waits, joins, end_by}
-use Rattle.iot_machine.specs.Transactions.{Ends}
+use Rattle.iot_machine.specs.Transactions.{SyncsAll, is_manual, if_manual, IfManual, Ended, waits_unless, syncs_or_waits, joins}
+use Rattle.iot_machine.specs.Transactions.{Compared, Same, Differs, Compares, same, parts, ends_by, certifies, end_by, Ends}
 use Rattle.iot_machine.specs.Texts.{conflict_line}
-use Rattle.iot_machine.specs.Events.{Hoards, Refreshes, BeginsAloud, StepsAloud, run_steps, Runs, Drains, Repairs}
+use Rattle.iot_machine.specs.Events.{Hoards, Refreshes, BeginsAloud, StepsAloud, run_steps, runs_through, Runs, Drains, Repairs}
 use Rattle.iot_machine.specs.Events.{Discards, says_reads, ReadsOf, chosen, task_part}
 use Rattle.iot_machine.specs.Sound.{IsReady, CanResolve, IsPlanned}
-use Rattle.iot_machine.proofs.KeepsLaws.{Keeps, keeps_gets, keeps_asks, keeps_tells, stays_says, keeps_from, keeps_then, stays_then}
-use Rattle.iot_machine.proofs.KeepsLaws.{asks_then, keeps_either, keeps_goes, keeps_repeats, keeps_or_says}
-use Rattle.iot_machine.proofs.FollowsLaws.{Follows, hold_follows, begin_follows, fetch_follows, act_once_follows, end_follows}
-use Rattle.iot_machine.proofs.FollowsLaws.{leave_follows}
-use Rattle.iot_machine.proofs.PairLaws.{Core, core, IsUp, IsAwake, IsOpen, AwakeIf, HandsIn, IsJudged, up_of, stuck_free}
-use Rattle.iot_machine.proofs.PairLaws.{exchange_keeps, lends_keeps, same_passes, judged_passes, judges_good, brings_awake, notes_awake}
-use Rattle.iot_machine.proofs.PairLaws.{notes_first, notes_reach}
+use Rattle.iot_machine.proofs.KeepsLaws.{Keeps, keeps_gets, keeps_asks, keeps_does, keeps_tells, stays_says, keeps_from, keeps_then}
+use Rattle.iot_machine.proofs.KeepsLaws.{stays_then, asks_then, keeps_either, keeps_goes, keeps_repeats, keeps_or_says}
+use Rattle.iot_machine.proofs.FollowsLaws.{Follows, hold_follows, begin_follows, again_follows, fetch_follows, act_once_follows}
+use Rattle.iot_machine.proofs.FollowsLaws.{end_follows, leave_follows}
+use Rattle.iot_machine.proofs.PairLaws.{Core, core, IsUp, IsAwake, IsRoomy, IsOpen, HoldsIf, AwakeIf, HandsIn, IsJudged, up_of, stuck_free}
+use Rattle.iot_machine.proofs.PairLaws.{exchange_keeps, lends_keeps, same_passes, judged_passes, judges_good, brings_keeps, notes_awake}
+use Rattle.iot_machine.proofs.PairLaws.{notes_roomy, notes_first, notes_reach}
 
 module _ (Others : Commit → Type 0) (b : Core) where
   -- a client that is awake is so afterwards, unless its event is over
@@ -54,28 +57,49 @@ module _ (Others : Commit → Type 0) (b : Core) where
   if_idle_wakes : {A : Type 0} {call : Try Pair A} → Wakes call → Wakes (IfIdle call)
   if_idle_wakes call = asks_then (keeps_either (refuses_wakes (codes "busy")) call)
 
+  -- one more may run in the call
+  if_room_wakes : {A : Type 0} {call : Try Pair A} → WakesFrom (IsRoomy Others b) call → Wakes (IfRoom call)
+  if_room_wakes {call = call} keeps =
+      keeps_then {Q = λ full pair. IsAwake Others b pair × (full ≡ is_full pair)} (keeps_asks (λ m it. (it, refl))) by_full
+    where
+      room : (n most : ℕ) → false ≡ not (nat_lt n most) → n < most
+      room n most = grind (arith, nat_tests)
+
+      by_full : (full : Bool) → Keeps (λ pair. IsAwake Others b pair × (full ≡ is_full pair))
+          (either (Refuses (codes "busy")) call full) (λ a. AwakeIf Others b a)
+      by_full true = keeps_tells (λ m here. here.0.good)
+      by_full false =
+          keeps_from (λ m here. record { up = here.0; room = room (length (kept m).running) most_running here.1 }) keeps
+
   if_none_pends_wakes : {A : Type 0} {call : Try Pair A} → Wakes call → Wakes (IfNonePends call)
   if_none_pends_wakes call = asks_then (keeps_either (refuses_wakes (codes "pending")) call)
 
-  if_runs_wakes : {A : Type 0} {call : Running → Try Pair A} → ((it : Running) → Wakes (call it)) → Wakes (IfRuns call)
-  if_runs_wakes {call = call} each = asks_then by_running
+  if_runs_wakes : {A : Type 0} (which : Option ℕ) {call : Running → Try Pair A} → ((it : Running) → Wakes (call it))
+      → Wakes (IfRuns which call)
+  if_runs_wakes which {call = call} each = asks_then by_running
     where
       by_running : (running : Option Running) → Wakes (if_runs call running)
       by_running None = refuses_wakes (codes "idle")
       by_running (Some it) = each it
 
   notes_wakes : {change : ClientState → ClientState} → ((s : ClientState) → Follows s (change s)) → Wakes (Notes change)
-  notes_wakes follows = notes_awake Others b (λ p it. it) follows
+  notes_wakes {change} follows = notes_awake Others b (IsUp Others b) change (λ p it. it) (λ p it. follows p.client.durable)
 
   -- ---- objects
 
+  holds_keeps : (P : Core → Type 0) (change : Nodes → ClientState → ClientState)
+      → ((t : Nodes) → Keeps (λ pair. P (core pair)) (Notes (change t)) (λ a. HoldsIf Others b P a)) → (want : Want)
+      → Keeps (λ pair. P (core pair)) (Holds change want) (λ a. HoldsIf Others b P a)
+  holds_keeps P change notes want = keeps_then (brings_keeps Others b P want) by_answer
+    where
+      by_answer : (answer : Option Nodes)
+          → Keeps (λ pair. P (core pair)) (transactions.holds change answer) (λ a. HoldsIf Others b P a)
+      by_answer None = keeps_gets (λ m it. it)
+      by_answer (Some t) = keeps_goes (notes t) (λ _. keeps_gets (λ m it. it))
+
   holds_wakes : {change : Nodes → ClientState → ClientState} → ((t : Nodes) (s : ClientState) → Follows s (change t s)) → (want : Want)
       → Wakes (Holds change want)
-  holds_wakes {change} follows want = keeps_then (brings_awake Others b want) by_answer
-    where
-      by_answer : (answer : Option Nodes) → Wakes (transactions.holds change answer)
-      by_answer None = answers_wakes false
-      by_answer (Some t) = keeps_goes (notes_wakes (follows t)) (λ _. answers_wakes true)
+  holds_wakes {change} follows want = holds_keeps (IsUp Others b) change (λ t. notes_wakes (follows t)) want
 
   takes_wakes : (want : Want) → Wakes (Takes want)
   takes_wakes want = if_idle_wakes (if_none_pends_wakes (keeps_goes (holds_wakes hold_follows want) by_came))
@@ -87,28 +111,38 @@ module _ (Others : Commit → Type 0) (b : Core) where
   -- ---- begin
 
   begins_wakes : (script : Declared) (option : OnConflict Declared) → Wakes (Begins script option)
-  begins_wakes script option = if_idle_wakes (asks_then by_pending)
+  begins_wakes script option = if_room_wakes (asks_then by_pending)
     where
-      starts : (first : Bool) → Wakes (Starts script option first)
-      starts first = keeps_goes (notes_wakes (begin_follows script option)) (λ _. keeps_gets (λ m it. it))
+      starts : (first : Bool) → WakesFrom (IsRoomy Others b) (Starts script option first)
+      starts first = asks_then (λ number. keeps_goes
+          (notes_awake Others b (IsRoomy Others b) (begin script option) (λ p it. it.up)
+          (λ p it. begin_follows script option p.client.durable it.room))
+          (λ _. keeps_gets (λ m it. it)))
 
-      by_pending : (pends : Bool) → Wakes (starts_if script option pends)
+      by_pending : (pends : Bool) → WakesFrom (IsRoomy Others b) (starts_if script option pends)
       by_pending true = starts false
-      by_pending false = keeps_goes (holds_wakes hold_follows wanted.Nothing) starts
+      by_pending false = keeps_goes (holds_keeps (IsRoomy Others b) hold (notes_roomy Others b) wanted.Nothing) starts
 
   -- ---- steps
 
-  steps_wakes : (loud : Bool) → Wakes (Steps loud)
-  steps_wakes loud = asks_then by_running
+  yields_stays : (number : ℕ) → Keeps (IsAwake Others b) (Yields number) (λ _. IsAwake Others b)
+  yields_stays number = keeps_does (λ m it. by_pending (transactions.pends m) m it)
     where
-      by_next : (next : Next) → Wakes (step_by loud next)
+      by_pending : (pends : Bool) (m : Pair) → IsAwake Others b m → IsAwake Others b (yield_if number pends m)
+      by_pending true m it = it
+      by_pending false m it = it
+
+  steps_wakes : (number : ℕ) (loud : Bool) → Wakes (Steps number loud)
+  steps_wakes number loud = stays_then (yields_stays number) (λ _. asks_then by_running)
+    where
+      by_next : (next : Next) → Wakes (step_by number loud next)
       by_next AtEnd = answers_wakes false
       by_next AtLimit = answers_wakes false
-      by_next Acts = keeps_goes (notes_wakes act_once_follows) (λ _. answers_wakes true)
-      by_next (Fetches path) = keeps_goes (holds_wakes fetch_follows (wanted.Path path))
+      by_next Acts = keeps_goes (notes_wakes (act_once_follows number)) (λ _. answers_wakes true)
+      by_next (Fetches path) = keeps_goes (holds_wakes (fetch_follows number) (wanted.Path path))
           (λ came. keeps_either (tells_wakes _) (answers_wakes _) loud)
 
-      by_running : (running : Option Running) → Wakes (step_of loud running)
+      by_running : (running : Option Running) → Wakes (step_of number loud running)
       by_running None = answers_wakes false
       by_running (Some it) = asks_then by_next
 
@@ -119,7 +153,7 @@ module _ (Others : Commit → Type 0) (b : Core) where
   aloud_wakes P change text synced notes = keeps_goes notes (λ _. tells_wakes synced)
 
   aloud_leave : (P : Core → Type 0) (text : List ℕ) → ((p : Core) → P p → IsUp Others b p) → WakesFrom P (NotesAloud leave text Moved)
-  aloud_leave P text up = aloud_wakes P leave text Moved (notes_awake Others b up leave_follows)
+  aloud_leave P text up = aloud_wakes P leave text Moved (notes_awake Others b P leave up (λ p it. leave_follows p.client.durable))
 
   conflicted_wakes : (item : Item) (name said : List ℕ) (option : OnConflict Declared) → item.option ≡ option
       → WakesFrom (IsOpen Others b item) (conflicted name said option)
@@ -219,8 +253,15 @@ module _ (Others : Commit → Type 0) (b : Core) where
 
   -- ---- end
 
-  pub ends_wakes : Wakes Ends
-  ends_wakes = if_runs_wakes (λ it. asks_then (by_next it))
+  compares_stays : (it : Running) → Keeps (IsAwake Others b) (Compares it) (λ _. IsAwake Others b)
+  compares_stays it = record { at = λ m n text found here step. by_step m n text found here step }
+    where
+      by_step : (m n : Pair) (text : List ℕ) (found : Compared) → IsAwake Others b m → Compares it m text found n → IsAwake Others b n
+      by_step m n text found here (same is said answer stays) = subst (IsAwake Others b) (sym stays) here
+      by_step m n text found here (parts read question differ said answer stays) = subst (IsAwake Others b) (sym stays) here
+
+  pub ends_wakes : (which : Option ℕ) → Wakes (Ends which)
+  ends_wakes which = if_runs_wakes which (λ it. asks_then (by_next it))
     where
       by_synced : (gone : Ended) (synced : Synced) → Wakes (waits_unless gone synced)
       by_synced gone Unanswered = tells_wakes tt
@@ -232,11 +273,20 @@ module _ (Others : Commit → Type 0) (b : Core) where
       by_class gone false = tells_wakes tt
 
       joins_wakes : (gone : Ended) → Wakes (joins gone)
-      joins_wakes gone = keeps_goes (notes_wakes end_follows) (λ _. stays_then stays_says (λ _. by_class gone gone.first))
+      joins_wakes gone =
+          keeps_goes (notes_wakes (end_follows gone.number)) (λ _. stays_then stays_says (λ _. by_class gone gone.first))
+
+      by_found : (gone : Ended) (found : Compared) → Wakes (ends_by gone found)
+      by_found gone Same = joins_wakes gone
+      by_found gone (Differs read question) = keeps_goes (notes_wakes (again_follows gone.number)) (λ _. tells_wakes tt)
+
+      certifies_wakes : (it : Running) → Wakes (certifies it)
+      certifies_wakes it =
+          stays_then (yields_stays it.number) (λ _. asks_then (λ gone. stays_then (compares_stays it) (by_found gone)))
 
       by_next : (it : Running) (next : Next) → Wakes (end_by it next)
-      by_next it AtEnd = asks_then joins_wakes
-      by_next it AtLimit = asks_then joins_wakes
+      by_next it AtEnd = certifies_wakes it
+      by_next it AtLimit = certifies_wakes it
       by_next it Acts = refuses_wakes (codes "not at end")
       by_next it (Fetches path) = refuses_wakes (codes "not at end")
 
@@ -251,13 +301,16 @@ module _ (Others : Commit → Type 0) (b : Core) where
   pub begins_aloud_wakes : (script : Declared) (option : OnConflict Declared) → Wakes (BeginsAloud script option)
   begins_aloud_wakes script option = keeps_goes (begins_wakes script option) (λ _. tells_wakes tt)
 
-  pub steps_aloud_wakes : (most : ℕ) → Wakes (StepsAloud most)
-  steps_aloud_wakes most = if_runs_wakes (λ _. keeps_goes (keeps_repeats (steps_wakes true) most) (λ _. tells_wakes tt))
+  pub steps_aloud_wakes : (most : ℕ) (which : Option ℕ) → Wakes (StepsAloud most which)
+  steps_aloud_wakes most which =
+      if_runs_wakes which (λ it. keeps_goes (keeps_repeats (steps_wakes it.number true) most) (λ _. tells_wakes tt))
 
   pub runs_wakes : (script : Declared) (option : OnConflict Declared) → Wakes (Runs script option)
-  runs_wakes script option = if_idle_wakes (asks_then (λ up.
-      keeps_goes (keeps_either syncs_all_wakes (answers_wakes tt) up) (λ _.
-      keeps_goes (begins_wakes script option) (λ _. keeps_goes (keeps_repeats (steps_wakes false) run_steps) (λ _. ends_wakes)))))
+  runs_wakes script option = if_room_wakes (keeps_from (λ m here. here.up) (asks_then (λ up.
+      keeps_goes (keeps_either syncs_all_wakes (answers_wakes tt) up) (λ _. keeps_goes (begins_wakes script option) through))))
+    where
+      through : (number : ℕ) → Wakes (runs_through number)
+      through number = keeps_goes (keeps_repeats (steps_wakes number false) run_steps) (λ _. ends_wakes (Some number))
 
   pub drains_wakes : Wakes Drains
   drains_wakes = keeps_or_says
@@ -286,8 +339,9 @@ module _ (Others : Commit → Type 0) (b : Core) where
       keeps_goes (notes_first Others b (resolved_by script) (λ item. refl) item (λ _. tt)) (λ _. tells_wakes tt))
 
   pub discards_wakes : Wakes Discards
-  discards_wakes = if_manual_wakes (λ item.
-      keeps_goes (notes_awake Others b (up_of Others b item) leave_follows) (λ _. tells_wakes tt))
+  discards_wakes = if_manual_wakes (λ item. keeps_goes
+      (notes_awake Others b (IsOpen Others b item) leave (up_of Others b item) (λ p it. leave_follows p.client.durable))
+      (λ _. tells_wakes tt))
 
   -- ---- looking in
 
@@ -305,8 +359,8 @@ module _ (Others : Commit → Type 0) (b : Core) where
   task_wakes scripts (tasks.Hoard path) = hoards_wakes path
   task_wakes scripts tasks.Refresh = refreshes_wakes
   task_wakes scripts (tasks.Begin script option) = begins_aloud_wakes (script_at scripts script) (chosen scripts option)
-  task_wakes scripts (tasks.Step count) = steps_aloud_wakes count
-  task_wakes scripts tasks.End = ends_wakes
+  task_wakes scripts (tasks.Step count transaction) = steps_aloud_wakes count transaction
+  task_wakes scripts (tasks.End transaction) = ends_wakes transaction
   task_wakes scripts tasks.Sync = keeps_goes syncs_wakes (λ _. answers_wakes tt)
   task_wakes scripts tasks.Drain = drains_wakes
   task_wakes scripts (tasks.Repair script) = repairs_wakes (script_at scripts script)

@@ -38,6 +38,12 @@ module _ {S : Type 0} where
   appends_once name change base node n text on it (inr step) =
       inr (stops_now base (doubting change node) n (record { counts = it.counts; stops = it.stops }) refl step.2)
 
+  -- one that goes on
+  pub appends_steady : (name : List ℕ) (change : S → S) (base node n : Node S) (text : List ℕ) → IsSteady base node
+      → Appends name change node text true n → IsSteady base n
+  appends_steady name change base node n text it (inl step) = rw step.2 (record { counts = it.counts; stops = it.stops })
+  appends_steady name change base node n text it (inr step) = absurd cc
+
   pub opens_once : (name : List ℕ) (node n : Node S) (text : List ℕ) (on : Bool) → node.alive ≡ false → OpensNode name node text on n
       → StopsOnce node n
   opens_once name node n text on down (inl step) = rw step.2 (inl (record { counts = refl; stops = refl }))

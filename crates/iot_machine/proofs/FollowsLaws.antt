@@ -1,15 +1,17 @@
 -- What is so of clients' states, and stays so when they change: the numbers of transactions, their plans, and what is in the list.
-use Rattle.std.proofs.Common.{◌≡◌, ℕ, zero, suc, ◌+◌, ◌<◌, ◌≤◌, List, [], ◌∷◌, ◌++◌, length, Option, Some, None}
-use Rattle.std.proofs.Common.{slice_index_or, slice_set, option_map, refl, sym, ap, subst, ◌∙◌, arith, le_refl}
+use Rattle.std.proofs.Common.{◌≡◌, ◌≢◌, ℕ, zero, suc, ◌+◌, ◌<◌, ◌≤◌, ◌==◌, Bool, true, false, cond, List, [], ◌∷◌, ◌++◌, map, length}
+use Rattle.std.proofs.Common.{Option, Some, None, slice_index_or, slice_set, find, refl, sym, ap, subst, ◌∙◌, arith}
+use Rattle.std.proofs.lemmas.Bool.Decides.{nat_tests}
+use Rattle.std.proofs.lemmas.List.{length-append}
 use Rattle.std.specs.List.{AllByRecursion}
 use Rattle.iot_tree.specs.Tree.{Nodes}
 use Rattle.iot_tree.specs.declared.limits.TheConstants.{ACT_LIMIT}
-use Rattle.iot_machine.specs.Clients.{Declared, Item, Running, ClientState}
-use Rattle.iot_machine.specs.Clients.{hold, begin, anew, fetch, one_more, act_once, waiting, joined, end, leave_by, leave, cut_by, cut}
-use Rattle.iot_machine.specs.Clients.{with_first, change_first}
+use Rattle.iot_machine.specs.Clients.{Declared, Item, Running, ClientState, most_running}
+use Rattle.iot_machine.specs.Clients.{view, has_number, numbered, hold, begun, begin, with_running, anew, again, fetch, one_more, act_once}
+use Rattle.iot_machine.specs.Clients.{waiting, joined, others, end, leave_by, leave, cut_by, cut, with_first, change_first}
 use Rattle.iot_machine.specs.Machine.{Commit}
 use Rattle.iot_machine.specs.Options.{OnConflict}
-use Rattle.iot_machine.specs.Sound.{Rise, last_of, IsNewest, AreNumbered, IsAnother, WaitsFirst, RunsAnother, HasPlan, ArePlanned, Knows}
+use Rattle.iot_machine.specs.Sound.{AreApart, numbers_of, Rise, AreNumbered, IsAnother, WaitsFirst, RunOthers, HasPlan, ArePlanned, Knows}
 
 -- ---- lists
 
@@ -59,35 +61,208 @@ pub all_of : {A : Type 0} (P : A → Type 0) (xs : List A) → ((x : A) → P x)
 all_of P [] each = tt
 all_of P (x ∷ xs) each = (each x, all_of P xs each)
 
--- ---- numbers that rise
+-- of the numbers of both lists
+pub all_numbers : (P : ℕ → Type 0) (items : List Item) (running : List Running) → AllByRecursion P (numbers_of items running)
+    → AllByRecursion (λ (item : Item). P item.number) items × AllByRecursion (λ (it : Running). P it.number) running
+all_numbers P [] [] all = (tt, tt)
+all_numbers P [] (it ∷ running) all = let rest = all_numbers P [] running all.1 in (tt, (all.0, rest.1))
+all_numbers P (item ∷ items) running all = let rest = all_numbers P items running all.1 in ((all.0, rest.0), rest.1)
 
-rise_lower : (low other : ℕ) (items : List Item) → other ≤ low → Rise low items → Rise other items
+-- ---- the running transactions
+
+-- one changes, but not its number
+module _ (number : ℕ) (change : Running → Running) (same : (it : Running) → (change it).number ≡ it.number) where
+  changed_numbers : (running : List Running) → map (λ it. it.number) (with_running number change running) ≡ map (λ it. it.number) running
+  changed_numbers [] = refl
+  changed_numbers (it ∷ running) = by_test (changed_numbers running) (has_number number it)
+    where
+      by_test : map (λ it. it.number) (with_running number change running) ≡ map (λ it. it.number) running → (b : Bool)
+          → map (λ it. it.number) (cond b (change it ∷ running) (it ∷ with_running number change running))
+          ≡ it.number ∷ map (λ it. it.number) running
+      by_test rest true = ap (λ n. n ∷ map (λ it. it.number) running) (same it)
+      by_test rest false = ap (λ numbers. it.number ∷ numbers) rest
+
+  changed_all : (P : ℕ → Type 0) (running : List Running) → AllByRecursion (λ (it : Running). P it.number) running
+      → AllByRecursion (λ (it : Running). P it.number) (with_running number change running)
+  changed_all P [] all = tt
+  changed_all P (it ∷ running) all = by_test (changed_all P running all.1) (has_number number it)
+    where
+      by_test : AllByRecursion (λ (it : Running). P it.number) (with_running number change running) → (b : Bool)
+          → AllByRecursion (λ (it : Running). P it.number) (cond b (change it ∷ running) (it ∷ with_running number change running))
+      by_test rest true = (subst P (sym (same it)) all.0, all.1)
+      by_test rest false = (all.0, rest)
+
+  changed_rise : (low : ℕ) (running : List Running) → Rise low running → Rise low (with_running number change running)
+  changed_rise low [] rise = tt
+  changed_rise low (it ∷ running) rise = by_test (changed_rise it.number running rise.1) (has_number number it)
+    where
+      by_test : Rise it.number (with_running number change running) → (b : Bool)
+          → Rise low (cond b (change it ∷ running) (it ∷ with_running number change running))
+      by_test rest true = (subst (λ n. low < n) (sym (same it)) rise.0, subst (λ n. Rise n running) (sym (same it)) rise.1)
+      by_test rest false = (rise.0, rest)
+
+  changed_length : (running : List Running) → length (with_running number change running) ≡ length running
+  changed_length [] = refl
+  changed_length (it ∷ running) = by_test (changed_length running) (has_number number it)
+    where
+      by_test : length (with_running number change running) ≡ length running → (b : Bool)
+          → length (cond b (change it ∷ running) (it ∷ with_running number change running)) ≡ length (it ∷ running)
+      by_test rest true = refl
+      by_test rest false = ap suc rest
+
+rise_lower : (low other : ℕ) (running : List Running) → other ≤ low → Rise low running → Rise other running
 rise_lower low other [] less rise = tt
-rise_lower low other (item ∷ items) less rise = (omega (arith, less, rise.0), rise.1)
+rise_lower low other (it ∷ running) less rise = (omega (arith, less, rise.0), rise.1)
 
-rise_push : (low : ℕ) (items : List Item) (item : Item) → last_of low items < item.number → Rise low items
-    → Rise low (items ++ item ∷ [])
-rise_push low [] item above rise = (above, tt)
-rise_push low (first ∷ items) item above rise = (rise.0, rise_push first.number items item above rise.1)
+-- one with a greater number begins
+rise_push : (low last : ℕ) (running : List Running) (one : Running) → low ≤ last → last < one.number
+    → AllByRecursion (λ (it : Running). it.number ≤ last) running → Rise low running → Rise low (running ++ one ∷ [])
+rise_push low last [] one less above all rise = (omega (arith, less, above), tt)
+rise_push low last (it ∷ running) one less above all rise = (rise.0, rise_push it.number last running one all.0 above all.1 rise.1)
 
-last_push : (low : ℕ) (items : List Item) (item : Item) → last_of low (items ++ item ∷ []) ≡ item.number
-last_push low [] item = refl
-last_push low (first ∷ items) item = last_push first.number items item
+-- one goes
+module _ (number : ℕ) where
+  others_rise : (low : ℕ) (running : List Running) → Rise low running → Rise low (others number running)
+  others_rise low [] rise = tt
+  others_rise low (it ∷ running) rise = by_test (others_rise it.number running rise.1) (has_number number it)
+    where
+      by_test : Rise it.number (others number running) → (b : Bool) → Rise low (cond b running (it ∷ others number running))
+      by_test rest true = rise_lower it.number low running (omega (arith, rise.0)) rise.1
+      by_test rest false = (rise.0, rest)
 
-pub last_above : (low : ℕ) (items : List Item) → Rise low items → low ≤ last_of low items
-last_above low [] rise = le_refl low
-last_above low (item ∷ items) rise =
-    let above : item.number ≤ last_of item.number items = last_above item.number items rise.1 in
-    omega (arith, rise.0, above)
+  others_all : (P : Running → Type 0) (running : List Running) → AllByRecursion P running → AllByRecursion P (others number running)
+  others_all P [] all = tt
+  others_all P (it ∷ running) all = by_test (others_all P running all.1) (has_number number it)
+    where
+      by_test : AllByRecursion P (others number running) → (b : Bool) → AllByRecursion P (cond b running (it ∷ others number running))
+      by_test rest true = all.1
+      by_test rest false = (all.0, rest)
 
-last_lower : (low : ℕ) (items : List Item) → last_of 0 items ≤ last_of low items
-last_lower low [] = omega arith
-last_lower low (item ∷ items) = le_refl (last_of item.number items)
+  others_length : (running : List Running) → length (others number running) ≤ length running
+  others_length [] = omega arith
+  others_length (it ∷ running) = by_test (others_length running) (has_number number it)
+    where
+      by_test : length (others number running) ≤ length running → (b : Bool)
+          → length (cond b running (it ∷ others number running)) ≤ length (it ∷ running)
+      by_test rest true = omega arith
+      by_test rest false = omega (arith, rest)
 
-newest_from : (old new : ClientState) (running : Option Running) → new.last ≡ old.last → last_of 0 new.items ≤ last_of 0 old.items
-    → IsNewest old running → IsNewest new running
-newest_from old new None same less newest = omega (arith, same, less, newest)
-newest_from old new (Some it) same less newest = (newest.0 ∙ sym same, omega (arith, same, less, newest.1))
+-- ---- numbers of which none is there twice
+
+abbrev IsOtherThan : ℕ → ℕ → Type 0
+IsOtherThan number other = other ≢ number
+
+-- the numbers of both lists, from those of each
+module _ (P : ℕ → Type 0) where
+  both_numbers : (items : List Item) (running : List Running) → AllByRecursion (λ (item : Item). P item.number) items
+      → AllByRecursion (λ (it : Running). P it.number) running → AllByRecursion P (numbers_of items running)
+  both_numbers [] [] all others = tt
+  both_numbers [] (it ∷ running) all others = (others.0, both_numbers [] running tt others.1)
+  both_numbers (item ∷ items) running all others = (all.0, both_numbers items running all.1 others)
+
+-- one more number, above all others
+apart_push : (last : ℕ) (numbers : List ℕ) → AllByRecursion (λ number. number ≤ last) numbers → AreApart numbers
+    → AreApart (numbers ++ (last + 1) ∷ [])
+apart_push last [] all apart = (tt, tt)
+apart_push last (number ∷ numbers) all apart = (
+  all_push (IsOtherThan number) numbers (last + 1) (λ same. absurd (omega (arith, same, all.0))) apart.0,
+  apart_push last numbers all.1 apart.1,
+)
+
+-- the one that begins
+begun_numbers : (items : List Item) (running : List Running) (one : Running)
+    → numbers_of items (running ++ one ∷ []) ≡ numbers_of items running ++ one.number ∷ []
+begun_numbers [] [] one = refl
+begun_numbers [] (it ∷ running) one = ap (λ numbers. it.number ∷ numbers) (begun_numbers [] running one)
+begun_numbers (item ∷ items) running one = ap (λ numbers. item.number ∷ numbers) (begun_numbers items running one)
+
+-- the first of those that run waits
+cut_numbers : (items : List Item) (budget : ℕ) (it : Running) (running : List Running)
+    → numbers_of (items ++ waiting budget it ∷ []) running ≡ numbers_of items (it ∷ running)
+cut_numbers [] budget it running = refl
+cut_numbers (item ∷ items) budget it running = ap (λ numbers. item.number ∷ numbers) (cut_numbers items budget it running)
+
+-- one of those that run comes first, and the rest have other numbers
+test_said : (number other : ℕ) → (other == number) ≡ true → other ≡ number
+test_said number other = grind (arith, nat_tests)
+
+module _ (number : ℕ) where
+  -- what is so of all of them is so of the one that is found
+  found_all : (P : ℕ → Type 0) (running : List Running) (one : Running) → find (has_number number) running ≡ Some one
+      → AllByRecursion (λ (it : Running). P it.number) running → P number
+  found_all P [] one is all = absurd cc
+  found_all P (it ∷ running) one is all =
+      by_test (λ later. found_all P running one later all.1) (has_number number it) refl is
+    where
+      by_test : (find (has_number number) running ≡ Some one → P number) → (b : Bool) → has_number number it ≡ b
+          → cond b (Some it) (find (has_number number) running) ≡ Some one → P number
+      by_test rest true this is = subst P (test_said number it.number this) all.0
+      by_test rest false this is = rest is
+
+  found_number : (running : List Running) (one : Running) → find (has_number number) running ≡ Some one → one.number ≡ number
+  found_number [] one is = absurd cc
+  found_number (it ∷ running) one is = by_test (found_number running one) (has_number number it) refl is
+    where
+      by_test : (find (has_number number) running ≡ Some one → one.number ≡ number) → (b : Bool) → has_number number it ≡ b
+          → cond b (Some it) (find (has_number number) running) ≡ Some one → one.number ≡ number
+      by_test rest true this is =
+          let same : it ≡ one = cc in
+          subst (λ (it : Running). it.number ≡ number) same (test_said number it.number this)
+      by_test rest false this is = rest is
+
+  test_differs : (other : ℕ) → (other == number) ≡ false → other ≢ number
+  test_differs other = grind (arith, nat_tests)
+
+  others_differ : (running : List Running) → AreApart (numbers_of [] running)
+      → AllByRecursion (λ (it : Running). it.number ≢ number) (others number running)
+  others_differ [] apart = tt
+  others_differ (it ∷ running) apart = by_test (others_differ running apart.1) (has_number number it) refl
+    where
+      by_test : AllByRecursion (λ (it : Running). it.number ≢ number) (others number running) → (b : Bool) → has_number number it ≡ b
+          → AllByRecursion (λ (it : Running). it.number ≢ number) (cond b running (it ∷ others number running))
+      by_test rest true this = subst (λ n. AllByRecursion (λ (it : Running). it.number ≢ n) running) (test_said number it.number this)
+          (all_numbers (IsOtherThan it.number) [] running apart.0).1
+      by_test rest false this = (test_differs it.number this, rest)
+
+  -- of those that wait and the others that run
+  apart_others : (items : List Item) (running : List Running) → AreApart (numbers_of items running)
+      → AreApart (numbers_of items (others number running))
+  apart_others [] [] apart = tt
+  apart_others [] (it ∷ running) apart = by_test (apart_others [] running apart.1) (has_number number it)
+    where
+      left : AllByRecursion (λ (other : Running). other.number ≢ it.number) (others number running)
+      left = others_all number (λ other. other.number ≢ it.number) running
+          (all_numbers (IsOtherThan it.number) [] running apart.0).1
+
+      by_test : AreApart (numbers_of [] (others number running)) → (b : Bool)
+          → AreApart (numbers_of [] (cond b running (it ∷ others number running)))
+      by_test rest true = apart.1
+      by_test rest false = (both_numbers (IsOtherThan it.number) [] (others number running) tt left, rest)
+  apart_others (item ∷ items) running apart =
+      let all = all_numbers (IsOtherThan item.number) items running apart.0 in (
+        both_numbers (IsOtherThan item.number) items (others number running) all.0
+            (others_all number (λ other. other.number ≢ item.number) running all.1),
+        apart_others items running apart.1,
+      )
+
+  -- and of the one that waits now
+  apart_joined : (items : List Item) (running : List Running) (one : Running) → one.number ≡ number
+      → find (has_number number) running ≡ Some one → AreApart (numbers_of items running)
+      → AreApart (numbers_of items (one ∷ others number running))
+  apart_joined [] running one same is apart = (
+    subst (λ n. AllByRecursion (IsOtherThan n) (numbers_of [] (others number running))) (sym same)
+        (both_numbers (IsOtherThan number) [] (others number running) tt (others_differ running apart)),
+    apart_others [] running apart,
+  )
+  apart_joined (item ∷ items) running one same is apart =
+      let all = all_numbers (IsOtherThan item.number) items running apart.0 in
+      let this : number ≢ item.number = found_all (IsOtherThan item.number) running one is all.1 in (
+        both_numbers (IsOtherThan item.number) items (one ∷ others number running) all.0 (
+          subst (λ n. n ≢ item.number) (sym same) this,
+          others_all number (λ other. other.number ≢ item.number) running all.1,
+        ),
+        apart_joined items running one same is apart.1,
+      )
 
 -- ---- what a client keeps, and a transaction of its own that is in the list
 
@@ -102,96 +277,154 @@ follows_same s = record { numbered = λ it. it; planned = λ it. it; known = λ 
 
 pub hold_follows : (t : Nodes) (s : ClientState) → Follows s (hold t s)
 hold_follows t s = record {
-  numbered = λ it. record { rise = it.rise; newest = newest_from s (hold t s) s.running refl (le_refl (last_of 0 s.items)) it.newest };
+  numbered = λ it. record { apart = it.apart; given = it.given; rise = it.rise; few = it.few };
   planned = λ it. it;
-  known = λ commit it. record { given = it.given; waits = it.waits; runs = it.runs };
+  known = λ commit it. record { given = it.given; waits = it.waits; run = it.run };
 }
 
-pub begin_follows : (script : Declared) (option : OnConflict Declared) (s : ClientState) → Follows s (begin script option s)
-begin_follows script option s = record {
-  numbered = λ it. record { rise = it.rise; newest = (refl, by_running s.running it.newest) };
+pub begin_follows : (script : Declared) (option : OnConflict Declared) (s : ClientState) → length s.running < most_running
+    → Follows s (begin script option s)
+begin_follows script option s room = record {
+  numbered = λ it. record {
+    apart = subst AreApart (sym numbers) (apart_push s.last (numbers_of s.items s.running) it.given it.apart);
+    given = subst (AllByRecursion (λ number. number ≤ s.last + 1)) (sym numbers)
+        (all_push (λ number. number ≤ s.last + 1) (numbers_of s.items s.running) (s.last + 1) (omega arith)
+        (all_as (λ number. number ≤ s.last) (λ number. number ≤ s.last + 1) (numbers_of s.items s.running)
+        (λ number less. omega (arith, less)) it.given));
+    rise = rise_push 0 s.last s.running new (omega arith) (omega arith)
+        (all_numbers (λ number. number ≤ s.last) s.items s.running it.given).1 it.rise;
+    few = omega (arith, length-append s.running (new ∷ []), room);
+  };
   planned = λ it. it;
-  known = λ commit it. record { given = omega (arith, it.given); waits = it.waits; runs = omega (arith, it.given) };
-}
-  where
-    by_running : (running : Option Running) → IsNewest s running → last_of 0 s.items < s.last + 1
-    by_running None newest = omega (arith, newest)
-    by_running (Some it) newest = omega (arith, newest.1)
-
--- the transaction that runs changes, but not its number
-running_follows : (change : Running → Running) → ((it : Running) → (change it).number ≡ it.number) → (t : Nodes) (s : ClientState)
-    → Follows s (record s { held = t; running = option_map change s.running })
-running_follows change same t s = record {
-  numbered = λ it. record { rise = it.rise; newest = newest s.running it.newest };
-  planned = λ it. it;
-  known = λ commit it. record { given = it.given; waits = it.waits; runs = runs commit s.running it.runs };
-}
-  where
-    newest : (running : Option Running) → IsNewest s running
-        → IsNewest (record s { held = t; running = option_map change s.running }) (option_map change running)
-    newest None it = it
-    newest (Some one) it = (same one ∙ it.0, it.1)
-
-    runs : (commit : Commit) (running : Option Running) → RunsAnother commit running → RunsAnother commit (option_map change running)
-    runs commit None it = it
-    runs commit (Some one) it = rw (same one) it
-
-pub fetch_follows : (t : Nodes) (s : ClientState) → Follows s (fetch t s)
-fetch_follows t s = running_follows anew (λ it. refl) t s
-
-pub act_once_follows : (s : ClientState) → Follows s (act_once s)
-act_once_follows s = running_follows one_more (λ it. refl) s.held s
-
-waits_push : (commit : Commit) (items : List Item) (item : Item) → commit.entry.number < item.number → WaitsFirst commit items
-    → WaitsFirst commit (items ++ item ∷ [])
-waits_push commit [] item above waits = ((λ same. absurd (omega (arith, same, above))), tt)
-waits_push commit (first ∷ items) item above waits = (
-  waits.0,
-  all_push (IsAnother commit) items item (λ same. absurd (omega (arith, same, above))) waits.1,
-)
-
--- none runs, so none joins those that wait
-none_joins : (s : ClientState) → s.running ≡ None → Follows s (record s { running = None })
-none_joins s is = record {
-  numbered = λ it. record { rise = it.rise; newest = subst (IsNewest s) is it.newest };
-  planned = λ it. it;
-  known = λ commit it. record { given = it.given; waits = it.waits; runs = tt };
-}
-
--- the one that runs joins them, with so many acts
-one_joins : (s : ClientState) (one : Running) (budget : ℕ) → s.running ≡ Some one
-    → Follows s (record s { items = s.items ++ waiting budget one ∷ []; running = None })
-one_joins s one budget is = record {
-  numbered = λ it.
-      let newest : IsNewest s (Some one) = subst (IsNewest s) is it.newest in
-      record {
-        rise = rise_push 0 s.items (waiting budget one) (omega (arith, newest.0, newest.1)) it.rise;
-        newest = le_of (last_push 0 s.items (waiting budget one)) newest.0;
-      };
-  planned = λ it. all_push HasPlan s.items (waiting budget one) tt it;
   known = λ commit it. record {
-    given = it.given;
-    waits = waits_push commit s.items (waiting budget one) (subst (RunsAnother commit) is it.runs) it.waits;
-    runs = tt;
+    given = omega (arith, it.given);
+    waits = it.waits;
+    run = all_push (λ (one : Running). one.number ≢ commit.entry.number) s.running new
+        (λ same. absurd (omega (arith, same, it.given))) it.run;
   };
 }
   where
-    le_of : {a b c : ℕ} → a ≡ b → b ≡ c → a ≤ c
-    le_of one other = omega (arith, one, other)
+    new : Running
+    new = begun script option s
 
-pub end_follows : (s : ClientState) → Follows s (end s)
-end_follows s = by_running s.running refl
-  where
-    by_running : (running : Option Running) → s.running ≡ running → Follows s (record s { items = joined s.items running; running = None })
-    by_running None is = none_joins s is
-    by_running (Some one) is = one_joins s one ACT_LIMIT is
+    numbers : numbers_of s.items (s.running ++ new ∷ []) ≡ numbers_of s.items s.running ++ (s.last + 1) ∷ []
+    numbers = begun_numbers s.items s.running new
 
-pub cut_follows : (s : ClientState) → Follows s (cut s)
-cut_follows s = by_running s.running refl
+-- a running transaction changes, but not its number
+running_follows : (number : ℕ) (change : Running → Running) → ((it : Running) → (change it).number ≡ it.number) → (t : Nodes)
+    (s : ClientState) → Follows s (record s { held = t; running = with_running number change s.running })
+running_follows number change same t s = record {
+  numbered = λ it. record {
+    apart = subst AreApart (sym numbers) it.apart;
+    given = subst (AllByRecursion (λ number. number ≤ s.last)) (sym numbers) it.given;
+    rise = changed_rise number change same 0 s.running it.rise;
+    few = subst (λ n. n ≤ most_running) (sym (changed_length number change same s.running)) it.few;
+  };
+  planned = λ it. it;
+  known = λ commit it. record {
+    given = it.given;
+    waits = it.waits;
+    run = changed_all number change same (λ one. one ≢ commit.entry.number) s.running it.run;
+  };
+}
   where
-    by_running : (running : Option Running) → s.running ≡ running → Follows s (record s { items = cut_by s.items running; running = None })
-    by_running None is = none_joins s is
-    by_running (Some one) is = one_joins s one one.acts is
+    numbers : numbers_of s.items (with_running number change s.running) ≡ numbers_of s.items s.running
+    numbers = ap (λ (running : List ℕ). map (λ (item : Item). item.number) s.items ++ running)
+        (changed_numbers number change same s.running)
+
+pub again_follows : (number : ℕ) (s : ClientState) → Follows s (again number s)
+again_follows number s = running_follows number (anew (view s)) (λ it. refl) s.held s
+
+pub fetch_follows : (number : ℕ) (t : Nodes) (s : ClientState) → Follows s (fetch number t s)
+fetch_follows number t s = running_follows number (anew (view (hold t s))) (λ it. refl) t s
+
+pub act_once_follows : (number : ℕ) (s : ClientState) → Follows s (act_once number s)
+act_once_follows number s = running_follows number one_more (λ it. refl) s.held s
+
+waits_push : (commit : Commit) (items : List Item) (item : Item) → item.number ≢ commit.entry.number → WaitsFirst commit items
+    → WaitsFirst commit (items ++ item ∷ [])
+waits_push commit [] item another waits = ((λ same. absurd (another same)), tt)
+waits_push commit (first ∷ items) item another waits = (waits.0, all_push (IsAnother commit) items item another waits.1)
+
+-- one of those that run joins those that wait
+pub end_follows : (number : ℕ) (s : ClientState) → Follows s (end number s)
+end_follows number s = by_running (numbered number s) refl
+  where
+    fewer : length s.running ≤ most_running → length (others number s.running) ≤ most_running
+    fewer few = omega (arith, others_length number s.running, few)
+
+    by_running : (found : Option Running) → numbered number s ≡ found
+        → Follows s (record s { items = joined s.items found; running = others number s.running })
+    by_running None is = record {
+      numbered = λ it.
+          let all = all_numbers (λ number. number ≤ s.last) s.items s.running it.given in
+          record {
+            apart = apart_others number s.items s.running it.apart;
+            given = both_numbers (λ number. number ≤ s.last) s.items (others number s.running) all.0
+                (others_all number (λ one. one.number ≤ s.last) s.running all.1);
+            rise = others_rise number 0 s.running it.rise;
+            few = fewer it.few;
+          };
+      planned = λ it. it;
+      known = λ commit it. record {
+        given = it.given;
+        waits = it.waits;
+        run = others_all number (λ one. one.number ≢ commit.entry.number) s.running it.run;
+      };
+    }
+    by_running (Some one) is = record {
+      numbered = λ it.
+          let all = all_numbers (λ number. number ≤ s.last) s.items s.running it.given in
+          let this : number ≤ s.last = found_all number (λ number. number ≤ s.last) s.running one is all.1 in
+          record {
+            apart = subst AreApart (sym numbers) (apart_joined number s.items s.running one same is it.apart);
+            given = subst (AllByRecursion (λ number. number ≤ s.last)) (sym numbers)
+                (both_numbers (λ number. number ≤ s.last) s.items (one ∷ others number s.running) all.0
+                (subst (λ n. n ≤ s.last) (sym same) this, others_all number (λ one. one.number ≤ s.last) s.running all.1));
+            rise = others_rise number 0 s.running it.rise;
+            few = fewer it.few;
+          };
+      planned = λ it. all_push HasPlan s.items (waiting ACT_LIMIT one) tt it;
+      known = λ commit it.
+          let another : number ≢ commit.entry.number = found_all number (λ n. n ≢ commit.entry.number) s.running one is it.run in
+          record {
+            given = it.given;
+            waits = waits_push commit s.items (waiting ACT_LIMIT one) (λ is. another (sym same ∙ is)) it.waits;
+            run = others_all number (λ one. one.number ≢ commit.entry.number) s.running it.run;
+          };
+    }
+      where
+        same : one.number ≡ number
+        same = found_number number s.running one is
+
+        numbers : numbers_of (s.items ++ waiting ACT_LIMIT one ∷ []) (others number s.running)
+            ≡ numbers_of s.items (one ∷ others number s.running)
+        numbers = cut_numbers s.items ACT_LIMIT one (others number s.running)
+
+-- the first of them does
+pub cut_follows : (acts : ℕ) (s : ClientState) → Follows s (cut acts s)
+cut_follows acts s = by_running s.running refl
+  where
+    by_running : (running : List Running) → s.running ≡ running → Follows s (cut_by acts running s)
+    by_running [] is = follows_same s
+    by_running (one ∷ running) is = record {
+      numbered = λ it.
+          let rise : Rise 0 (one ∷ running) = subst (Rise 0) is it.rise in
+          let few : length (one ∷ running) ≤ most_running = subst (λ running. length running ≤ most_running) is it.few in
+          record {
+            apart = subst AreApart numbers it.apart;
+            given = subst (AllByRecursion (λ number. number ≤ s.last)) numbers it.given;
+            rise = rise_lower one.number 0 running (omega arith) rise.1;
+            few = omega (arith, few);
+          };
+      planned = λ it. all_push HasPlan s.items (waiting acts one) tt it;
+      known = λ commit it.
+          let run : RunOthers commit (one ∷ running) = subst (RunOthers commit) is it.run in
+          record { given = it.given; waits = waits_push commit s.items (waiting acts one) run.0 it.waits; run = run.1 };
+    }
+      where
+        numbers : numbers_of s.items s.running ≡ numbers_of (s.items ++ waiting acts one ∷ []) running
+        numbers = ap (numbers_of s.items) is ∙ sym (cut_numbers s.items acts one running)
 
 pub leave_follows : (s : ClientState) → Follows s (leave s)
 leave_follows s = by_items s.items refl
@@ -204,17 +437,15 @@ leave_follows s = by_items s.items refl
     by_items [] is = follows_same s
     by_items (item ∷ items) is = record {
       numbered = λ it.
-          let rise : Rise 0 (item ∷ items) = subst (Rise 0) is it.rise in
-          record {
-            rise = rise_lower item.number 0 items (omega arith) rise.1;
-            newest = newest_from s (leave_by (item ∷ items) s) s.running refl
-                (rw is (last_lower item.number items)) it.newest;
-          };
+          let apart : AreApart (numbers_of (item ∷ items) s.running) = subst (λ items. AreApart (numbers_of items s.running)) is it.apart in
+          let given : AllByRecursion (λ number. number ≤ s.last) (numbers_of (item ∷ items) s.running) =
+          subst (λ items. AllByRecursion (λ number. number ≤ s.last) (numbers_of items s.running)) is it.given in
+          record { apart = apart.1; given = given.1; rise = it.rise; few = it.few };
       planned = λ it. (subst (AllByRecursion HasPlan) is it).1;
       known = λ commit it. record {
         given = it.given;
         waits = first_waits commit items (subst (WaitsFirst commit) is it.waits).1;
-        runs = it.runs;
+        run = it.run;
       };
     }
 
@@ -227,17 +458,15 @@ FirstIsAnother commit (item ∷ items) = IsAnother commit item
 module _ (change : Item → Item) (same : (item : Item) → (change item).number ≡ item.number) where
   pub first_numbered : (s : ClientState) → AreNumbered s → AreNumbered (change_first change s)
   first_numbered s it = record {
-    rise = rise s.items it.rise;
-    newest = newest_from s (change_first change s) s.running refl (last s.items) it.newest;
+    apart = subst AreApart (sym (numbers s.items)) it.apart;
+    given = subst (AllByRecursion (λ number. number ≤ s.last)) (sym (numbers s.items)) it.given;
+    rise = it.rise;
+    few = it.few;
   }
     where
-      rise : (items : List Item) → Rise 0 items → Rise 0 (with_first change items)
-      rise [] it = it
-      rise (item ∷ items) it = rw (same item) it
-
-      last : (items : List Item) → last_of 0 (with_first change items) ≤ last_of 0 items
-      last [] = le_refl 0
-      last (item ∷ items) = rw (same item) (le_refl (last_of item.number items))
+      numbers : (items : List Item) → numbers_of (with_first change items) s.running ≡ numbers_of items s.running
+      numbers [] = refl
+      numbers (item ∷ items) = ap (λ n. n ∷ numbers_of items s.running) (same item)
 
   -- it still has a plan
   pub first_planned : (item : Item) (items : List Item) (s : ClientState) → s.items ≡ item ∷ items → (HasPlan item → HasPlan (change item))
@@ -249,7 +478,7 @@ module _ (change : Item → Item) (same : (item : Item) → (change item).number
   -- what was committed is another one
   pub first_known_still : (commit : Commit) (s : ClientState) → FirstIsAnother commit s.items → Knows commit s
       → Knows commit (change_first change s)
-  first_known_still commit s another it = record { given = it.given; waits = waits s.items another it.waits; runs = it.runs }
+  first_known_still commit s another it = record { given = it.given; waits = waits s.items another it.waits; run = it.run }
     where
       waits : (items : List Item) → FirstIsAnother commit items → WaitsFirst commit items → WaitsFirst commit (with_first change items)
       waits [] another it = it

@@ -1,15 +1,15 @@
 -- What keeps a machine sound: another server, another client in a place, and one more client.
 use Rattle.std.proofs.Common.{◌≡◌, ℕ, ◌<◌, List, [], ◌∷◌, ◌++◌, length}
-use Rattle.std.proofs.Common.{slice_index_or, refl, sym, subst, arith, le_refl}
+use Rattle.std.proofs.Common.{slice_index_or, refl, sym, subst, arith}
 use Rattle.std.proofs.lemmas.List.{length-set, length-append}
 use Rattle.std.specs.List.{AllByRecursion}
+use Rattle.iot_machine.specs.Clients.{new_client}
 use Rattle.iot_machine.specs.Machine.{Machine, Client, Commit, no_client, client_in, put_client}
 use Rattle.iot_machine.specs.Events.{client_of, add_client}
-use Rattle.iot_machine.specs.Sound.{Possibly, IsSureOf, IsNumbered}
+use Rattle.iot_machine.specs.Sound.{Possibly, IsSureOf, AreNumbered, IsNumbered}
 use Rattle.iot_machine.specs.Sound.{Knows, HasPlans, IsListed, AreOnce, IsSound}
 use Rattle.iot_machine.proofs.FollowsLaws.{all_push, all_set, at_set, at_push, all_as}
-use Rattle.iot_machine.proofs.PossiblyLaws.{possibly_as, Within}
-use Rattle.iot_machine.proofs.PossiblyLaws.{within_itself, Continues}
+use Rattle.iot_machine.proofs.PossiblyLaws.{possibly_as, Within, Continues}
 
 -- ---- a machine, and one of its parts anew
 
@@ -54,15 +54,15 @@ put_sound c client m continues sound = record {
         it
 
 -- a client of which nothing is known
-pub new_numbered : (name : List ℕ) (m : Machine) → IsNumbered (client_of name m)
-new_numbered name m = record { is = record { rise = tt; newest = le_refl 0 }; may_be = tt }
+pub new_numbered : AreNumbered new_client
+new_numbered = record { apart = tt; given = tt; rise = tt; few = omega arith }
 
 -- one more client
 pub added_sound : (name : List ℕ) (m : Machine) → IsSound m → IsSound (add_client name m)
 added_sound name m sound = record {
   sure = sound.sure;
   sure_of = all_push IsSureOf m.clients new (λ up. refl) sound.sure_of;
-  numbered = all_push IsNumbered m.clients new (new_numbered name m) sound.numbered;
+  numbered = all_push IsNumbered m.clients new (record { is = new_numbered; may_be = tt }) sound.numbered;
   planned = all_push HasPlans m.clients new (record { is = tt; may_be = tt }) sound.planned;
   listed = possibly_as m.server (λ list. all_as (IsListed m) (IsListed (add_client name m)) list stays) sound.listed;
   once = sound.once;

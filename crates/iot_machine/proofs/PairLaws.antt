@@ -1,7 +1,7 @@
 -- A client with the server: what holds of the two, whatever the other clients do, and stays so in their calls. Each node stops at most
 -- once.
-use Rattle.std.proofs.Common.{◌≡◌, ℕ, ◌+◌, ◌≤◌, ◌==◌, ◌&&◌, Bool, true, false, List, [], ◌∷◌, ◌++◌, Option}
-use Rattle.std.proofs.Common.{Some, None, option_map, refl, sym, ap, subst, ◌∙◌, arith, le_refl, inl, inr, position}
+use Rattle.std.proofs.Common.{◌≡◌, ◌≢◌, ℕ, ◌+◌, ◌<◌, ◌≤◌, ◌==◌, ◌&&◌, Bool, true, false, List, [], ◌∷◌, ◌++◌, length, Option}
+use Rattle.std.proofs.Common.{Some, None, option_map, refl, sym, ap, subst, ◌∙◌, arith, inl, inr, position}
 use Rattle.std.proofs.lemmas.Bool.{cases_Bool, cond-true, cond-false}
 use Rattle.std.proofs.lemmas.Bool.Decides.{nat_tests}
 use Rattle.std.proofs.lemmas.Iterator.Adapters.{position_from-zero}
@@ -15,7 +15,7 @@ use Rattle.iot_link.specs.declared.passages.Loss.TheVariants as losses
 use Rattle.iot_link.specs.declared.passages.Passage.{Passage}
 use Rattle.iot_link.specs.declared.passages.Passage.TheVariants as passages
 use Rattle.iot_machine.specs.Calls.{Call, Answers, At}
-use Rattle.iot_machine.specs.Clients.{Stage, Item, Running, ClientState, change_first, at_stage, reach}
+use Rattle.iot_machine.specs.Clients.{Stage, Item, ClientState, most_running, hold, change_first, at_stage, reach}
 use Rattle.iot_machine.specs.Machine.{Commit, Pair, its_client, its_server, add_commit}
 use Rattle.iot_machine.specs.Nodes.{Node}
 use Rattle.iot_machine.specs.Stops.{Appends}
@@ -23,15 +23,15 @@ use Rattle.iot_machine.specs.Serving.{is_of, number_of, server_name, Submission,
 use Rattle.iot_machine.specs.Serving.{Certifies, holds, conflicts, Commits, committed}
 use Rattle.iot_machine.specs.Transactions.{Writes, unless_stopped, Notes, counted, Handles, received, exchange_by, Exchange, Brings}
 use Rattle.iot_machine.specs.Transactions.{commit_of}
-use Rattle.iot_machine.specs.Sound.{Possibly, IsSure, Rise, last_of, IsNewest, AreNumbered, IsAnother, WaitsFirst, RunsAnother, Knows}
+use Rattle.iot_machine.specs.Sound.{Possibly, IsSure, AreApart, numbers_of, AreNumbered, WaitsFirst, Knows}
 use Rattle.iot_machine.specs.Sound.{IsReady, IsPlanned, HasPlan, ArePlanned, AreOnce}
 use Rattle.iot_machine.specs.Counting.{StopsOnce}
 use Rattle.iot_machine.proofs.KeepsLaws.{Keeps, IfGoes, keeps_gets, keeps_asks, stays_says, keeps_from, keeps_then, stays_then}
 use Rattle.iot_machine.proofs.KeepsLaws.{asks_then, keeps_at}
-use Rattle.iot_machine.proofs.FollowsLaws.{all_push, all_as, all_with, all_of, last_above, FirstIsAnother, Follows}
+use Rattle.iot_machine.proofs.FollowsLaws.{all_push, all_as, all_with, all_of, all_numbers, FirstIsAnother, Follows, hold_follows}
 use Rattle.iot_machine.proofs.FollowsLaws.{first_numbered, first_planned, first_known_still}
 use Rattle.iot_machine.proofs.PossiblyLaws.{possibly_as, possibly_with, possibly_of, possibly_sure, appends_possibly, appends_sure}
-use Rattle.iot_machine.proofs.PossiblyLaws.{appends_alive, appends_continues, Continues}
+use Rattle.iot_machine.proofs.PossiblyLaws.{appends_durable, appends_alive, appends_continues, Continues}
 use Rattle.iot_machine.proofs.CountingLaws.{steady_alive, appends_once}
 
 -- ---- the list, and one commit more
@@ -82,37 +82,23 @@ once_push (first ∷ list) commit all once = (
   once_push list commit all.1 once.1,
 )
 
-all_above : (commit : Commit) (low : ℕ) (items : List Item) → commit.entry.number ≤ low → Rise low items
-    → AllByRecursion (IsAnother commit) items
-all_above commit low [] less rise = tt
-all_above commit low (item ∷ items) less rise = (
-  (λ same. absurd (omega (arith, same, less, rise.0))),
-  all_above commit item.number items (omega (arith, less, rise.0)) rise.1,
-)
-
 -- a client knows the commit of its first transaction
 first_known : (place : ℕ) (item : Item) (items : List Item) (state : ClientState) → AreNumbered state
     → state.items ≡ item ∷ items → IsReady item.stage → Knows (commit_of place item) state
 first_known place item items state numbered first stage =
-    let rise : Rise 0 (item ∷ items) = subst (Rise 0) first numbered.rise in
-    let above : item.number ≤ last_of 0 state.items = rw first (last_above item.number items rise.1) in
+    let apart : AreApart (numbers_of (item ∷ items) state.running) =
+    subst (λ items. AreApart (numbers_of items state.running)) first numbered.apart in
+    let given : AllByRecursion (λ number. number ≤ state.last) (numbers_of (item ∷ items) state.running) =
+    subst (λ items. AllByRecursion (λ number. number ≤ state.last) (numbers_of items state.running)) first numbered.given in
+    let others = all_numbers (λ number. number ≢ item.number) items state.running apart.0 in
     record {
-      given = given state.running above numbered.newest;
+      given = given.0;
       waits = subst (WaitsFirst (commit_of place item)) (sym first) (
         (λ same. record { stage = stage; name = refl; script = refl; budget = refl; way = refl; kept = refl }),
-        all_above (commit_of place item) item.number items (le_refl item.number) rise.1,
+        others.0,
       );
-      runs = runs state.running above numbered.newest;
+      run = others.1;
     }
-  where
-    given : (running : Option Running) → item.number ≤ last_of 0 state.items → IsNewest state running → item.number ≤ state.last
-    given None above newest = omega (arith, above, newest)
-    given (Some it) above newest = omega (arith, above, newest.1)
-
-    runs : (running : Option Running) → item.number ≤ last_of 0 state.items → IsNewest state running
-        → RunsAnother (commit_of place item) running
-    runs None above newest = tt
-    runs (Some it) above newest = omega (arith, above, newest.0, newest.1)
 
 -- ---- a client's node with the server's, and its place
 
@@ -328,6 +314,11 @@ module _ (Others : Commit → Type 0) where
     abbrev pub IsAwake : Pair → Type 0
     IsAwake pair = IsUp (core pair)
 
+    -- and one more may run
+    pub record IsRoomy (p : Core) : Type 0 where
+      pub up : IsUp p
+      pub room : length p.client.durable.running < most_running
+
     -- and this is its first transaction, which is not in the list
     pub record IsOpen (item : Item) (p : Core) : Type 0 where
       pub items : List Item
@@ -336,9 +327,13 @@ module _ (Others : Commit → Type 0) where
       pub first : p.client.durable.items ≡ item ∷ items
       pub free : IsFree p
 
+    -- this holds unless its event is over
+    abbrev pub HoldsIf : {A : Type 0} → (Core → Type 0) → Option A → Pair → Type 0
+    HoldsIf R answer = IfGoes IsGood (λ _ pair. R (core pair)) answer
+
     -- it is alive unless its event is over
     abbrev pub AwakeIf : {A : Type 0} → Option A → Pair → Type 0
-    AwakeIf answer = IfGoes IsGood (λ _. IsAwake) answer
+    AwakeIf answer = HoldsIf IsUp answer
 
     -- ---- its record
 
@@ -347,12 +342,17 @@ module _ (Others : Commit → Type 0) where
     GoesSound P change = (p : Core) (name : List ℕ) (n : Node ClientState) (text : List ℕ) (on : Bool) → P p
         → Appends name change p.client text on n → IsPairSound (with_client n p)
 
-    notes_keeps : {P : Core → Type 0} (change : ClientState → ClientState) → ((p : Core) → P p → IsUp p) → GoesSound P change
-        → Keeps (λ pair. P (core pair)) (Notes change) (λ a. AwakeIf a)
-    notes_keeps {P} change up goes = keeps_then {Q = written} (record { at = by_answer }) by_on
+    -- and this holds of what it makes if it goes on
+    abbrev GoesTo : (P R : Core → Type 0) → (ClientState → ClientState) → Type 0
+    GoesTo P R change = (p : Core) (n : Node ClientState) → P p → n.durable ≡ change p.client.durable → IsUp (with_client n p)
+        → R (with_client n p)
+
+    notes_keeps : (P R : Core → Type 0) (change : ClientState → ClientState) → ((p : Core) → P p → IsUp p) → GoesSound P change
+        → GoesTo P R change → Keeps (λ pair. P (core pair)) (Notes change) (λ a. HoldsIf R a)
+    notes_keeps P R change up goes to = keeps_then {Q = written} (record { at = by_answer }) by_on
       where
         written : Bool → Pair → Type 0
-        written true = IsAwake
+        written true = λ pair. R (core pair)
         written false = IsGood
 
         fine : (p : Core) (name : List ℕ) (n : Node ClientState) (text : List ℕ) (on : Bool) → P p
@@ -366,21 +366,38 @@ module _ (Others : Commit → Type 0) where
         }
 
         by_answer : (m n : Pair) (text : List ℕ) (on : Bool) → P (core m) → At its_client (Writes change) m text on n → written on n
-        by_answer m n text true here step = rw (step.is, step.step.is) (record {
-          good = fine (core m) m.client.name step.step.inner text true here step.step.step;
-          alive = appends_alive m.client.name change m.client.node step.step.inner text (up (core m) here).alive step.step.step;
-        })
+        by_answer m n text true here step =
+            let inner : Node ClientState = step.step.inner in
+            rw (step.is, step.step.is) (to (core m) inner here
+            (appends_durable m.client.name change m.client.node inner text step.step.step) (record {
+              good = fine (core m) m.client.name inner text true here step.step.step;
+              alive = appends_alive m.client.name change m.client.node inner text (up (core m) here).alive step.step.step;
+            }))
         by_answer m n text false here step =
             rw (step.is, step.step.is) (fine (core m) m.client.name step.step.inner text false here step.step.step)
 
-        by_on : (on : Bool) → Keeps (written on) (Answers (unless_stopped on)) (λ a. AwakeIf a)
+        by_on : (on : Bool) → Keeps (written on) (Answers (unless_stopped on)) (λ a. HoldsIf R a)
         by_on true = keeps_gets (λ m it. it)
         by_on false = keeps_gets (λ m it. it)
 
-    pub notes_awake : {P : Core → Type 0} {change : ClientState → ClientState} → ((p : Core) → P p → IsUp p)
-        → ((s : ClientState) → Follows s (change s)) → Keeps (λ pair. P (core pair)) (Notes change) (λ a. AwakeIf a)
-    notes_awake {change = change} up follows = notes_keeps change up (λ p name n text on here step.
-        continues_sound p n (appends_continues name change p.client n text on (follows p.client.durable) step) (up p here).good.sound)
+    -- a state that follows the other one is as sound
+    module _ (P : Core → Type 0) (change : ClientState → ClientState) (up : (p : Core) → P p → IsUp p)
+        (follows : (p : Core) → P p → Follows p.client.durable (change p.client.durable)) where
+      follows_sound : GoesSound P change
+      follows_sound p name n text on here step =
+          continues_sound p n (appends_continues name change p.client n text on (follows p here) step) (up p here).good.sound
+
+      pub notes_awake : Keeps (λ pair. P (core pair)) (Notes change) (λ a. AwakeIf a)
+      notes_awake = notes_keeps P IsUp change up follows_sound (λ p n here is up. up)
+
+    -- as many run as before
+    pub notes_roomy : (t : Nodes) → Keeps (λ pair. IsRoomy (core pair)) (Notes (hold t)) (λ a. HoldsIf IsRoomy a)
+    notes_roomy t = notes_keeps IsRoomy IsRoomy (hold t) (λ p it. it.up)
+        (follows_sound IsRoomy (hold t) (λ p it. it.up) (λ p it. hold_follows t p.client.durable))
+        (λ p n it is up. record {
+          up = up;
+          room = subst (λ (s : ClientState). length s.running < most_running) (sym is) it.room;
+        })
 
     pub up_of : (item : Item) (p : Core) → IsOpen item p → IsUp p
     up_of item p it = record { good = it.good; alive = it.alive }
@@ -388,7 +405,8 @@ module _ (Others : Commit → Type 0) where
     -- the first transaction, which is not in the list, may change
     pub notes_first : (change : Item → Item) → ((item : Item) → (change item).number ≡ item.number) → (item : Item)
         → (HasPlan item → HasPlan (change item)) → Keeps (λ pair. IsOpen item (core pair)) (Notes (change_first change)) (λ a. AwakeIf a)
-    notes_first change same item plan = notes_keeps (change_first change) (up_of item) goes
+    notes_first change same item plan =
+        notes_keeps (IsOpen item) IsUp (change_first change) (up_of item) goes (λ p n here is up. up)
       where
         goes : GoesSound (IsOpen item) (change_first change)
         goes p name n text on it step = client_sound p n
@@ -511,5 +529,5 @@ module _ (Others : Commit → Type 0) where
     pub same_passes : {A : Type 0} (P : Core → Type 0) → Passes A P (λ _. P)
     same_passes P = record { nothing = λ p it. it; lost = λ a p it. it }
 
-    pub brings_awake : (want : Want) → Keeps IsAwake (Brings want) (λ _. IsAwake)
-    brings_awake want = asks_then (λ held. exchange_keeps (same_passes IsUp) (lends_keeps IsUp held want))
+    pub brings_keeps : (P : Core → Type 0) (want : Want) → Keeps (λ pair. P (core pair)) (Brings want) (λ _ pair. P (core pair))
+    brings_keeps P want = asks_then (λ held. exchange_keeps (same_passes P) (lends_keeps P held want))

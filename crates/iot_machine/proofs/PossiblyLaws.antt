@@ -95,6 +95,12 @@ module _ {S : Type 0} where
   appends_sure name change node n text on sure (inr step) =
       stopped_sure (doubting change node) n (λ up. absurd cc) step.2
 
+  -- one that goes on has made the change
+  pub appends_durable : (name : List ℕ) (change : S → S) (node n : Node S) (text : List ℕ) → Appends name change node text true n
+      → n.durable ≡ change node.durable
+  appends_durable name change node n text (inl step) = rw step.2 refl
+  appends_durable name change node n text (inr step) = absurd cc
+
   pub appends_alive : (name : List ℕ) (change : S → S) (node n : Node S) (text : List ℕ) → node.alive ≡ true
       → Appends name change node text true n → n.alive ≡ true
   appends_alive name change node n text up (inl step) = rw step.2 up

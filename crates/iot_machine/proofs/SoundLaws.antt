@@ -1,7 +1,7 @@
 -- Each event keeps a machine sound; in it each node stops at most once, and disks are armed by `stop` alone.
-use Rattle.std.proofs.Common.{◌≡◌, ℕ, ◌<◌, ◌==◌, Bool, true, false, List, [], ◌∷◌, length, Option, Some, None, inl, inr, refl, sym, ap}
+use Rattle.std.proofs.Common.{◌≡◌, ℕ, ◌<◌, ◌==◌, Bool, true, false, List, [], ◌∷◌, length, None, inl, inr, refl, sym, ap}
 use Rattle.std.proofs.Common.{subst}
-use Rattle.std.proofs.Common.{◌∙◌, zero, suc, slice_index_or, slice_set, arith, le_refl, codes}
+use Rattle.std.proofs.Common.{◌∙◌, zero, suc, slice_index_or, slice_set, arith, codes}
 use Rattle.std.proofs.lemmas.List.{length-set}
 use Rattle.std.proofs.lemmas.Bool.{cases_Bool}
 use Rattle.std.proofs.lemmas.Bool.Decides.{nat_tests}
@@ -14,30 +14,30 @@ use Rattle.iot_event.specs.declared.event.LinkEvent.TheVariants as links
 use Rattle.iot_event.specs.declared.event.NodeEvent.{NodeEvent}
 use Rattle.iot_event.specs.declared.event.NodeEvent.TheVariants as nodes
 use Rattle.iot_link.specs.Links.{LinkState}
-use Rattle.iot_machine.specs.Calls.{Call, Try, At, Says, either, goes_on, Whole}
+use Rattle.iot_machine.specs.Calls.{Call, Part, Try, At, Says, either, goes_on, Whole}
 use Rattle.iot_machine.specs.Clients.{Running, ClientState, view, cut}
 use Rattle.iot_machine.specs.Counting.{IsSteady, StopsOnce, Since, base_of, EventCounts, EventKeepsSound, OpeningCounts, OpeningIsSound}
 use Rattle.iot_machine.specs.Events.{add_client, Declares, declare_script, IfUp, OfClient}
-use Rattle.iot_machine.specs.Events.{cuts_off, CutsOff, no_text, comes_back, RestartsClient, ArmsClient, counts_anew, RestartsServer}
-use Rattle.iot_machine.specs.Events.{link_part, event_part}
+use Rattle.iot_machine.specs.Events.{FindsLongest, cuts_off, no_text, comes_back, RestartsClient, ArmsClient, counts_anew}
+use Rattle.iot_machine.specs.Events.{RestartsServer, link_part, event_part}
 use Rattle.iot_machine.specs.Machine.{Machine, Client, Commit, no_client, client_in, put_client, server, client_at, node, Pair, pair_at}
 use Rattle.iot_machine.specs.Machine.{tree_after, handed}
 use Rattle.iot_machine.specs.Nodes.{Node, Counts, armed}
 use Rattle.iot_machine.specs.Serving.{server_name, kept_text}
 use Rattle.iot_machine.specs.Sound.{Possibly, Knows, IsSureOf, IsNumbered, HasPlans, IsListed, IsSound}
-use Rattle.iot_machine.specs.Stops.{OpensNode, ComesBack, ArmsDisk}
+use Rattle.iot_machine.specs.Stops.{OpensNode, Appends, ComesBack, ArmsDisk}
 use Rattle.iot_machine.specs.Texts.{line, tree_text}
 use Rattle.iot_machine.specs.Transactions.{Writes}
 use Rattle.iot_machine.specs.Transcript.{Opening}
-use Rattle.iot_machine.proofs.KeepsLaws.{Keeps, keeps_gets, keeps_asks, keeps_does, stays_says, keeps_from, keeps_then, asks_then}
-use Rattle.iot_machine.proofs.KeepsLaws.{keeps_either, stays_goes_on, keeps_whole, keeps_at}
+use Rattle.iot_machine.proofs.KeepsLaws.{Keeps, Stays, keeps_gets, keeps_asks, keeps_does, stays_says, keeps_from, keeps_then, stays_then}
+use Rattle.iot_machine.proofs.KeepsLaws.{asks_then, keeps_either, stays_goes_on, keeps_whole, keeps_at}
 use Rattle.iot_machine.proofs.FollowsLaws.{all_at, all_set, at_set, all_as, cut_follows}
 use Rattle.iot_machine.proofs.PossiblyLaws.{possibly_as, Within, within_itself, same_within, opens_states, opens_sure, comes_within}
 use Rattle.iot_machine.proofs.PossiblyLaws.{Continues, within_continues, appends_continues, crashes_within, restarts_within, arms_within}
 use Rattle.iot_machine.proofs.PossiblyLaws.{shows_within}
-use Rattle.iot_machine.proofs.CountingLaws.{steady, appends_once, opens_once, comes_once, comes_steady, crashes_once, restarts_once}
-use Rattle.iot_machine.proofs.CountingLaws.{shows_once, since_itself, since_server, since_put, put_at}
-use Rattle.iot_machine.proofs.MachinesLaws.{sound_from, put_sound, added_sound, added_at}
+use Rattle.iot_machine.proofs.CountingLaws.{steady, appends_once, appends_steady, opens_once, comes_once, comes_steady, crashes_once}
+use Rattle.iot_machine.proofs.CountingLaws.{restarts_once, shows_once, since_itself, since_server, since_put, put_at}
+use Rattle.iot_machine.proofs.MachinesLaws.{sound_from, put_sound, new_numbered, added_sound, added_at}
 use Rattle.iot_machine.proofs.PairLaws.{Core, core, IsListedAt, IsPairSound, IsGood as IsPairGood, IsAwake}
 use Rattle.iot_machine.proofs.CallsLaws.{Wakes, task_wakes}
 
@@ -66,7 +66,7 @@ module _ (m : Machine) (c : ℕ) where
     sure = sound.sure;
     sure_of = all_at IsSureOf m.clients c no_client (λ up. refl) sound.sure_of;
     numbered = all_at IsNumbered m.clients c no_client
-        (record { is = record { rise = tt; newest = le_refl 0 }; may_be = tt }) sound.numbered;
+        (record { is = new_numbered; may_be = tt }) sound.numbered;
     planned = all_at HasPlans m.clients c no_client (record { is = tt; may_be = tt }) sound.planned;
     listed = possibly_as m.server (λ list. all_as (IsListed m) (IsListedAt (IsListed m) c (client_in m c).node) list stays) sound.listed;
     once = sound.once;
@@ -230,26 +230,40 @@ restart_fine k = keeps_then {Q = λ up client. (client ≡ k) × (up ≡ k.node.
       known = λ commit it. second.known commit (first.known commit it);
     }
 
-    writes : Keeps (CameBack k true) (Writes cut) (λ _. IsFineFrom k)
-    writes = record {
-      at = λ client n text on here step. rw step.is (record {
-        continues = after here.0
-            (appends_continues client.name cut client.node step.inner text on (cut_follows client.node.durable) step.step);
-        once = appends_once client.name cut k.node client.node step.inner text on here.1 step.step;
-      });
-    }
+    finds : (it : Running) → Stays (CameBack k true) (FindsLongest it)
+    finds it = record { at = λ client n text acts here step. subst (CameBack k true) (sym step.2) here }
 
-    by_running : (running : Option Running) → Keeps (CameBack k true) (cuts_off running) (λ _. IsFineFrom k)
-    by_running None = keeps_does (λ client here. record { continues = here.0; once = inl here.1 })
-    by_running (Some it) = keeps_then {Q = λ _. IsFineFrom k} writes (stays_goes_on stays_says)
+    writes : (acts : ℕ) (client n : Client) (text : List ℕ) (on : Bool) → CameBack k true client → Writes (cut acts) client text on n
+        → CameBack k on n
+    writes acts client n text on here step = by_answer on step.step
+      where
+        went : (on : Bool) → Appends client.name (cut acts) client.node text on step.inner → Continues k.node step.inner
+        went on now = after here.0
+            (appends_continues client.name (cut acts) client.node step.inner text on (cut_follows acts client.node.durable) now)
 
-    cuts : (on : Bool) → Keeps (CameBack k on) (goes_on CutsOff on) (λ _. IsFineFrom k)
-    cuts true = asks_then by_running
-    cuts false = keeps_does (λ client here. here)
+        by_answer : (on : Bool) → Appends client.name (cut acts) client.node text on step.inner → CameBack k on n
+        by_answer true now = rw step.is (
+          went true now,
+          appends_steady client.name (cut acts) k.node client.node step.inner text here.1 now,
+        )
+        by_answer false now = rw step.is (record {
+          continues = went false now;
+          once = appends_once client.name (cut acts) k.node client.node step.inner text false here.1 now;
+        })
+
+    goes_on_from : {part : Part Client} → Keeps (CameBack k true) part (λ _. IsFineFrom k) → (on : Bool)
+        → Keeps (CameBack k on) (goes_on part on) (λ _. IsFineFrom k)
+    goes_on_from part true = part
+    goes_on_from part false = keeps_does (λ client here. here)
+
+    by_running : (running : List Running) → Keeps (CameBack k true) (cuts_off running) (λ _. IsFineFrom k)
+    by_running [] = keeps_does (λ client here. record { continues = here.0; once = inl here.1 })
+    by_running (it ∷ running) = stays_then (finds it) (λ acts. keeps_then {Q = CameBack k} (record { at = writes acts })
+        (goes_on_from (stays_then stays_says (λ _. by_running running))))
 
     by_alive : (up : Bool) → Keeps (λ client. (client ≡ k) × (up ≡ k.node.alive)) (comes_back up) (λ _. IsFineFrom k)
     by_alive true = keeps_does (λ client here. fine_same k client (ap (λ (one : Client). one.node) here.0))
-    by_alive false = asks_then (λ name. keeps_then {Q = CameBack k} (record { at = comes name }) cuts)
+    by_alive false = asks_then (λ name. keeps_then {Q = CameBack k} (record { at = comes name }) (goes_on_from (asks_then by_running)))
 
 module _ (b : Machine) where
   -- a machine at the start of an event

@@ -1,6 +1,6 @@
 -- What a client keeps, what it sees, and how that changes.
-use Rattle.std.specs.Prelude.{ℕ, ◌+◌, Bool, true, false, List, [], ◌∷◌, ◌++◌, Option, Some, None, option_map, option_and_then, slice_get}
-use Rattle.std.specs.Prelude.{nat_lt, if◌then◌else◌, codes}
+use Rattle.std.specs.Prelude.{◌≡◌, ◌≤◌, ℕ, ◌+◌, ◌==◌, Bool, true, false, List, [], ◌∷◌, ◌++◌, find}
+use Rattle.std.specs.Prelude.{Option, Some, None, option_and_then, slice_get, nat_lt, if◌then◌else◌, codes}
 use Rattle.std.specs.FinMap.{empty}
 use Rattle.iot_tree.specs.Tree.{Nodes, Path, root_alone}
 use Rattle.iot_tree.specs.Snapshots.{has, known, widen, prune}
@@ -10,6 +10,8 @@ use Rattle.iot_tree.specs.declared.labels.Way.{Way}
 use Rattle.iot_tree.specs.declared.labels.Way.TheVariants as ways
 use Rattle.iot_tree.specs.declared.nodes.Node.TheVariants.{FarDir}
 use Rattle.iot_tree.specs.declared.want.Want.{Want}
+use Rattle.iot_tree.specs.declared.acts.Read.{Read}
+use Rattle.iot_acts.specs.Turns.{reads_of}
 use Rattle.iot_lang.specs.Code.{Code}
 use Rattle.iot_exec.specs.Commands.{Kept, kept_files}
 use Rattle.iot_exec.specs.Files.{files_of}
@@ -50,23 +52,29 @@ pub record Item : Type 0 where
   pub option : OnConflict Declared
   pub stage : Stage
 
--- the transaction that runs: its number, its script, what becomes of it if it conflicts, and how many acts were done
+-- a transaction that runs: its number, its script, what becomes of it if it conflicts, the tree on which it began, and how many acts
+-- were done
 pub record Running : Type 0 where
   pub number : ℕ
   pub script : Declared
   pub option : OnConflict Declared
+  pub base : Nodes
   pub acts : ℕ
 
--- what a client keeps: the tree that it holds, the transactions that wait, the one that runs, and the number of its last one
+-- what a client keeps: the tree that it holds, the transactions that wait, those that run, by number, and the number of its last one
 pub record ClientState : Type 0 where
   pub held : Nodes
   pub items : List Item
-  pub running : Option Running
+  pub running : List Running
   pub last : ℕ
+
+-- as many may run
+abbrev pub most_running : ℕ
+most_running = 4
 
 -- a new client holds a root whose names it does not know
 abbrev pub new_client : ClientState
-new_client = record { held = root_alone FarDir; items = []; running = None; last = 0 }
+new_client = record { held = root_alone FarDir; items = []; running = []; last = 0 }
 
 -- ---- what it sees
 
@@ -82,31 +90,35 @@ abbrev pub after_items : Nodes → List Item → Nodes
 after_items t [] = t
 after_items t (item ∷ items) = after_items (local_run t item).tree items
 
--- the tree on which its running transaction began
-abbrev pub base : ClientState → Nodes
-base s = after_items s.held s.items
-
--- the running transaction so far
-abbrev pub so_far : Nodes → Running → Ran
-so_far t it = plain_run it.script t it.acts
-
-abbrev pub view_by : Nodes → Option Running → Nodes
-view_by t None = t
-view_by t (Some it) = (so_far t it).tree
-
--- the tree after the transactions that wait and the acts of the one that runs
+-- the tree after the transactions that wait
 abbrev pub view : ClientState → Nodes
-view s = view_by (base s) s.running
+view s = after_items s.held s.items
 
--- ---- the next step of the running transaction
+-- ---- a transaction that runs
+
+-- its run so far, whose tree is its own view
+abbrev pub so_far : Running → Ran
+so_far it = plain_run it.script it.base it.acts
+
+-- the one with this number, if it runs
+abbrev pub has_number : ℕ → Running → Bool
+has_number number it = it.number == number
+
+abbrev pub numbered : ℕ → ClientState → Option Running
+numbered number s = find (has_number number) s.running
+
+-- the one that is meant: the one with this number, or without a number the first one
+abbrev pub meant : Option ℕ → ClientState → Option Running
+meant (Some number) s = numbered number s
+meant None s = slice_get s.running 0
 
 -- its next act
-abbrev pub next_act : Nodes → Running → Option Act
-next_act t it = slice_get (plain_run it.script t (it.acts + 1)).acts it.acts
+abbrev pub next_act : Running → Option Act
+next_act it = slice_get (plain_run it.script it.base (it.acts + 1)).acts it.acts
 
 -- the path of the first question of its next act that is away
-abbrev pub next_away : Nodes → Running → Option Path
-next_away t it = option_and_then (λ act. first_away act.reads) (next_act t it)
+abbrev pub next_away : Running → Option Path
+next_away it = option_and_then (λ act. first_away act.reads) (next_act it)
 
 pub data Next : Type 0 where
   AtEnd : Next
@@ -120,11 +132,32 @@ next_by true (Some path) = Fetches path
 next_by true None = Acts
 next_by false away = Acts
 
-abbrev pub next_step : (first : Bool) → Nodes → Running → Next
-next_step first t it =
-    if (so_far t it).ended then AtEnd
-    else if nat_lt it.acts ACT_LIMIT then next_by first (next_away t it)
+abbrev pub next_step : (first : Bool) → Running → Next
+next_step first it =
+    if (so_far it).ended then AtEnd
+    else if nat_lt it.acts ACT_LIMIT then next_by first (next_away it)
     else AtLimit
+
+-- what it has read, and what its script reads on this tree in as many acts
+abbrev pub reads_here : Running → List Read
+reads_here it = reads_of (so_far it).acts
+
+abbrev pub reads_on : Nodes → Running → List Read
+reads_on t it = reads_of (plain_run it.script t it.acts).acts
+
+-- it has read what it would read on this tree
+abbrev pub ReadsSame : Nodes → Running → Type 0
+ReadsSame t it = reads_on t it ≡ reads_here it
+
+-- it, as it was after so many acts
+abbrev pub back_to : ℕ → Running → Running
+back_to acts it = record it { acts = acts }
+
+-- so many of its acts, from the first one on, have read what they would read on this tree, and no more have
+pub record IsLongest (t : Nodes) (it : Running) (m : ℕ) : Type 0 where
+  pub few : m ≤ it.acts
+  pub same : ReadsSame t (back_to m it)
+  pub most : (n : ℕ) → n ≤ it.acts → ReadsSame t (back_to n it) → n ≤ m
 
 -- ---- what the first transaction submits
 
@@ -196,26 +229,39 @@ resolution_of plan server =
 abbrev pub hold : Nodes → ClientState → ClientState
 hold t s = record s { held = t }
 
--- its next transaction begins
+-- its next transaction begins, on its view
+abbrev pub begun : Declared → OnConflict Declared → ClientState → Running
+begun script option s = record { number = s.last + 1; script = script; option = option; base = view s; acts = 0 }
+
 abbrev pub begin : Declared → OnConflict Declared → ClientState → ClientState
-begin script option s =
-    record s { running = Some (record { number = s.last + 1; script = script; option = option; acts = 0 }); last = s.last + 1 }
+begin script option s = record s { running = s.running ++ begun script option s ∷ []; last = s.last + 1 }
 
-abbrev pub anew : Running → Running
-anew it = record it { acts = 0 }
+-- a change of the running transaction with this number
+abbrev pub with_running : ℕ → (Running → Running) → List Running → List Running
+with_running number change [] = []
+with_running number change (it ∷ running) =
+    if has_number number it then change it ∷ running else it ∷ with_running number change running
 
--- another tree is held, on which the running transaction begins anew
-abbrev pub fetch : Nodes → ClientState → ClientState
-fetch t s = record s { held = t; running = option_map anew s.running }
+-- it begins anew, on this tree
+abbrev pub anew : Nodes → Running → Running
+anew t it = record it { base = t; acts = 0 }
+
+-- it begins anew, on the view
+abbrev pub again : (number : ℕ) → ClientState → ClientState
+again number s = record s { running = with_running number (anew (view s)) s.running }
+
+-- another tree is held, and it begins anew
+abbrev pub fetch : (number : ℕ) → Nodes → ClientState → ClientState
+fetch number t s = again number (hold t s)
 
 abbrev pub one_more : Running → Running
 one_more it = record it { acts = it.acts + 1 }
 
--- one act more is done
-abbrev pub act_once : ClientState → ClientState
-act_once s = record s { running = option_map one_more s.running }
+-- it does one act more
+abbrev pub act_once : (number : ℕ) → ClientState → ClientState
+act_once number s = record s { running = with_running number one_more s.running }
 
--- the running transaction, as one that waits with so many acts
+-- a running transaction, as one that waits with so many acts
 abbrev pub waiting : (budget : ℕ) → Running → Item
 waiting budget it = record { number = it.number; script = it.script; budget = budget; option = it.option; stage = Waiting }
 
@@ -227,17 +273,22 @@ abbrev pub joined : List Item → Option Running → List Item
 joined items None = items
 joined items (Some it) = items ++ item_of it ∷ []
 
--- the running transaction ends, and waits
-abbrev pub end : ClientState → ClientState
-end s = record s { items = joined s.items s.running; running = None }
+-- those that run without it
+abbrev pub others : ℕ → List Running → List Running
+others number [] = []
+others number (it ∷ running) = if has_number number it then running else it ∷ others number running
 
--- it was cut off, and waits: it is the acts that it has done, wherever it is run from now on
-abbrev pub cut_by : List Item → Option Running → List Item
-cut_by items None = items
-cut_by items (Some it) = items ++ waiting it.acts it ∷ []
+-- the running transaction with this number ends, and waits
+abbrev pub end : (number : ℕ) → ClientState → ClientState
+end number s = record s { items = joined s.items (numbered number s); running = others number s.running }
 
-abbrev pub cut : ClientState → ClientState
-cut s = record s { items = cut_by s.items s.running; running = None }
+-- the first of those that run was cut off, and waits: it is so many of its acts, wherever it is run from now on
+abbrev pub cut_by : (acts : ℕ) → List Running → ClientState → ClientState
+cut_by acts [] s = s
+cut_by acts (it ∷ running) s = record s { items = s.items ++ waiting acts it ∷ []; running = running }
+
+abbrev pub cut : (acts : ℕ) → ClientState → ClientState
+cut acts s = cut_by acts s.running s
 
 -- the first transaction leaves: what it did itself stays in the tree that is held
 abbrev pub leave_by : List Item → ClientState → ClientState

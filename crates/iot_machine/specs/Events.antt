@@ -1,5 +1,5 @@
 -- What each event does to the plain machine, and what it prints.
-use Rattle.std.specs.Prelude.{ℕ, ◌-◌, ◌&&◌, not, Bool, true, false, List, [], ◌∷◌, ◌++◌, Option, None, Some, codes, map, slice_get}
+use Rattle.std.specs.Prelude.{◌≡◌, ℕ, ◌-◌, ◌&&◌, not, Bool, true, false, List, [], ◌∷◌, ◌++◌, Option, None, Some, codes, map, slice_get}
 use Rattle.std.specs.Prelude.{drop, length}
 use Rattle.iot_disk.specs.declared.disk.Pick.{Pick}
 use Rattle.iot_tree.specs.declared.want.Want.TheVariants as wanted
@@ -20,12 +20,12 @@ use Rattle.iot_link.specs.Links.{connected, arming}
 use Rattle.iot_link.specs.declared.passages.Loss.{Loss}
 use Rattle.iot_inspect.specs.declared.waiting.RunLine.{RunLine}
 use Rattle.iot_queue.specs.declared.items.Item as queue
-use Rattle.iot_machine.specs.Calls.{Part, Try, Gets, Asks, Answers, Does, Says, Nothing, Tells, Then, Goes, Repeats, Whole, At}
+use Rattle.iot_machine.specs.Calls.{Call, Part, Try, Gets, Asks, Answers, Does, Says, Nothing, Tells, Then, Goes, Repeats, Whole, At}
 use Rattle.iot_machine.specs.Calls.{either, goes_on, OrSays}
-use Rattle.iot_machine.specs.Clients.{Declared, Running, ClientState, Next, AtEnd, AtLimit, Acts, Fetches, new_client, view}
-use Rattle.iot_machine.specs.Clients.{leave, repair, cut}
-use Rattle.iot_machine.specs.Machine.{Machine, Client, first_of, client_at, node, cut_off, Pair, pair_at, kept, script_at, server}
-use Rattle.iot_machine.specs.Machine.{tree_after}
+use Rattle.iot_machine.specs.Clients.{Declared, Running, ClientState, numbered, Next, AtEnd, AtLimit, Acts, Fetches, IsLongest}
+use Rattle.iot_machine.specs.Clients.{new_client, view, leave, repair, cut}
+use Rattle.iot_machine.specs.Machine.{Machine, Client, first_of, client_at, node, cut_off, is_first, Pair, pair_at, kept, script_at}
+use Rattle.iot_machine.specs.Machine.{server, tree_after}
 use Rattle.iot_machine.specs.Nodes.{unopened}
 use Rattle.iot_machine.specs.Options as options
 use Rattle.iot_machine.specs.Options.{OnConflict}
@@ -35,14 +35,14 @@ use Rattle.iot_machine.specs.Stops.{OpensNode, ComesBack, Crashes, Restarts, Arm
 use Rattle.iot_machine.specs.Texts.{line, connect_line, disconnect_line, lose_line}
 use Rattle.iot_machine.specs.Texts.{client_line, hoard_line, refresh_line, begin_line, step_line, repair_line, discard_line}
 use Rattle.iot_machine.specs.Texts.{transaction_name, tree_text, cut_line, queue_text, reads_text, log_text}
-use Rattle.iot_machine.specs.Transactions.{Writes, Notes, Refuses, IfIdle, IfRuns, runs, pends, Takes, Begins, Steps, next_of, Ends}
+use Rattle.iot_machine.specs.Transactions.{Writes, Notes, Refuses, IfRoom, IfRuns, runs, pends, Takes, Begins, Steps, next_of, Ends}
 use Rattle.iot_machine.specs.Transactions.{Syncs, SyncsAll, item_name, IfManual}
 
 -- ---- declarations
 
 -- a client of this name that was never started, over the next disk
 abbrev pub client_of : List ℕ → Machine → Client
-client_of name m = record { name = name; node = unopened new_client (first_of m.spare); link = link.opened; first = false }
+client_of name m = record { name = name; node = unopened new_client (first_of m.spare); link = link.opened; first = [] }
 
 abbrev pub add_client : List ℕ → Machine → Machine
 add_client name m = record m { clients = m.clients ++ client_of name m ∷ []; spare = drop 1 m.spare }
@@ -68,17 +68,19 @@ Hoards path = Goes (Takes (wanted.Below path)) (λ _. Closes (λ pair. hoard_lin
 abbrev pub Refreshes : Try Pair (Unit {0})
 Refreshes = Goes (Takes wanted.Nothing) (λ _. Closes (λ pair. refresh_line pair.client.name))
 
--- what is said of the transaction that runs
+-- what is said of a running transaction
 abbrev pub said_of : (Running → List ℕ) → Option Running → List ℕ
 said_of text None = []
 said_of text (Some it) = text it
 
-abbrev pub begin_text : Pair → List ℕ
-begin_text pair =
-    said_of (λ it. begin_line (transaction_name pair.client.name it.number) it.script.name pair.client.first) (kept pair).running
+-- of the one with this number
+abbrev pub begin_text : (number : ℕ) → Pair → List ℕ
+begin_text number pair =
+    said_of (λ it. begin_line (transaction_name pair.client.name number) it.script.name (is_first number pair.client))
+    (numbered number (kept pair))
 
 abbrev pub BeginsAloud : Declared → OnConflict Declared → Try Pair (Unit {0})
-BeginsAloud script option = Goes (Begins script option) (λ _. Closes begin_text)
+BeginsAloud script option = Goes (Begins script option) (λ number. Closes (begin_text number))
 
 abbrev pub place_text : Next → List ℕ
 place_text AtEnd = codes ", at end"
@@ -86,28 +88,30 @@ place_text AtLimit = codes ", at limit"
 place_text Acts = []
 place_text (Fetches path) = []
 
-abbrev pub step_text : Pair → List ℕ
-step_text pair =
-    said_of (λ it. step_line (transaction_name pair.client.name it.number) it.acts (place_text (next_of it pair))) (kept pair).running
+abbrev pub step_text : (number : ℕ) → Pair → List ℕ
+step_text number pair =
+    said_of (λ it. step_line (transaction_name pair.client.name number) it.acts (place_text (next_of it pair)))
+    (numbered number (kept pair))
 
--- at most so many single steps, and how far it is then
-abbrev pub StepsAloud : (most : ℕ) → Try Pair (Unit {0})
-StepsAloud most = IfRuns (λ _. Goes (Repeats most (Steps true)) (λ _. Closes step_text))
+-- at most so many single steps of the one that is meant, and how far it is then
+abbrev pub StepsAloud : (most : ℕ) → (which : Option ℕ) → Try Pair (Unit {0})
+StepsAloud most which =
+    IfRuns which (λ it. Goes (Repeats most (Steps it.number true)) (λ _. Closes (step_text it.number)))
 
 -- the single steps that one run makes
 abbrev pub run_steps : ℕ
 run_steps = 100000
 
--- begin, steps, of which nothing is said, and end
-abbrev pub runs_script : Declared → OnConflict Declared → Try Pair (Unit {0})
-runs_script script option = Goes (Begins script option) (λ _. Goes (Repeats run_steps (Steps false)) (λ _. Ends))
+-- steps of the one with this number, of which nothing is said, and its end
+abbrev pub runs_through : (number : ℕ) → Try Pair (Unit {0})
+runs_through number = Goes (Repeats run_steps (Steps number false)) (λ _. Ends (Some number))
 
--- over a link that is up, those that wait are synced first
+-- over a link that is up, those that wait are synced first; then one begins, and is run through
 abbrev pub Runs : Declared → OnConflict Declared → Try Pair (Unit {0})
 Runs script option =
-    IfIdle
+    IfRoom
     (Then (Asks (λ pair. pair.client.link.up)) (λ up.
-    Goes (either SyncsAll (Answers (Some tt)) up) (λ _. runs_script script option)))
+    Goes (either SyncsAll (Answers (Some tt)) up) (λ _. Goes (Begins script option) runs_through)))
 
 -- the first one that waits is synced
 abbrev pub SyncsOnce : Try Pair (Unit {0})
@@ -132,14 +136,16 @@ Drains =
     OrSays (line (codes "nothing"))
     (Goes SyncsAll (λ _. Then (Asks is_drained) (either Refreshes (Answers (Some tt)))))
 
--- its transactions: those that wait, and then the one that runs
-abbrev pub running_of : (first : Bool) → Option Running → List RunLine
-running_of first None = []
-running_of first (Some it) = record { tid = it.number; script = it.script.name; first = first; acts = it.acts } ∷ []
+-- a running transaction, as a line says it
+abbrev pub run_line : Client → Running → RunLine
+run_line client it = record { tid = it.number; script = it.script.name; first = is_first it.number client; acts = it.acts }
 
+abbrev pub running_in : Client → List RunLine
+running_in client = map (run_line client) client.node.durable.running
+
+-- its transactions: those that wait, and then those that run
 abbrev pub Queues : Try Pair (Unit {0})
-Queues = Closes (λ pair.
-    queue_text pair.client.name (queue_kept (kept pair)) (running_of pair.client.first (kept pair).running))
+Queues = Closes (λ pair. queue_text pair.client.name (queue_kept (kept pair)) (running_in pair.client))
 
 -- its transaction at this place of those that wait, from 1
 abbrev pub waiting_at : (place : ℕ) → Pair → Option queue.Item
@@ -175,11 +181,17 @@ Loses loss = Does (λ client. lose_line client.name loss) (λ client. record cli
 abbrev pub CrashesClient : Part Client
 CrashesClient = Then (Asks (λ client. client.name)) (λ name. At node (Crashes name))
 
--- what ran when it lost its memory is cut off after the acts that it has done
-abbrev pub cuts_off : Option Running → Part Client
-cuts_off None = Nothing
-cuts_off (Some it) =
-    Then (Writes cut) (goes_on (Says (λ client. cut_line (transaction_name client.name it.number) it.acts)))
+-- how many acts of a running transaction, from the first one on, have read what they would read on the view
+abbrev pub FindsLongest : Running → Call Client ℕ
+FindsLongest it client text acts n = (text ≡ []) × IsLongest (view client.node.durable) it acts × (n ≡ client)
+
+-- what ran when it lost its memory is cut off, one after the other, each after these acts
+abbrev pub cuts_off : List Running → Part Client
+cuts_off [] = Nothing
+cuts_off (it ∷ running) =
+    Then (FindsLongest it) (λ acts.
+    Then (Writes (cut acts)) (goes_on
+    (Then (Says (λ client. cut_line (transaction_name client.name it.number) acts)) (λ _. cuts_off running))))
 
 abbrev pub CutsOff : Part Client
 CutsOff = Then (Asks (λ client. client.node.durable.running)) cuts_off
@@ -239,8 +251,8 @@ task_part scripts (tasks.Run script option) = Runs (script_at scripts script) (c
 task_part scripts (tasks.Hoard path) = Hoards path
 task_part scripts tasks.Refresh = Refreshes
 task_part scripts (tasks.Begin script option) = BeginsAloud (script_at scripts script) (chosen scripts option)
-task_part scripts (tasks.Step count) = StepsAloud count
-task_part scripts tasks.End = Ends
+task_part scripts (tasks.Step count transaction) = StepsAloud count transaction
+task_part scripts (tasks.End transaction) = Ends transaction
 task_part scripts tasks.Sync = SyncsOnce
 task_part scripts tasks.Drain = Drains
 task_part scripts (tasks.Repair script) = Repairs (script_at scripts script)

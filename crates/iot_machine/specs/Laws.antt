@@ -1,9 +1,10 @@
 -- What is true of every transaction that was cut.
-use Rattle.std.specs.Prelude.{◌≡◌, ◌≤◌, ℕ, [], ◌∷◌, ◌++◌, take, Some, None}
-use Rattle.iot_tree.specs.Tree.{Nodes}
+use Rattle.std.specs.Prelude.{◌≡◌, ◌≤◌, ℕ, List, [], ◌∷◌, ◌++◌, take, Some}
+use Rattle.iot_tree.specs.Tree.{Nodes, IsTree}
+use Rattle.iot_acts.specs.Turns.{reads_of}
 use Rattle.iot_machine.specs.Clients as stages
 use Rattle.iot_machine.specs.Clients.{Declared, Item, Running, ClientState, Plan}
-use Rattle.iot_machine.specs.Clients.{plain_run, local_run, so_far, cut, attempt_of, plan_of, resolution_of, at_stage}
+use Rattle.iot_machine.specs.Clients.{plain_run, local_run, view, so_far, IsLongest, cut, attempt_of, plan_of, resolution_of, at_stage}
 use Rattle.iot_machine.specs.Options.{Reexec}
 use Rattle.iot_machine.specs.Transactions.{commit_of}
 
@@ -23,26 +24,29 @@ pub record Reruns (script : Declared) (acts : ℕ) (item : Item) (plan : Plan) :
   pub budget : plan.budget ≡ acts
   pub resubmits : (server : Nodes) → Submits script acts (at_stage (stages.Resolved (resolution_of plan server)) item)
 
--- an item is what a transaction that ran has done, and no more, wherever it is used
-pub record IsPrefixOf (it : Running) (item : Item) : Type 0 where
+-- an item that waits on this tree is the first of the acts that a transaction that ran has done, so many and no more, wherever it is used
+pub record IsPrefixOf (it : Running) (t : Nodes) (acts : ℕ) (item : Item) : Type 0 where
   pub number : item.number ≡ it.number
   pub script : item.script ≡ it.script
-  pub budget : item.budget ≡ it.acts
+  pub budget : item.budget ≡ acts
   -- in the queue
-  pub own : (t : Nodes) → local_run t item ≡ so_far t it
+  pub reads : reads_of (local_run t item).acts ≡ reads_of (take acts (so_far it).acts)
+  pub own : IsTree t → (local_run t item).acts ≡ take acts (so_far it).acts
   -- if it is certified
-  pub submits : Submits it.script it.acts item
+  pub submits : Submits it.script acts item
   -- if it is run again
-  pub reruns : (held : Nodes) (plan : Plan) → it.option ≡ Reexec → plan_of held item ≡ Some plan → Reruns it.script it.acts item plan
+  pub reruns : (held : Nodes) (plan : Plan) → it.option ≡ Reexec → plan_of held item ≡ Some plan → Reruns it.script acts item plan
   -- on every tree
-  pub first : (t : Nodes) → AreFirst it.script t it.acts
+  pub first : (t : Nodes) → AreFirst it.script t acts
 
--- what ran waits behind the others, as its prefix
-pub record WaitsAsPrefix (s : ClientState) (it : Running) : Type 0 where
+-- the first of those that ran waits behind the others, as its prefix, and the rest still run
+pub record WaitsAsPrefix (s : ClientState) (it : Running) (running : List Running) (acts : ℕ) : Type 0 where
   pub item : Item
-  pub none_runs : (cut s).running ≡ None
-  pub waits : (cut s).items ≡ s.items ++ item ∷ []
-  pub is : IsPrefixOf it item
+  pub run : (cut acts s).running ≡ running
+  pub waits : (cut acts s).items ≡ s.items ++ item ∷ []
+  pub is : IsPrefixOf it (view s) acts item
 
 abbrev pub ACutIsItsPrefix : Type 0
-ACutIsItsPrefix = (s : ClientState) (it : Running) → s.running ≡ Some it → WaitsAsPrefix s it
+ACutIsItsPrefix = (s : ClientState) (it : Running) (running : List Running) (acts : ℕ) → s.running ≡ it ∷ running
+    → IsLongest (view s) it acts
+    → WaitsAsPrefix s it running acts

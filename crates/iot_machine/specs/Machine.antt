@@ -1,6 +1,7 @@
 -- The plain machine: the server's list of committed scripts, the clients, and the scripts. The server has no tree of its own: its
 -- tree is what its list gives when it is run from the start. Nor has a client a view: it is what its transactions make of its tree.
-use Rattle.std.specs.Prelude.{ℕ, ◌+◌, Bool, false, List, [], ◌∷◌, ◌++◌, map, drop, slice_index_or, slice_set}
+use Rattle.std.specs.Prelude.{ℕ, ◌+◌, ◌==◌, Bool, true, false, not, List, [], ◌∷◌, ◌++◌, map, filter, drop, slice_index_or, slice_set}
+use Rattle.std.specs.List.{list_any}
 use Rattle.iot_tree.specs.Tree.{Nodes}
 use Rattle.iot_tree.specs.declared.labels.Way.{Way}
 use Rattle.iot_lang.specs.Code.{End}
@@ -16,13 +17,13 @@ pub record Commit : Type 0 where
   pub script : List ℕ
   pub entry : Entry Way
 
--- a client: its name, its node, its link with the server, and whether its running transaction is first class, which it forgets when it
--- stops
+-- a client: its name, its node, its link with the server, and the numbers of its running transactions that are first class, which it
+-- forgets when it stops
 pub record Client : Type 0 where
   pub name : List ℕ
   pub node : Node ClientState
   pub link : LinkState
-  pub first : Bool
+  pub first : List ℕ
 
 -- the server, whose durable state is its list, and how many requests it has answered since its start; the clients; the scripts; and what
 -- is counted of the disks of the clients that are not declared yet
@@ -63,7 +64,7 @@ add_commit commit commits = commits ++ commit ∷ []
 -- ---- looking up by place
 
 abbrev pub no_client : Client
-no_client = record { name = []; node = unopened new_client no_counts; link = link.opened; first = false }
+no_client = record { name = []; node = unopened new_client no_counts; link = link.opened; first = [] }
 
 abbrev pub no_script : Declared
 no_script = record { name = []; code = End }
@@ -85,13 +86,22 @@ client_at c = record { get = λ m. client_in m c; set = λ client m. put_client 
 abbrev pub node : Lens Client (Node ClientState)
 node = record { get = λ client. client.node; set = λ node client. record client { node = node } }
 
--- it is not up from now on, and what runs is second class
+-- it is not up from now on, and all that run are second class
 abbrev pub cut_off : Client → Client
-cut_off client = record client { link = connected false client.link; first = false }
+cut_off client = record client { link = connected false client.link; first = [] }
 
--- it has lost a message, or the server has stopped: it is not up, nothing is armed, and what runs is second class
+-- it has lost a message, or the server has stopped: it is not up, nothing is armed, and all that run are second class
 abbrev pub break : Client → Client
-break client = record client { link = link.broken; first = false }
+break client = record client { link = link.broken; first = [] }
+
+-- whether its running transaction with this number is first class
+abbrev pub is_first : (number : ℕ) → Client → Bool
+is_first number client = list_any (λ n. n == number) client.first
+
+-- the numbers of those of first class, if this one is of it from now on, or is of second class
+abbrev pub classed : (number : ℕ) → (first : Bool) → List ℕ → List ℕ
+classed number true numbers = number ∷ numbers
+classed number false numbers = filter (λ n. not (n == number)) numbers
 
 -- ---- one client with the server
 
@@ -118,9 +128,13 @@ its_server = record { get = λ pair. pair.server; set = λ node pair. record pai
 abbrev pub kept : Pair → ClientState
 kept pair = pair.client.node.durable
 
--- its running transaction is first class from now on, or second class
-abbrev pub set_class : (first : Bool) → Pair → Pair
-set_class first pair = record pair { client = record pair.client { first = first } }
+-- its running transaction with this number is first class from now on, or second class
+abbrev pub set_class : (number : ℕ) → (first : Bool) → Pair → Pair
+set_class number first pair = record pair { client = record pair.client { first = classed number first pair.client.first } }
+
+-- all that run are second class from now on
+abbrev pub all_second : Pair → Pair
+all_second pair = record pair { client = record pair.client { first = [] } }
 
 abbrev pub break_link : Pair → Pair
 break_link pair = record pair { client = break pair.client }

@@ -1,7 +1,8 @@
 -- What holds of every machine to which events lead: how the list of commits and the clients' transactions go together.
-use Rattle.std.specs.Prelude.{◌≡◌, ◌≢◌, ℕ, ◌<◌, ◌≤◌, true, List, [], ◌∷◌, length, Option, Some, None, IfSome}
+use Rattle.std.specs.Prelude.{◌≡◌, ◌≢◌, ℕ, ◌<◌, ◌≤◌, true, List, [], ◌∷◌, ◌++◌, map, length, None, IfSome}
 use Rattle.std.specs.List.{AllByRecursion}
-use Rattle.iot_machine.specs.Clients.{Declared, Stage, Waiting, Conflict, Manual, Resolved, Item, Running, ClientState, attempt_of}
+use Rattle.iot_machine.specs.Clients.{Declared, Stage, Waiting, Conflict, Manual, Resolved, Item, Running, ClientState, most_running}
+use Rattle.iot_machine.specs.Clients.{attempt_of}
 use Rattle.iot_machine.specs.Machine.{Machine, Client, Commit, client_in}
 use Rattle.iot_machine.specs.Nodes.{Node}
 use Rattle.iot_machine.specs.Options as options
@@ -24,24 +25,26 @@ IsSureOf client = IsSure client.node
 
 -- ---- the numbers of a client's transactions
 
--- they rise, from above this one
-abbrev pub Rise : ℕ → List Item → Type 0
+-- none of these is there twice
+abbrev pub AreApart : List ℕ → Type 0
+AreApart [] = Unit {0}
+AreApart (number ∷ numbers) = AllByRecursion (λ other. other ≢ number) numbers × AreApart numbers
+
+-- those of the transactions that wait, and then of those that run
+abbrev pub numbers_of : List Item → List Running → List ℕ
+numbers_of items running = map (λ item. item.number) items ++ map (λ it. it.number) running
+
+-- those of the running ones rise, from above this one
+abbrev pub Rise : ℕ → List Running → Type 0
 Rise low [] = Unit {0}
-Rise low (item ∷ items) = (low < item.number) × Rise item.number items
+Rise low (it ∷ running) = (low < it.number) × Rise it.number running
 
--- the last of them, or this one if there is none
-abbrev pub last_of : ℕ → List Item → ℕ
-last_of low [] = low
-last_of low (item ∷ items) = last_of item.number items
-
--- the one that runs has the client's last number, above those of all that wait
-abbrev pub IsNewest : ClientState → Option Running → Type 0
-IsNewest state None = last_of 0 state.items ≤ state.last
-IsNewest state (Some it) = (it.number ≡ state.last) × (last_of 0 state.items < state.last)
-
+-- each transaction has one of its own, and the client has given it; those that run stand by their numbers, and are at most as many as may
 pub record AreNumbered (state : ClientState) : Type 0 where
-  pub rise : Rise 0 state.items
-  pub newest : IsNewest state state.running
+  pub apart : AreApart (numbers_of state.items state.running)
+  pub given : AllByRecursion (λ number. number ≤ state.last) (numbers_of state.items state.running)
+  pub rise : Rise 0 state.running
+  pub few : length state.running ≤ most_running
 
 abbrev pub IsNumbered : Client → Type 0
 IsNumbered client = Possibly AreNumbered client.node
@@ -72,16 +75,15 @@ abbrev pub WaitsFirst : Commit → List Item → Type 0
 WaitsFirst commit [] = Unit {0}
 WaitsFirst commit (item ∷ items) = (item.number ≡ commit.entry.number → IsCommitOf item commit) × AllByRecursion (IsAnother commit) items
 
--- the one that runs is another
-abbrev pub RunsAnother : Commit → Option Running → Type 0
-RunsAnother commit None = Unit {0}
-RunsAnother commit (Some it) = commit.entry.number < it.number
+-- those that run are others
+abbrev pub RunOthers : Commit → List Running → Type 0
+RunOthers commit running = AllByRecursion (λ it. it.number ≢ commit.entry.number) running
 
 -- a client that keeps this has given its number
 pub record Knows (commit : Commit) (state : ClientState) : Type 0 where
   pub given : commit.entry.number ≤ state.last
   pub waits : WaitsFirst commit state.items
-  pub runs : RunsAnother commit state.running
+  pub run : RunOthers commit state.running
 
 -- so has its client, whichever state that comes back with
 pub record IsListed (m : Machine) (commit : Commit) : Type 0 where

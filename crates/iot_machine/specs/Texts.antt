@@ -60,6 +60,10 @@ step_line tid acts place = line (codes "step " ++ tid ++ 32 ∷ decimal acts ++ 
 abbrev pub conflict_line : List ℕ → ℕ → Question → List ℕ
 conflict_line tid read question = line (codes "conflict " ++ tid ++ codes " read " ++ decimal read ++ 32 ∷ question_text question)
 
+-- it begins anew
+abbrev pub again_line : List ℕ → ℕ → Question → List ℕ
+again_line tid read question = line (codes "again " ++ tid ++ codes " read " ++ decimal read ++ 32 ∷ question_text question)
+
 abbrev pub abort_line : List ℕ → List ℕ
 abort_line tid = line (codes "abort " ++ tid)
 

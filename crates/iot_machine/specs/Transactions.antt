@@ -1,26 +1,29 @@
 -- What a client does with the server: it brings objects, and begins, steps and ends transactions. A call that answers nothing has ended
 -- its event: the client has stopped, or it has refused.
-use Rattle.std.specs.Prelude.{ℕ, ◌*◌, length, not, Bool, true, false, List, [], ◌∷◌, ◌++◌, Option, None, Some, is_some, codes}
+use Rattle.std.specs.Prelude.{◌≡◌, ℕ, ◌+◌, ◌*◌, not, nat_lt, length, Bool, true, false, List, [], ◌∷◌, ◌++◌, Option, None, Some, codes}
 use Rattle.iot_tree.specs.Tree.{Nodes, Path}
 use Rattle.iot_tree.specs.declared.want.Want.{Want}
 use Rattle.iot_tree.specs.declared.want.Want.TheVariants as wanted
+use Rattle.iot_tree.specs.declared.questions.Question.{Question}
 use Rattle.iot_acts.specs.Turns.{reads_of}
-use Rattle.iot_machine.specs.Calls.{Call, Try, Gets, Asks, Answers, Says, Tells, Then, Goes, At, either, Repeats}
+use Rattle.iot_machine.specs.Calls.{Call, Part, Try, Gets, Asks, Answers, Does, Says, Tells, Then, Goes, At, either, Repeats}
 use Rattle.iot_machine.specs.Clients as stages
-use Rattle.iot_machine.specs.Clients.{Declared, Stage, Item, Running, ClientState, new_client, base, so_far, next_step, Next, AtEnd}
-use Rattle.iot_machine.specs.Clients.{AtLimit, Acts, Fetches, attempt_of, attempted, Plan, plan_of, resolution_of}
-use Rattle.iot_machine.specs.Clients.{hold, begin, fetch, act_once, end, leave, reach}
+use Rattle.iot_machine.specs.Clients.{Declared, Stage, Item, Running, ClientState, most_running, new_client, view, so_far, numbered, meant}
+use Rattle.iot_machine.specs.Clients.{next_step, Next, AtEnd, AtLimit, Acts, Fetches, reads_here, reads_on, ReadsSame}
+use Rattle.iot_machine.specs.Clients.{attempt_of, attempted, Plan, plan_of, resolution_of}
+use Rattle.iot_machine.specs.Clients.{hold, begin, again, fetch, act_once, end, leave, reach}
 use Rattle.iot_link.specs.Links.{passage}
 use Rattle.iot_link.specs.declared.passages.Passage.{Passage}
 use Rattle.iot_link.specs.declared.passages.Passage.TheVariants as passages
-use Rattle.iot_machine.specs.Machine.{Client, Commit, node, Pair, its_client, its_server, kept, set_class, break_link, count_request}
+use Rattle.iot_machine.specs.Machine.{Client, Commit, node, is_first, Pair, its_client, its_server, kept, set_class, all_second}
+use Rattle.iot_machine.specs.Machine.{break_link, count_request}
 use Rattle.iot_machine.specs.Nodes.{Node}
 use Rattle.iot_machine.specs.Options as options
 use Rattle.iot_machine.specs.Options.{OnConflict}
-use Rattle.iot_machine.specs.Serving.{Lends, Judges, Submission, Verdict, Settled, Conflict}
+use Rattle.iot_machine.specs.Serving.{Lends, Judges, Submission, Verdict, Settled, Conflict, Parts}
 use Rattle.iot_machine.specs.Stops.{Appends}
-use Rattle.iot_machine.specs.Texts.{line, transaction_name, acts_output, fetch_line, end_line, settled_line, conflict_line, abort_line}
-use Rattle.iot_machine.specs.Texts.{manual_line, resolve_line, pending_line}
+use Rattle.iot_machine.specs.Texts.{line, transaction_name, acts_output, fetch_line, end_line, again_line}
+use Rattle.iot_machine.specs.Texts.{settled_line, conflict_line, abort_line, manual_line, resolve_line, pending_line}
 
 -- ---- its record, and an exchange with the server
 
@@ -51,7 +54,7 @@ received (Some a) = Answers (Some a)
 
 -- a request to the server, and what it answers, by how far the two get over the link
 abbrev pub exchange_by : {A : Type 0} → Call (Node (List Commit)) (Option A) → Passage → Call Pair (Option A)
-exchange_by request passages.Away = Gets (λ _. None) (set_class false)
+exchange_by request passages.Away = Gets (λ _. None) all_second
 exchange_by request passages.RequestLost = Gets (λ _. None) break_link
 exchange_by request passages.ReplyLost = Then (Handles request) (λ _. Gets (λ _. None) break_link)
 exchange_by request passages.Both = Then (Handles request) received
@@ -69,21 +72,29 @@ Brings want = Then (Asks (λ pair. (kept pair).held)) (λ held. Exchange (Lends 
 abbrev pub Refuses : {A : Type 0} → List ℕ → Try Pair A
 Refuses word = Tells (λ _. line word) None
 
+abbrev pub has_any : {A : Type 0} → List A → Bool
+has_any [] = false
+has_any (one ∷ more) = true
+
 -- whether a transaction runs
 abbrev pub runs : Pair → Bool
-runs pair = is_some (kept pair).running
+runs pair = has_any (kept pair).running
 
-abbrev pub is_queued : List Item → Bool
-is_queued [] = false
-is_queued (item ∷ items) = true
+-- whether as many run as may
+abbrev pub is_full : Pair → Bool
+is_full pair = not (nat_lt (length (kept pair).running) most_running)
 
 -- whether transactions wait
 abbrev pub pends : Pair → Bool
-pends pair = is_queued (kept pair).items
+pends pair = has_any (kept pair).items
 
 -- unless a transaction runs
 abbrev pub IfIdle : {A : Type 0} → Try Pair A → Try Pair A
 IfIdle call = Then (Asks runs) (either (Refuses (codes "busy")) call)
+
+-- unless as many run as may
+abbrev pub IfRoom : {A : Type 0} → Try Pair A → Try Pair A
+IfRoom call = Then (Asks is_full) (either (Refuses (codes "busy")) call)
 
 -- unless transactions wait
 abbrev pub IfNonePends : {A : Type 0} → Try Pair A → Try Pair A
@@ -93,9 +104,9 @@ abbrev pub if_runs : {A : Type 0} → (Running → Try Pair A) → Option Runnin
 if_runs call None = Refuses (codes "idle")
 if_runs call (Some it) = call it
 
--- for the transaction that runs
-abbrev pub IfRuns : {A : Type 0} → (Running → Try Pair A) → Try Pair A
-IfRuns call = Then (Asks (λ pair. (kept pair).running)) (if_runs call)
+-- for the running transaction that is meant
+abbrev pub IfRuns : {A : Type 0} → Option ℕ → (Running → Try Pair A) → Try Pair A
+IfRuns which call = Then (Asks (λ pair. meant which (kept pair))) (if_runs call)
 
 -- ---- objects
 
@@ -118,18 +129,20 @@ Takes want = IfIdle (IfNonePends (Goes (Holds hold want) took))
 
 -- ---- begin
 
--- its next transaction begins, first class or not
-abbrev pub Starts : Declared → OnConflict Declared → (first : Bool) → Try Pair (Unit {0})
-Starts script option first = Goes (Notes (begin script option)) (λ _. Gets (λ _. Some tt) (set_class first))
+-- its next transaction begins, first class or not, and has this number
+abbrev pub Starts : Declared → OnConflict Declared → (first : Bool) → Try Pair ℕ
+Starts script option first =
+    Then (Asks (λ pair. (kept pair).last + 1)) (λ number.
+    Goes (Notes (begin script option)) (λ _. Gets (λ _. Some number) (set_class number first)))
 
 -- it is first class if a refresh came; as long as transactions wait, nothing is asked
-abbrev pub starts_if : Declared → OnConflict Declared → (pends : Bool) → Try Pair (Unit {0})
+abbrev pub starts_if : Declared → OnConflict Declared → (pends : Bool) → Try Pair ℕ
 starts_if script option true = Starts script option false
 starts_if script option false = Goes (Holds hold wanted.Nothing) (Starts script option)
 
--- if nothing runs, a transaction of this script begins
-abbrev pub Begins : Declared → OnConflict Declared → Try Pair (Unit {0})
-Begins script option = IfIdle (Then (Asks pends) (starts_if script option))
+-- unless as many run as may, a transaction of this script begins, and has this number
+abbrev pub Begins : Declared → OnConflict Declared → Try Pair ℕ
+Begins script option = IfRoom (Then (Asks pends) (starts_if script option))
 
 -- ---- steps
 
@@ -146,23 +159,31 @@ more_after loud false = not loud
 abbrev pub fetched : (loud : Bool) → Path → (came : Bool) → Try Pair Bool
 fetched loud path came = tells_if loud (fetch_line path (not came)) (more_after loud came)
 
-abbrev pub step_by : (loud : Bool) → Next → Try Pair Bool
-step_by loud AtEnd = Answers (Some false)
-step_by loud AtLimit = Answers (Some false)
-step_by loud Acts = Goes (Notes act_once) (λ _. Answers (Some true))
-step_by loud (Fetches path) = Goes (Holds fetch (wanted.Path path)) (fetched loud path)
+abbrev pub step_by : (number : ℕ) → (loud : Bool) → Next → Try Pair Bool
+step_by number loud AtEnd = Answers (Some false)
+step_by number loud AtLimit = Answers (Some false)
+step_by number loud Acts = Goes (Notes (act_once number)) (λ _. Answers (Some true))
+step_by number loud (Fetches path) = Goes (Holds (fetch number) (wanted.Path path)) (fetched loud path)
 
--- the next step of the transaction that runs
+-- the next step of a running transaction
 abbrev pub next_of : Running → Pair → Next
-next_of it pair = next_step pair.client.first (base (kept pair)) it
+next_of it pair = next_step (is_first it.number pair.client) it
 
-abbrev pub step_of : (loud : Bool) → Option Running → Try Pair Bool
-step_of loud None = Answers (Some false)
-step_of loud (Some it) = Then (Asks (next_of it)) (step_by loud)
+abbrev pub step_of : (number : ℕ) → (loud : Bool) → Option Running → Try Pair Bool
+step_of number loud None = Answers (Some false)
+step_of number loud (Some it) = Then (Asks (next_of it)) (step_by number loud)
+
+-- if transactions wait, it is second class from now on
+abbrev pub yield_if : (number : ℕ) → (pends : Bool) → Pair → Pair
+yield_if number true pair = set_class number false pair
+yield_if number false pair = pair
+
+abbrev pub Yields : (number : ℕ) → Part Pair
+Yields number = Does (λ _. []) (λ pair. yield_if number (pends pair) pair)
 
 -- one step, and whether more may follow
-abbrev pub Steps : (loud : Bool) → Try Pair Bool
-Steps loud = Then (Asks (λ pair. (kept pair).running)) (step_of loud)
+abbrev pub Steps : (number : ℕ) → (loud : Bool) → Try Pair Bool
+Steps number loud = Then (Yields number) (λ _. Then (Asks (λ pair. numbered number (kept pair))) (step_of number loud))
 
 -- ---- the first transaction that waits
 
@@ -283,17 +304,19 @@ IfManual call = Then (Asks (λ pair. (kept pair).items)) (if_manual call)
 
 -- ---- end
 
--- what is known of a transaction that ends: its name, what it printed, and whether it is first class
+-- what is known of a transaction that ends: its number, its name, what it printed, and whether it is first class
 pub record Ended : Type 0 where
+  pub number : ℕ
   pub name : List ℕ
   pub printed : List ℕ
   pub first : Bool
 
 abbrev pub ended_of : Running → Pair → Ended
 ended_of it pair = record {
+  number = it.number;
   name = transaction_name pair.client.name it.number;
-  printed = acts_output (so_far (base (kept pair)) it).acts;
-  first = pair.client.first;
+  printed = acts_output (so_far it).acts;
+  first = is_first it.number pair.client;
 }
 
 -- that it waits, and what it printed
@@ -312,13 +335,34 @@ syncs_or_waits gone false = waits gone
 
 -- it waits from now on
 abbrev pub joins : Ended → Try Pair (Unit {0})
-joins gone = Goes (Notes end) (λ _. Then (Says (λ _. end_line gone.name)) (λ _. syncs_or_waits gone gone.first))
+joins gone = Goes (Notes (end gone.number)) (λ _. Then (Says (λ _. end_line gone.name)) (λ _. syncs_or_waits gone gone.first))
+
+-- what it has read is what it would read on the view, or this is its first read with another answer there, and the question of that
+pub data Compared : Type 0 where
+  Same : Compared
+  Differs : (read : ℕ) → (question : Question) → Compared
+
+-- it is certified here
+pub data Compares (it : Running) (pair : Pair) (text : List ℕ) (found : Compared) (n : Pair) : Type 0 where
+  same : ReadsSame (view (kept pair)) it → text ≡ [] → found ≡ Same → n ≡ pair → Compares it pair text found n
+  parts : (read : ℕ) (question : Question) → Parts (reads_here it) (reads_on (view (kept pair)) it) (Some (Conflict read question))
+      → text ≡ [] → found ≡ Differs read question → n ≡ pair → Compares it pair text found n
+
+-- it ends, or begins anew on the view, of the class that it has
+abbrev pub ends_by : Ended → Compared → Try Pair (Unit {0})
+ends_by gone Same = joins gone
+ends_by gone (Differs read question) =
+    Goes (Notes (again gone.number)) (λ _. Tells (λ _. again_line gone.name read question) (Some tt))
+
+abbrev pub certifies : Running → Try Pair (Unit {0})
+certifies it =
+    Then (Yields it.number) (λ _. Then (Asks (ended_of it)) (λ gone. Then (Compares it) (ends_by gone)))
 
 abbrev pub end_by : Running → Next → Try Pair (Unit {0})
-end_by it AtEnd = Then (Asks (ended_of it)) joins
-end_by it AtLimit = Then (Asks (ended_of it)) joins
+end_by it AtEnd = certifies it
+end_by it AtLimit = certifies it
 end_by it Acts = Refuses (codes "not at end")
 end_by it (Fetches path) = Refuses (codes "not at end")
 
-abbrev pub Ends : Try Pair (Unit {0})
-Ends = IfRuns (λ it. Then (Asks (next_of it)) (end_by it))
+abbrev pub Ends : Option ℕ → Try Pair (Unit {0})
+Ends which = IfRuns which (λ it. Then (Asks (next_of it)) (end_by it))

@@ -2,8 +2,8 @@
 ghost use Rattle.iot_machine.specs.Counting.{EventCounts, EventKeepsSound, OpeningCounts, OpeningIsSound};
 ghost use Rattle.iot_machine.specs.Laws.{ACutIsItsPrefix};
 
-/// A transaction that was cut is the acts that it had done, wherever it is used: in its client's queue, at certification, if it is
-/// run again, and in the server's list. It does nothing; its contract is the law.
+/// A transaction that was cut is the first of the acts that it had done, as many as read the same on its client's view, wherever it is
+/// used: in its client's queue, at certification, if it is run again, and in the server's list. It does nothing; its contract is the law.
 pub fn a_cut_is_its_prefix()
     ensures { ACutIsItsPrefix }
 {}
